@@ -1,0 +1,34 @@
+// The verdict line, made in memory.
+ghost use Rattle.std.specs.Prelude.{◌≡◌, IfOk, IsSomeAnd, string_bytes};
+ghost use Rattle.wsyntax.specs.Validation.Verdict.{BodyRefused};
+ghost use Rattle.wsyntax.specs.Texts.Lines.{verdict_line};
+ghost use Rattle.verdict.specs.Refusals.{fault_of};
+ghost use Rattle.batch.specs.Report.{given_verdict};
+
+use std::alloc::{AllocError, Global};
+use verdict::{Class, Refusal};
+
+// The line of the verdict that the judge gave. Where it gave none there is no memory for a line either.
+pub(crate) fn line_of(alloc: Global, judged: Result<(), Refusal>) -> Result<String, AllocError>
+    ensures { IfOk result (λ line. IsSomeAnd (given_verdict judged) (λ v. string_bytes line ≡ verdict_line v)) }
+{
+    match judged {
+        Ok(()) => String::from_str(alloc, "accepted\n"),
+        Err(Refusal::TooLarge) => String::from_str(alloc, "refused too-large\n"),
+        Err(Refusal::Malformed) => String::from_str(alloc, "refused malformed\n"),
+        Err(Refusal::Rule(rule)) => format!(in alloc; "refused rule {rule}\n"),
+        Err(Refusal::Body { func, class }) => body_line(alloc, func, class),
+        Err(Refusal::Memory) => Err(AllocError),
+    }
+}
+
+// The line of a body that is refused.
+fn body_line(alloc: Global, func: u32, class: Class) -> Result<String, AllocError>
+    ensures { IfOk result (λ line. string_bytes line ≡ verdict_line (BodyRefused func (fault_of class))) }
+{
+    match class {
+        Class::Malformed => format!(in alloc; "refused body {func} malformed\n"),
+        Class::TooManyLocals => format!(in alloc; "refused body {func} too-many-locals\n"),
+        Class::IllTyped { at } => format!(in alloc; "refused body {func} ill-typed at {at}\n"),
+    }
+}

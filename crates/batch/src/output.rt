@@ -1,0 +1,25 @@
+ghost use Rattle.std.specs.Prelude.{◌≡◌, List, ◌++◌, ℕ, MatchResult};
+ghost use Rattle.std.specs.Io.KnownBytes.{Appends};
+ghost use Rattle.batch.specs.Output.{AppendsFront};
+
+use std::io::Write;
+
+/// A write that failed, or that took no byte.
+#[derive(Clone, Copy, Debug, PartialEq, Eq)]
+pub struct WriteFailed;
+
+/// Writes the whole text, or a beginning of it: the first write that fails, or that takes no byte, ends it.
+pub fn write_text<W: Write>(out: &mut W, text: &[u8]) -> Result<(), WriteFailed>
+    ensures { MatchResult result
+        (λ _. Appends (W.contents out.old) (W.contents out.new) text.now)
+        (λ _. AppendsFront (W.contents out.old) (W.contents out.new) text.now) }
+{
+    let mut rest = text;
+    'writes: while !rest.is_empty() {
+        match out.write(rest) {
+            Ok(0) | Err(_) => return Err(WriteFailed),
+            Ok(taken) => rest = &rest[taken..],
+        }
+    }
+    Ok(())
+}

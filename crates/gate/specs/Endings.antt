@@ -1,0 +1,23 @@
+-- The status that the program ends with.
+use Rattle.std.specs.Prelude.{◌≡◌, ◌⊎◌, ℕ}
+use Rattle.batch.specs.declared.status.Status.{Status}
+use Rattle.batch.specs.declared.status.Status.TheVariants.{Good, ModuleRefused, CallsRefused}
+use Rattle.gate.specs.declared.fault.Fault.{Fault}
+use Rattle.gate.specs.declared.fault.Fault.TheVariants as fault
+
+-- of an answer
+abbrev pub answer_status : Status → ℕ
+answer_status Good = 0
+answer_status ModuleRefused = 2
+answer_status CallsRefused = 3
+
+-- where there is none
+abbrev pub fault_status : Fault → ℕ
+fault_status (fault.Usage text) = 64
+fault_status (fault.Unreadable path) = 74
+fault_status fault.Write = 74
+fault_status fault.Memory = 70
+
+-- accepted or shown, refused, no command, no memory, no file or no write
+abbrev pub IsStatus : ℕ → Type 0
+IsStatus n = (n ≡ 0) ⊎ ((n ≡ 2) ⊎ ((n ≡ 64) ⊎ ((n ≡ 70) ⊎ (n ≡ 74))))

@@ -1,0 +1,41 @@
+// The program over its process.
+use crate::disk::Disk;
+use crate::fault::{Fault, end};
+use crate::running::run;
+use crate::words::usage;
+use std::alloc::{AllocError, Global};
+use std::env;
+use std::io::{ErrorKind, Write};
+use std::rt::{Env, Files};
+use std::sync::Wait;
+use std::thread::Threads;
+
+/// Runs the program on the words of the process, and answers its status.
+pub fn run_process<R: Env + Files + AllocGlobal + Threads + Wait + Sync, O: Write, E: Write>(
+    rt: &R,
+    out: &mut O,
+    err: &mut E,
+) -> u8 {
+    let words = match words_of(rt) {
+        Ok(words) => words,
+        Err(fault) => return end(&fault, err),
+    };
+    let texts = match texts_of(rt.alloc(), words.as_slice()) {
+        Ok(texts) => texts,
+        Err(_) => return end(&Fault::Memory, err),
+    };
+    run(rt, rt.alloc(), texts.as_slice(), &mut Disk { rt }, out, err)
+}
+
+// The words after the program's name.
+fn words_of<'a, R: Env + AllocGlobal>(rt: &R) -> Result<Vec<String>, Fault<'a>> {
+    match env::args(rt) {
+        Ok(args) => args.skip(1).collect(rt.alloc()).map_err(|_| Fault::Memory),
+        Err(error) if error.kind() == ErrorKind::OutOfMemory => Err(Fault::Memory),
+        Err(_) => Err(usage(rt.alloc(), "error: the words are not UTF-8\n")),
+    }
+}
+
+fn texts_of<'a>(alloc: Global, words: &'a [String]) -> Result<Vec<&'a str>, AllocError> {
+    words.iter().map(|word| word.as_str()).collect(alloc)
+}

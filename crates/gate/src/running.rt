@@ -1,0 +1,76 @@
+// The program over any source and writers.
+ghost use Rattle.std.specs.Prelude.{◌≡◌, ◌⊎◌, string_bytes};
+ghost use Rattle.std.specs.Io.KnownBytes.{Keeps};
+ghost use Rattle.gate.specs.Endings.{answer_status, IsStatus};
+ghost use Rattle.gate.specs.Checks.{PrintsRefusal, Does, Shows};
+
+use crate::checking::check;
+use crate::fault::{Fault, end};
+use crate::source::Source;
+use crate::words::{Request, read_words};
+use batch::{Status, write_text};
+use std::alloc::Global;
+use std::io::Write;
+use std::sync::Wait;
+use std::thread::Threads;
+
+/// Does what the words after the program's name ask for, and answers the status. A write to `err` that
+/// fails changes nothing.
+pub fn run<R: Threads + Wait + Sync, S: Source, O: Write, E: Write>(
+    rt: &R,
+    alloc: Global,
+    words: &[&str],
+    source: &mut S,
+    out: &mut O,
+    err: &mut E,
+) -> u8
+    ensures named { IsStatus result }
+    ensures silent { (result ≡ 64) ⊎ (result ≡ 70) → Keeps (O.contents out.old) (O.contents out.new) }
+    ensures refused { result ≡ 2 → PrintsRefusal (S.holds source.old) (O.contents out.old) (O.contents out.new) }
+{
+    let request = match read_words(alloc, words) {
+        Ok(request) => request,
+        Err(fault) => return end(&fault, err),
+    };
+    match obey(rt, alloc, request, source, out) {
+        Ok(status) => number(status),
+        Err(fault) => end(&fault, err),
+    }
+}
+
+// Does what is asked for, and flushes.
+fn obey<'a, R: Threads + Wait + Sync, S: Source, O: Write>(
+    rt: &R,
+    alloc: Global,
+    request: Request<'a>,
+    source: &mut S,
+    out: &mut O,
+) -> Result<Status, Fault<'a>>
+    ensures { Does request.entry (S.holds source.old) (O.contents out.old) (O.contents out.new) result }
+{
+    match request {
+        Request::Check { path, plan } => check(rt, alloc, path, plan, source, out),
+        Request::Help(text) => show(text.as_bytes(), out),
+    }
+}
+
+// Writes a text and flushes it.
+fn show<'a, O: Write>(text: &[u8], out: &mut O) -> Result<Status, Fault<'a>>
+    ensures { Shows text.now (O.contents out.old) (O.contents out.new) result }
+{
+    if write_text(out, text).is_err() || out.flush().is_err() {
+        return Err(Fault::Write);
+    }
+    Ok(Status::Good)
+}
+
+// The status of an answer.
+fn number(status: Status) -> u8
+    ensures { result ≡ answer_status status }
+{
+    match status {
+        Status::Good => 0,
+        Status::ModuleRefused => 2,
+        Status::CallsRefused => 3,
+    }
+}

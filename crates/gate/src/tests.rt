@@ -1,0 +1,201 @@
+// The program over a source and writers in memory.
+mod rows;
+
+use crate::running::run;
+use crate::source::{ReadFault, Source};
+use std::alloc::Global;
+use std::io;
+use std::io::{ErrorKind, Write};
+use std::sync::Wait;
+use std::test::Fail;
+use std::thread::Threads;
+
+// One file under one path; or want of memory at each read.
+#[derive(Clone, Copy)]
+struct Held<'a> {
+    path: &'a str,
+    bytes: &'a [u8],
+    has_memory: bool,
+}
+
+impl Source for Held<'_> {
+    fn read(&mut self, alloc: Global, path: &str, most: usize) -> Result<Vec<u8>, ReadFault> {
+        if path != self.path {
+            return Err(ReadFault::Unreadable);
+        }
+        if !self.has_memory {
+            return Err(ReadFault::Memory);
+        }
+        let front = &self.bytes[..self.bytes.len().min(most)];
+        front.to_vec(alloc).map_err(|_| ReadFault::Memory)
+    }
+}
+
+// Takes `at_once` bytes a write, `room` in all, and then fails. Its flush may fail too.
+#[derive(Drop)]
+struct Screen {
+    shown: Vec<u8>,
+    at_once: usize,
+    room: usize,
+    flushes: bool,
+}
+
+impl Screen {
+    fn new(alloc: Global, at_once: usize, room: usize, flushes: bool) -> Screen {
+        Screen {
+            shown: Vec::new(alloc),
+            at_once,
+            room,
+            flushes,
+        }
+    }
+
+    fn wide(alloc: Global) -> Screen {
+        Screen::new(alloc, 100_000, 100_000, true)
+    }
+}
+
+impl Write for Screen {
+    fn write(&mut self, buf: &[u8]) -> io::Result<usize> {
+        let count = buf.len().min(self.at_once).min(self.room);
+        if count == 0 {
+            return Err(io::Error::from(ErrorKind::BrokenPipe));
+        }
+        self.shown.extend_from_slice(&buf[..count])?;
+        self.room -= count;
+        Ok(count)
+    }
+
+    fn flush(&mut self) -> io::Result<()> {
+        if self.flushes {
+            Ok(())
+        } else {
+            Err(io::Error::from(ErrorKind::BrokenPipe))
+        }
+    }
+}
+
+const HEADER: [u8; 8] = [0x00, 0x61, 0x73, 0x6D, 0x01, 0x00, 0x00, 0x00];
+
+// The status, and how many bytes standard output got, of words over a source that has the header as `x.wasm`.
+fn status_of<R: Threads + Wait + Sync>(
+    rt: &R,
+    alloc: Global,
+    words: &[&str],
+    out: &mut Screen,
+    err: &mut Screen,
+) -> u8 {
+    let mut source = Held {
+        path: "x.wasm",
+        bytes: &HEADER,
+        has_memory: true,
+    };
+    run(rt, alloc, words, &mut source, out, err)
+}
+
+#[test]
+fn help_goes_to_standard_output(rt: HostRuntime) {
+    let asked: [&[&str]; 3] = [&["--help"], &["help"], &["check", "--help"]];
+    for words in asked {
+        let (mut out, mut err) = (Screen::wide(rt.alloc()), Screen::wide(rt.alloc()));
+        assert_eq!(rt; status_of(&rt, rt.alloc(), words, &mut out, &mut err), 0);
+        assert!(rt; !out.shown.is_empty() && err.shown.is_empty());
+    }
+}
+
+#[test]
+fn words_that_are_no_command(rt: HostRuntime) {
+    let wrong: [&[&str]; 12] = [
+        &[],
+        &["judge"],
+        &["check"],
+        &["check", "x.wasm", "y.wasm"],
+        &["run", "x.wasm", "calls"],
+        &["check", "x.wasm", "--fuel", "1"],
+        &["check", "x.wasm", "--workers", "0"],
+        &["check", "x.wasm", "--workers", "65"],
+        &["check", "x.wasm", "--workers", "four"],
+        &["check", "x.wasm", "--piece", "0"],
+        &["check", "x.wasm", "--piece", "65536"],
+        &["check", "x.wasm", "--piece", "-1"],
+    ];
+    for words in wrong {
+        let (mut out, mut err) = (Screen::wide(rt.alloc()), Screen::wide(rt.alloc()));
+        assert_eq!(rt; status_of(&rt, rt.alloc(), words, &mut out, &mut err), 64);
+        assert!(rt; out.shown.is_empty() && !err.shown.is_empty());
+        let mut closed = Screen::new(rt.alloc(), 1, 0, false);
+        assert_eq!(rt;
+            status_of(&rt, rt.alloc(), words, &mut out, &mut closed),
+            64
+        );
+    }
+}
+
+#[test]
+fn a_file_that_cannot_be_read(rt: HostRuntime) {
+    let words = ["check", "missing.wasm"];
+    let (mut out, mut err) = (Screen::wide(rt.alloc()), Screen::wide(rt.alloc()));
+    assert_eq!(rt;
+        status_of(&rt, rt.alloc(), words.as_slice(), &mut out, &mut err),
+        74
+    );
+    assert!(rt; out.shown.is_empty());
+    assert_eq!(rt;
+        err.shown.as_slice(),
+        b"gate: cannot read missing.wasm\n".as_slice()
+    );
+}
+
+#[test]
+fn a_read_that_wants_memory(rt: HostRuntime) {
+    let mut source = Held {
+        path: "x.wasm",
+        bytes: &HEADER,
+        has_memory: false,
+    };
+    let words = ["check", "x.wasm", "--workers", "64", "--piece", "65535"];
+    let (mut out, mut err) = (Screen::wide(rt.alloc()), Screen::wide(rt.alloc()));
+    let status = run(
+        &rt,
+        rt.alloc(),
+        words.as_slice(),
+        &mut source,
+        &mut out,
+        &mut err,
+    );
+    assert_eq!(rt; status, 70);
+    assert!(rt; out.shown.is_empty());
+    assert_eq!(rt; err.shown.as_slice(), b"gate: no memory\n".as_slice());
+}
+
+#[test]
+fn a_write_or_flush_that_fails(rt: HostRuntime) -> Result<(), Fail> {
+    let words = ["--help"];
+    let mut whole = Screen::wide(rt.alloc());
+    let mut silent = Screen::wide(rt.alloc());
+    assert_eq!(rt;
+        status_of(&rt, rt.alloc(), words.as_slice(), &mut whole, &mut silent),
+        0
+    );
+    let length = whole.shown.len();
+    assert!(rt; length > 10);
+    for (at_once, room, flushes) in [
+        (100_000, 0, true),
+        (1, 10, true),
+        (7, length - 1, true),
+        (1, length, false),
+    ] {
+        let mut out = Screen::new(rt.alloc(), at_once, room, flushes);
+        let mut err = Screen::new(rt.alloc(), 1, 100, true);
+        assert_eq!(rt;
+            status_of(&rt, rt.alloc(), words.as_slice(), &mut out, &mut err),
+            74
+        );
+        assert_eq!(rt;
+            out.shown.as_slice(),
+            &whole.shown.as_slice()[..room.min(length)]
+        );
+        assert_eq!(rt; err.shown.as_slice(), b"gate: write failed\n".as_slice());
+    }
+    Ok(())
+}

@@ -1,0 +1,11 @@
+pub mod Totals
+pub mod Counts
+pub mod DequeSteps
+pub mod Registers
+pub mod MarkSteps
+pub mod Crews
+pub mod Absorbing
+pub mod Settles
+pub mod OneWorker
+pub mod AllWorkers
+pub mod OneThread

@@ -1,0 +1,15 @@
+pub mod Counting
+pub mod Cuts
+pub mod Deque
+pub mod History
+pub mod MarkRule
+pub mod Shares
+pub mod Bags
+pub mod Ledger
+pub mod Absorbing
+pub mod Faults
+pub mod Gathered
+pub mod Working
+pub mod Crew
+pub mod TryAll
+pub mod TestJobs

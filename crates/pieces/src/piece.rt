@@ -1,0 +1,25 @@
+// Some consecutive indices.
+ghost use Rattle.std.specs.Prelude.{◌≡◌, ◌<◌};
+ghost use Rattle.pieces.specs.Cuts.{pieces, first_of, end_of};
+
+/// The indices from `first` up to `end`, which is left out.
+#[derive(Clone, Copy, Debug, PartialEq, Eq, Drop)]
+pub struct Piece {
+    pub first: u32,
+    pub end: u32,
+}
+
+// The piece of this number, where the indices below n are cut into pieces of this size.
+pub(crate) fn piece_at(n: u32, size: u32, number: u64) -> Piece
+    requires size { 0 < size }
+    requires number { number < pieces n size }
+    ensures first { result.first ≡ first_of size number }
+    ensures end { result.end ≡ end_of n size number }
+{
+    let first = number * u64::from(size);
+    let end = (first + u64::from(size)).min(u64::from(n));
+    Piece {
+        first: first as u32,
+        end: end as u32,
+    }
+}

@@ -1,0 +1,11 @@
+pub mod Basics
+pub mod Match
+pub mod Rules
+pub mod Walk
+pub mod Trees
+pub mod Parse
+pub mod Faults
+pub mod Known
+pub mod Compose
+pub mod Families
+pub mod Unique

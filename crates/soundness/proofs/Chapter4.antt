@@ -1,0 +1,14 @@
+pub mod Stacks
+pub mod Codes
+pub mod Numerics
+pub mod Stores
+pub mod Ops
+pub mod Sound
+pub mod Chains
+pub mod Running
+pub mod Layers
+pub mod Allocation
+pub mod Weight
+pub mod Pair
+pub mod Checked
+pub mod Exact

@@ -1,0 +1,3 @@
+pub mod Chapter3
+pub mod Chapter4
+pub mod Samples

@@ -1,0 +1,5 @@
+use Rattle.soundness.proofs.Chapter3.Families.{rules_agree}
+use Rattle.soundness.proofs.validation.rules_agree.Goals as goal
+
+pub returns : goal.returns
+returns c = rules_agree

@@ -1,0 +1,45 @@
+//! The definitions computed on small inputs, the answers given beforehand.
+
+ghost use Rattle.soundness.specs.Bodies.{ReachedBodies, UnreachedBodies};
+ghost use Rattle.soundness.specs.Counts.{CountExamples};
+ghost use Rattle.soundness.specs.Growth.{GrowthExamples};
+ghost use Rattle.soundness.specs.Instructions.{BlockExamples, BytesExamples, VariableExamples};
+ghost use Rattle.soundness.specs.Operators.{OperatorExamples};
+ghost use Rattle.soundness.specs.Samples.{ControlExamples, DivisionExamples, LimitExamples, MemoryExamples, TableExamples};
+
+/// The verdicts of the algorithm on small bodies.
+pub fn bodies()
+    ensures reached { ReachedBodies }
+    ensures unreached { UnreachedBodies }
+{}
+
+/// How calls of small functions end.
+pub fn calls()
+    ensures control { ControlExamples }
+    ensures limits { LimitExamples }
+    ensures division { DivisionExamples }
+    ensures memory { MemoryExamples }
+    ensures table { TableExamples }
+{}
+
+/// What each instruction does alone.
+pub fn instructions()
+    ensures variables { VariableExamples }
+    ensures bytes { BytesExamples }
+    ensures blocks { BlockExamples }
+{}
+
+/// How a memory grows at each of its bounds.
+pub fn growth()
+    ensures { GrowthExamples }
+{}
+
+/// What is charged and what is work.
+pub fn counts()
+    ensures { CountExamples }
+{}
+
+/// The integer operators on values.
+pub fn operators()
+    ensures { OperatorExamples }
+{}

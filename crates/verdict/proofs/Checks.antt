@@ -1,0 +1,30 @@
+-- The class of a body that is checked, by what the check promises.
+use Rattle.std.proofs.Common.{◌≡◌, ℕ, List, Some, None, sym, ap, ◌∙◌}
+use Rattle.wsyntax.specs.declared.Body.{Body}
+use Rattle.wsyntax.specs.Modules.{body_shape}
+use Rattle.wsyntax.specs.Binary.Production.{Agrees}
+use Rattle.wsyntax.specs.Binary.Sections.{body}
+use Rattle.wsyntax.specs.Binary.Shell.{SpellsBody, FewLocals}
+use Rattle.wsyntax.specs.Validation.Context.{Context}
+use Rattle.wsyntax.specs.Validation.Algorithm.{Accepted, Refused, alg}
+use Rattle.wsyntax.specs.Validation.Laws.{TypedIsAccepted, RefusedAtFirstFault}
+use Rattle.wsyntax.specs.Validation.ModuleContext.{function_context}
+use Rattle.wsyntax.specs.Validation.Verdict.{result_of}
+use Rattle.wcheck.specs.Bodies.{IsTypedAs, IsFaultyAt}
+use Rattle.verdict.specs.declared.refusal.Class.TheVariants.{IllTyped}
+use Rattle.verdict.specs.Judged.{class_of}
+use Rattle.verdict.proofs.Bodies.{tree_of, class_typing}
+
+pub typed_class : Agrees body → TypedIsAccepted → (C : Context) (f : ℕ) (bytes : List ℕ) (b : Body) → SpellsBody bytes (body_shape b) → FewLocals (body_shape b) → IsTypedAs C f b → class_of C f bytes ≡ None
+typed_class agrees law C f bytes b s few typed =
+    let D = function_context C f b.runs.items in
+    let r = result_of C f in
+    let t = tree_of bytes (body_shape b) s in
+    class_typing agrees C f bytes (body_shape b) Accepted s few (ap (alg D r) (sym t.1) ∙ law D r t.0 (typed t.0 t.1))
+
+pub faulty_class : Agrees body → RefusedAtFirstFault → (C : Context) (f : ℕ) (bytes : List ℕ) (b : Body) (at : ℕ) → SpellsBody bytes (body_shape b) → FewLocals (body_shape b) → IsFaultyAt C f b at → class_of C f bytes ≡ Some (IllTyped at)
+faulty_class agrees law C f bytes b at s few fault =
+    let D = function_context C f b.runs.items in
+    let r = result_of C f in
+    let t = tree_of bytes (body_shape b) s in
+    class_typing agrees C f bytes (body_shape b) (Refused at) s few (ap (alg D r) (sym t.1) ∙ (law D r t.0 at).1 (fault t.0 t.1))

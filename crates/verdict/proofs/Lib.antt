@@ -1,0 +1,5 @@
+pub mod Sizes
+pub mod Bodies
+pub mod Firsts
+pub mod OnePass
+pub mod Checks

@@ -1,0 +1,4 @@
+pub mod Refusals
+pub mod Judged
+pub mod OnePass
+pub mod Kept

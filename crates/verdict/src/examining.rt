@@ -1,0 +1,85 @@
+ghost use Rattle.std.specs.Prelude.{◌≡◌, ◌+◌, ◌<◌, ◌^◌, ℕ, MatchResult, IfOk, IfSome, All, length, map, vec_len};
+ghost use Rattle.wsyntax.specs.Validation.Verdict.{IsVerdict, Accepted};
+ghost use Rattle.verdict.specs.Judged.{PassBefore, IsFirstBody};
+ghost use Rattle.verdict.specs.Refusals.{verdict_of};
+
+use crate::jobs::Bodies;
+use crate::passing::Scratch;
+use crate::refusal::Refusal;
+use pieces::{Plan, TryFault, Watch, try_all};
+use soundness::validation::{accepted_is_typed, refused_at_first_fault};
+use std::alloc::{AllocError, Global};
+use std::sync::Wait;
+use std::thread::Threads;
+use wcontext::{Context, check_module};
+use wdecode::{decode_module, grammar_is_read};
+
+/// A scratch for each worker.
+fn new_scratches<'a>(
+    alloc: Global,
+    context: &'a Context,
+    workers: u32,
+) -> Result<Vec<Scratch<'a>>, AllocError>
+    ensures count { IfOk result (λ v. vec_len v ≡ workers) }
+    ensures outside { IfOk result (λ v. All (λ s. s.checker.outside ≡ context.now.context) v.items) }
+{
+    let mut scratches = Vec::new(alloc);
+    for _ in 0..workers {
+        scratches.push(Scratch::new(alloc, context))?;
+    }
+    Ok(scratches)
+}
+
+/// Judges the bodies of a module, up to the first that is refused.
+fn examine_bodies<R: Threads + Wait + Sync, W: Watch + Sync>(
+    rt: &R,
+    alloc: Global,
+    context: &Context,
+    bodies: &[&[u8]],
+    plan: Plan,
+    watch: &W,
+) -> Result<(), Refusal>
+    requires each_has_type { context.now.imported + length bodies.now ≡ length context.now.context.functions }
+    requires few { context.now.imported + length bodies.now < 2 ^ 32 }
+    ensures { MatchResult result
+        (λ _. PassBefore context.now.context context.now.imported (map (λ b. b.now) bodies.now) (length bodies.now))
+        (IsFirstBody context.now.context context.now.imported (map (λ b. b.now) bodies.now)) }
+{
+    let Ok(scratches) = new_scratches(alloc, context, plan.workers()) else {
+        return Err(Refusal::Memory);
+    };
+    let imported = context.imported_functions() as u32;
+    let job = Bodies {
+        alloc,
+        context,
+        bodies,
+        imported,
+        watch,
+    };
+    match try_all(rt, alloc, &job, scratches, bodies.len() as u32, plan) {
+        Ok(_) => Ok(()),
+        Err(TryFault::Stopped { index, fault }) => Err(Refusal::Body {
+            func: imported + index,
+            class: fault,
+        }),
+        Err(TryFault::Memory) => Err(Refusal::Memory),
+    }
+}
+
+/// Judges a module and keeps nothing of it.
+pub fn examine<R: Threads + Wait + Sync, W: Watch + Sync>(
+    rt: &R,
+    alloc: Global,
+    bytes: &[u8],
+    plan: Plan,
+    watch: &W,
+) -> Result<(), Refusal>
+    ensures { MatchResult result (λ _. IsVerdict bytes.now Accepted) (λ r. IfSome (verdict_of r) (IsVerdict bytes.now)) }
+{
+    grammar_is_read();
+    accepted_is_typed();
+    refused_at_first_fault();
+    let module = decode_module(alloc, bytes)?;
+    let context = check_module(alloc, &module)?;
+    examine_bodies(rt, alloc, &context, &module.bodies, plan, watch)
+}

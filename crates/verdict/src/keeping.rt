@@ -1,0 +1,40 @@
+ghost use Rattle.std.specs.Prelude.{◌≡◌, ◌+◌, ◌<◌, ◌^◌, Some, None, MatchResult, length, map};
+ghost use Rattle.pieces.specs.Faults.{AllowsFault};
+ghost use Rattle.verdict.specs.Judged.{class_of};
+ghost use Rattle.verdict.specs.Kept.{IsCheckedFrom};
+
+use crate::refusal::Class;
+use pieces::JobFault;
+use soundness::validation::{refused_at_first_fault, typed_is_accepted};
+use std::alloc::Global;
+use wcheck::{CheckFault, CheckedBody, check_body};
+use wcontext::Context;
+use wdecode::{BodyFault, decode_body, grammar_is_read};
+
+/// The body of the function of that index, imported ones counted, decoded and checked.
+pub(crate) fn checked_body(
+    alloc: Global,
+    context: &Context,
+    func: u32,
+    bytes: &[u8],
+) -> Result<CheckedBody, JobFault<Class>>
+    requires { func < length context.now.context.functions }
+    ensures { MatchResult result
+        (λ checked. (class_of context.now.context func bytes.now ≡ None) × IsCheckedFrom context.now.context func bytes.now checked)
+        (AllowsFault (λ class. class_of context.now.context func bytes.now ≡ Some class)) }
+{
+    grammar_is_read();
+    typed_is_accepted();
+    refused_at_first_fault();
+    let body = match decode_body(alloc, bytes) {
+        Ok(body) => body,
+        Err(BodyFault::Malformed) => return Err(JobFault::Refused(Class::Malformed)),
+        Err(BodyFault::TooManyLocals) => return Err(JobFault::Refused(Class::TooManyLocals)),
+        Err(BodyFault::Memory) => return Err(JobFault::Memory),
+    };
+    match check_body(alloc, context, func, body) {
+        Ok(checked) => Ok(checked),
+        Err(CheckFault::IllTyped { at }) => Err(JobFault::Refused(Class::IllTyped { at })),
+        Err(CheckFault::Memory) => Err(JobFault::Memory),
+    }
+}

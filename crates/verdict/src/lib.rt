@@ -1,0 +1,17 @@
+//! Judging a module: the grammar, the module rules and every body, on many workers.
+#![tactic(auto)]
+
+mod accepted;
+mod body;
+mod examining;
+mod jobs;
+mod judging;
+mod keeping;
+mod keeping_jobs;
+mod passing;
+mod refusal;
+
+pub use accepted::Accepted;
+pub use examining::examine;
+pub use judging::judge;
+pub use refusal::{Class, Refusal};

@@ -1,0 +1,66 @@
+ghost use Rattle.std.specs.Prelude.{◌≡◌};
+
+use thiserror::Error;
+use wcontext::ModuleFault;
+use wdecode::DecodeFault;
+
+/// Why a body is refused.
+#[derive(Clone, Copy, Debug, PartialEq, Eq, Error)]
+pub enum Class {
+    /// Its bytes spell no body.
+    #[error("malformed")]
+    Malformed,
+    /// It declares more than 50,000 locals, parameters aside.
+    #[error("too-many-locals")]
+    TooManyLocals,
+    /// It has no type. `at` is the number of the first token that no completion can save, from 0.
+    #[error("ill-typed at {at}")]
+    IllTyped { at: usize },
+}
+
+/// The first refusal of a module, in the order of judging.
+#[derive(Clone, Copy, Debug, PartialEq, Eq, Error)]
+pub enum Refusal {
+    /// More than 16,777,216 bytes.
+    #[error("too-large")]
+    TooLarge,
+    /// The bytes spell no module, the insides of bodies aside.
+    #[error("malformed")]
+    Malformed,
+    /// The least broken module rule, from 1 to 13.
+    #[error("rule {0}")]
+    Rule(u32),
+    /// The least function, imported ones counted first, whose body is refused.
+    #[error("body {func} {class}")]
+    Body { func: u32, class: Class },
+    /// A growth of memory was refused; nothing is said of the module.
+    #[error("no memory")]
+    Memory,
+}
+
+impl From<DecodeFault> for Refusal {
+    ghost use Rattle.verdict.specs.Refusals.{of_decoding};
+
+    ghost from_gives = { λ e r. r ≡ of_decoding e };
+
+    fn from(fault: DecodeFault) -> Refusal {
+        match fault {
+            DecodeFault::TooLarge => Refusal::TooLarge,
+            DecodeFault::Malformed => Refusal::Malformed,
+            DecodeFault::Memory => Refusal::Memory,
+        }
+    }
+}
+
+impl From<ModuleFault> for Refusal {
+    ghost use Rattle.verdict.specs.Refusals.{of_rules};
+
+    ghost from_gives = { λ e r. r ≡ of_rules e };
+
+    fn from(fault: ModuleFault) -> Refusal {
+        match fault {
+            ModuleFault::Rule(rule) => Refusal::Rule(rule),
+            ModuleFault::Memory => Refusal::Memory,
+        }
+    }
+}

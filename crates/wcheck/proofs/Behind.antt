@@ -1,0 +1,60 @@
+-- What the code's proofs need.
+use Rattle.std.proofs.Common.{◌≡◌, ℕ, zero, suc, ◌+◌, ◌-◌, ◌≤◌, ◌<◌, get_or, slice_get, Bool, true, false, List, [], ◌∷◌, ◌++◌, map, reverse, take, length, Option, Some, None, refl, sym, ap, ◌∙◌, subst, arith}
+use Rattle.std.proofs.lemmas.List.{reverse-append, map-append, take_all as take-whole, get_or-reverse, length-reverse, get_or-map, length-map}
+use Rattle.std.proofs.lemmas.Option.{slice_get-get_or, slice_get_past}
+use Rattle.wsyntax.specs.declared.ValType.{ValType}
+use Rattle.wcheck.proofs.Basics.{same_types-true}
+use Rattle.wsyntax.specs.Validation.Algorithm.{Frame}
+use Rattle.wsyntax.specs.Types.{same_types}
+use Rattle.wcheck.specs.declared.frames.Level.{Level}
+use Rattle.wcheck.specs.Views.{cut, label_of}
+
+pub map-reverse : {A B : Type 0} (f : A → B) (xs : List A) → map f (reverse xs) ≡ reverse (map f xs)
+map-reverse f [] = refl
+map-reverse f (x ∷ xs) =
+    ap (map f) (reverse-append (x ∷ []) xs) ∙ map-append f (reverse xs) (x ∷ []) ∙ ap (λ z. z ++ f x ∷ []) (map-reverse f xs) ∙ sym (reverse-append (f x ∷ []) (map f xs))
+
+-- the place l of a list that begins with b and then goes backwards
+pub behind : {A B : Type 0} (f : A → B) (b : B) (xs : List A) (l : ℕ) (x : A) → (l ≡ 0 → ⊥) → l ≤ length xs → x ≡ get_or xs (length xs - l) x → slice_get (b ∷ reverse (map f xs)) l ≡ Some (f x)
+behind f b xs zero x nz le e = absurd (nz refl)
+behind f b xs (suc m) x nz le e =
+    let lt : m < length (map f xs) = omega (arith, length-map xs f) in
+    let lt' : m < length (reverse (map f xs)) = omega (arith, length-reverse (map f xs)) in
+    let k : length (map f xs) - 1 - m ≡ length xs - suc m = omega (arith, length-map xs f) in
+    let lt'' : length xs - suc m < length xs = omega arith in
+    slice_get-get_or (reverse (map f xs)) m (f x) lt'
+    ∙ ap Some (get_or-reverse (map f xs) m (f x) lt ∙ ap (λ i. get_or (map f xs) i (f x)) k ∙ get_or-map f xs (length xs - suc m) x (f x) lt'' ∙ ap f (sym e))
+
+pub behind_or : {A B : Type 0} (f : A → B) (b : B) (xs : List A) (l : ℕ) (d : A) → (l ≡ 0 → ⊥) → l ≤ length xs → slice_get (b ∷ reverse (map f xs)) l ≡ Some (f (get_or xs (length xs - l) d))
+behind_or f b xs zero d nz le = absurd (nz refl)
+behind_or f b xs (suc m) d nz le =
+    let lt : m < length (map f xs) = omega (arith, length-map xs f) in
+    let lt' : m < length (reverse (map f xs)) = omega (arith, length-reverse (map f xs)) in
+    let k : length (map f xs) - 1 - m ≡ length xs - suc m = omega (arith, length-map xs f) in
+    let lt'' : length xs - suc m < length xs = omega arith in
+    slice_get-get_or (reverse (map f xs)) m (f d) lt'
+    ∙ ap Some (get_or-reverse (map f xs) m (f d) lt ∙ ap (λ i. get_or (map f xs) i (f d)) k ∙ get_or-map f xs (length xs - suc m) d (f d) lt'')
+
+pub not_behind : {A B : Type 0} (f : A → B) (b : B) (xs : List A) (l : ℕ) → length xs < l → slice_get (b ∷ reverse (map f xs)) l ≡ None
+not_behind f b xs l h = slice_get_past (b ∷ reverse (map f xs)) l (omega (arith, length-map xs f, length-reverse (map f xs)))
+
+-- one more at the end is one more in front of the reversed
+pub pushed : {A B : Type 0} (f : A → B) (xs : List A) (x : A) → reverse (map f (xs ++ x ∷ [])) ≡ f x ∷ reverse (map f xs)
+pushed f xs x = ap reverse (map-append f xs (x ∷ [])) ∙ reverse-append (map f xs) (f x ∷ [])
+
+-- stacks of different lengths
+pub differ : (a b : List ValType) → (length a ≡ length b → ⊥) → (v : Bool) → same_types (reverse a) (reverse b) ≡ v → false ≡ same_types (reverse a) (reverse b)
+differ a b ne true e =
+    absurd (ne (sym (length-reverse a) ∙ ap length (same_types-true (reverse a) (reverse b) e) ∙ length-reverse b))
+differ a b ne false e = sym e
+
+-- the labels of the frames outside
+pub labels_same : (xs : List Level) (below : List (Option ValType)) → map (λ (f : Frame). f.label) (cut xs below) ≡ map (λ y. label_of y.shape) xs
+labels_same [] below = refl
+labels_same (x ∷ xs) below = ap (λ z. label_of x.shape ∷ z) (labels_same xs (take x.base below))
+
+pub labels_outside : (xs : List Level) (below : List (Option ValType)) → map (λ (f : Frame). f.label) (cut (reverse xs) below) ≡ reverse (map (λ y. label_of y.shape) xs)
+labels_outside xs below = labels_same (reverse xs) below ∙ map-reverse (λ (y : Level). label_of y.shape) xs
+
+pub reversed_last : {A : Type 0} (xs : List A) (x : A) → reverse (xs ++ x ∷ []) ≡ x ∷ reverse xs
+reversed_last xs x = reverse-append xs (x ∷ [])

@@ -1,0 +1,39 @@
+-- One list of operands, and the frames that it is cut into.
+use Rattle.std.proofs.Common.{◌≡◌, ◌+◌, arith, length-append, List, [], ◌∷◌, ◌++◌, length, take, drop, reverse, Option, refl, sym, ap, ap₂, ◌∙◌, subst}
+use Rattle.std.proofs.lemmas.List.{reverse-append, reverse-reverse, length-reverse, take-append-drop}
+use Rattle.std.proofs.Math.Seq.{take-append_seam, drop-append_seam}
+use Rattle.wsyntax.specs.declared.ValType.{ValType}
+use Rattle.wcheck.specs.declared.frames.Level.{Level}
+use Rattle.wsyntax.specs.Validation.Algorithm.{Operands, Frame}
+use Rattle.wcheck.specs.Views.{cut, frame_of, under_all}
+use Rattle.wcheck.specs.Pass.{height}
+
+frame_with : Level → List (Option ValType) → Frame
+frame_with l k = frame_of l.shape record { known = k; is_dead = l.is_dead }
+
+pub opened_frames : (outer : List Level) (l : Level) (below known : List (Option ValType)) → l.base ≡ length below → cut (reverse (outer ++ l ∷ [])) (below ++ reverse known) ≡ frame_of l.shape record { known = known; is_dead = l.is_dead } ∷ cut (reverse outer) below
+unfolding frame_with
+opened_frames outer l below known e =
+    ap (λ z. cut z (below ++ reverse known)) (reverse-append outer (l ∷ []))
+    ∙ ap₂ (λ a b. frame_with l a ∷ cut (reverse outer) b)
+    (ap (λ n. reverse (drop n (below ++ reverse known))) e ∙ ap reverse (drop-append_seam below (reverse known)) ∙ reverse-reverse known)
+    (ap (λ n. take n (below ++ reverse known)) e ∙ take-append_seam below (reverse known))
+
+pub opened_under : (outer : List Level) (l : Level) (below more : List (Option ValType)) → l.base ≡ length below → under_all (reverse outer) below ≡ [] → under_all (reverse (outer ++ l ∷ [])) (below ++ more) ≡ []
+opened_under outer l below more e h =
+    ap (λ z. under_all z (below ++ more)) (reverse-append outer (l ∷ [])) ∙ ap (λ n. under_all (reverse outer) (take n (below ++ more))) e ∙ ap (under_all (reverse outer)) (take-append_seam below more) ∙ h
+
+pub closed_under : (outer : List Level) (l : Level) (below : List (Option ValType)) → under_all (reverse (outer ++ l ∷ [])) below ≡ [] → under_all (reverse outer) (take l.base below) ≡ []
+closed_under outer l below h = ap (λ z. under_all z below) (sym (reverse-append outer (l ∷ []))) ∙ h
+
+cut_height : (ls : List Level) (below : List (Option ValType)) → height (cut ls below) + length (under_all ls below) ≡ length below
+cut_height [] below = omega arith
+cut_height (l ∷ ls) below =
+    let k = cut_height ls (take l.base below) in
+    let r = length-reverse (drop l.base below) in
+    let s = ap length (take-append-drop l.base below) in
+    let a = length-append (take l.base below) (drop l.base below) in
+    omega (arith, k, r, s, a)
+
+pub tight_height : (ls : List Level) (below : List (Option ValType)) → under_all ls below ≡ [] → height (cut ls below) ≡ length below
+tight_height ls below e = let k = cut_height ls below in let q = ap length e in omega (arith, k, q)

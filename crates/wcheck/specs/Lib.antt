@@ -1,0 +1,13 @@
+pub mod Table
+pub mod Pass
+pub mod Laws
+pub mod Heights
+pub mod Views
+pub mod Effects
+pub mod Frames
+pub mod Checking
+pub mod Checked
+pub mod NoteViews
+pub mod Outcomes
+pub mod Bodies
+pub mod LocalRuns

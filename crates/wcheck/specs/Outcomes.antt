@@ -1,0 +1,19 @@
+-- What the pass over a body comes to, in the code.
+use Rattle.std.specs.Prelude.{◌≡◌, ℕ, List}
+use Rattle.wsyntax.specs.Instructions.{Token}
+use Rattle.wsyntax.specs.Validation.Context.{Stack, Context}
+use Rattle.wcheck.specs.declared.body.SideTable.{SideTable}
+use Rattle.wcheck.specs.declared.body.Outcome.{Outcome}
+use Rattle.wcheck.specs.declared.body.Outcome.TheVariants as outcome
+use Rattle.wcheck.specs.Table.{Filled}
+use Rattle.wcheck.specs.Pass.{Notes, Through, Refused, pass_all, filled}
+
+-- the tokens with the side table
+abbrev pub filled_with : List Token → SideTable → Filled
+filled_with tokens t = record { tokens = tokens; table = t.entries.items; cases = t.cases.items; height = t.height }
+
+-- the pass comes to this
+abbrev pub Comes : Context → Stack → List Token → Outcome → Type 0
+Comes C r tokens (outcome.Passes t) =
+    (n : Notes) × (pass_all C r tokens ≡ Through n) × (filled_with tokens t ≡ filled tokens n)
+Comes C r tokens (outcome.Refused k) = pass_all C r tokens ≡ Refused k

@@ -1,0 +1,43 @@
+-- What the code's values stand for.
+use Rattle.std.specs.Prelude.{◌≡◌, ℕ, ◌+◌, Bool, true, false, List, [], ◌∷◌, ◌++◌, Option, Some, None, reverse, map, cond, length, take, drop}
+use Rattle.wsyntax.specs.declared.ValType.{ValType}
+use Rattle.wsyntax.specs.declared.ValType.TheVariants.{I32}
+use Rattle.wsyntax.specs.Instructions.{Op, Token, Do}
+use Rattle.wsyntax.specs.Validation.Context.{Stack, Context, body_context}
+use Rattle.wsyntax.specs.Validation.Algorithm.{Operands, Frame, Rule, Takes, Ends, Drops, Selects, rule}
+use Rattle.wcheck.specs.declared.frames.Shape.{Shape}
+use Rattle.wcheck.specs.declared.frames.Level.{Level}
+use Rattle.wcheck.specs.declared.scope.Scope.{Scope}
+
+-- what its instructions look up, the labels apart
+abbrev pub scope_context : Scope → Context
+scope_context s = body_context (reverse s.results.now) (record s.context.now.context { locals = s.locals })
+
+abbrev pub label_of : Shape → Stack
+label_of x = cond x.is_loop (reverse x.starts.now) (reverse x.gives.now)
+
+abbrev pub labels_in : Shape → List Level → List Stack
+labels_in x outer = label_of x ∷ reverse (map (λ y. label_of y.shape) outer)
+
+-- the context in the innermost frame
+abbrev pub context_at : Scope → Shape → List Level → Context
+context_at s x outer = record (scope_context s) { labels = labels_in x outer }
+
+abbrev pub frame_of : Shape → Operands → Frame
+frame_of x o = record { is_then = x.is_then; label = label_of x; starts = reverse x.starts.now; gives = reverse x.gives.now; operands = o }
+
+-- the frames outside, the innermost first, whose operands these are, the lowest first
+abbrev pub cut : List Level → List (Option ValType) → List Frame
+cut [] below = []
+cut (l ∷ ls) below =
+    frame_of l.shape record { known = reverse (drop l.base below); is_dead = l.is_dead } ∷ cut ls (take l.base below)
+
+-- what lies under all frames
+abbrev pub under_all : List Level → List (Option ValType) → List (Option ValType)
+under_all [] below = below
+under_all (l ∷ ls) below = under_all ls (take l.base below)
+
+-- the rule of a token that is an instruction without a body
+abbrev pub token_rule : Context → Token → Option Rule
+token_rule C (Do i) = rule C i
+token_rule C _ = None

@@ -1,0 +1,149 @@
+ghost use Rattle.std.specs.Prelude.{◌≡◌, ◌+◌, ◌<◌, ◌↔◌, Bool, List, [], IsTrue, IfOk, length};
+ghost use Rattle.wsyntax.specs.Modules.{seen};
+ghost use Rattle.wsyntax.specs.Validation.Algorithm.{when, step};
+ghost use Rattle.wcheck.specs.Checking.{begun, with_frames};
+ghost use Rattle.wcheck.specs.Pass.{height, below_size, label_size, in_then};
+
+use crate::control::{Control, step_control};
+use crate::frames::{Shape, label};
+use crate::locals::Locals;
+use crate::operands::OperandStack;
+use crate::scope::{Scope, none};
+use std::alloc::{AllocError, Global};
+use std::marker::Model;
+use wcontext::{Context, Signature};
+use wsyntax::{LocalRun, Token};
+
+/// The check of one body after another, a token at a time (7.3). Its stacks outlive the bodies, so that a worker
+/// makes one checker for a module. After a refusal or an error only `begin` may be called.
+#[derive(Drop)]
+pub struct Checker<'a> {
+    scope: Scope<'a>,
+    control: Control<'a>,
+}
+
+impl<'a> Model for Checker<'a> {
+    ghost use Rattle.wcheck.specs.Checking.{Checking};
+
+    ghost Value = { Checking };
+
+    ghost use Rattle.wcheck.specs.Checked.{checking_of};
+    ghost use Rattle.wcheck.specs.Frames.{IsTight};
+
+    ghost view = { checking_of };
+
+    ghost invariant = { λ c. IsTight c.control };
+}
+
+impl<'a> Checker<'a> {
+    /// A checker for the bodies of a module, at the beginning of none.
+    pub fn new(alloc: Global, context: &'a Context) -> Self
+        ensures outside { result.outside ≡ context.now.context }
+        ensures frames { result.frames ≡ [] }
+    {
+        let scope = Scope {
+            context,
+            locals: Locals::new(alloc, none()),
+            results: none(),
+        };
+        let top = Shape {
+            is_then: false,
+            is_loop: false,
+            starts: none(),
+            gives: none(),
+        };
+        let control = Control {
+            operands: OperandStack::new(alloc),
+            top,
+            outer: Vec::new(alloc),
+            is_open: false,
+        };
+        Checker { scope, control }
+    }
+
+    /// Goes to the beginning of the body of the function of that index, imported ones counted, whose declared locals
+    /// are these.
+    pub fn begin(&mut self, func: u32, runs: &[LocalRun]) -> Result<(), AllocError>
+        requires { func < length self.old.outside.functions }
+        ensures begun { IfOk result (λ _. self.new ≡ begun self.old.outside func runs.now) }
+        ensures outside { self.new.outside ≡ self.old.outside }
+    {
+        let Some(Signature { params, results }) = self.scope.context.function(func) else {
+            unreachable!()
+        };
+        self.scope.results = results;
+        self.scope.locals.set(params, runs)?;
+        self.control.operands.clear();
+        self.control.outer.clear();
+        self.control.top = Shape {
+            is_then: false,
+            is_loop: false,
+            starts: none(),
+            gives: results,
+        };
+        self.control.is_open = true;
+        Ok(())
+    }
+
+    /// Looks at the next token. A branch table's labels lie in the list of targets, as in a body. `false`: no typed
+    /// body begins with the tokens so far.
+    #[inline(always)]
+    pub fn step(&mut self, token: Token, targets: &[u32]) -> Result<bool, AllocError>
+        ensures step { IfOk result (λ ok. step self.old.inside (seen targets.now token) self.old.frames ≡ when ok (Some self.new.frames)) }
+        ensures same { IfOk result (λ _. self.new ≡ with_frames self.old self.new.frames) }
+        ensures outside { self.new.outside ≡ self.old.outside }
+    {
+        step_control(&self.scope, targets, &mut self.control, token)
+    }
+
+    /// Whether the body has ended: it is typed where each token so far was taken.
+    #[inline]
+    pub fn finish(&self) -> bool
+        ensures { IsTrue result ↔ (self.now.frames ≡ []) }
+    {
+        !self.control.is_open
+    }
+
+    /// The operands in all open frames.
+    #[tactic(auto, using(crate::proofs::Cuts::tight_height))]
+    pub(crate) fn height(&self) -> usize
+        ensures { result ≡ height self.now.frames }
+    {
+        if self.control.is_open {
+            self.control.operands.height()
+        } else {
+            0
+        }
+    }
+
+    /// The operands below the innermost frame.
+    #[tactic(auto, using(crate::proofs::Cuts::tight_height))]
+    pub(crate) fn below(&self) -> usize
+        ensures { result ≡ below_size self.now.frames }
+    {
+        if self.control.is_open {
+            self.control.operands.base()
+        } else {
+            0
+        }
+    }
+
+    /// How many operands a branch to the innermost frame takes.
+    #[tactic(auto, using(crate::proofs::ListFacts::reverse_length))]
+    pub(crate) fn arity(&self) -> usize
+        ensures { result ≡ label_size self.now.frames }
+    {
+        if self.control.is_open {
+            label(self.control.top).len()
+        } else {
+            0
+        }
+    }
+
+    /// Whether the innermost frame is an if whose else may still come.
+    pub(crate) fn is_then(&self) -> bool
+        ensures { result ≡ in_then self.now.frames }
+    {
+        self.control.is_open && self.control.top.is_then
+    }
+}

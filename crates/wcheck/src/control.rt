@@ -1,0 +1,155 @@
+ghost use Rattle.std.specs.Prelude.{◌≡◌, ◌≤◌, ◌+◌, List, [], ◌∷◌, ◌++◌, Bool, true, false, cond, Option, MatchOption, IfOk, reverse, map, length};
+ghost use Rattle.wsyntax.specs.Modules.{seen};
+ghost use Rattle.wsyntax.specs.Validation.Algorithm.{on, when, apply, open_frame, ends_with, may_lack_else, pass_on, fresh, step};
+ghost use Rattle.wcheck.specs.Views.{scope_context, context_at, token_rule, cut, frame_of};
+ghost use Rattle.wcheck.specs.Frames.{inner_of, frames_of, IsTight};
+
+use crate::effect::effect_of;
+use crate::frames::{Level, Shape};
+use crate::operands::OperandStack;
+use crate::perform::perform;
+use crate::scope::{Scope, block_signature};
+use std::alloc::AllocError;
+use wcontext::Signature;
+use wsyntax::{Token, ValType};
+
+/// The open frames: the innermost one apart, and the others.
+#[derive(Drop)]
+pub struct Control<'a> {
+    pub operands: OperandStack,
+    pub top: Shape<'a>,
+    pub outer: Vec<Level<'a>>,
+    /// False once the function is closed.
+    pub is_open: bool,
+}
+
+/// Opens a frame.
+#[tactic(auto, using(crate::proofs::Cuts::opened_frames, crate::proofs::Cuts::opened_under))]
+pub fn open_level<'a>(
+    control: &mut Control<'a>,
+    is_then: bool,
+    is_loop: bool,
+    params: &'a [ValType],
+    results: &'a [ValType],
+) -> Result<bool, AllocError>
+    ensures frames { IfOk result (λ yes. open_frame is_then (cond is_loop (reverse params.now) (reverse results.now)) record { params = params.now; results = results.now } (frame_of control.old.top control.old.operands.above) (cut (reverse control.old.outer.items) control.old.operands.below) control.old.operands.above ≡ when yes (Some (inner_of control.new))) }
+    ensures open { IfOk result (λ yes. control.new.is_open ≡ control.old.is_open) }
+    ensures tight { IsTight control.old → IsTight control.new }
+{
+    if !control.operands.take_all(params) {
+        return Ok(false);
+    }
+    let level = Level {
+        shape: control.top,
+        base: control.operands.base(),
+        is_dead: control.operands.is_dead(),
+    };
+    control.outer.push(level)?;
+    control.operands.open();
+    control.operands.put(params)?;
+    control.top = Shape {
+        is_then,
+        is_loop,
+        starts: params,
+        gives: results,
+    };
+    Ok(true)
+}
+
+/// Goes on from the first branch of an if to the second.
+pub fn other_branch(control: &mut Control) -> Result<bool, AllocError>
+    ensures frames { IfOk result (λ yes. when control.old.top.is_then (when (ends_with (reverse control.old.top.gives.now) control.old.operands.above) (Some (record (frame_of control.old.top control.old.operands.above) { is_then = false; operands = fresh (reverse control.old.top.starts.now) } ∷ cut (reverse control.old.outer.items) control.old.operands.below))) ≡ when yes (Some (inner_of control.new))) }
+    ensures open { IfOk result (λ yes. control.new.is_open ≡ control.old.is_open) }
+    ensures tight { IsTight control.old → IsTight control.new }
+{
+    if !control.top.is_then {
+        return Ok(false);
+    }
+    if !control.operands.ends_with(control.top.gives) {
+        return Ok(false);
+    }
+    control.operands.again();
+    control.operands.put(control.top.starts)?;
+    control.top.is_then = false;
+    Ok(true)
+}
+
+/// Closes the innermost frame.
+#[tactic(auto, using(crate::proofs::Cuts::closed_under))]
+pub fn close_level(control: &mut Control) -> Result<bool, AllocError>
+    requires { control.old.is_open ≡ true }
+    ensures tight { IsTight control.old → IsTight control.new }
+    ensures frames { IfOk result (λ yes. when (ends_with (reverse control.old.top.gives.now) control.old.operands.above) (when (may_lack_else (frame_of control.old.top control.old.operands.above)) (Some (pass_on (reverse control.old.top.gives.now) (cut (reverse control.old.outer.items) control.old.operands.below)))) ≡ when yes (Some (frames_of control.new))) }
+{
+    if !control.operands.ends_with(control.top.gives) {
+        return Ok(false);
+    }
+    if control.top.is_then {
+        control.operands.again();
+        control.operands.put(control.top.starts)?;
+        if !control.operands.ends_with(control.top.gives) {
+            return Ok(false);
+        }
+    }
+    match control.outer.pop() {
+        Some(level) => {
+            control.operands.close(level.base, level.is_dead);
+            control.operands.put(control.top.gives)?;
+            control.top = level.shape;
+        }
+        None => {
+            control.is_open = false;
+        }
+    }
+    Ok(true)
+}
+
+/// One token.
+#[inline(always)]
+#[tactic(auto, using(crate::proofs::Behind::labels_outside, crate::proofs::Plain::plain))]
+pub fn step_control<'a>(
+    scope: &Scope<'a>,
+    targets: &[u32],
+    control: &mut Control<'a>,
+    token: Token,
+) -> Result<bool, AllocError>
+    ensures frames { IfOk result (λ yes. step (scope_context scope.now) (seen targets.now token) (frames_of control.old) ≡ when yes (Some (frames_of control.new))) }
+    ensures tight { IsTight control.old → IsTight control.new }
+{
+    if !control.is_open {
+        return Ok(false);
+    }
+    match token {
+        Token::Block(block) => match block_signature(scope.context, block) {
+            Some(Signature { params, results }) => open_level(
+                control, false, false, params, results,
+            ),
+            None => Ok(false),
+        },
+        Token::Loop(block) => match block_signature(scope.context, block) {
+            Some(Signature { params, results }) => open_level(
+                control, false, true, params, results,
+            ),
+            None => Ok(false),
+        },
+        Token::If(block) => match block_signature(scope.context, block) {
+            Some(Signature { params, results }) => {
+                if control.operands.take_one(ValType::I32) {
+                    open_level(control, true, false, params, results)
+                } else {
+                    Ok(false)
+                }
+            }
+            None => Ok(false),
+        },
+        Token::Else => other_branch(control),
+        Token::End => close_level(control),
+        _ => match effect_of(scope, control.top, &control.outer, targets, token) {
+            Some(effect) => {
+                let yes = perform(&mut control.operands, effect)?;
+                Ok(yes)
+            }
+            None => Ok(false),
+        },
+    }
+}

@@ -1,0 +1,24 @@
+//! The typing of function bodies (Core 1.0, 3.3 and 3.4.1), and the side table that a checked body carries.
+#![tactic(auto)]
+
+mod body;
+mod checked;
+mod checker;
+mod control;
+mod destination;
+mod effect;
+mod frames;
+mod laws;
+mod locals;
+mod notes;
+mod noting;
+mod operands;
+mod perform;
+mod scope;
+
+pub use checked::{CheckFault, CheckedBody, check_body};
+pub use checker::Checker;
+pub use destination::Destination;
+
+#[cfg(test)]
+mod tests;

@@ -1,0 +1,214 @@
+ghost use Rattle.std.specs.Prelude.{◌≡◌, ◌≤◌, ◌+◌, List, [], ◌∷◌, ◌++◌, Bool, true, false, Option, MatchOption, IfOk, reverse, take, drop, length, vec_len};
+ghost use Rattle.wsyntax.specs.Types.{same_type};
+ghost use Rattle.wsyntax.specs.Validation.Algorithm.{when, take_any, take_one, take_all, put, fresh, is_nil, ends_with};
+
+use std::alloc::{AllocError, Global};
+use std::marker::Model;
+use wsyntax::ValType;
+
+/// Whether two value types are the same.
+#[inline]
+pub fn is_same(a: ValType, b: ValType) -> bool
+    ensures { result ≡ same_type a b }
+{
+    match (a, b) {
+        (ValType::I32, ValType::I32) => true,
+        (ValType::I64, ValType::I64) => true,
+        (ValType::F32, ValType::F32) => true,
+        (ValType::F64, ValType::F64) => true,
+        _ => false,
+    }
+}
+
+/// The types of the operands of all open frames, in one list. `None` is a type that is not known.
+#[derive(Drop)]
+pub struct OperandStack {
+    types: Vec<Option<ValType>>,
+    base: usize,
+    is_dead: bool,
+}
+
+impl Model for OperandStack {
+    ghost use Rattle.std.specs.Prelude.{reverse, take, drop, vec_len, ◌≤◌};
+    ghost use Rattle.wcheck.specs.Heights.{Stacked};
+
+    ghost Value = { Stacked };
+
+    ghost view = { λ p. record { below = take p.base p.types.items; above = record { known = reverse (drop p.base p.types.items); is_dead = p.is_dead } } };
+
+    ghost invariant = { λ p. p.base ≤ vec_len p.types };
+}
+
+impl OperandStack {
+    pub fn new(alloc: Global) -> Self
+        ensures { result ≡ record { below = []; above = fresh [] } }
+    {
+        OperandStack {
+            types: Vec::new(alloc),
+            base: 0,
+            is_dead: false,
+        }
+    }
+
+    /// Forgets all operands and all frames but one.
+    pub fn clear(&mut self)
+        ensures { self.new ≡ record { below = []; above = fresh [] } }
+    {
+        self.types.clear();
+        self.base = 0;
+        self.is_dead = false;
+    }
+
+    /// The operands in all frames.
+    #[inline]
+    pub fn height(&self) -> usize
+        ensures { result ≡ length self.now.below + length self.now.above.known }
+    {
+        self.types.len()
+    }
+
+    /// The operands below the innermost frame.
+    #[inline]
+    pub fn base(&self) -> usize
+        ensures { result ≡ length self.now.below }
+    {
+        self.base
+    }
+
+    /// Whether the innermost frame has no operand that is known.
+    #[inline]
+    pub fn is_empty(&self) -> bool
+        ensures { result ≡ is_nil self.now.above.known }
+    {
+        self.types.len() == self.base
+    }
+
+    /// Whether what follows in the innermost frame cannot be reached.
+    #[inline]
+    pub fn is_dead(&self) -> bool
+        ensures { result ≡ self.now.above.is_dead }
+    {
+        self.is_dead
+    }
+
+    /// Takes the topmost operand of the innermost frame.
+    #[inline]
+    pub fn take_any(&mut self) -> Option<Option<ValType>>
+        ensures above { MatchOption result (take_any self.old.above ≡ None) (λ x. take_any self.old.above ≡ Some (x, self.new.above)) }
+        ensures below { self.new.below ≡ self.old.below }
+    {
+        if self.types.len() > self.base {
+            self.types.pop()
+        } else if self.is_dead {
+            Some(None)
+        } else {
+            None
+        }
+    }
+
+    /// Takes the topmost operand, if it may be of this type.
+    #[inline]
+    pub fn take_one(&mut self, t: ValType) -> bool
+        ensures above { take_one t self.old.above ≡ when result (Some self.new.above) }
+        ensures below { self.new.below ≡ self.old.below }
+    {
+        match self.take_any() {
+            None => false,
+            Some(None) => true,
+            Some(Some(u)) => is_same(u, t),
+        }
+    }
+
+    /// Takes operands of these types, the last first. Once none is known, nothing more is looked at.
+    #[tactic(auto, using(crate::proofs::ListFacts::taken_empty))]
+    pub fn take_all(&mut self, ts: &[ValType]) -> bool
+        ensures above { take_all (reverse ts.now) self.old.above ≡ when result (Some self.new.above) }
+        ensures below { self.new.below ≡ self.old.below }
+    {
+        let mut i = ts.len();
+        while i > 0 {
+            if self.is_empty() {
+                return self.is_dead();
+            }
+            i -= 1;
+            if !self.take_one(ts[i]) {
+                return false;
+            }
+        }
+        true
+    }
+
+    /// Puts an operand on top.
+    #[inline]
+    pub fn put_one(&mut self, x: Option<ValType>) -> Result<(), AllocError>
+        ensures above { IfOk result (λ _. self.new.above ≡ record { known = x ∷ self.old.above.known; is_dead = self.old.above.is_dead }) }
+        ensures below { self.new.below ≡ self.old.below }
+    {
+        self.types.push(x)?;
+        Ok(())
+    }
+
+    /// Puts operands of these types, the last one topmost.
+    pub fn put(&mut self, ts: &[ValType]) -> Result<(), AllocError>
+        ensures above { IfOk result (λ _. self.new.above ≡ put (reverse ts.now) self.old.above) }
+        ensures below { self.new.below ≡ self.old.below }
+    {
+        for t in ts {
+            self.put_one(Some(*t))?;
+        }
+        Ok(())
+    }
+
+    /// What follows cannot be reached: no operand is known, and any may be taken.
+    #[inline]
+    pub fn kill(&mut self)
+        ensures above { self.new.above ≡ record { known = []; is_dead = true } }
+        ensures below { self.new.below ≡ self.old.below }
+    {
+        self.types.truncate(self.base);
+        self.is_dead = true;
+    }
+
+    /// Begins a frame with no operands.
+    #[inline]
+    pub fn open(&mut self)
+        ensures above { self.new.above ≡ fresh [] }
+        ensures below { self.new.below ≡ self.old.below ++ reverse self.old.above.known }
+    {
+        self.base = self.types.len();
+        self.is_dead = false;
+    }
+
+    /// Begins the frame again, with no operands.
+    #[inline]
+    pub fn again(&mut self)
+        ensures above { self.new.above ≡ fresh [] }
+        ensures below { self.new.below ≡ self.old.below }
+    {
+        self.types.truncate(self.base);
+        self.is_dead = false;
+    }
+
+    /// Goes back to the frame that began at this height.
+    #[inline]
+    pub fn close(&mut self, base: usize, is_dead: bool)
+        ensures above { self.new.above ≡ record { known = reverse (drop base self.old.below); is_dead = is_dead } }
+        ensures below { self.new.below ≡ take base self.old.below }
+    {
+        self.types.truncate(self.base);
+        self.base = if base <= self.types.len() {
+            base
+        } else {
+            self.types.len()
+        };
+        self.is_dead = is_dead;
+    }
+
+    /// Whether the operands are exactly these, which are taken.
+    pub fn ends_with(&mut self, ts: &[ValType]) -> bool
+        ensures answer { result ≡ ends_with (reverse ts.now) self.old.above }
+        ensures below { self.new.below ≡ self.old.below }
+    {
+        self.take_all(ts) && self.is_empty()
+    }
+}

@@ -1,0 +1,5 @@
+pub mod Shapes
+pub mod Constants
+pub mod Counts
+pub mod Distinct
+pub mod Ranges

@@ -1,0 +1,29 @@
+use Rattle.std.proofs.Common.{◌≡◌, ◌<◌, length, subst, sym, ◌∙◌}
+use Rattle.std.specs.List.{All}
+use Rattle.wsyntax.specs.Modules.{module_shape, element_shape, tokens_of}
+use Rattle.wsyntax.specs.Validation.ModuleContext.{tables_of, functions_of}
+use Rattle.wsyntax.specs.Validation.Rules.{ConstantOf, ElementValid}
+use Rattle.wsyntax.specs.declared.ValType.TheVariants.{I32}
+use Rattle.wcontext.specs.Segments.{IsElementValid}
+use Rattle.wcontext.proofs.Counts.{imported_is}
+use Rattle.wcontext.proofs.Shapes.{all_shapes_of}
+use Rattle.wcontext.proofs.rules.elements_valid.Goals as goal
+
+pub returns : goal.returns
+returns c =
+    let known = c.constant_globals.ensures ∙ imported_is c.requires in
+    let tables : c.len.result ≡ length (tables_of (module_shape c.args.module.now)) = cc in
+    let functions : c.len-2.result ≡ length (functions_of (module_shape c.args.module.now)) = cc in
+    all_shapes_of element_shape (ElementValid (module_shape c.args.module.now))
+    (IsElementValid c.len.result c.len-2.result c.constant_globals.result.now)
+    c.args.module.now.elements.items
+    _
+    _
+    c.deref.ensures.value
+    (λ s is. record {
+      in_table = subst (λ n. s.table < n) tables is.0;
+      constant = subst (λ gs. ConstantOf gs I32 (tokens_of s.offset)) known is.1;
+      functions = subst (λ n. All (λ f. f < n) s.functions.items) functions is.2;
+    })
+    (λ s is. (subst (λ n. s.table < n) (sym tables) is.in_table, subst (λ gs. ConstantOf gs I32 (tokens_of s.offset)) (sym known) is.constant, subst (λ n. All (λ f. f < n) s.functions.items) (sym functions) is.functions))
+    c.are_elements_valid.ensures

@@ -1,0 +1,21 @@
+use Rattle.std.proofs.Common.{subst, sym, ◌∙◌}
+use Rattle.wsyntax.specs.Modules.{module_shape, global_shape, tokens_of}
+use Rattle.wsyntax.specs.Validation.ModuleContext.{imported_globals}
+use Rattle.wsyntax.specs.Validation.Rules.{ConstantOf}
+use Rattle.wcontext.specs.Segments.{IsGlobalConstant}
+use Rattle.wcontext.proofs.Counts.{imported_is}
+use Rattle.wcontext.proofs.Shapes.{all_shapes_of}
+use Rattle.wcontext.proofs.rules.globals_constant.Goals as goal
+
+pub returns : goal.returns
+returns c =
+    let known = c.constant_globals.ensures ∙ imported_is c.requires in
+    all_shapes_of global_shape (λ g. ConstantOf (imported_globals (module_shape c.args.module.now)) g.content.content g.init)
+    (IsGlobalConstant c.constant_globals.result.now)
+    c.args.module.now.globals.items
+    _
+    _
+    c.deref.ensures.value
+    (λ g is. subst (λ gs. ConstantOf gs g.content.content (tokens_of g.init)) known is)
+    (λ g is. subst (λ gs. ConstantOf gs g.content.content (tokens_of g.init)) (sym known) is)
+    c.are_constant.ensures

@@ -1,0 +1,6 @@
+pub mod Signatures
+pub mod Held
+pub mod Indexed
+pub mod Constants
+pub mod Spaces
+pub mod Segments

@@ -1,0 +1,137 @@
+use crate::held::{HeldTypes, TypeRange, held_types};
+use crate::signature::Signature;
+use crate::spaces::Spaces;
+use std::alloc::{AllocError, Global};
+use std::marker::Model;
+use wsyntax::{GlobalType, Module, ValType};
+
+/// What the bodies of a module's functions are checked under (3.1.1): it owns all that it looks up, so it does not
+/// borrow the module. Each look-up takes constant time. Indices of functions and globals count the imported ones
+/// first.
+#[derive(Debug, Drop)]
+pub struct Context {
+    values: Vec<ValType>,
+    types: Vec<TypeRange>,
+    functions: Vec<u32>,
+    imported: usize,
+    globals: Vec<GlobalType>,
+    has_table: bool,
+    has_memory: bool,
+}
+
+impl Model for Context {
+    ghost use Rattle.wsyntax.specs.Validation.ModuleContext.{IndexedContext};
+
+    ghost Value = { IndexedContext };
+
+    ghost use Rattle.wcontext.specs.Indexed.{indexed, IsHeld};
+
+    ghost view = { indexed };
+
+    ghost invariant = { IsHeld };
+}
+
+impl Context {
+    ghost use Rattle.std.specs.Prelude.{◌≡◌, ◌≤◌, length, slice_get, option_map, IfSome, IfOk};
+    ghost use Rattle.wsyntax.specs.Modules.{module_shape};
+    ghost use Rattle.wsyntax.specs.Validation.ModuleContext.{indexed_context};
+    ghost use Rattle.wsyntax.specs.Validation.Rules.{ImportsTyped, FunctionsTyped};
+    ghost use Rattle.wcontext.specs.Signatures.{lent_type};
+    ghost use Rattle.wcontext.specs.Spaces.{AreSpacesOf};
+
+    /// The context of a module whose functions all have types.
+    pub(crate) fn new(
+        alloc: Global,
+        module: &Module<'_>,
+        spaces: Spaces,
+    ) -> Result<Context, AllocError>
+        requires spaces { AreSpacesOf (module_shape «module».now) spaces }
+        requires imports { ImportsTyped (module_shape «module».now) }
+        requires functions { FunctionsTyped (module_shape «module».now) }
+        ensures { IfOk result (λ c. c ≡ indexed_context (module_shape «module».now)) }
+    {
+        let HeldTypes { values, ranges } = held_types(alloc, &module.types)?;
+        Ok(Context {
+            values,
+            types: ranges,
+            imported: spaces.imported_functions,
+            has_table: !spaces.tables.is_empty(),
+            has_memory: !spaces.memories.is_empty(),
+            functions: spaces.functions,
+            globals: spaces.globals,
+        })
+    }
+
+    /// The function type of that index; `None` where the module has none.
+    #[inline]
+    pub fn signature(&self, type_index: u32) -> Option<Signature<'_>>
+        ensures { option_map lent_type result ≡ slice_get self.now.context.types type_index }
+    {
+        let range = self.types.get(type_index as usize)?;
+        Some(Signature {
+            params: &self.values[range.start..range.middle],
+            results: &self.values[range.middle..range.end],
+        })
+    }
+
+    /// The type of the function of that index; `None` where the module has none.
+    #[inline]
+    pub fn function(&self, func: u32) -> Option<Signature<'_>>
+        ensures { option_map lent_type result ≡ slice_get self.now.context.functions func }
+    {
+        let type_index = self.functions.get(func as usize)?;
+        self.signature(*type_index)
+    }
+
+    /// The index of the type of that function, by which equal types can be known equal without comparing them;
+    /// `None` where the module has no such function.
+    #[inline]
+    pub fn type_of(&self, func: u32) -> Option<u32>
+        ensures index { result ≡ slice_get self.now.function_types func }
+        ensures same { IfSome result (λ y. slice_get self.now.context.types y ≡ slice_get self.now.context.functions func) }
+    {
+        self.functions.get(func as usize).copied()
+    }
+
+    /// The type of the global of that index; `None` where the module has none.
+    #[inline]
+    pub fn global(&self, index: u32) -> Option<GlobalType>
+        ensures { result ≡ slice_get self.now.context.globals index }
+    {
+        self.globals.get(index as usize).copied()
+    }
+
+    /// Whether the module has a table, imported or defined.
+    #[inline]
+    pub fn has_table(&self) -> bool
+        ensures { result ≡ self.now.context.has_table }
+    {
+        self.has_table
+    }
+
+    /// Whether the module has a memory, imported or defined.
+    #[inline]
+    pub fn has_memory(&self) -> bool
+        ensures { result ≡ self.now.context.has_memory }
+    {
+        self.has_memory
+    }
+
+    /// How many functions there are, imported ones counted.
+    #[inline]
+    pub fn function_count(&self) -> usize
+        ensures functions { result ≡ length self.now.context.functions }
+        ensures indices { result ≡ length self.now.function_types }
+    {
+        self.functions.len()
+    }
+
+    /// How many functions are imported: their indices come first.
+    #[inline]
+    pub fn imported_functions(&self) -> usize
+        ensures count { result ≡ self.now.imported }
+        ensures within { result ≤ length self.now.context.functions }
+    {
+        self.imported
+    }
+}

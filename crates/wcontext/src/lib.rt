@@ -1,0 +1,24 @@
+//! The rules that a module keeps (3.4), and the context under which the bodies of its functions are checked (3.1.1).
+#![tactic(auto)]
+
+mod check;
+mod constant;
+mod context;
+mod fault;
+mod held;
+mod imports;
+mod limits;
+mod names;
+mod rules;
+mod segments;
+mod signature;
+mod spaces;
+mod start;
+
+pub use check::check_module;
+pub use context::Context;
+pub use fault::ModuleFault;
+pub use signature::Signature;
+
+#[cfg(test)]
+mod tests;

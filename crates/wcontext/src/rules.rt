@@ -1,0 +1,141 @@
+//! The rules that a module keeps (3.2, 3.4), one function a rule, in the order in which they are looked at.
+ghost use Rattle.std.specs.Prelude.{◌↔◌, IsTrue, IfOk};
+ghost use Rattle.wsyntax.specs.Modules.{module_shape};
+ghost use Rattle.wsyntax.specs.Validation.Rules.{FewResults, ImportsTyped, FunctionsTyped, TablesLimited, MemoriesLimited, OneTable, OneMemory, GlobalsConstant, ExportsExist, ExportsDistinct, StartsPlainly, ElementsValid, SegmentsValid};
+ghost use Rattle.wcontext.specs.Spaces.{AreSpacesOf};
+
+use crate::constant::are_constant;
+use crate::limits::{are_in_order, are_within_pages};
+use crate::names::are_distinct;
+use crate::segments::{are_data_valid, are_elements_valid};
+use crate::spaces::Spaces;
+use crate::start::has_empty_type;
+use std::alloc::{AllocError, Global};
+use wsyntax::Module;
+
+/// Rule 1: each function type has at most one result.
+pub fn few_results(module: &Module<'_>) -> bool
+    ensures { IsTrue result ↔ FewResults (module_shape «module».now) }
+{
+    module
+        .types
+        .iter()
+        .all(|of_type| of_type.results.len() <= 1)
+}
+
+/// Rule 2: the type of each imported function exists.
+pub fn imports_typed(module: &Module<'_>, spaces: &Spaces) -> bool
+    requires { AreSpacesOf (module_shape «module».now) spaces.now }
+    ensures { IsTrue result ↔ ImportsTyped (module_shape «module».now) }
+{
+    let types = module.types.len();
+    spaces.functions[..spaces.imported_functions]
+        .iter()
+        .all(|type_index| (*type_index as usize) < types)
+}
+
+/// Rule 3: the type of each defined function exists.
+pub fn functions_typed(module: &Module<'_>) -> bool
+    ensures { IsTrue result ↔ FunctionsTyped (module_shape «module».now) }
+{
+    let types = module.types.len();
+    module
+        .functions
+        .iter()
+        .all(|type_index| (*type_index as usize) < types)
+}
+
+/// Rule 4: the limits of each table are in order.
+pub fn tables_limited(module: &Module<'_>, spaces: &Spaces) -> bool
+    requires { AreSpacesOf (module_shape «module».now) spaces.now }
+    ensures { IsTrue result ↔ TablesLimited (module_shape «module».now) }
+{
+    spaces.tables.iter().all(|table| are_in_order(table.limits))
+}
+
+/// Rule 5: the limits of each memory are within 65,536 pages.
+pub fn memories_limited(module: &Module<'_>, spaces: &Spaces) -> bool
+    requires { AreSpacesOf (module_shape «module».now) spaces.now }
+    ensures { IsTrue result ↔ MemoriesLimited (module_shape «module».now) }
+{
+    spaces
+        .memories
+        .iter()
+        .all(|limits| are_within_pages(*limits))
+}
+
+/// Rule 6: there is at most one table.
+pub fn one_table(module: &Module<'_>, spaces: &Spaces) -> bool
+    requires { AreSpacesOf (module_shape «module».now) spaces.now }
+    ensures { IsTrue result ↔ OneTable (module_shape «module».now) }
+{
+    spaces.tables.len() <= 1
+}
+
+/// Rule 7: there is at most one memory.
+pub fn one_memory(module: &Module<'_>, spaces: &Spaces) -> bool
+    requires { AreSpacesOf (module_shape «module».now) spaces.now }
+    ensures { IsTrue result ↔ OneMemory (module_shape «module».now) }
+{
+    spaces.memories.len() <= 1
+}
+
+/// Rule 8: each global's first value is a constant expression of its type.
+pub fn globals_constant(module: &Module<'_>, spaces: &Spaces) -> bool
+    requires { AreSpacesOf (module_shape «module».now) spaces.now }
+    ensures { IsTrue result ↔ GlobalsConstant (module_shape «module».now) }
+{
+    are_constant(&module.globals, spaces.constant_globals())
+}
+
+/// Rule 9: each exported index exists in its space.
+pub fn exports_exist(module: &Module<'_>, spaces: &Spaces) -> bool
+    requires { AreSpacesOf (module_shape «module».now) spaces.now }
+    ensures { IsTrue result ↔ ExportsExist (module_shape «module».now) }
+{
+    module.exports.iter().all(|export| (export.index as usize) < spaces.count(export.kind))
+}
+
+/// Rule 10: export names are distinct.
+pub fn exports_distinct(alloc: Global, module: &Module<'_>) -> Result<bool, AllocError>
+    ensures { IfOk result (λ b. IsTrue b ↔ ExportsDistinct (module_shape «module».now)) }
+{
+    are_distinct(alloc, &module.exports)
+}
+
+/// Rule 11: the start function exists and has type `[] -> []`.
+pub fn starts_plainly(module: &Module<'_>, spaces: &Spaces) -> bool
+    requires { AreSpacesOf (module_shape «module».now) spaces.now }
+    ensures { IsTrue result ↔ StartsPlainly (module_shape «module».now) }
+{
+    match module.start {
+        None => true,
+        Some(func) => has_empty_type(func, &spaces.functions, &module.types),
+    }
+}
+
+/// Rule 12: of each element segment the table exists, the offset is a constant expression of type i32, the functions
+/// exist.
+pub fn elements_valid(module: &Module<'_>, spaces: &Spaces) -> bool
+    requires { AreSpacesOf (module_shape «module».now) spaces.now }
+    ensures { IsTrue result ↔ ElementsValid (module_shape «module».now) }
+{
+    are_elements_valid(
+        &module.elements,
+        spaces.tables.len(),
+        spaces.functions.len(),
+        spaces.constant_globals(),
+    )
+}
+
+/// Rule 13: of each data segment the memory exists, the offset is a constant expression of type i32.
+pub fn segments_valid(module: &Module<'_>, spaces: &Spaces) -> bool
+    requires { AreSpacesOf (module_shape «module».now) spaces.now }
+    ensures { IsTrue result ↔ SegmentsValid (module_shape «module».now) }
+{
+    are_data_valid(
+        &module.data,
+        spaces.memories.len(),
+        spaces.constant_globals(),
+    )
+}

@@ -1,0 +1,58 @@
+ghost use Rattle.std.specs.Prelude.{◌↔◌, IsTrue, All};
+ghost use Rattle.wcontext.specs.Segments.{IsElementValid, IsDataValid};
+
+use crate::constant::is_constant;
+use wsyntax::{Data, Element, GlobalType, ValType};
+
+/// Whether an element segment is valid (3.4.5), where so many tables and functions exist.
+fn is_element_valid(
+    segment: &Element,
+    tables: usize,
+    functions: usize,
+    globals: &[GlobalType],
+) -> bool
+    ensures { IsTrue result ↔ IsElementValid tables functions globals.now segment.now }
+{
+    (segment.table as usize) < tables
+        && is_constant(&segment.offset, ValType::I32, globals)
+        && segment
+            .functions
+            .iter()
+            .all(|func| (*func as usize) < functions)
+}
+
+/// Whether a data segment is valid (3.4.6), where so many memories exist.
+fn is_data_valid(segment: &Data<'_>, memories: usize, globals: &[GlobalType]) -> bool
+    ensures { IsTrue result ↔ IsDataValid memories globals.now segment.now }
+{
+    (segment.memory as usize) < memories && is_constant(&segment.offset, ValType::I32, globals)
+}
+
+/// Whether all element segments are valid.
+pub fn are_elements_valid(
+    segments: &[Element],
+    tables: usize,
+    functions: usize,
+    globals: &[GlobalType],
+) -> bool
+    ensures { IsTrue result ↔ All (IsElementValid tables functions globals.now) segments.now }
+{
+    for segment in segments {
+        if !is_element_valid(segment, tables, functions, globals) {
+            return false;
+        }
+    }
+    true
+}
+
+/// Whether all data segments are valid.
+pub fn are_data_valid(segments: &[Data<'_>], memories: usize, globals: &[GlobalType]) -> bool
+    ensures { IsTrue result ↔ All (IsDataValid memories globals.now) segments.now }
+{
+    for segment in segments {
+        if !is_data_valid(segment, memories, globals) {
+            return false;
+        }
+    }
+    true
+}

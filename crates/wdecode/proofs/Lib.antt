@@ -1,0 +1,15 @@
+pub mod Agree
+pub mod TypeLaws
+pub mod Loop
+pub mod InstructionLaws
+pub mod OneToken
+pub mod Trees
+pub mod Targets
+pub mod FlatLoop
+pub mod SectionLaws
+pub mod SectionList
+pub mod OneTreeLaws
+pub mod Determined
+pub mod Closed
+pub mod ClosedTrees
+pub mod OneLoop

@@ -1,0 +1,90 @@
+ghost use Rattle.std.specs.Prelude.{◌≡◌, ◌≤◌, ◌<◌, ◌^◌, ℕ, List, length, nat_lt, IfOk, IsErrOf, Option, Some, None, if◌then◌else◌};
+ghost use Rattle.wdecode.specs.Gives.{Gives};
+ghost use Rattle.wsyntax.specs.Modules.{BodyShape, body_shape};
+ghost use Rattle.wsyntax.specs.Binary.Production.{whole_at};
+ghost use Rattle.wsyntax.specs.Binary.Sections.{body, locals as locals_production, locals_of};
+ghost use Rattle.wsyntax.specs.Binary.Shell.{SpellsBody, FewLocals, local_limit};
+
+use crate::fault::{BodyFault, Fault};
+use crate::instructions::expression_at;
+use crate::values::vector_at;
+use std::alloc::Global as Alloc;
+use wsyntax::{Body, LocalRun};
+
+/// The most declared locals of a body, parameters aside.
+const LOCAL_LIMIT: u32 = 50_000;
+
+/// How many locals runs declare, where they are fewer than 2^32.
+fn count_locals(runs: &[LocalRun]) -> Option<u32>
+    ensures { result ≡ (if nat_lt (locals_of runs.now) (2 ^ 32) then Some (locals_of runs.now) else None) }
+{
+    let mut sum: u64 = 0;
+    for run in runs {
+        sum += u64::from(run.count);
+        if sum >= 4294967296 {
+            return None;
+        }
+    }
+    Some(sum as u32)
+}
+
+/// The runs of declared locals (5.5.13).
+#[tactic(auto, unfolding(wsyntax::specs::Binary::Sections::locals))]
+pub fn locals_at(alloc: Alloc, bytes: &[u8]) -> Result<(Vec<LocalRun>, &[u8]), Fault>
+    ensures { Gives (λ x. (x.0.items, x.1.now)) result (locals_production.read bytes.now) }
+{
+    let (runs, rest) = vector_at::<LocalRun>(alloc, bytes)?;
+    if count_locals(&runs).is_none() {
+        return Err(Fault::Malformed);
+    }
+    Ok((runs, rest))
+}
+
+/// All of the bytes as a body (5.5.13).
+#[tactic(auto, unfolding(wsyntax::specs::Binary::Sections::body))]
+fn whole_body(alloc: Alloc, bytes: &[u8]) -> Result<Body, Fault>
+    ensures { Gives body_shape result (whole_at body.read bytes.now) }
+{
+    let (runs, rest) = locals_at(alloc, bytes)?;
+    let (code, rest) = expression_at(alloc, rest)?;
+    if rest.is_empty() {
+        Ok(Body { runs, code })
+    } else {
+        Err(Fault::Malformed)
+    }
+}
+
+/// Whether runs declare more locals than a body may.
+pub fn has_too_many_locals(runs: &[LocalRun]) -> bool
+    ensures { result ≡ nat_lt local_limit (locals_of runs.now) }
+{
+    match count_locals(runs) {
+        Some(count) => count > LOCAL_LIMIT,
+        None => true,
+    }
+}
+
+/// The body that the bytes spell (5.5.13), all of them.
+///
+/// The work is linear in the bytes, nothing is allocated by a count that they cannot fill, and nothing recurses.
+pub fn decode_body(alloc: Alloc, bytes: &[u8]) -> Result<Body, BodyFault>
+    // What is decoded is spelled so, within the limit.
+    ensures found { IfOk result (λ b. SpellsBody bytes.now (body_shape b) × FewLocals (body_shape b)) }
+    // The bytes spell no other body.
+    ensures only { IfOk result (λ b. (other : BodyShape) → SpellsBody bytes.now other → body_shape b ≡ other) }
+    // Malformed are bytes that spell no body.
+    ensures malformed { IsErrOf result BodyFault.Malformed → (b : BodyShape) → SpellsBody bytes.now b → ⊥ }
+    // Only a spelled body has too many locals.
+    ensures too_many { IsErrOf result BodyFault.TooManyLocals → (b : BodyShape) × SpellsBody bytes.now b × (local_limit < locals_of b.runs) }
+{
+    match whole_body(alloc, bytes) {
+        Err(Fault::Malformed) => Err(BodyFault::Malformed),
+        Err(Fault::Memory) => Err(BodyFault::Memory),
+        Ok(body) => {
+            if has_too_many_locals(&body.runs) {
+                return Err(BodyFault::TooManyLocals);
+            }
+            Ok(body)
+        }
+    }
+}

@@ -1,0 +1,265 @@
+ghost use Rattle.std.specs.Prelude.{◌≡◌, ◌≢◌, ℕ, Bool, List, ◌++◌, Option, Some, None, reverse, length, if◌then◌else◌, IfOk, IfErr, IsTrue};
+ghost use Rattle.wsyntax.specs.Brackets.{lies_within};
+ghost use Rattle.wdecode.specs.Gives.{Gives, GivesToken, Fails};
+ghost use Rattle.wsyntax.specs.Instructions.{Do};
+ghost use Rattle.wsyntax.specs.Modules.{seen, tokens_of};
+ghost use Rattle.wsyntax.specs.Binary.Production.{exactly, raw, times_at as times_of};
+ghost use Rattle.wsyntax.specs.Binary.Values.{u32 as u32_production};
+ghost use Rattle.wsyntax.specs.Binary.Instructions.{immediates, plain_instruction};
+ghost use Rattle.wsyntax.specs.Binary.Nesting.{seen_as, nest, token_at as token_of, expression};
+
+use crate::fault::Fault;
+use crate::types::block_type_at;
+use crate::values::u32_at;
+use std::alloc::Global;
+use wsyntax::{Expression, Opcode, Token};
+
+/// The byte 00.
+#[inline(always)]
+fn zero_at(bytes: &[u8]) -> Result<&[u8], Fault>
+    ensures { Gives (λ x. (0, x.now)) result ((exactly 0).read bytes.now) }
+{
+    match bytes {
+        [0, rest @ ..] => Ok(rest),
+        _ => Err(Fault::Malformed),
+    }
+}
+
+/// Four bytes (5.2.3).
+fn four_at(bytes: &[u8]) -> Result<([u8; 4], &[u8]), Fault>
+    ensures { Gives (λ x. (x.0, x.1.now)) result ((raw 4).read bytes.now) }
+{
+    match bytes {
+        [a, b, c, d, rest @ ..] => Ok(([*a, *b, *c, *d], rest)),
+        _ => Err(Fault::Malformed),
+    }
+}
+
+/// Eight bytes (5.2.3).
+fn eight_at(bytes: &[u8]) -> Result<([u8; 8], &[u8]), Fault>
+    ensures { Gives (λ x. (x.0, x.1.now)) result ((raw 8).read bytes.now) }
+{
+    match bytes {
+        [a, b, c, d, e, f, g, h, rest @ ..] => Ok(([*a, *b, *c, *d, *e, *f, *g, *h], rest)),
+        _ => Err(Fault::Malformed),
+    }
+}
+
+/// An instruction that has one index or label.
+macro_rules! with_index {
+    ($made:path, $bytes:expr) => {{
+        let (index, rest) = u32_at($bytes)?;
+        Ok(($made(index), rest))
+    }};
+}
+
+/// An instruction without a body behind its opcode (5.4), but for `br_table`.
+#[inline(always)]
+fn immediates_at(opcode: Opcode, bytes: &[u8]) -> Result<(Token, &[u8]), Fault>
+    requires { opcode ≢ Opcode.BrTable }
+    ensures value { (targets : List ℕ) → Gives (λ x. (seen targets x.0, x.1.now)) result (seen_as Do ((immediates opcode).read bytes.now)) }
+    ensures within { IfOk result (λ x. (targets : ℕ) → IsTrue (lies_within targets x.0)) }
+{
+    match opcode {
+        Opcode::Unreachable => Ok((Token::Unreachable, bytes)),
+        Opcode::Nop => Ok((Token::Nop, bytes)),
+        Opcode::Block | Opcode::Loop | Opcode::If => Err(Fault::Malformed),
+        Opcode::Br => with_index!(Token::Br, bytes),
+        Opcode::BrIf => with_index!(Token::BrIf, bytes),
+        Opcode::BrTable => unreachable!(),
+        Opcode::Return => Ok((Token::Return, bytes)),
+        Opcode::Call => with_index!(Token::Call, bytes),
+        Opcode::CallIndirect => {
+            let (index, rest) = u32_at(bytes)?;
+            let rest = zero_at(rest)?;
+            Ok((Token::CallIndirect(index), rest))
+        }
+        Opcode::Drop => Ok((Token::Drop, bytes)),
+        Opcode::Select => Ok((Token::Select, bytes)),
+        Opcode::LocalGet => with_index!(Token::LocalGet, bytes),
+        Opcode::LocalSet => with_index!(Token::LocalSet, bytes),
+        Opcode::LocalTee => with_index!(Token::LocalTee, bytes),
+        Opcode::GlobalGet => with_index!(Token::GlobalGet, bytes),
+        Opcode::GlobalSet => with_index!(Token::GlobalSet, bytes),
+        Opcode::Load(load) => {
+            let (align, rest) = u32_at(bytes)?;
+            let (offset, rest) = u32_at(rest)?;
+            Ok((
+                Token::Load {
+                    load,
+                    align,
+                    offset,
+                },
+                rest,
+            ))
+        }
+        Opcode::Store(store) => {
+            let (align, rest) = u32_at(bytes)?;
+            let (offset, rest) = u32_at(rest)?;
+            Ok((
+                Token::Store {
+                    store,
+                    align,
+                    offset,
+                },
+                rest,
+            ))
+        }
+        Opcode::MemorySize => {
+            let rest = zero_at(bytes)?;
+            Ok((Token::MemorySize, rest))
+        }
+        Opcode::MemoryGrow => {
+            let rest = zero_at(bytes)?;
+            Ok((Token::MemoryGrow, rest))
+        }
+        Opcode::I32Const => match wnum::front_s32(bytes) {
+            None => Err(Fault::Malformed),
+            Some((value, rest)) => Ok((Token::I32Const(value), rest)),
+        },
+        Opcode::I64Const => match wnum::front_s64(bytes) {
+            None => Err(Fault::Malformed),
+            Some((value, rest)) => Ok((Token::I64Const(value), rest)),
+        },
+        Opcode::F32Const => {
+            let (value, rest) = four_at(bytes)?;
+            Ok((Token::F32Const(value), rest))
+        }
+        Opcode::F64Const => {
+            let (value, rest) = eight_at(bytes)?;
+            Ok((Token::F64Const(value), rest))
+        }
+        Opcode::Numeric(operator) => Ok((Token::Numeric(operator), bytes)),
+    }
+}
+
+/// Labels, which go behind the targets, and the bytes after them.
+fn labels_at<'a>(targets: &mut Vec<u32>, count: u32, bytes: &'a [u8]) -> Result<&'a [u8], Fault>
+    ensures ok { IfOk result (λ rest. (added : List ℕ) × (targets.new.items ≡ targets.old.items ++ added)
+        × (times_of u32_production.read count bytes.now ≡ Some (added, rest.now))) }
+    ensures err { IfErr result (λ e. Fails e (times_of u32_production.read count bytes.now)) }
+{
+    let mut rest = bytes;
+    for _ in 0..count {
+        let (label, after) = u32_at(rest)?;
+        targets.push(label)?;
+        rest = after;
+    }
+    Ok(rest)
+}
+
+/// The labels and the default of `br_table`, behind its opcode; they go behind the targets.
+fn table_at<'a>(targets: &mut Vec<u32>, bytes: &'a [u8]) -> Result<(Token, &'a [u8]), Fault>
+    ensures ok { IfOk result (λ x. GivesToken seen targets.old.items targets.new.items (x.0, x.1.now) (seen_as Do ((immediates Opcode.BrTable).read bytes.now))) }
+    ensures within { IfOk result (λ x. IsTrue (lies_within (length targets.new.items) x.0)) }
+    ensures err { IfErr result (λ e. Fails e (seen_as Do ((immediates Opcode.BrTable).read bytes.now))) }
+{
+    let first = targets.len();
+    let (count, rest) = u32_at(bytes)?;
+    let rest = labels_at(targets, count, rest)?;
+    let (default, rest) = u32_at(rest)?;
+    targets.push(default)?;
+    Ok((Token::BrTable { count, first }, rest))
+}
+
+/// An instruction without a body (5.4).
+#[inline(always)]
+#[tactic(auto, unfolding(wsyntax::specs::Binary::Instructions::plain_instruction))]
+fn plain_at<'a>(targets: &mut Vec<u32>, bytes: &'a [u8]) -> Result<(Token, &'a [u8]), Fault>
+    ensures ok { IfOk result (λ x. GivesToken seen targets.old.items targets.new.items (x.0, x.1.now) (seen_as Do (plain_instruction.read bytes.now))) }
+    ensures within { IfOk result (λ x. IsTrue (lies_within (length targets.new.items) x.0)) }
+    ensures err { IfErr result (λ e. Fails e (seen_as Do (plain_instruction.read bytes.now))) }
+{
+    let [byte, rest @ ..] = bytes else {
+        return Err(Fault::Malformed);
+    };
+    match Opcode::from_byte(*byte) {
+        None => Err(Fault::Malformed),
+        Some(Opcode::BrTable) => table_at(targets, rest),
+        Some(opcode) => match immediates_at(opcode, rest) {
+            Err(fault) => Err(fault),
+            Ok((token, rest)) => Ok((token, rest)),
+        },
+    }
+}
+
+/// The token at the front (5.4), and the bytes after it; its labels go behind the targets.
+///
+/// A caller that decodes and checks in one loop calls this, and `enter` with what is open.
+#[inline(always)]
+#[tactic(auto, unfolding(wsyntax::specs::Binary::Nesting::token_at))]
+pub fn token_at<'a>(targets: &mut Vec<u32>, bytes: &'a [u8]) -> Result<(Token, &'a [u8]), Fault>
+    ensures ok { IfOk result (λ x. GivesToken seen targets.old.items targets.new.items (x.0, x.1.now) (token_of bytes.now)) }
+    ensures within { IfOk result (λ x. IsTrue (lies_within (length targets.new.items) x.0)) }
+    ensures err { IfErr result (λ e. Fails e (token_of bytes.now)) }
+{
+    let [byte, rest @ ..] = bytes else {
+        return Err(Fault::Malformed);
+    };
+    match *byte {
+        0x02 => {
+            let (block_type, rest) = block_type_at(rest)?;
+            Ok((Token::Block(block_type), rest))
+        }
+        0x03 => {
+            let (block_type, rest) = block_type_at(rest)?;
+            Ok((Token::Loop(block_type), rest))
+        }
+        0x04 => {
+            let (block_type, rest) = block_type_at(rest)?;
+            Ok((Token::If(block_type), rest))
+        }
+        0x05 => Ok((Token::Else, rest)),
+        0x0B => Ok((Token::End, rest)),
+        _ => plain_at(targets, bytes),
+    }
+}
+
+/// Moves what is open by a token, the innermost block last: of each, whether an else may still come.
+/// The answer is whether the token closes the expression; Malformed says that it cannot stand there.
+#[inline(always)]
+pub fn enter(opened: &mut Vec<bool>, token: Token) -> Result<bool, Fault>
+    ensures ok { IfOk result (λ closed. (targets : List ℕ) → nest (reverse opened.old.items) (seen targets token)
+        ≡ Some (if closed then None else Some (reverse opened.new.items))) }
+    ensures err { IfErr result (λ e. (targets : List ℕ) → Fails e (nest (reverse opened.old.items) (seen targets token))) }
+{
+    match token {
+        Token::Block(_) | Token::Loop(_) => {
+            opened.push(false)?;
+            Ok(false)
+        }
+        Token::If(_) => {
+            opened.push(true)?;
+            Ok(false)
+        }
+        Token::Else => match opened.pop() {
+            Some(true) => {
+                opened.push(false)?;
+                Ok(false)
+            }
+            _ => Err(Fault::Malformed),
+        },
+        Token::End => Ok(opened.pop().is_none()),
+        _ => Ok(false),
+    }
+}
+
+/// An expression (5.4.6) at the front, up to and with the end that closes it, and the bytes after it.
+#[tactic(auto, unfolding(wsyntax::specs::Binary::Nesting::expression))]
+pub fn expression_at(alloc: Global, bytes: &[u8]) -> Result<(Expression, &[u8]), Fault>
+    ensures { Gives (λ x. (tokens_of x.0, x.1.now)) result (expression.read bytes.now) }
+{
+    let mut tokens = Vec::new(alloc);
+    let mut targets = Vec::new(alloc);
+    let mut opened = Vec::new(alloc);
+    let mut rest = bytes;
+    'each: loop {
+        let (token, after) = token_at(&mut targets, rest)?;
+        rest = after;
+        tokens.push(token)?;
+        let closes = enter(&mut opened, token)?;
+        if closes {
+            return Ok((Expression { tokens, targets }, rest));
+        }
+    }
+}

@@ -1,0 +1,20 @@
+//! Modules of WebAssembly (Core 1.0, chapter 5) from their bytes, and the bodies of their functions from theirs.
+#![tactic(auto)]
+
+mod body;
+mod fault;
+mod instructions;
+mod laws;
+mod module;
+mod section;
+mod sections;
+mod types;
+mod values;
+
+pub use body::{decode_body, has_too_many_locals, locals_at};
+pub use fault::{BodyFault, DecodeFault, Fault};
+pub use instructions::{enter, expression_at, token_at};
+pub use laws::{
+    bodies_are_determined, grammar_is_read, modules_are_determined, tokens_have_one_tree,
+};
+pub use module::decode_module;

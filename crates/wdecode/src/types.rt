@@ -1,0 +1,167 @@
+ghost use Rattle.std.specs.Prelude.{◌≡◌, ℕ, List, Option, map};
+ghost use Rattle.wdecode.specs.Gives.{Gives};
+ghost use Rattle.wsyntax.specs.Types.{FuncType as FuncTypeShape};
+ghost use Rattle.wsyntax.specs.declared.types.ValType.{ValType as ValTypeShape};
+ghost use Rattle.wsyntax.specs.declared.types.Limits.{Limits as LimitsShape};
+ghost use Rattle.wsyntax.specs.declared.module.Table.{Table as TableShape};
+ghost use Rattle.wsyntax.specs.Modules.{func_type_of};
+ghost use Rattle.wsyntax.specs.Binary.Types.{val_type, block_type, func_type, limits, table_type, global_type};
+
+use crate::fault::Fault;
+use crate::values::{Item, u32_at, vector_at};
+use std::alloc::Global;
+use wsyntax::{BlockType, FuncType, GlobalType, Limits, Table, ValType};
+
+/// A value type (5.3.1).
+#[inline(always)]
+#[tactic(auto, unfolding(wsyntax::specs::Binary::Types::val_type))]
+pub fn val_type_at(bytes: &[u8]) -> Result<(ValType, &[u8]), Fault>
+    ensures { Gives (λ x. (x.0, x.1.now)) result (val_type.read bytes.now) }
+{
+    match bytes {
+        [0x7F, rest @ ..] => Ok((ValType::I32, rest)),
+        [0x7E, rest @ ..] => Ok((ValType::I64, rest)),
+        [0x7D, rest @ ..] => Ok((ValType::F32, rest)),
+        [0x7C, rest @ ..] => Ok((ValType::F64, rest)),
+        _ => Err(Fault::Malformed),
+    }
+}
+
+/// A block type (5.3.2).
+#[inline(always)]
+#[tactic(auto, unfolding(wsyntax::specs::Binary::Types::block_type))]
+pub fn block_type_at(bytes: &[u8]) -> Result<(BlockType, &[u8]), Fault>
+    ensures { Gives (λ x. (x.0, x.1.now)) result (block_type.read bytes.now) }
+{
+    match bytes {
+        [0x40, rest @ ..] => Ok((BlockType::Empty, rest)),
+        [0x7F, rest @ ..] => Ok((BlockType::Value(ValType::I32), rest)),
+        [0x7E, rest @ ..] => Ok((BlockType::Value(ValType::I64), rest)),
+        [0x7D, rest @ ..] => Ok((BlockType::Value(ValType::F32), rest)),
+        [0x7C, rest @ ..] => Ok((BlockType::Value(ValType::F64), rest)),
+        _ => Err(Fault::Malformed),
+    }
+}
+
+/// A function type (5.3.3).
+#[tactic(auto, unfolding(wsyntax::specs::Binary::Types::func_type))]
+pub fn func_type_at(alloc: Global, bytes: &[u8]) -> Result<(FuncType, &[u8]), Fault>
+    ensures { Gives (λ x. (func_type_of x.0, x.1.now)) result (func_type.read bytes.now) }
+{
+    let [0x60, rest @ ..] = bytes else {
+        return Err(Fault::Malformed);
+    };
+    let (params, rest) = vector_at::<ValType>(alloc, rest)?;
+    let (results, rest) = vector_at::<ValType>(alloc, rest)?;
+    Ok((FuncType { params, results }, rest))
+}
+
+/// Limits (5.3.4).
+#[tactic(auto, unfolding(wsyntax::specs::Binary::Types::limits))]
+pub fn limits_at(bytes: &[u8]) -> Result<(Limits, &[u8]), Fault>
+    ensures { Gives (λ x. (x.0, x.1.now)) result (limits.read bytes.now) }
+{
+    match bytes {
+        [0, rest @ ..] => {
+            let (min, rest) = u32_at(rest)?;
+            Ok((Limits { min, max: None }, rest))
+        }
+        [1, rest @ ..] => {
+            let (min, rest) = u32_at(rest)?;
+            let (max, rest) = u32_at(rest)?;
+            Ok((
+                Limits {
+                    min,
+                    max: Some(max),
+                },
+                rest,
+            ))
+        }
+        _ => Err(Fault::Malformed),
+    }
+}
+
+/// A table type (5.3.6).
+#[tactic(auto, unfolding(wsyntax::specs::Binary::Types::table_type))]
+pub fn table_type_at(bytes: &[u8]) -> Result<(Table, &[u8]), Fault>
+    ensures { Gives (λ x. (x.0, x.1.now)) result (table_type.read bytes.now) }
+{
+    let [0x70, rest @ ..] = bytes else {
+        return Err(Fault::Malformed);
+    };
+    let (limits, rest) = limits_at(rest)?;
+    Ok((Table { limits }, rest))
+}
+
+/// A global type (5.3.7).
+#[tactic(auto, unfolding(wsyntax::specs::Binary::Types::global_type))]
+pub fn global_type_at(bytes: &[u8]) -> Result<(GlobalType, &[u8]), Fault>
+    ensures { Gives (λ x. (x.0, x.1.now)) result (global_type.read bytes.now) }
+{
+    let (content, rest) = val_type_at(bytes)?;
+    match rest {
+        [0, rest @ ..] => Ok((
+            GlobalType {
+                content,
+                mutable: false,
+            },
+            rest,
+        )),
+        [1, rest @ ..] => Ok((
+            GlobalType {
+                content,
+                mutable: true,
+            },
+            rest,
+        )),
+        _ => Err(Fault::Malformed),
+    }
+}
+
+impl<'a> Item<'a> for ValType {
+    ghost Shape = { ValTypeShape };
+
+    ghost shape = { λ t. t };
+
+    ghost at = { val_type.read };
+
+    fn read(_alloc: Global, bytes: &'a [u8]) -> Result<(ValType, &'a [u8]), Fault> {
+        val_type_at(bytes)
+    }
+}
+
+impl<'a> Item<'a> for FuncType {
+    ghost Shape = { FuncTypeShape };
+
+    ghost shape = { func_type_of };
+
+    ghost at = { func_type.read };
+
+    fn read(alloc: Global, bytes: &'a [u8]) -> Result<(FuncType, &'a [u8]), Fault> {
+        func_type_at(alloc, bytes)
+    }
+}
+
+impl<'a> Item<'a> for Limits {
+    ghost Shape = { LimitsShape };
+
+    ghost shape = { λ l. l };
+
+    ghost at = { limits.read };
+
+    fn read(_alloc: Global, bytes: &'a [u8]) -> Result<(Limits, &'a [u8]), Fault> {
+        limits_at(bytes)
+    }
+}
+
+impl<'a> Item<'a> for Table {
+    ghost Shape = { TableShape };
+
+    ghost shape = { λ t. t };
+
+    ghost at = { table_type.read };
+
+    fn read(_alloc: Global, bytes: &'a [u8]) -> Result<(Table, &'a [u8]), Fault> {
+        table_type_at(bytes)
+    }
+}

@@ -1,0 +1,8 @@
+pub mod Numbers
+pub mod Ten
+pub mod Places
+pub mod Counts
+pub mod Shifts
+pub mod Ranges
+pub mod Signs
+pub mod Edges

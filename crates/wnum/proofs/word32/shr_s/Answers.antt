@@ -1,0 +1,19 @@
+use Rattle.std.proofs.Common.{◌≡◌, ◌%◌, ap, ◌∙◌, arith, rules, ltb, ◌^◌, ◌-◌, ℕ, refl}
+use Rattle.std.specs.Prelude.{FitsSigned}
+use Rattle.std.specs.Int.{w32, cast_unsigned, int_shr}
+use Rattle.std.proofs.lemmas.Int.{to_z-of_z}
+use Rattle.wnum.specs.Arithmetic.{shift_signed}
+use Rattle.wnum.proofs.Shifts.{shift_signed_is}
+use Rattle.wnum.proofs.word32.shr_s.Goals as goal
+
+pub returns : goal.returns
+returns c =
+    let x = c.args.x in
+    let k : ℕ = c.args.y % 32 in
+    let fits_x : FitsSigned w32 c.cast_signed.result = search rules in
+    let fits_shifted : FitsSigned w32 c.wrapping_shr.result = search rules in
+    let shifted = ap (λ z. int_shr z k) (to_z-of_z w32 _ fits_x ∙ c.cast_signed.ensures) in
+    let is : c.cast_unsigned.result ≡ shift_signed 32 x k =
+    c.cast_unsigned.ensures ∙ ap (cast_unsigned w32) (to_z-of_z w32 _ fits_shifted ∙ c.wrapping_shr.ensures ∙ shifted)
+    ∙ shift_signed_is 32 k x (ltb x (2 ^ (32 - 1))) (omega arith) (omega arith) (cast_unsigned w32) (λ m. refl) (λ m. refl) in
+    cc

@@ -1,0 +1,5 @@
+pub mod Number
+pub mod Reading
+pub mod Arithmetic
+pub mod OperatorLaws
+pub mod OperatorEdges

@@ -1,0 +1,18 @@
+//! The numbers of WebAssembly: the integers of the binary format in LEB128 (5.2.2), and the integer operators (4.3.2).
+#![tactic(auto)]
+
+pub mod conversions;
+mod laws;
+mod leb;
+mod trap;
+pub mod word32;
+pub mod word64;
+
+pub use laws::{
+    numbers_are_read, operators_at_their_edges, operators_stay_in_range, signed_words_are_numbers,
+};
+pub use leb::{front_s32, front_s64, front_u32, read_s32, read_s64, read_u32};
+pub use trap::NumTrap;
+
+#[cfg(test)]
+mod tests;

@@ -1,0 +1,73 @@
+-- 5.1.2 The words that productions of the binary grammar are built of.
+-- A production says which bytes spell which value, and how the front of bytes is read. Both come of the same words, so that a production is written once.
+use Rattle.std.specs.Prelude.{◌≡◌, ℕ, zero, suc, List, [], ◌∷◌, ◌++◌, length, take, drop, Option, Some, None, nat_lt, ◌==◌, if◌then◌else◌}
+use Rattle.wnum.specs.Reading.{Reads}
+use Rattle.wnum.specs.Reading as reading
+
+pub record Production (A : Type 0) : Type 1 where
+  pub spells : List ℕ → A → Type 0
+  pub read : List ℕ → Option (A × List ℕ)
+
+-- What is read is spelled so, and what is spelled so is read, whatever follows: so the bytes at the front spell one value at most.
+abbrev pub Agrees : {A : Type 0} → Production A → Type 0
+Agrees p = Reads p.read p.spells
+
+-- one byte
+abbrev pub byte_at : List ℕ → Option (ℕ × List ℕ)
+byte_at [] = None
+byte_at (b ∷ rest) = Some (b, rest)
+
+abbrev pub byte : Production ℕ
+byte = record { spells = λ bytes b. bytes ≡ b ∷ []; read = byte_at }
+
+-- no byte, and the value, where there is one
+abbrev pub given : {A : Type 0} → Option A → Production A
+given o = record { spells = λ bytes a. (bytes ≡ []) × (o ≡ Some a); read = λ bytes. reading.◌>>=◌ o (λ a. Some (a, bytes)) }
+
+-- no byte, and the value
+abbrev pub pure : {A : Type 0} → A → Production A
+pure a = given (Some a)
+
+-- one production behind the other
+infixl 10 ◌>>=◌
+abbrev pub ◌>>=◌ : {A B : Type 0} → Production A → (A → Production B) → Production B
+◌>>=◌ {A} p f = record {
+  spells = λ bytes b. (x y : List ℕ) × (a : A) × (bytes ≡ x ++ y) × p.spells x a × (f a).spells y b;
+  read = λ bytes. reading.◌>>=◌ (p.read bytes) (λ found. (f found.0).read found.1);
+}
+
+-- this one byte
+abbrev pub exactly : ℕ → Production ℕ
+exactly b = do
+  c ← byte
+  given (if c == b then Some c else None)
+
+-- n bytes
+abbrev pub raw : ℕ → Production (List ℕ)
+raw n = record { spells = λ bytes s. (bytes ≡ s) × (length s ≡ n); read = λ bytes. if nat_lt (length bytes) n then None else Some (take n bytes, drop n bytes) }
+
+-- n values, one behind the other
+abbrev pub times_at : {A : Type 0} → (List ℕ → Option (A × List ℕ)) → ℕ → List ℕ → Option (List A × List ℕ)
+times_at read zero bytes = Some ([], bytes)
+times_at read (suc n) bytes = reading.◌>>=◌ (read bytes) (λ first. reading.◌>>=◌ (times_at read n first.1) (λ others. Some (first.0 ∷ others.0, others.1)))
+
+abbrev pub SpellsAll : {A : Type 0} → (List ℕ → A → Type 0) → List ℕ → List A → Type 0
+SpellsAll spells bytes [] = bytes ≡ []
+SpellsAll spells bytes (a ∷ rest) = (x y : List ℕ) × (bytes ≡ x ++ y) × spells x a × SpellsAll spells y rest
+
+abbrev pub times : {A : Type 0} → ℕ → Production A → Production (List A)
+times n p = record { spells = λ bytes values. (length values ≡ n) × SpellsAll p.spells bytes values; read = times_at p.read n }
+
+-- no byte, and what all of the bytes s spell
+abbrev pub whole_at : {A : Type 0} → (List ℕ → Option (A × List ℕ)) → List ℕ → Option A
+whole_at read s = reading.◌>>=◌ (read s) (λ found. if length found.1 == 0 then Some found.0 else None)
+
+abbrev pub inside : {A : Type 0} → List ℕ → Production A → Production A
+inside s p = record { spells = λ bytes a. (bytes ≡ []) × p.spells s a; read = λ bytes. reading.◌>>=◌ (whole_at p.read s) (λ a. Some (a, bytes)) }
+
+-- no byte, and what a front of the bytes s spells; the rest of s is ignored
+abbrev pub begins : {A : Type 0} → List ℕ → Production A → Production A
+begins s p = record {
+  spells = λ bytes a. (x y : List ℕ) × (bytes ≡ []) × (s ≡ x ++ y) × p.spells x a;
+  read = λ bytes. reading.◌>>=◌ (p.read s) (λ x. Some (x.0, bytes));
+}

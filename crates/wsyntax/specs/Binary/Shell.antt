@@ -1,0 +1,123 @@
+-- 5.5.15 Modules: which bytes spell a module with its bodies left as bytes, which spell a body, and which spell the whole.
+use Rattle.std.specs.Prelude.{◌≡◌, ℕ, zero, suc, ◌<◌, ◌≤◌, Bool, true, false, ◌||◌, List, [], ◌∷◌, ◌++◌, length, Option, Some, None, nat_lt, ◌==◌, if◌then◌else◌}
+use Rattle.wnum.specs.Reading.{◌>>=◌}
+use Rattle.wsyntax.specs.Modules.{ModuleShape, BodyShape}
+use Rattle.wsyntax.specs.Binary.Production.{SpellsAll}
+use Rattle.wsyntax.specs.Binary.Sections.{SectionShape, Custom, Types, Imports, Functions, Tables, Memories, Globals, Exports, Start, Elements, Bodies, Segments, section, body, locals_of}
+
+-- the magic bytes and the version
+abbrev pub header : List ℕ
+header = 0x00 ∷ 0x61 ∷ 0x73 ∷ 0x6D ∷ 0x01 ∷ 0x00 ∷ 0x00 ∷ 0x00 ∷ []
+
+-- 5.5.2 the id of a section
+abbrev pub rank : SectionShape → ℕ
+rank Custom = 0
+rank (Types v) = 1
+rank (Imports v) = 2
+rank (Functions v) = 3
+rank (Tables v) = 4
+rank (Memories v) = 5
+rank (Globals v) = 6
+rank (Exports v) = 7
+rank (Start x) = 8
+rank (Elements v) = 9
+rank (Bodies v) = 10
+rank (Segments v) = 11
+
+-- a custom section stands anywhere, another one behind those of smaller ids only
+abbrev pub may_follow : ℕ → SectionShape → Bool
+may_follow last s = rank s == 0 || nat_lt last (rank s)
+
+abbrev pub last_after : ℕ → SectionShape → ℕ
+last_after last s = if rank s == 0 then last else rank s
+
+abbrev pub IsOrdered : ℕ → List SectionShape → Type 0
+IsOrdered last [] = Unit {0}
+IsOrdered last (s ∷ ss) = (may_follow last s ≡ true) × IsOrdered (last_after last s) ss
+
+-- a module with what a section holds
+abbrev pub put : ModuleShape → SectionShape → ModuleShape
+put m Custom = m
+put m (Types v) = record m { types = v }
+put m (Imports v) = record m { imports = v }
+put m (Functions v) = record m { functions = v }
+put m (Tables v) = record m { tables = v }
+put m (Memories v) = record m { memories = v }
+put m (Globals v) = record m { globals = v }
+put m (Exports v) = record m { exports = v }
+put m (Start x) = record m { start = Some x }
+put m (Elements v) = record m { elements = v }
+put m (Bodies v) = record m { bodies = v }
+put m (Segments v) = record m { segments = v }
+
+abbrev pub put_all : ModuleShape → List SectionShape → ModuleShape
+put_all m [] = m
+put_all m (s ∷ ss) = put_all (put m s) ss
+
+-- an absent section counts as an empty one
+abbrev pub empty_module : ModuleShape
+empty_module = record { types = []; imports = []; functions = []; tables = []; memories = []; globals = []; exports = []; start = None; elements = []; bodies = []; segments = [] }
+
+-- 5.5.15 the bytes are the header, and then sections in order that say what the module is; it has a body for each function
+pub record Shell (bytes : List ℕ) (m : ModuleShape) : Type 0 where
+  pub tail : List ℕ
+  pub sections : List SectionShape
+  pub begins : bytes ≡ header ++ tail
+  pub spelled : SpellsAll section.spells tail sections
+  pub ordered : IsOrdered 0 sections
+  pub says : put_all empty_module sections ≡ m
+  pub paired : length m.functions ≡ length m.bodies
+
+-- 5.5.13 which bytes spell a body: all of them
+abbrev pub SpellsBody : List ℕ → BodyShape → Type 0
+SpellsBody bytes b = body.spells bytes b
+
+-- each body, spelled by the bytes that stand for it
+abbrev pub SpellsBodies : List (List ℕ) → List BodyShape → Type 0
+SpellsBodies [] [] = Unit {0}
+SpellsBodies (s ∷ ss) (b ∷ bs) = SpellsBody s b × SpellsBodies ss bs
+SpellsBodies [] (b ∷ bs) = ⊥
+SpellsBodies (s ∷ ss) [] = ⊥
+
+-- which bytes spell a module and its bodies
+abbrev pub Spells : List ℕ → ModuleShape → List BodyShape → Type 0
+Spells bytes m bodies = Shell bytes m × SpellsBodies m.bodies bodies
+
+-- ---- what this implementation takes
+
+-- the most bytes of a module
+abbrev pub module_limit : ℕ
+module_limit = 16777216
+
+-- the most declared locals of a body, parameters aside
+abbrev pub local_limit : ℕ
+local_limit = 50000
+
+abbrev pub FewLocals : BodyShape → Type 0
+FewLocals b = locals_of b.runs ≤ local_limit
+
+abbrev pub AllFewLocals : List BodyShape → Type 0
+AllFewLocals [] = Unit {0}
+AllFewLocals (b ∷ bs) = FewLocals b × AllFewLocals bs
+
+-- bytes and bodies within both limits
+abbrev pub Within : List ℕ → List BodyShape → Type 0
+Within bytes bodies = (length bytes ≤ module_limit) × AllFewLocals bodies
+
+-- ---- reading
+
+-- sections read one behind the other, at most n of them
+abbrev pub sections_at : ℕ → ℕ → ModuleShape → List ℕ → Option ModuleShape
+sections_at n last m [] = Some m
+sections_at zero last m (b ∷ bytes) = None
+sections_at (suc n) last m (b ∷ bytes) = section.read (b ∷ bytes) >>= λ x. if may_follow last x.0 then sections_at n (last_after last x.0) (put m x.0) x.1 else None
+
+-- the bytes behind a front
+abbrev pub strip : List ℕ → List ℕ → Option (List ℕ)
+strip [] bytes = Some bytes
+strip (h ∷ hs) [] = None
+strip (h ∷ hs) (b ∷ bs) = if b == h then strip hs bs else None
+
+-- the module that the bytes spell
+abbrev pub shell_of : List ℕ → Option ModuleShape
+shell_of bytes = strip header bytes >>= λ tail. sections_at (length tail) 0 empty_module tail >>= λ m. if length m.functions == length m.bodies then Some m else None

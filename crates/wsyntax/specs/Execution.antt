@@ -1,0 +1,13 @@
+pub mod Values
+pub mod Numerics
+pub mod Store
+pub mod Step
+pub mod Chain
+pub mod Ends
+pub mod Run
+pub mod Layers
+pub mod ConfigTyped
+pub mod Allocation
+pub mod Weight
+pub mod Laws
+pub mod Start

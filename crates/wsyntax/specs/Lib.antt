@@ -1,0 +1,10 @@
+pub mod Types
+pub mod Instructions
+pub mod Brackets
+pub mod Table
+pub mod Modules
+pub mod Binary
+pub mod Validation
+pub mod Execution
+pub mod Texts
+pub mod Row

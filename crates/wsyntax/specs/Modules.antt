@@ -1,0 +1,147 @@
+-- 2.5 Modules, without where they lie in memory; and what the tokens of the code stand for.
+use Rattle.std.specs.Prelude.{ℕ, ◌+◌, List, [], ◌∷◌, map, Option, slice_range, slice_index_or}
+use Rattle.wnum.specs.Arithmetic.{unsigned}
+use Rattle.wsyntax.specs.Types.{ValType, I32, I64, F32, F64, FuncType, Limits, GlobalType}
+use Rattle.wsyntax.specs.Instructions.{Op, Token, Do, OpenBlock, OpenLoop, OpenIf, Else, End, Unreachable, Nop, Return, Br, BrIf, Call, CallIndirect, BrTable, Drop, Select, LocalGet, LocalSet, LocalTee, GlobalGet, GlobalSet, MemoryLoad, MemoryStore, MemorySize, MemoryGrow, Const, Numeric}
+use Rattle.wsyntax.specs.Table.{num_op, load_access, store_access, little_endian}
+use Rattle.wsyntax.specs.declared.instructions.Token.{Token as Flat}
+use Rattle.wsyntax.specs.declared.instructions.Token.TheVariants as flat
+use Rattle.wsyntax.specs.declared.types.FuncType.{FuncType as HeldFuncType}
+use Rattle.wsyntax.specs.declared.module.Module.{Module}
+use Rattle.wsyntax.specs.declared.module.Expression.{Expression}
+use Rattle.wsyntax.specs.declared.module.Table.{Table}
+use Rattle.wsyntax.specs.declared.module.Global.{Global}
+use Rattle.wsyntax.specs.declared.module.Element.{Element}
+use Rattle.wsyntax.specs.declared.module.Data.{Data}
+use Rattle.wsyntax.specs.declared.module.ExportKind.{ExportKind}
+use Rattle.wsyntax.specs.declared.module.Export.{Export}
+use Rattle.wsyntax.specs.declared.module.ImportKind.{ImportKind}
+use Rattle.wsyntax.specs.declared.module.Import.{Import}
+use Rattle.wsyntax.specs.declared.module.LocalRun.{LocalRun}
+use Rattle.wsyntax.specs.declared.module.Body.{Body}
+
+-- ---- tokens
+
+-- a token of the code stands for a token of a tree; a branch table's labels lie in the list of targets, its default behind them
+abbrev pub seen : List ℕ → Flat → Token
+seen targets flat.Unreachable = Do Unreachable
+seen targets flat.Nop = Do Nop
+seen targets (flat.Block t) = OpenBlock t
+seen targets (flat.Loop t) = OpenLoop t
+seen targets (flat.If t) = OpenIf t
+seen targets flat.Else = Else
+seen targets flat.End = End
+seen targets (flat.Br l) = Do (Br l)
+seen targets (flat.BrIf l) = Do (BrIf l)
+seen targets (flat.BrTable count first) = Do (BrTable (slice_range targets first (first + count)) (slice_index_or targets (first + count) 0))
+seen targets flat.Return = Do Return
+seen targets (flat.Call f) = Do (Call f)
+seen targets (flat.CallIndirect y) = Do (CallIndirect y)
+seen targets flat.Drop = Do Drop
+seen targets flat.Select = Do Select
+seen targets (flat.LocalGet x) = Do (LocalGet x)
+seen targets (flat.LocalSet x) = Do (LocalSet x)
+seen targets (flat.LocalTee x) = Do (LocalTee x)
+seen targets (flat.GlobalGet x) = Do (GlobalGet x)
+seen targets (flat.GlobalSet x) = Do (GlobalSet x)
+seen targets (flat.Load l align offset) = Do (MemoryLoad (load_access l align offset))
+seen targets (flat.Store s align offset) = Do (MemoryStore (store_access s align offset))
+seen targets flat.MemorySize = Do MemorySize
+seen targets flat.MemoryGrow = Do MemoryGrow
+seen targets (flat.I32Const n) = Do (Const I32 (unsigned 32 n))
+seen targets (flat.I64Const n) = Do (Const I64 (unsigned 64 n))
+seen targets (flat.F32Const bytes) = Do (Const F32 (little_endian bytes))
+seen targets (flat.F64Const bytes) = Do (Const F64 (little_endian bytes))
+seen targets (flat.Numeric f) = Do (Numeric (num_op f))
+
+-- what an expression holds
+abbrev pub tokens_of : Expression → List Token
+tokens_of e = map (seen e.targets.items) e.tokens.items
+
+-- ---- 2.5 modules
+
+-- 2.3.3 a function type
+abbrev pub func_type_of : HeldFuncType → FuncType
+func_type_of t = record { params = t.params.items; results = t.results.items }
+
+-- 2.5.11 an import
+pub record ImportShape : Type 0 where
+  pub module_name : List ℕ
+  pub item_name : List ℕ
+  pub kind : ImportKind
+
+abbrev pub import_shape : Import → ImportShape
+import_shape i = record { module_name = i.«module».now; item_name = i.name.now; kind = i.kind }
+
+-- 2.5.10 an export
+pub record ExportShape : Type 0 where
+  pub item_name : List ℕ
+  pub kind : ExportKind
+  pub index : ℕ
+
+abbrev pub export_shape : Export → ExportShape
+export_shape e = record { item_name = e.name.now; kind = e.kind; index = e.index }
+
+-- 2.5.6 a global, its first value as the tokens of an expression
+pub record GlobalShape : Type 0 where
+  pub content : GlobalType
+  pub init : List Token
+
+abbrev pub global_shape : Global → GlobalShape
+global_shape g = record { content = g.content; init = tokens_of g.init }
+
+-- 2.5.7 an element segment
+pub record ElementShape : Type 0 where
+  pub table : ℕ
+  pub offset : List Token
+  pub functions : List ℕ
+
+abbrev pub element_shape : Element → ElementShape
+element_shape e = record { table = e.table; offset = tokens_of e.offset; functions = e.functions.items }
+
+-- 2.5.8 a data segment
+pub record DataShape : Type 0 where
+  pub memory : ℕ
+  pub offset : List Token
+  pub bytes : List ℕ
+
+abbrev pub data_shape : Data → DataShape
+data_shape d = record { memory = d.memory; offset = tokens_of d.offset; bytes = d.bytes.now }
+
+-- 2.5.3 a body: runs of declared locals, and the tokens of its expression
+pub record BodyShape : Type 0 where
+  pub runs : List LocalRun
+  pub code : List Token
+
+abbrev pub body_shape : Body → BodyShape
+body_shape b = record { runs = b.runs.items; code = tokens_of b.code }
+
+-- 2.5 a module, its bodies as bytes
+pub record ModuleShape : Type 0 where
+  pub types : List FuncType
+  pub imports : List ImportShape
+  -- of each defined function the index of its type
+  pub functions : List ℕ
+  pub tables : List Table
+  pub memories : List Limits
+  pub globals : List GlobalShape
+  pub exports : List ExportShape
+  pub start : Option ℕ
+  pub elements : List ElementShape
+  pub bodies : List (List ℕ)
+  pub segments : List DataShape
+
+abbrev pub module_shape : Module → ModuleShape
+module_shape m = record {
+  types = map func_type_of m.types.items;
+  imports = map import_shape m.imports.items;
+  functions = m.functions.items;
+  tables = m.tables.items;
+  memories = m.memories.items;
+  globals = map global_shape m.globals.items;
+  exports = map export_shape m.exports.items;
+  start = m.start;
+  elements = map element_shape m.elements.items;
+  bodies = map (λ s. s.now) m.bodies.items;
+  segments = map data_shape m.«data».items;
+}

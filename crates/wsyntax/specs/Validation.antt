@@ -1,0 +1,9 @@
+pub mod Context
+pub mod Typing
+pub mod Family
+pub mod Algorithm
+pub mod FirstFault
+pub mod Laws
+pub mod Verdict
+pub mod ModuleContext
+pub mod Rules

@@ -1,0 +1,24 @@
+//! The structure of WebAssembly modules (Core 1.0, chapter 2), and in `specs/` what the rest of the workspace
+//! promises: the binary grammar, the typing rules, reduction, and the texts that are written.
+#![tactic(auto)]
+
+mod instruction_row;
+mod instructions;
+mod module;
+mod opcode;
+mod rows;
+mod signature;
+mod types;
+mod value;
+
+pub use instruction_row::{Immediates, Row};
+pub use instructions::{BlockType, Load, Operator, Store, Token};
+pub use module::{
+    Body, Data, Element, Export, ExportKind, Expression, Global, Import, ImportKind, LocalRun,
+    Module, Table,
+};
+pub use opcode::Opcode;
+pub use rows::row;
+pub use signature::Signature;
+pub use types::{FuncType, GlobalType, Limits, ValType};
+pub use value::{Trap, Value};

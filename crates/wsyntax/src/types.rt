@@ -1,0 +1,29 @@
+/// A value type (2.3.1).
+#[derive(Clone, Copy, Debug, PartialEq, Eq)]
+pub enum ValType {
+    I32,
+    I64,
+    F32,
+    F64,
+}
+
+/// A function type (2.3.3): the types of the parameters and of the results, each list as it is written.
+#[derive(Debug, Drop)]
+pub struct FuncType {
+    pub params: Vec<ValType>,
+    pub results: Vec<ValType>,
+}
+
+/// The size range of a table (in entries) or of a memory (in pages of 65,536 bytes) (2.3.4).
+#[derive(Clone, Copy, Debug, PartialEq, Eq)]
+pub struct Limits {
+    pub min: u32,
+    pub max: Option<u32>,
+}
+
+/// A global type (2.3.7): what the global holds, and whether it may be set.
+#[derive(Clone, Copy, Debug, PartialEq, Eq)]
+pub struct GlobalType {
+    pub content: ValType,
+    pub mutable: bool,
+}
