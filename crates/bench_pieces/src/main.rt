@@ -1,10 +1,11 @@
-//! What `try_all` costs over 100,000 empty indices, as a ratio to a plain loop. Run by hand: it judges
-//! nothing, and its exit status says only that it ran.
+//! What `try_all` costs over 100,000 empty indices, as a ratio to a plain loop: `bench_pieces measure`. With no
+//! argument it does nothing.
 #![tactic(auto)]
 
 use anyhow::Result;
 use pieces::{Job, JobFault, Plan, try_all};
 use std::alloc::{AllocError, Global};
+use std::env;
 use std::sync::Wait;
 use std::thread::Threads;
 use std::time::{Clock, Instant};
@@ -89,14 +90,15 @@ fn pieces_time<R: Threads + Wait + Sync + Clock>(
     Ok(least)
 }
 
-fn main(rt: HostRuntime) -> Result<()> {
-    let base = plain_time(&rt, rt.alloc())?.max(1);
+// One line a plan.
+fn print_ratios<R: Threads + Wait + Sync + Clock + Print>(rt: &R, alloc: Global) -> Result<()> {
+    let base = plain_time(rt, alloc)?.max(1);
     for workers in [1, 2, 4] {
         for piece in [1, 16, 1024] {
             let Some(plan) = Plan::new(workers, piece) else {
                 continue;
             };
-            let tenths = pieces_time(&rt, rt.alloc(), plan)?.saturating_mul(10) / base;
+            let tenths = pieces_time(rt, alloc, plan)?.saturating_mul(10) / base;
             let (whole, tenth) = (tenths / 10, tenths % 10);
             println!(rt;
                 "{workers} workers, pieces of {piece}: {whole}.{tenth} times a plain loop"
@@ -104,4 +106,13 @@ fn main(rt: HostRuntime) -> Result<()> {
         }
     }
     Ok(())
+}
+
+fn main(rt: HostRuntime) -> Result<()> {
+    let mut args = env::args(&rt)?;
+    let _program = args.next();
+    match args.next() {
+        None => Ok(()),
+        Some(_) => print_ratios(&rt, rt.alloc()),
+    }
 }
