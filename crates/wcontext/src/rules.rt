@@ -38,11 +38,11 @@ pub fn imports_typed(module: &Module<'_>, spaces: &Spaces) -> bool
 pub fn functions_typed(module: &Module<'_>) -> bool
     ensures { IsTrue result ↔ FunctionsTyped (module_shape «module».now) }
 {
-    let types = module.types.len();
+    let known = module.types.len();
     module
         .functions
         .iter()
-        .all(|type_index| (*type_index as usize) < types)
+        .all(|type_index| (*type_index as usize) < known)
 }
 
 /// Rule 4: the limits of each table are in order.
