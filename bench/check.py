@@ -33,6 +33,14 @@ def best_of(words, times=5):
     return best
 
 
+def printed(words):
+    # What a program prints; nothing where it refuses the module or takes more than a minute.
+    try:
+        return subprocess.run(words, capture_output=True, timeout=60).stdout
+    except subprocess.TimeoutExpired:
+        return b''
+
+
 def peak(words):
     reader, writer = os.pipe()
     pid = os.fork()
@@ -56,15 +64,17 @@ def main(gate, sizes):
                     subprocess.run([sys.executable, os.path.join(here, 'modules.py'), kind, str(int(size * 1e6)), '7'], stdout=file, check=True)
                 length = os.path.getsize(path)
                 speed = [length / best_of([gate, 'check', path, '--workers', str(n)]) / 1e6 for n in (1, 2, 4)]
-                others = [float(subprocess.run([peer, 'check', path, '5'], capture_output=True, check=True).stdout.split()[2])]
+                # The peer in C compares lists of types item by item each time, which takes minutes on these.
+                others = [0.0] if kind in ('lists', 'labels') else [float(printed([peer, 'check', path, '5']).split()[2])]
                 if shutil.which('node'):
-                    seconds = subprocess.run(['taskset', '-c', '0', 'node', '-e', NODE, path], capture_output=True).stdout
+                    seconds = printed(['taskset', '-c', '0', 'node', '-e', NODE, path])
                     others.append(length / float(seconds) / 1e6 if seconds else 0.0)
-                if shutil.which('wasm-validate'):
+                # wabt's validator asks for more memory than the machine has on those.
+                if shutil.which('wasm-validate') and kind not in ('lists', 'labels'):
                     others.append(length / best_of(['wasm-validate', path]) / 1e6)
-                cells = [f'{speed[0]:10.1f}'] + [f'{s:7.1f} ({s / speed[0]:4.2f})' for s in speed[1:] + others]
+                cells = [f'{speed[0]:10.1f}'] + [f'{s:7.1f} ({s / speed[0]:4.2f})' if s else '-' for s in speed[1:] + others]
                 memory = peak([gate, 'check', path, '--workers', '1']) / length
-                print(f'{kind + " " + format(length / 1e6, ".1f"):14}' + ''.join(f'{c:>14}' for c in cells) + f'   {memory:4.1f} x')
+                print(f'{kind + " " + format(length / 1e6, ".1f"):14}' + ''.join(f'{c:>14}' for c in cells) + f'   {memory:4.1f} x', flush=True)
 
 
 if __name__ == '__main__':

@@ -1,10 +1,12 @@
 #!/usr/bin/env python3
 """usage: rows.py GATE    runs the program GATE on each row of the tables beside this file.
 
-check.tsv    name, the module as bytes in hexadecimal, what `gate check` prints, its status
+check.tsv    name, the module as bytes in hexadecimal, what `gate check` prints, its status; each is run with three plans,
+             and once more with stacks of 64 KiB
 Bytes are in hexadecimal; `xNN*K` stands for K bytes NN. Lines that begin with # are comments.
 """
 import os
+import resource
 import subprocess
 import sys
 import tempfile
@@ -29,12 +31,17 @@ def rows(name):
             yield line.rstrip('\n').split('\t')
 
 
+def small_stack():
+    # Also the size of the stacks of threads.
+    resource.setrlimit(resource.RLIMIT_STACK, (64 * 1024, 64 * 1024))
+
+
 def main(gate):
     passed, failed = 0, 0
 
-    def expect(name, words, text, status):
+    def expect(name, words, text, status, **settings):
         nonlocal passed, failed
-        ran = subprocess.run([gate] + words, capture_output=True, timeout=120)
+        ran = subprocess.run([gate] + words, capture_output=True, timeout=120, **settings)
         if (ran.stdout, ran.returncode, ran.stderr) == (text.encode() + b'\n', status, b''):
             passed += 1
         else:
@@ -48,6 +55,7 @@ def main(gate):
                 file.write(bytes_of(module))
             for options in ([], ['--workers', '1', '--piece', '1'], ['--workers', '64', '--piece', '65535']):
                 expect(name, ['check', path] + options, text, int(status))
+            expect(name, ['check', path, '--workers', '4'], text, int(status), preexec_fn=small_stack, env={})
     print(f'{passed} passed, {failed} failed')
     return 1 if failed or not passed else 0
 
