@@ -58,6 +58,7 @@ impl<'a> Accepted<'a> {
         }
         self.bodies.get(func - imported)
     }
+
     /// What is exported under a name: its kind, and its index in the space of that kind. Takes no memory, and compares
     /// the name with as many others as the number of exports can be halved.
     pub fn export(&self, name: &[u8]) -> Option<(ExportKind, u32)>
