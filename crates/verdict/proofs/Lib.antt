@@ -3,3 +3,5 @@ pub mod Bodies
 pub mod Firsts
 pub mod OnePass
 pub mod Checks
+pub mod SearchedNames
+pub mod ExportNumbers

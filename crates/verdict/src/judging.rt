@@ -5,6 +5,7 @@ ghost use Rattle.verdict.specs.Kept.{AreChecked, IsAcceptedFrom};
 ghost use Rattle.verdict.specs.Refusals.{verdict_of};
 
 use crate::accepted::Accepted;
+use crate::exports::numbers_by_name;
 use crate::keeping_jobs::KeptBodies;
 use crate::refusal::Refusal;
 use pieces::{Plan, TryFault, Watch, try_all};
@@ -70,9 +71,13 @@ pub fn judge<'a, R: Threads + Wait + Sync, W: Watch + Sync>(
     let module = decode_module(alloc, bytes)?;
     let context = check_module(alloc, &module)?;
     let bodies = judge_bodies(rt, alloc, &context, &module.bodies, plan, watch)?;
+    let Ok(by_name) = numbers_by_name(alloc, &module.exports) else {
+        return Err(Refusal::Memory);
+    };
     Ok(Accepted {
         module,
         context,
         bodies,
+        by_name,
     })
 }

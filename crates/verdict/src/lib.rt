@@ -4,6 +4,7 @@
 mod accepted;
 mod body;
 mod examining;
+mod exports;
 mod jobs;
 mod judging;
 mod keeping;

@@ -1,6 +1,10 @@
-use Rattle.std.proofs.Common.{Ok, Err, length, map, ap, sym, ◌∙◌}
+use Rattle.std.proofs.Common.{Ok, Err, List, length, map, ap, sym, subst, ◌∙◌}
+use Rattle.std.specs.List.{range_with_len}
+use Rattle.std.specs.List.Sorted.{IsPermutation}
+use Rattle.wsyntax.specs.declared.module.Export.{Export}
 use Rattle.std.proofs.lemmas.List.{length-map}
 use Rattle.wsyntax.specs.Modules.{module_shape}
+use Rattle.verdict.specs.Exports.{AreAscending}
 use Rattle.verdict.specs.Refusals.{of_decoding, of_rules}
 use Rattle.verdict.proofs.Firsts.{decoded, not_decoded, not_kept, judged, refused_so, indices_fit}
 use Rattle.verdict.proofs.judging.judge.Goals as goal
@@ -53,3 +57,14 @@ returns-clause-verdict g c =
     (ap (map (λ b. b.now)) c.deref.ensures.value)
     (ap length c.deref.ensures.value ∙ sym (length-map _ _))
     c.in_ok-bodies.ensures.verdict
+
+-- rule 10 is kept
+pub invariant_of-result-clause-distinct : goal.invariant_of-result-clause-distinct
+invariant_of-result-clause-distinct g c = c.in_ok-context.ensures.valid 10
+
+pub invariant_of-result-clause-each : goal.invariant_of-result-clause-each
+invariant_of-result-clause-each g c =
+    ∣ subst (λ (es : List Export). IsPermutation (range_with_len 0 (length es)) c.in-Ok.by_name.items) c.deref-2.ensures.value c.in-Ok.ensures.each ∣₁
+
+pub invariant_of-result-clause-ascending : goal.invariant_of-result-clause-ascending
+invariant_of-result-clause-ascending g c = subst (λ (es : List Export). AreAscending es c.in-Ok.by_name.items) c.deref-2.ensures.value c.in-Ok.ensures.ascending
