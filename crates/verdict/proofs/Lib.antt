@@ -3,3 +3,4 @@ pub mod Bodies
 pub mod Firsts
 pub mod OnePass
 pub mod Checks
+pub mod OneVerdict

@@ -2,3 +2,4 @@ pub mod Refusals
 pub mod Judged
 pub mod OnePass
 pub mod Kept
+pub mod Laws
