@@ -1,5 +1,5 @@
 #!/usr/bin/env python3
-"""usage: rows.py GATE    runs the program GATE on each row of the tables beside this file.
+"""usage: rows.py GATE    runs the program GATE on each row of the table of modules, which the crate `suite` reads too.
 
 check.tsv    name, the module as bytes in hexadecimal, what `gate check` prints, its status; each is run with three plans,
              and once more with stacks of 64 KiB
@@ -11,7 +11,7 @@ import subprocess
 import sys
 import tempfile
 
-here = os.path.dirname(os.path.abspath(__file__))
+tables = os.path.join(os.path.dirname(os.path.abspath(__file__)), '..', 'crates', 'suite', 'data')
 
 
 def bytes_of(text):
@@ -26,7 +26,7 @@ def bytes_of(text):
 
 
 def rows(name):
-    for line in open(os.path.join(here, name)):
+    for line in open(os.path.join(tables, name)):
         if line.strip() and not line.startswith('#'):
             yield line.rstrip('\n').split('\t')
 

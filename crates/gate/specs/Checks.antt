@@ -1,14 +1,15 @@
 -- What the program leaves of a request.
-use Rattle.std.specs.Prelude.{◌≡◌, ℕ, ◌+◌, List, Option, Result, Ok, Err, IfSome, take, string_bytes}
+use Rattle.std.specs.Prelude.{◌≡◌, ◌⊎◌, ℕ, ◌+◌, List, Option, Result, Ok, Err, IfSome, Contains, take, string_bytes}
 use Rattle.std.specs.Io.KnownBytes.{Keeps, Appends}
 use Rattle.wsyntax.specs.Binary.Shell.{module_limit}
-use Rattle.wsyntax.specs.Validation.Verdict.{Verdict, IsVerdict}
+use Rattle.wsyntax.specs.Validation.Verdict.{Verdict, Accepted, IsVerdict}
 use Rattle.wsyntax.specs.Texts.Lines.{verdict_line}
 use Rattle.batch.specs.Output.{AppendsFront}
 use Rattle.batch.specs.Report.{status_of, Reports}
 use Rattle.batch.specs.declared.status.Status.{Status}
 use Rattle.batch.specs.declared.status.Status.TheVariants.{Good, ModuleRefused}
 use Rattle.batch.specs.declared.status.AnswerFault.TheVariants as answer
+use Rattle.gate.specs.Requests.{AsksHelp}
 use Rattle.gate.specs.declared.fault.Fault.{Fault}
 use Rattle.gate.specs.declared.fault.Fault.TheVariants as fault
 use Rattle.gate.specs.declared.words.Request.{Request}
@@ -37,10 +38,17 @@ abbrev pub Does : Request → (List ℕ → Option (List ℕ)) → Option (List 
 Does (Check path plan) holds old new r = Checks (holds path.now) old new r
 Does (Help text) holds old new r = Shows (string_bytes text) old new r
 
--- the verdict line of a module that is refused is written
-pub record PrintsRefusal (holds : List ℕ → Option (List ℕ)) (old new : Option (List ℕ)) : Type 0 where
+-- the verdict line of the module is written whose path stands among the words
+pub record PrintsVerdict (words : List (List ℕ)) (holds : List ℕ → Option (List ℕ)) (old new : Option (List ℕ)) (v : Verdict) : Type 0 where
   pub path : List ℕ
-  pub v : Verdict
+  pub named : Contains words path
   pub judged : Judges (holds path) v
-  pub refused : status_of v ≡ ModuleRefused
   pub written : Appends old new (verdict_line v)
+
+-- the module is refused
+abbrev pub PrintsRefusal : List (List ℕ) → (List ℕ → Option (List ℕ)) → Option (List ℕ) → Option (List ℕ) → Type 0
+PrintsRefusal words holds old new = (v : Verdict) × (status_of v ≡ ModuleRefused) × PrintsVerdict words holds old new v
+
+-- the module is accepted, or a word asks for help
+abbrev pub PrintsAcceptance : List (List ℕ) → (List ℕ → Option (List ℕ)) → Option (List ℕ) → Option (List ℕ) → Type 0
+PrintsAcceptance words holds old new = AsksHelp words ⊎ PrintsVerdict words holds old new Accepted

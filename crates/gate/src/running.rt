@@ -1,8 +1,8 @@
 // The program over any source and writers.
-ghost use Rattle.std.specs.Prelude.{◌≡◌, ◌⊎◌, string_bytes};
+ghost use Rattle.std.specs.Prelude.{◌≡◌, ◌⊎◌, map};
 ghost use Rattle.std.specs.Io.KnownBytes.{Keeps};
 ghost use Rattle.gate.specs.Endings.{answer_status, IsStatus};
-ghost use Rattle.gate.specs.Checks.{PrintsRefusal, Does, Shows};
+ghost use Rattle.gate.specs.Checks.{PrintsAcceptance, PrintsRefusal, Does, Shows};
 
 use crate::checking::check;
 use crate::fault::{Fault, end};
@@ -26,7 +26,8 @@ pub fn run<R: Threads + Wait + Sync, S: Source, O: Write, E: Write>(
 ) -> u8
     ensures named { IsStatus result }
     ensures silent { (result ≡ 64) ⊎ (result ≡ 70) → Keeps (O.contents out.old) (O.contents out.new) }
-    ensures refused { result ≡ 2 → PrintsRefusal (S.holds source.old) (O.contents out.old) (O.contents out.new) }
+    ensures accepted { result ≡ 0 → PrintsAcceptance (map (λ w. w.now) words.now) (S.holds source.old) (O.contents out.old) (O.contents out.new) }
+    ensures refused { result ≡ 2 → PrintsRefusal (map (λ w. w.now) words.now) (S.holds source.old) (O.contents out.old) (O.contents out.new) }
 {
     let request = match read_words(alloc, words) {
         Ok(request) => request,

@@ -1,4 +1,5 @@
 // The program over a source and writers in memory.
+mod plans;
 mod rows;
 
 use crate::running::run;
@@ -95,7 +96,7 @@ fn status_of<R: Threads + Wait + Sync>(
 
 #[test]
 fn help_goes_to_standard_output(rt: HostRuntime) {
-    let asked: [&[&str]; 3] = [&["--help"], &["help"], &["check", "--help"]];
+    let asked: [&[&str]; 4] = [&["--help"], &["-h"], &["help"], &["check", "--help"]];
     for words in asked {
         let (mut out, mut err) = (Screen::wide(rt.alloc()), Screen::wide(rt.alloc()));
         assert_eq!(rt; status_of(&rt, rt.alloc(), words, &mut out, &mut err), 0);

@@ -5,3 +5,4 @@ pub mod OnePass
 pub mod Checks
 pub mod SearchedNames
 pub mod ExportNumbers
+pub mod OneVerdict

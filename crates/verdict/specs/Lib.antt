@@ -3,3 +3,4 @@ pub mod Judged
 pub mod OnePass
 pub mod Kept
 pub mod Exports
+pub mod Laws

@@ -9,10 +9,12 @@ mod jobs;
 mod judging;
 mod keeping;
 mod keeping_jobs;
+mod laws;
 mod passing;
 mod refusal;
 
 pub use accepted::Accepted;
 pub use examining::examine;
 pub use judging::judge;
+pub use laws::one_verdict;
 pub use refusal::{Class, Refusal};

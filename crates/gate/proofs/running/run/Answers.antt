@@ -1,7 +1,8 @@
-use Rattle.std.proofs.Common.{◌≡◌, ◌∙◌, sym, arith}
+use Rattle.std.proofs.Common.{◌≡◌, ◌∙◌, sym, map, arith}
 use Rattle.gate.specs.declared.fault.Fault.{Fault}
 use Rattle.gate.specs.declared.fault.Fault.TheVariants.{Usage, Unreadable, Write, Memory}
 use Rattle.gate.specs.Endings.{fault_status}
+use Rattle.gate.proofs.Printed.{acceptance, refusal}
 use Rattle.gate.proofs.running.run.Goals as goal
 
 -- no fault has the status of a refusal
@@ -10,6 +11,26 @@ no_refusal (Usage text) e = omega arith
 no_refusal (Unreadable path) e = omega arith
 no_refusal Write e = omega arith
 no_refusal Memory e = omega arith
+
+-- nor that of what is good
+no_acceptance : (f : Fault) → fault_status f ≡ 0 → ⊥
+no_acceptance (Usage text) e = omega arith
+no_acceptance (Unreadable path) e = omega arith
+no_acceptance Write e = omega arith
+no_acceptance Memory e = omega arith
+
+pub returns-in-Ok-obey-clause-accepted : goal.returns-in-Ok-obey-clause-accepted
+returns-in-Ok-obey-clause-accepted g c e =
+    acceptance (map (λ w. w.now) c.args.words.now) c.in-Ok.request (g.S.Source.holds c.args.source.now) (g.O.Write.contents c.args.out.now) (g.O.Write.contents c.obey.new.out) c.in-Ok-obey.status c.in-Ok.ensures c.in-Ok-obey.ensures
+    (sym c.number.ensures ∙ e)
+
+pub returns-in-Ok-obey-clause-refused : goal.returns-in-Ok-obey-clause-refused
+returns-in-Ok-obey-clause-refused g c e =
+    refusal (map (λ w. w.now) c.args.words.now) c.in-Ok.request (g.S.Source.holds c.args.source.now) (g.O.Write.contents c.args.out.now) (g.O.Write.contents c.obey.new.out) c.in-Ok-obey.status c.in-Ok.ensures c.in-Ok-obey.ensures
+    (sym c.number.ensures ∙ e)
+
+pub returns-in-Err-obey-clause-accepted : goal.returns-in-Err-obey-clause-accepted
+returns-in-Err-obey-clause-accepted g c e = absurd (no_acceptance _ (sym c.end-in-Err-obey.ensures ∙ e))
 
 pub returns-in-Err-obey-clause-refused : goal.returns-in-Err-obey-clause-refused
 returns-in-Err-obey-clause-refused g c e = absurd (no_refusal _ (sym c.end-in-Err-obey.ensures ∙ e))

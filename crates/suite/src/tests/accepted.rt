@@ -1,0 +1,123 @@
+// What an accepted module lends: its parts, its context and its checked bodies.
+use batch::{Plan, Quiet};
+use std::alloc::Global;
+use std::process::Abort;
+use std::sync::Wait;
+use std::test::Fail;
+use std::thread::Threads;
+use verdict::{Accepted, judge};
+use wcheck::Destination;
+use wsyntax::{ExportKind, GlobalType, ImportKind, LocalRun, Token, ValType};
+
+// (module (import "m" "f" (func)) (import "m" "g" (global i64)) (memory 1) (export "a" (func 1))
+//   (func (param i32) (result i32) (local i64 i64)
+//     i32.const 5 (block (result i32) local.get 0 local.get 0 br_if 0 i32.const 7 i32.add) i32.add)
+//   (func (param i32) (block (loop local.get 0 br_table 0 1 2))))
+static MODULE: [u8; 95] = [
+    0x00, 0x61, 0x73, 0x6D, 0x01, 0x00, 0x00, 0x00, 0x01, 0x0D, 0x03, 0x60, 0x00, 0x00, 0x60, 0x01,
+    0x7F, 0x01, 0x7F, 0x60, 0x01, 0x7F, 0x00, 0x02, 0x0E, 0x02, 0x01, 0x6D, 0x01, 0x66, 0x00, 0x00,
+    0x01, 0x6D, 0x01, 0x67, 0x03, 0x7E, 0x00, 0x03, 0x03, 0x02, 0x01, 0x02, 0x05, 0x03, 0x01, 0x00,
+    0x01, 0x07, 0x05, 0x01, 0x01, 0x61, 0x00, 0x01, 0x0A, 0x25, 0x02, 0x13, 0x01, 0x02, 0x7E, 0x41,
+    0x05, 0x02, 0x7F, 0x20, 0x00, 0x20, 0x00, 0x0D, 0x00, 0x41, 0x07, 0x6A, 0x0B, 0x6A, 0x0B, 0x0F,
+    0x00, 0x02, 0x40, 0x03, 0x40, 0x20, 0x00, 0x0E, 0x02, 0x00, 0x01, 0x02, 0x0B, 0x0B, 0x0B,
+];
+
+fn accepted<R: Threads + Wait + Abort + Sync>(rt: &R, alloc: Global) -> Accepted<'static> {
+    let plan = Plan::new(2, 1).expect(rt, "a plan");
+    judge(rt, alloc, &MODULE, plan, &Quiet).expect(rt, "accepted")
+}
+
+const IMPORTED: GlobalType = GlobalType {
+    content: ValType::I64,
+    mutable: false,
+};
+
+#[test]
+fn lends_the_module(rt: HostRuntime) -> Result<(), Fail> {
+    let accepted = accepted(&rt, rt.alloc());
+    let lent = accepted.module();
+    assert_eq!(rt; lent.types.len(), 3);
+    let [function, global] = lent.imports.as_slice() else {
+        return Err("two imports".into());
+    };
+    assert_eq!(rt; function.kind, ImportKind::Function(0));
+    assert_eq!(rt; global.kind, ImportKind::Global(IMPORTED));
+    assert_eq!(rt; lent.functions.as_slice(), [1, 2].as_slice());
+    let [export] = lent.exports.as_slice() else {
+        return Err("one export".into());
+    };
+    assert_eq!(rt; export.name, b"a".as_slice());
+    assert_eq!(rt; (export.kind, export.index), (ExportKind::Function, 1));
+    assert_eq!(rt; lent.bodies.len(), 2);
+    Ok(())
+}
+
+#[test]
+fn lends_the_context(rt: HostRuntime) -> Result<(), Fail> {
+    let accepted = accepted(&rt, rt.alloc());
+    let context = accepted.context();
+    assert_eq!(rt; context.function_count(), 3);
+    assert_eq!(rt; context.imported_functions(), 1);
+    assert_eq!(rt; context.type_of(2), Some(2));
+    assert_eq!(rt; context.global(0), Some(IMPORTED));
+    assert!(rt; context.has_memory() && !context.has_table());
+    let signature = context.function(1).ok_or("no function")?;
+    assert_eq!(rt; signature.params, [ValType::I32].as_slice());
+    assert_eq!(rt; signature.results, [ValType::I32].as_slice());
+    assert!(rt; context.signature(3).is_none());
+    Ok(())
+}
+
+#[test]
+fn lends_a_body_with_a_branch(rt: HostRuntime) -> Result<(), Fail> {
+    let accepted = accepted(&rt, rt.alloc());
+    let body = accepted.body(1).ok_or("no body")?;
+    let run = LocalRun {
+        count: 2,
+        content: ValType::I64,
+    };
+    assert_eq!(rt; body.locals(), [run].as_slice());
+    assert_eq!(rt; body.tokens().len(), 10);
+    assert_eq!(rt; body.entries().len(), 10);
+    assert_eq!(rt; body.tokens().get(4), Some(&Token::BrIf(0)));
+    // on behind the block's end, with one operand above the 5
+    let behind = Destination {
+        target: 8,
+        arity: 1,
+        height: 1,
+    };
+    assert_eq!(rt; body.entries().get(4), Some(&behind));
+    assert!(rt; body.targets().is_empty() && body.cases().is_empty());
+    assert_eq!(rt; body.height(), 3);
+    Ok(())
+}
+
+fn to(target: usize) -> Destination {
+    Destination {
+        target,
+        arity: 0,
+        height: 0,
+    }
+}
+
+#[test]
+fn lends_a_body_with_a_branch_table(rt: HostRuntime) -> Result<(), Fail> {
+    let accepted = accepted(&rt, rt.alloc());
+    let body = accepted.body(2).ok_or("no body")?;
+    let table = Token::BrTable { count: 2, first: 0 };
+    assert_eq!(rt; body.tokens().get(3), Some(&table));
+    assert_eq!(rt; body.targets(), [0, 1, 2].as_slice());
+    // two cases and the default: back to the loop, behind the block, and out of the body
+    let entry = body.entries().get(3).ok_or("no entry")?;
+    assert_eq!(rt; (entry.arity, entry.height), (2, 0));
+    assert_eq!(rt; body.cases(), [to(1), to(6), to(7)].as_slice());
+    assert_eq!(rt; body.height(), 1);
+    Ok(())
+}
+
+#[test]
+fn lends_no_other_body(rt: HostRuntime) {
+    let accepted = accepted(&rt, rt.alloc());
+    assert!(rt; accepted.body(0).is_none());
+    assert!(rt; accepted.body(3).is_none());
+}
