@@ -1,6 +1,7 @@
 pub mod Basics
 pub mod Match
 pub mod Walk
+pub mod Trees
 pub mod Trail
 pub mod Ran
 pub mod Kept

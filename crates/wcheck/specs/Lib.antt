@@ -9,5 +9,6 @@ pub mod Checking
 pub mod Checked
 pub mod NoteViews
 pub mod Outcomes
+pub mod Promise
 pub mod Bodies
 pub mod LocalRuns

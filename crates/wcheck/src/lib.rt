@@ -15,10 +15,12 @@ mod noting;
 mod operands;
 mod perform;
 mod scope;
+mod typing;
 
-pub use checked::{CheckFault, CheckedBody, check_body};
+pub use checked::CheckedBody;
 pub use checker::Checker;
 pub use destination::Destination;
+pub use typing::{CheckFault, check_body};
 
 #[cfg(test)]
 mod tests;
