@@ -18,7 +18,6 @@ use Rattle.wsyntax.specs.Validation.Algorithm.{Accepted, Operands, Frame, on, wh
 use Rattle.wsyntax.specs.Validation.ModuleContext.{function_context}
 use Rattle.wsyntax.specs.Validation.Verdict.{result_of}
 use Rattle.wcheck.specs.Checking.{Checking, begun}
-use Rattle.wdecode.proofs.FlatLoop.{token_shorter}
 use Rattle.verdict.specs.Judged.{typing_class, read_class, class_of}
 use Rattle.verdict.specs.OnePass.{PassesAs}
 use Rattle.verdict.specs.declared.refusal.Class.{Class}
@@ -132,18 +131,18 @@ read_behind C t ts inner rest n (g ∷ hs) (Some (Some now)) is w q more = rw (i
 reads : (C : Context) (ts : List Token) (f : Frame) (fs : List Frame) (bytes : List ℕ) (n : ℕ) → Grounded (f ∷ fs) → PassesAs C (f ∷ fs) bytes ts → length bytes ≤ n → tokens_at n (flags (f ∷ fs)) bytes ≡ Some (ts, [])
 reads C [] f fs bytes n h p le = absurd p
 reads C (t ∷ ts) f fs bytes zero h p le =
-    let lt : length p.0 < length bytes = token_shorter bytes t p.0 p.2 in
+    let lt = p.3 in
     absurd (omega arith)
 reads C (t ∷ ts) f fs bytes (suc n) h p le =
-    let lt : length p.0 < length bytes = token_shorter bytes t p.0 p.2 in
+    let lt = p.3 in
     let small : length p.0 ≤ n = omega arith in
-    rw p.2 (read_behind C t ts (flags (f ∷ fs)) p.0 n p.1 (nest (flags (f ∷ fs)) t) refl (follows C t f fs p.1 h p.3) p.4 (λ g hs k q. reads C ts g hs p.0 n k q small))
+    rw p.2 (read_behind C t ts (flags (f ∷ fs)) p.0 n p.1 (nest (flags (f ∷ fs)) t) refl (follows C t f fs p.1 h p.4) p.5 (λ g hs k q. reads C ts g hs p.0 n k q small))
 
 -- each token is taken
 accepts : (C : Context) (ts : List Token) (fs : List Frame) (bytes : List ℕ) (k : ℕ) → PassesAs C fs bytes ts → alg_from C ts fs k ≡ Accepted
 accepts C ts [] bytes k p = rw p.0 refl
 accepts C [] (f ∷ fs) bytes k p = absurd p
-accepts C (t ∷ ts) (f ∷ fs) bytes k p = rw p.3 (accepts C ts p.1 p.0 (k + 1) p.4)
+accepts C (t ∷ ts) (f ∷ fs) bytes k p = rw p.4 (accepts C ts p.1 p.0 (k + 1) p.5)
 
 -- ---- the body
 
@@ -173,15 +172,16 @@ passing_class C f bytes rest runs ts a few p =
 -- ---- the loop
 
 -- one token more
-next_token : (C : Context) (fs gs : List Frame) (bytes after : List ℕ) (t : Token) (All : Type 0) → (fs ≡ [] → ⊥) → token_at bytes ≡ Some (t, after) → step C t fs ≡ Some gs → ((ts : List Token) → PassesAs C fs bytes ts → All) → (ts : List Token) → PassesAs C gs after ts → All
-next_token C [] gs bytes after t All some a b so ts p = absurd (some refl)
-next_token C (f ∷ fs) gs bytes after t All some a b so ts p = so (t ∷ ts) (after, gs, a, b, p)
+next_token : (C : Context) (fs gs : List Frame) (bytes after : List ℕ) (t : Token) (All : Type 0) → (fs ≡ [] → ⊥) → token_at bytes ≡ Some (t, after) → length after < length bytes → step C t fs ≡ Some gs → ((ts : List Token) → PassesAs C fs bytes ts → All) → (ts : List Token) → PassesAs C gs after ts → All
+next_token C [] gs bytes after t All some a lt b so ts p = absurd (some refl)
+next_token C (f ∷ fs) gs bytes after t All some a lt b so ts p = so (t ∷ ts) (after, gs, a, lt, b, p)
 
-pub goes_on : (C D : Context) (fs gs : List Frame) (bytes after new lent : List ℕ) (token : Held) (ok : Bool) (All : Type 0) → D ≡ C → (fs ≡ [] → ⊥) → lent ≡ new → token_at bytes ≡ Some (seen (new ++ []) token, after) → step D (seen lent token) fs ≡ when ok (Some gs) → ok ≡ true → ((ts : List Token) → PassesAs C fs bytes ts → All) → (ts : List Token) → PassesAs C gs after ts → All
-goes_on C D fs gs bytes after new lent token ok All same some is a b taken so =
+pub goes_on : (C D : Context) (fs gs : List Frame) (bytes after new lent : List ℕ) (token : Held) (ok : Bool) (All : Type 0) → D ≡ C → (fs ≡ [] → ⊥) → lent ≡ new → token_at bytes ≡ Some (seen (new ++ []) token, after) → length after < length bytes → step D (seen lent token) fs ≡ when ok (Some gs) → ok ≡ true → ((ts : List Token) → PassesAs C fs bytes ts → All) → (ts : List Token) → PassesAs C gs after ts → All
+goes_on C D fs gs bytes after new lent token ok All same some is a lt b taken so =
     let look : seen (new ++ []) token ≡ seen lent token = ap (λ (x : List ℕ). seen x token) (append-nil new ∙ sym is) in
     next_token C fs gs bytes after (seen lent token) All some
     (a ∙ ap (λ (x : Token). Some (x, after)) look)
+    lt
     (ap (λ (x : Context). step x (seen lent token) fs) (sym same) ∙ b ∙ ap (λ (x : Bool). when x (Some gs)) taken)
     so
 

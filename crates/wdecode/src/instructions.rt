@@ -1,4 +1,4 @@
-ghost use Rattle.std.specs.Prelude.{◌≡◌, ◌≢◌, ℕ, Bool, List, ◌++◌, Option, Some, None, reverse, length, if◌then◌else◌, IfOk, IfErr, IsTrue};
+ghost use Rattle.std.specs.Prelude.{◌≡◌, ◌≢◌, ◌<◌, ℕ, Bool, List, ◌++◌, Option, Some, None, reverse, length, if◌then◌else◌, IfOk, IfErr, IsTrue};
 ghost use Rattle.wsyntax.specs.Brackets.{lies_within};
 ghost use Rattle.wdecode.specs.Gives.{Gives, GivesToken, Fails};
 ghost use Rattle.wsyntax.specs.Instructions.{Do};
@@ -184,11 +184,9 @@ fn plain_at<'a>(targets: &mut Vec<u32>, bytes: &'a [u8]) -> Result<(Token, &'a [
 }
 
 /// The token at the front (5.4), and the bytes after it; its labels go behind the targets.
-///
-/// A caller that decodes and checks in one loop calls this, and `enter` with what is open.
 #[inline(always)]
 #[tactic(auto, unfolding(wsyntax::specs::Binary::Nesting::token_at))]
-pub fn token_at<'a>(targets: &mut Vec<u32>, bytes: &'a [u8]) -> Result<(Token, &'a [u8]), Fault>
+fn front_token<'a>(targets: &mut Vec<u32>, bytes: &'a [u8]) -> Result<(Token, &'a [u8]), Fault>
     ensures ok { IfOk result (λ x. GivesToken seen targets.old.items targets.new.items (x.0, x.1.now) (token_of bytes.now)) }
     ensures within { IfOk result (λ x. IsTrue (lies_within (length targets.new.items) x.0)) }
     ensures err { IfErr result (λ e. Fails e (token_of bytes.now)) }
@@ -212,6 +210,22 @@ pub fn token_at<'a>(targets: &mut Vec<u32>, bytes: &'a [u8]) -> Result<(Token, &
         0x05 => Ok((Token::Else, rest)),
         0x0B => Ok((Token::End, rest)),
         _ => plain_at(targets, bytes),
+    }
+}
+
+/// The token at the front (5.4), and the bytes after it; its labels go behind the targets.
+///
+/// A caller that decodes and checks in one loop calls this, and `enter` with what is open.
+#[inline(always)]
+pub fn token_at<'a>(targets: &mut Vec<u32>, bytes: &'a [u8]) -> Result<(Token, &'a [u8]), Fault>
+    ensures ok { IfOk result (λ x. GivesToken seen targets.old.items targets.new.items (x.0, x.1.now) (token_of bytes.now)) }
+    ensures within { IfOk result (λ x. IsTrue (lies_within (length targets.new.items) x.0)) }
+    ensures shorter { IfOk result (λ x. length x.1.now < length bytes.now) }
+    ensures err { IfErr result (λ e. Fails e (token_of bytes.now)) }
+{
+    match front_token(targets, bytes) {
+        Err(fault) => Err(fault),
+        Ok((token, rest)) => Ok((token, rest)),
     }
 }
 

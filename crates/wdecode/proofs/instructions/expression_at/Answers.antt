@@ -2,7 +2,7 @@ use Rattle.std.proofs.Common.{◌++◌, [], length, reverse}
 use Rattle.std.proofs.lemmas.Result.{err_from_is_err_and}
 use Rattle.wsyntax.specs.Modules.{seen}
 use Rattle.wsyntax.specs.Binary.Nesting.{tokens_at, expression}
-use Rattle.wdecode.proofs.FlatLoop.{token_shorter, token_fails, nest_fails}
+use Rattle.wdecode.proofs.FlatLoop.{token_fails, nest_fails}
 use Rattle.wdecode.proofs.OneLoop.{continues, finishes}
 use Rattle.wdecode.proofs.instructions.expression_at.Goals as goal
 
@@ -36,9 +36,7 @@ invariant_of-result-clause-within c =
     all.within
 
 pub each-smaller : goal.each-smaller
-each-smaller c =
-    let g = c.in_ok-token.ensures.ok in
-    token_shorter c.each.rest.now (seen (c.token_at.new.targets.items ++ []) c.in_ok-token.token) c.in_ok-token.after.now (g.2 [])
+each-smaller c = c.in_ok-token.ensures.shorter
 
 pub each-preserved : goal.each-preserved
 each-preserved c = continues c.args.bytes.now c.each.tokens.items c.push.new.self.items c.each.targets.items c.token_at.new.targets.items (reverse c.each.opened.items) (reverse c.enter.new.opened.items) c.each.rest.now c.in_ok-token.after.now c.in_ok-token.token c.in_ok-closes.closes c.each.invariant c.in_ok-token.ensures.ok c.in_ok-token.ensures.within c.in_ok-closes.ensures.ok c.if-closes.false c.in_ok-push.ensures.items
