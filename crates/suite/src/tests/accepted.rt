@@ -92,7 +92,7 @@ fn lends_a_body_with_a_branch(rt: HostRuntime) -> Result<(), Fail> {
     Ok(())
 }
 
-fn to(target: usize) -> Destination {
+fn to(target: u32) -> Destination {
     Destination {
         target,
         arity: 0,
