@@ -1,8 +1,8 @@
-use crate::Checker;
+use crate::{Checker, Destination, check_body};
 use std::alloc::{AllocError, Global};
 use std::test::Fail;
 use wcontext::check_module;
-use wsyntax::{BlockType, FuncType, LocalRun, Module, Operator, Token, ValType};
+use wsyntax::{BlockType, Body, Expression, FuncType, LocalRun, Module, Operator, Token, ValType};
 
 /// A module with one function, `[] -> []`.
 fn one_function(alloc: Global) -> Result<Module<'static>, AllocError> {
@@ -232,5 +232,39 @@ fn locals_by_runs(rt: HostRuntime) -> Result<(), Fail> {
         refused_at(alloc, &[Token::LocalGet(3), Token::Drop, Token::End], &[])?,
         Some(0)
     );
+    Ok(())
+}
+
+/// A branch back to a loop, and the entries of the side table.
+#[test]
+fn loop_with_its_table(rt: HostRuntime) -> Result<(), Fail> {
+    let alloc = rt.alloc();
+    let module = one_function(alloc)?;
+    let context = check_module(alloc, &module)?;
+    if context.function(0).is_none() {
+        return Err("the function is there".into());
+    }
+    let mut tokens = Vec::new(alloc);
+    tokens.push(Token::Loop(BlockType::Empty))?;
+    tokens.push(Token::I32Const(0))?;
+    tokens.push(Token::BrIf(0))?;
+    tokens.push(Token::End)?;
+    tokens.push(Token::End)?;
+    let body = Body {
+        runs: Vec::new(alloc),
+        code: Expression {
+            tokens,
+            targets: Vec::new(alloc),
+        },
+    };
+    let checked = check_body(alloc, &context, 0, body)?;
+    let back = Destination {
+        target: 0,
+        arity: 0,
+        height: 0,
+    };
+    assert_eq!(rt; checked.entries().get(2), Some(&back));
+    assert_eq!(rt; checked.entries().len(), 5);
+    assert_eq!(rt; checked.height(), 1);
     Ok(())
 }
