@@ -18,3 +18,4 @@ pub mod Plain
 pub mod Judging
 pub mod Verdicts
 pub mod EndedRuns
+pub mod SeenOperands
