@@ -1,5 +1,5 @@
 -- A step of an instruction without a body.
-use Rattle.std.proofs.Common.{◌≡◌, Bool, true, false, List, [], ◌∷◌, reverse, Option, Some, None, refl, sym, ap, ◌∙◌, subst}
+use Rattle.std.proofs.Common.{◌≡◌, Bool, true, false, List, ◌∷◌, reverse, Option, Some, None, refl, sym, ap, ◌∙◌}
 use Rattle.wsyntax.specs.declared.ValType.{ValType}
 use Rattle.wsyntax.specs.Instructions.{Op, Token, Do, OpenBlock, OpenLoop, OpenIf, Else, End}
 use Rattle.wsyntax.specs.Validation.Context.{Context}

@@ -1,4 +1,4 @@
-use Rattle.std.proofs.Common.{ap, ◌∙◌, sym, arith}
+use Rattle.std.proofs.Common.{ap, ◌∙◌, arith}
 use Rattle.wsyntax.specs.Validation.Algorithm.{is_nil}
 use Rattle.wcheck.proofs.ListFacts.{nil_length}
 use Rattle.wcheck.proofs.operands.OperandStack.is_empty.Goals as goal
