@@ -1,5 +1,5 @@
 -- What the pass over a body comes to, in the code.
-use Rattle.std.specs.Prelude.{◌≡◌, List}
+use Rattle.std.specs.Prelude.{◌≡◌, ℕ, List}
 use Rattle.wsyntax.specs.Instructions.{Token}
 use Rattle.wsyntax.specs.Validation.Context.{Stack, Context}
 use Rattle.wcheck.specs.declared.body.SideTable.{SideTable}
