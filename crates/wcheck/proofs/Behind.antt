@@ -1,6 +1,6 @@
 -- What the code's proofs need.
-use Rattle.std.proofs.Common.{◌≡◌, ℕ, zero, suc, ◌+◌, ◌-◌, ◌≤◌, ◌<◌, get_or, slice_get, Bool, true, false, List, [], ◌∷◌, ◌++◌, map, reverse, take, length, Option, Some, None, refl, sym, ap, ◌∙◌, subst, arith}
-use Rattle.std.proofs.lemmas.List.{reverse-append, map-append, take_all as take-whole, get_or-reverse, length-reverse, get_or-map, length-map}
+use Rattle.std.proofs.Common.{◌≡◌, ℕ, zero, suc, ◌-◌, ◌≤◌, ◌<◌, get_or, slice_get, Bool, true, false, List, [], ◌∷◌, ◌++◌, map, reverse, take, length, Option, Some, None, refl, sym, ap, ◌∙◌, arith}
+use Rattle.std.proofs.lemmas.List.{reverse-append, map-append, get_or-reverse, length-reverse, get_or-map, length-map}
 use Rattle.std.proofs.lemmas.Option.{slice_get-get_or, slice_get_past}
 use Rattle.wsyntax.specs.declared.ValType.{ValType}
 use Rattle.wcheck.proofs.Basics.{same_types-true}

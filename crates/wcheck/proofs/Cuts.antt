@@ -1,10 +1,10 @@
 -- One list of operands, and the frames that it is cut into.
-use Rattle.std.proofs.Common.{◌≡◌, ◌+◌, arith, length-append, List, [], ◌∷◌, ◌++◌, length, take, drop, reverse, Option, refl, sym, ap, ap₂, ◌∙◌, subst}
+use Rattle.std.proofs.Common.{◌≡◌, ◌+◌, arith, length-append, List, [], ◌∷◌, ◌++◌, length, take, drop, reverse, Option, sym, ap, ap₂, ◌∙◌}
 use Rattle.std.proofs.lemmas.List.{reverse-append, reverse-reverse, length-reverse, take-append-drop}
 use Rattle.std.proofs.Math.Seq.{take-append_seam, drop-append_seam}
 use Rattle.wsyntax.specs.declared.ValType.{ValType}
 use Rattle.wcheck.specs.declared.frames.Level.{Level}
-use Rattle.wsyntax.specs.Validation.Algorithm.{Operands, Frame}
+use Rattle.wsyntax.specs.Validation.Algorithm.{Frame}
 use Rattle.wcheck.specs.Views.{cut, frame_of, under_all}
 use Rattle.wcheck.specs.Pass.{height}
 

@@ -1,5 +1,5 @@
 -- Declared locals, by their runs.
-use Rattle.std.proofs.Common.{◌≡◌, ℕ, zero, suc, ◌+◌, ◌-◌, ◌<◌, ◌≤◌, List, [], ◌∷◌, ◌++◌, length, drop, get_or, slice_get, Option, Some, refl, sym, ap, ◌∙◌, subst, arith}
+use Rattle.std.proofs.Common.{◌≡◌, ℕ, zero, suc, ◌+◌, ◌<◌, List, ◌++◌, slice_get, Some, refl, ap, arith}
 use Rattle.std.specs.Prelude.{replicate}
 
 -- a place in a run

@@ -19,3 +19,5 @@ pub mod Plain
 pub mod Judging
 pub mod Verdicts
 pub mod EndedRuns
+pub mod FirstLocals
+pub mod SeenOperands

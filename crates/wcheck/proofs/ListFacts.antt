@@ -1,11 +1,11 @@
 -- What the code's proofs need.
-use Rattle.std.proofs.Common.{◌≡◌, ◌≤◌, ◌<◌, ◌+◌, ◌-◌, ℕ, zero, suc, Bool, true, false, List, [], ◌∷◌, ◌++◌, map, take, drop, reverse, length, get_or, Option, Some, None, refl, sym, ap, ◌∙◌, subst, arith, length-drop, length-take}
+use Rattle.std.proofs.Common.{◌≡◌, ◌≤◌, ◌<◌, ◌+◌, ◌-◌, ℕ, zero, suc, true, false, List, [], ◌∷◌, ◌++◌, map, take, drop, reverse, length, get_or, Some, None, refl, sym, ap, ◌∙◌, subst, arith, length-drop, length-take}
 use Rattle.std.specs.Prelude.{set, nat_eq}
 use Rattle.std.proofs.lemmas.List.{length-reverse}
 use Rattle.std.proofs.lemmas.Bool.{eq-eqb}
 use Rattle.std.specs.Prelude.{◌≢◌}
 use Rattle.wsyntax.specs.Validation.Context.{Stack}
-use Rattle.wsyntax.specs.Validation.Algorithm.{Operands, take_one, take_all, is_nil, on, when}
+use Rattle.wsyntax.specs.Validation.Algorithm.{Operands, take_all, is_nil, when}
 
 abbrev dead : Operands
 dead = record { known = []; is_dead = true }

@@ -1,7 +1,7 @@
 -- A step of an instruction without a body.
-use Rattle.std.proofs.Common.{◌≡◌, Bool, true, false, List, [], ◌∷◌, reverse, Option, Some, None, refl, sym, ap, ◌∙◌, subst}
+use Rattle.std.proofs.Common.{◌≡◌, Bool, true, false, List, ◌∷◌, reverse, Option, Some, None, refl, sym, ap, ◌∙◌}
 use Rattle.wsyntax.specs.declared.ValType.{ValType}
-use Rattle.wsyntax.specs.Instructions.{Token, Do, OpenBlock, OpenLoop, OpenIf, Else, End}
+use Rattle.wsyntax.specs.Instructions.{Op, Token, Do, OpenBlock, OpenLoop, OpenIf, Else, End}
 use Rattle.wsyntax.specs.Validation.Context.{Context}
 use Rattle.wsyntax.specs.Validation.Algorithm.{on, when, Rule, rule, Operands, apply, Frame, context_in, step}
 use Rattle.wcheck.specs.declared.frames.Shape.{Shape}
@@ -35,3 +35,11 @@ plain s t top outer below a o r goes e h =
     then_some : (v : Bool) (u : Operands) → on (when v (Some u)) (λ w. Some (frame_of top w ∷ cut (reverse outer) below)) ≡ when v (Some (frame_of top u ∷ cut (reverse outer) below))
     then_some true u = refl
     then_some false u = refl
+
+-- an instruction that has no rule
+pub unruled : (s : Scope) (t : Token) (i : Op) (top : Shape) (outer : List Level) (below : List (Option ValType)) (a : Operands) → t ≡ Do i → None ≡ token_rule (context_at s top outer) t → step (scope_context s) t (frame_of top a ∷ cut (reverse outer) below) ≡ None
+unfolding with_labels
+unruled s t i top outer below a q e =
+    let none : None ≡ rule (context_in (scope_context s) (frame_of top a ∷ cut (reverse outer) below)) i = e ∙ ap (token_rule (context_at s top outer)) q ∙ ap (λ ls. token_rule (with_labels s top ls) (Do i)) (sym (labels_outside outer below)) in
+    ap (λ z. step (scope_context s) z (frame_of top a ∷ cut (reverse outer) below)) q
+    ∙ ap (λ x. on x (λ r. on (apply r a) (λ o. Some (frame_of top o ∷ cut (reverse outer) below)))) (sym none)

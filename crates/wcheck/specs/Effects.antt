@@ -1,6 +1,5 @@
 -- What an instruction does to the operands, in the code.
 use Rattle.std.specs.Prelude.{[], ◌∷◌, Bool, reverse, cond}
-use Rattle.wsyntax.specs.declared.ValType.{ValType}
 use Rattle.wsyntax.specs.declared.ValType.TheVariants.{I32}
 use Rattle.wsyntax.specs.Validation.Context.{Stack}
 use Rattle.wsyntax.specs.Validation.Algorithm as alg

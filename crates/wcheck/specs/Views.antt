@@ -1,10 +1,9 @@
 -- What the code's values stand for.
-use Rattle.std.specs.Prelude.{◌≡◌, ℕ, ◌+◌, Bool, true, false, List, [], ◌∷◌, ◌++◌, Option, Some, None, reverse, map, cond, length, take, drop}
+use Rattle.std.specs.Prelude.{List, [], ◌∷◌, Option, None, reverse, map, cond, take, drop}
 use Rattle.wsyntax.specs.declared.ValType.{ValType}
-use Rattle.wsyntax.specs.declared.ValType.TheVariants.{I32}
-use Rattle.wsyntax.specs.Instructions.{Op, Token, Do}
+use Rattle.wsyntax.specs.Instructions.{Token, Do}
 use Rattle.wsyntax.specs.Validation.Context.{Stack, Context, body_context}
-use Rattle.wsyntax.specs.Validation.Algorithm.{Operands, Frame, Rule, Takes, Ends, Drops, Selects, rule}
+use Rattle.wsyntax.specs.Validation.Algorithm.{Operands, Frame, Rule, rule}
 use Rattle.wcheck.specs.declared.frames.Shape.{Shape}
 use Rattle.wcheck.specs.declared.frames.Level.{Level}
 use Rattle.wcheck.specs.declared.scope.Scope.{Scope}

@@ -1,4 +1,5 @@
 ghost use Rattle.std.specs.Prelude.{◌≡◌, ◌≤◌, ◌+◌, List, [], ◌∷◌, ◌++◌, Bool, true, false, cond, Option, MatchOption, IfOk, reverse, map, length};
+ghost use Rattle.wsyntax.specs.Instructions.{Op, Do};
 ghost use Rattle.wsyntax.specs.Modules.{seen};
 ghost use Rattle.wsyntax.specs.Validation.Algorithm.{on, when, apply, open_frame, ends_with, may_lack_else, pass_on, fresh, step};
 ghost use Rattle.wcheck.specs.Views.{scope_context, context_at, token_rule, cut, frame_of};
@@ -104,9 +105,45 @@ pub fn close_level(control: &mut Control) -> Result<bool, AllocError>
     Ok(true)
 }
 
+/// An instruction without a body.
+#[inline(always)]
+#[tactic(auto, using(crate::proofs::Behind::labels_outside, crate::proofs::Plain::plain, crate::proofs::Plain::unruled))]
+fn act<'a>(
+    scope: &Scope<'a>,
+    targets: &[u32],
+    control: &mut Control<'a>,
+    token: Token,
+) -> Result<bool, AllocError>
+    requires { control.old.is_open ≡ true }
+    ensures frames { IfOk result (λ yes. (i : Op) → seen targets.now token ≡ Do i → step (scope_context scope.now) (seen targets.now token) (frames_of control.old) ≡ when yes (Some (frames_of control.new))) }
+    ensures tight { IsTight control.old → IsTight control.new }
+{
+    match effect_of(scope, control.top, &control.outer, targets, token) {
+        Some(effect) => {
+            let yes = perform(&mut control.operands, effect)?;
+            Ok(yes)
+        }
+        None => Ok(false),
+    }
+}
+
+/// An instruction without a body that is not frequent.
+#[inline(never)]
+fn act_rarely<'a>(
+    scope: &Scope<'a>,
+    targets: &[u32],
+    control: &mut Control<'a>,
+    token: Token,
+) -> Result<bool, AllocError>
+    requires { control.old.is_open ≡ true }
+    ensures frames { IfOk result (λ yes. (i : Op) → seen targets.now token ≡ Do i → step (scope_context scope.now) (seen targets.now token) (frames_of control.old) ≡ when yes (Some (frames_of control.new))) }
+    ensures tight { IsTight control.old → IsTight control.new }
+{
+    act(scope, targets, control, token)
+}
+
 /// One token.
 #[inline(always)]
-#[tactic(auto, using(crate::proofs::Behind::labels_outside, crate::proofs::Plain::plain))]
 pub fn step_control<'a>(
     scope: &Scope<'a>,
     targets: &[u32],
@@ -144,12 +181,23 @@ pub fn step_control<'a>(
         },
         Token::Else => other_branch(control),
         Token::End => close_level(control),
-        _ => match effect_of(scope, control.top, &control.outer, targets, token) {
-            Some(effect) => {
-                let yes = perform(&mut control.operands, effect)?;
-                Ok(yes)
-            }
-            None => Ok(false),
-        },
+        // These are frequent: each has an arm of its own, in which the compiler knows what `act` does.
+        Token::LocalGet(_) => act(scope, targets, control, token),
+        Token::LocalSet(_) => act(scope, targets, control, token),
+        Token::LocalTee(_) => act(scope, targets, control, token),
+        Token::GlobalGet(_) => act(scope, targets, control, token),
+        Token::GlobalSet(_) => act(scope, targets, control, token),
+        Token::I32Const(_) => act(scope, targets, control, token),
+        Token::I64Const(_) => act(scope, targets, control, token),
+        Token::F32Const(_) => act(scope, targets, control, token),
+        Token::F64Const(_) => act(scope, targets, control, token),
+        Token::Numeric(_) => act(scope, targets, control, token),
+        Token::Load { .. } => act(scope, targets, control, token),
+        Token::Store { .. } => act(scope, targets, control, token),
+        Token::Br(_) => act(scope, targets, control, token),
+        Token::BrIf(_) => act(scope, targets, control, token),
+        Token::Call(_) => act(scope, targets, control, token),
+        Token::Drop => act(scope, targets, control, token),
+        _ => act_rarely(scope, targets, control, token),
     }
 }

@@ -3,7 +3,7 @@ ghost use Rattle.wsyntax.specs.Types.{same_types};
 ghost use Rattle.wsyntax.specs.Validation.Algorithm.{all_take};
 ghost use Rattle.wcheck.specs.Views.{label_of, labels_in};
 
-use crate::operands::is_same;
+use crate::operand::is_same;
 use wsyntax::ValType;
 
 /// What a frame takes at its beginning, and what it gives.

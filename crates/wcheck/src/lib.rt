@@ -12,6 +12,7 @@ mod laws;
 mod locals;
 mod notes;
 mod noting;
+mod operand;
 mod operands;
 mod perform;
 mod scope;

@@ -1,6 +1,6 @@
-ghost use Rattle.std.specs.Prelude.{◌≡◌, ◌+◌, ◌<◌, min, List, [], ◌++◌, Option, IfOk, slice_get, map};
+ghost use Rattle.std.specs.Prelude.{◌≡◌, ◌+◌, ◌<◌, min, List, [], ◌++◌, Option, IfOk, slice_get, map, take};
 ghost use Rattle.wsyntax.specs.Validation.ModuleContext.{declared};
-ghost use Rattle.wcheck.specs.LocalRuns.{run_of, AreEnds};
+ghost use Rattle.wcheck.specs.LocalRuns.{run_of, AreEnds, AreFirst};
 
 use std::alloc::{AllocError, Global};
 use std::marker::Model;
@@ -13,12 +13,17 @@ pub struct EndedRun {
     pub end: usize,
 }
 
-/// The types of the locals of one body: the parameters, which the module's context keeps, and the declared ones, which
-/// are not written out.
+/// How many locals are written out.
+const NEAR: usize = 256;
+
+/// The types of the locals of one body: the parameters, which the module's context keeps, and the declared ones, of
+/// which there may be more than could be written out.
 #[derive(Drop)]
 pub struct Locals<'a> {
     params: &'a [ValType],
     runs: Vec<EndedRun>,
+    /// The first of them all, written out.
+    near: Vec<ValType>,
 }
 
 impl<'a> Model for Locals<'a> {
@@ -28,11 +33,11 @@ impl<'a> Model for Locals<'a> {
     ghost Value = { List ValType };
 
     ghost use Rattle.wsyntax.specs.Validation.ModuleContext.{declared};
-    ghost use Rattle.wcheck.specs.LocalRuns.{run_of, AreEnds};
+    ghost use Rattle.wcheck.specs.LocalRuns.{run_of, AreEnds, AreFirst};
 
     ghost view = { λ l. l.params.now ++ declared (map run_of l.runs.items) };
 
-    ghost invariant = { λ l. AreEnds 0 l.runs.items };
+    ghost invariant = { λ l. AreEnds 0 l.runs.items × AreFirst l.near.items (l.params.now ++ declared (map run_of l.runs.items)) };
 }
 
 /// A sum, or the greatest number where there is none.
@@ -62,6 +67,45 @@ fn end_runs(ended: &mut Vec<EndedRun>, runs: &[LocalRun]) -> Result<(), AllocErr
     Ok(())
 }
 
+/// As many of these as there are, up to that count.
+#[inline]
+fn first_of(types: &[ValType], count: usize) -> &[ValType]
+    ensures { result.now ≡ take count types.now }
+{
+    if count < types.len() {
+        &types[..count]
+    } else {
+        types
+    }
+}
+
+/// Writes out the first of the locals.
+#[tactic(auto, using(crate::proofs::FirstLocals::none_first, crate::proofs::FirstLocals::some_first, crate::proofs::FirstLocals::so_far_first, crate::proofs::FirstLocals::part_first, crate::proofs::FirstLocals::next_first))]
+fn write_first(
+    near: &mut Vec<ValType>,
+    params: &[ValType],
+    runs: &[LocalRun],
+) -> Result<(), AllocError>
+    requires { near.old.items ≡ [] }
+    ensures { AreFirst near.new.items (params.now ++ declared runs.now) }
+{
+    if params.len() > NEAR {
+        near.extend_from_slice(first_of(params, NEAR))?;
+        return Ok(());
+    }
+    near.extend_from_slice(params)?;
+    for run in runs {
+        let written = near.len();
+        let count = run.count as usize;
+        if count > NEAR - written {
+            near.resize(NEAR, run.content)?;
+            return Ok(());
+        }
+        near.resize(written + count, run.content)?;
+    }
+    Ok(())
+}
+
 /// The type of a declared local; `None` past the last. Halves the runs until one is left.
 fn declared_local(runs: &[EndedRun], x: usize) -> Option<ValType>
     requires ends { AreEnds 0 runs.now }
@@ -85,24 +129,43 @@ fn declared_local(runs: &[EndedRun], x: usize) -> Option<ValType>
     }
 }
 
+/// The type of a local that need not be written out.
+#[inline(never)]
+fn far_local(params: &[ValType], runs: &[EndedRun], x: u32) -> Option<ValType>
+    requires { AreEnds 0 runs.now }
+    ensures { result ≡ slice_get (params.now ++ declared (map run_of runs.now)) x }
+{
+    let x = x as usize;
+    if x < params.len() {
+        Some(params[x])
+    } else {
+        declared_local(runs, x - params.len())
+    }
+}
+
 impl<'a> Locals<'a> {
     /// These parameters, and no declared locals.
+    #[tactic(auto, using(crate::proofs::FirstLocals::none_first))]
     pub fn new(alloc: Global, params: &'a [ValType]) -> Self
         ensures { result ≡ params.now }
     {
         Locals {
             params,
             runs: Vec::new(alloc),
+            near: Vec::new(alloc),
         }
     }
 
-    /// Changes to these parameters and declared locals. Takes no time for each local, but for each run.
+    /// Changes to these parameters and declared locals. Takes time for each run, and for the first locals, but not for each local.
+    #[tactic(auto, using(crate::proofs::FirstLocals::none_first, crate::proofs::FirstLocals::same_first))]
     pub fn set(&mut self, params: &'a [ValType], runs: &[LocalRun]) -> Result<(), AllocError>
         ensures { IfOk result (λ _. self.new ≡ params.now ++ declared runs.now) }
     {
+        self.near.clear();
         self.params = params;
         self.runs.clear();
-        end_runs(&mut self.runs, runs)
+        end_runs(&mut self.runs, runs)?;
+        write_first(&mut self.near, params, runs)
     }
 
     /// The type of a local; `None` past the last.
@@ -110,11 +173,9 @@ impl<'a> Locals<'a> {
     pub fn get(&self, x: u32) -> Option<ValType>
         ensures { result ≡ slice_get self.now x }
     {
-        let x = x as usize;
-        if x < self.params.len() {
-            Some(self.params[x])
-        } else {
-            declared_local(&self.runs, x - self.params.len())
+        match self.near.get(x as usize) {
+            Some(content) => Some(*content),
+            None => far_local(self.params, &self.runs, x),
         }
     }
 }

@@ -1,42 +1,28 @@
 ghost use Rattle.std.specs.Prelude.{◌≡◌, ◌≤◌, ◌+◌, List, [], ◌∷◌, ◌++◌, Bool, true, false, Option, MatchOption, IfOk, reverse, take, drop, length, vec_len};
-ghost use Rattle.wsyntax.specs.Types.{same_type};
-ghost use Rattle.wsyntax.specs.Validation.Algorithm.{when, take_any, take_one, take_all, put, fresh, is_nil, ends_with};
+ghost use Rattle.wsyntax.specs.Validation.Algorithm.{Takes, when, apply, take_any, take_one, take_all, put, fresh, is_nil, ends_with};
 
+use crate::operand::{OperandList, is_same};
 use std::alloc::{AllocError, Global};
 use std::marker::Model;
 use wsyntax::ValType;
 
-/// Whether two value types are the same.
-#[inline]
-pub fn is_same(a: ValType, b: ValType) -> bool
-    ensures { result ≡ same_type a b }
-{
-    match (a, b) {
-        (ValType::I32, ValType::I32) => true,
-        (ValType::I64, ValType::I64) => true,
-        (ValType::F32, ValType::F32) => true,
-        (ValType::F64, ValType::F64) => true,
-        _ => false,
-    }
-}
-
 /// The types of the operands of all open frames, in one list. `None` is a type that is not known.
 #[derive(Drop)]
 pub struct OperandStack {
-    types: Vec<Option<ValType>>,
+    types: OperandList,
     base: usize,
     is_dead: bool,
 }
 
 impl Model for OperandStack {
-    ghost use Rattle.std.specs.Prelude.{reverse, take, drop, vec_len, ◌≤◌};
+    ghost use Rattle.std.specs.Prelude.{reverse, take, drop, length, ◌≤◌};
     ghost use Rattle.wcheck.specs.Heights.{Stacked};
 
     ghost Value = { Stacked };
 
-    ghost view = { λ p. record { below = take p.base p.types.items; above = record { known = reverse (drop p.base p.types.items); is_dead = p.is_dead } } };
+    ghost view = { λ p. record { below = take p.base p.types; above = record { known = reverse (drop p.base p.types); is_dead = p.is_dead } } };
 
-    ghost invariant = { λ p. p.base ≤ vec_len p.types };
+    ghost invariant = { λ p. p.base ≤ length p.types };
 }
 
 impl OperandStack {
@@ -44,7 +30,7 @@ impl OperandStack {
         ensures { result ≡ record { below = []; above = fresh [] } }
     {
         OperandStack {
-            types: Vec::new(alloc),
+            types: OperandList::new(alloc),
             base: 0,
             is_dead: false,
         }
@@ -54,7 +40,7 @@ impl OperandStack {
     pub fn clear(&mut self)
         ensures { self.new ≡ record { below = []; above = fresh [] } }
     {
-        self.types.clear();
+        self.types.truncate(0);
         self.base = 0;
         self.is_dead = false;
     }
@@ -112,11 +98,106 @@ impl OperandStack {
         ensures above { take_one t self.old.above ≡ when result (Some self.new.above) }
         ensures below { self.new.below ≡ self.old.below }
     {
+        let count = self.types.len();
+        if count > self.base && self.types.ends_in(t) {
+            self.types.truncate(count - 1);
+            true
+        } else {
+            self.take_fitting(t)
+        }
+    }
+
+    /// Takes the topmost operand, if it may be of this type, which is seldom another or unknown.
+    #[inline(never)]
+    fn take_fitting(&mut self, t: ValType) -> bool
+        ensures above { take_one t self.old.above ≡ when result (Some self.new.above) }
+        ensures below { self.new.below ≡ self.old.below }
+    {
         match self.take_any() {
             None => false,
             Some(None) => true,
             Some(Some(u)) => is_same(u, t),
         }
+    }
+
+    /// Takes an operand of the first type, and puts one of the second.
+    #[inline]
+    pub fn change(&mut self, t: ValType, u: ValType) -> Result<bool, AllocError>
+        ensures above { IfOk result (λ yes. apply (Takes (t ∷ []) (u ∷ [])) self.old.above ≡ when yes (Some self.new.above)) }
+        ensures below { self.new.below ≡ self.old.below }
+    {
+        if self.types.len() > self.base && self.types.ends_in(t) {
+            self.types.retype_last(u);
+            Ok(true)
+        } else {
+            self.change_fitting(t, u)
+        }
+    }
+
+    #[inline(never)]
+    fn change_fitting(&mut self, t: ValType, u: ValType) -> Result<bool, AllocError>
+        ensures above { IfOk result (λ yes. apply (Takes (t ∷ []) (u ∷ [])) self.old.above ≡ when yes (Some self.new.above)) }
+        ensures below { self.new.below ≡ self.old.below }
+    {
+        if !self.take_fitting(t) {
+            return Ok(false);
+        }
+        self.put_one(Some(u))?;
+        Ok(true)
+    }
+
+    /// Takes two operands of the first type, and puts one of the second.
+    #[inline]
+    pub fn combine(&mut self, t: ValType, u: ValType) -> Result<bool, AllocError>
+        ensures above { IfOk result (λ yes. apply (Takes (t ∷ t ∷ []) (u ∷ [])) self.old.above ≡ when yes (Some self.new.above)) }
+        ensures below { self.new.below ≡ self.old.below }
+    {
+        let count = self.types.len();
+        if count - self.base >= 2 && self.types.ends_in_both(t, t) {
+            self.types.truncate(count - 1);
+            self.types.retype_last(u);
+            Ok(true)
+        } else {
+            self.combine_fitting(t, u)
+        }
+    }
+
+    #[inline(never)]
+    fn combine_fitting(&mut self, t: ValType, u: ValType) -> Result<bool, AllocError>
+        ensures above { IfOk result (λ yes. apply (Takes (t ∷ t ∷ []) (u ∷ [])) self.old.above ≡ when yes (Some self.new.above)) }
+        ensures below { self.new.below ≡ self.old.below }
+    {
+        if !self.take_fitting(t) {
+            return Ok(false);
+        }
+        if !self.take_fitting(t) {
+            return Ok(false);
+        }
+        self.put_one(Some(u))?;
+        Ok(true)
+    }
+
+    /// Takes an operand of the first type, and below it one of the second.
+    #[inline]
+    pub fn take_two(&mut self, t: ValType, u: ValType) -> bool
+        ensures above { apply (Takes (t ∷ u ∷ []) []) self.old.above ≡ when result (Some self.new.above) }
+        ensures below { self.new.below ≡ self.old.below }
+    {
+        let count = self.types.len();
+        if count - self.base >= 2 && self.types.ends_in_both(u, t) {
+            self.types.truncate(count - 2);
+            true
+        } else {
+            self.take_two_fitting(t, u)
+        }
+    }
+
+    #[inline(never)]
+    fn take_two_fitting(&mut self, t: ValType, u: ValType) -> bool
+        ensures above { apply (Takes (t ∷ u ∷ []) []) self.old.above ≡ when result (Some self.new.above) }
+        ensures below { self.new.below ≡ self.old.below }
+    {
+        self.take_fitting(t) && self.take_fitting(u)
     }
 
     /// Takes operands of these types, the last first. Once none is known, nothing more is looked at.

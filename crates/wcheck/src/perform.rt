@@ -3,7 +3,8 @@ ghost use Rattle.wsyntax.specs.Validation.Algorithm.{when, apply, join};
 ghost use Rattle.wcheck.specs.Effects.{rule_of};
 
 use crate::effect::Effect;
-use crate::operands::{OperandStack, is_same};
+use crate::operand::is_same;
+use crate::operands::OperandStack;
 use std::alloc::AllocError;
 use wsyntax::ValType;
 
@@ -91,24 +92,9 @@ pub fn perform(operands: &mut OperandStack, effect: Effect) -> Result<bool, Allo
             Ok(true)
         }
         Effect::Takes(t) => Ok(operands.take_one(t)),
-        Effect::Changes(t, u) => {
-            if !operands.take_one(t) {
-                return Ok(false);
-            }
-            operands.put_one(Some(u))?;
-            Ok(true)
-        }
-        Effect::Combines(t, u) => {
-            if !operands.take_one(t) {
-                return Ok(false);
-            }
-            if !operands.take_one(t) {
-                return Ok(false);
-            }
-            operands.put_one(Some(u))?;
-            Ok(true)
-        }
-        Effect::Stores(t) => Ok(operands.take_one(t) && operands.take_one(ValType::I32)),
+        Effect::Changes(t, u) => operands.change(t, u),
+        Effect::Combines(t, u) => operands.combine(t, u),
+        Effect::Stores(t) => Ok(operands.take_two(t, ValType::I32)),
         Effect::Moves {
             has_index,
             takes,

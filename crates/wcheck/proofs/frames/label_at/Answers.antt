@@ -1,4 +1,4 @@
-use Rattle.std.proofs.Common.{◌∙◌, ap, sym, Some, arith}
+use Rattle.std.proofs.Common.{◌∙◌, ap, sym, Some}
 use Rattle.wcheck.specs.Views.{label_of}
 use Rattle.wcheck.proofs.Behind.{behind_or, not_behind}
 use Rattle.wcheck.proofs.frames.label_at.Goals as goal

@@ -1,6 +1,4 @@
-use Rattle.std.proofs.Common.{◌≡◌, ◌+◌, ◌-◌, ◌/◌, ◌≤◌, ◌<◌, ℕ, length, le_refl, arith, sym, ap, ◌∙◌, subst, Some, slice_get}
-use Rattle.std.proofs.lemmas.Option.{slice_get_within}
-use Rattle.wcheck.specs.declared.locals.EndedRun.{EndedRun}
+use Rattle.std.proofs.Common.{◌+◌, ◌-◌, ◌/◌, length, le_refl, arith}
 use Rattle.wcheck.proofs.EndedRuns.{looks_first, looks_past, found_at, none_at, at_low, ends_past, before_end, middle_up, middle_down}
 use Rattle.wcheck.proofs.locals.declared_local.Goals as goal
 

@@ -1,0 +1,7 @@
+use Rattle.std.proofs.Common.{◌≡◌, ◌≤◌, ◌++◌, length, take}
+use Rattle.wsyntax.specs.Validation.ModuleContext.{declared}
+use Rattle.wcheck.proofs.locals.write_first.Given as goal
+
+abbrev pub invariant-loop-run : goal.invariant-loop-run
+invariant-loop-run l =
+    (l.near.items ≡ l.params ++ declared (take l.run-index l.runs)) × (length l.near.items ≤ 256)
