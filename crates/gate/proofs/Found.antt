@@ -1,5 +1,5 @@
 -- What is found in a list is in it.
-use Rattle.std.proofs.Common.{◌≡◌, ℕ, ◌<◌, List, length, map, get_or, arith}
+use Rattle.std.proofs.Common.{ℕ, ◌<◌, List, length, map, get_or, arith}
 use Rattle.std.specs.Prelude.{Contains}
 use Rattle.std.proofs.lemmas.List.{length-map, get_or-map}
 

@@ -1,5 +1,5 @@
 -- What stands behind a status.
-use Rattle.std.proofs.Common.{◌≡◌, ℕ, List, Option, Ok, inl, inr, refl, sym, subst, ◌∙◌, string_bytes}
+use Rattle.std.proofs.Common.{◌≡◌, ℕ, List, Option, Ok, inl, inr, refl, sym, subst, ◌∙◌}
 use Rattle.std.specs.Io.KnownBytes.{Appends}
 use Rattle.wsyntax.specs.Validation.Verdict.{Verdict, Accepted, TooLarge, Malformed, RuleBroken, BodyRefused}
 use Rattle.wsyntax.specs.Texts.Lines.{verdict_line}
@@ -8,7 +8,7 @@ use Rattle.batch.specs.declared.status.Status.{Status}
 use Rattle.batch.specs.declared.status.Status.TheVariants.{Good, ModuleRefused, CallsRefused}
 use Rattle.gate.specs.declared.words.Request.{Request}
 use Rattle.gate.specs.declared.words.Request.TheVariants.{Check, Help}
-use Rattle.gate.specs.Checks.{Judges, PrintsVerdict, PrintsRefusal, PrintsAcceptance, Does}
+use Rattle.gate.specs.Checks.{Judges, PrintsRefusal, PrintsAcceptance, Does}
 use Rattle.gate.specs.Endings.{answer_status}
 use Rattle.gate.specs.Requests.{IsRequestOf}
 
