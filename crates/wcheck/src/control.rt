@@ -127,21 +127,6 @@ fn act<'a>(
     }
 }
 
-/// An instruction without a body that is not frequent.
-#[inline(never)]
-fn act_rarely<'a>(
-    scope: &Scope<'a>,
-    targets: &[u32],
-    control: &mut Control<'a>,
-    token: Token,
-) -> Result<bool, AllocError>
-    requires { control.old.is_open ≡ true }
-    ensures frames { IfOk result (λ yes. (i : Op) → seen targets.now token ≡ Do i → step (scope_context scope.now) (seen targets.now token) (frames_of control.old) ≡ when yes (Some (frames_of control.new))) }
-    ensures tight { IsTight control.old → IsTight control.new }
-{
-    act(scope, targets, control, token)
-}
-
 /// One token.
 #[inline(always)]
 pub fn step_control<'a>(
@@ -181,23 +166,6 @@ pub fn step_control<'a>(
         },
         Token::Else => other_branch(control),
         Token::End => close_level(control),
-        // These are frequent: each has an arm of its own, in which the compiler knows what `act` does.
-        Token::LocalGet(_) => act(scope, targets, control, token),
-        Token::LocalSet(_) => act(scope, targets, control, token),
-        Token::LocalTee(_) => act(scope, targets, control, token),
-        Token::GlobalGet(_) => act(scope, targets, control, token),
-        Token::GlobalSet(_) => act(scope, targets, control, token),
-        Token::I32Const(_) => act(scope, targets, control, token),
-        Token::I64Const(_) => act(scope, targets, control, token),
-        Token::F32Const(_) => act(scope, targets, control, token),
-        Token::F64Const(_) => act(scope, targets, control, token),
-        Token::Numeric(_) => act(scope, targets, control, token),
-        Token::Load { .. } => act(scope, targets, control, token),
-        Token::Store { .. } => act(scope, targets, control, token),
-        Token::Br(_) => act(scope, targets, control, token),
-        Token::BrIf(_) => act(scope, targets, control, token),
-        Token::Call(_) => act(scope, targets, control, token),
-        Token::Drop => act(scope, targets, control, token),
-        _ => act_rarely(scope, targets, control, token),
+        _ => act(scope, targets, control, token),
     }
 }

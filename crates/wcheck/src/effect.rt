@@ -39,7 +39,7 @@ pub enum Effect<'a> {
 }
 
 /// The effect of a numeric operator (3.3.1).
-#[inline(always)]
+#[inline]
 pub fn numeric(op: Operator) -> Effect<'static>
     ensures { rule_of result ≡ Takes (reverse (operands (num_op op))) (reverse (results (num_op op))) }
 {
