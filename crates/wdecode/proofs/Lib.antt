@@ -13,3 +13,4 @@ pub mod Determined
 pub mod Closed
 pub mod ClosedTrees
 pub mod OneLoop
+pub mod OnePush

@@ -9,6 +9,7 @@ ghost use Rattle.wsyntax.specs.Binary.Instructions.{immediates, plain_instructio
 ghost use Rattle.wsyntax.specs.Binary.Nesting.{seen_as, nest, token_at as token_of, expression};
 
 use crate::fault::Fault;
+use crate::frequent::push_frequent;
 use crate::types::block_type_at;
 use crate::values::u32_at;
 use std::alloc::Global;
@@ -268,6 +269,10 @@ pub fn expression_at(alloc: Global, bytes: &[u8]) -> Result<(Expression, &[u8]),
     let mut opened = Vec::new(alloc);
     let mut rest = bytes;
     'each: loop {
+        if let Some(after) = push_frequent(&mut tokens, rest)? {
+            rest = after;
+            continue 'each;
+        }
         let (token, after) = token_at(&mut targets, rest)?;
         rest = after;
         tokens.push(token)?;

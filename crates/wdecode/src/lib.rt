@@ -3,6 +3,7 @@
 
 mod body;
 mod fault;
+mod frequent;
 mod instructions;
 mod laws;
 mod module;
