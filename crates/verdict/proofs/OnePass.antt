@@ -1,7 +1,7 @@
 -- A body that passes in one loop is accepted.
-use Rattle.std.proofs.Common.{◌≡◌, ℕ, zero, suc, ◌+◌, ◌<◌, ◌≤◌, Bool, true, false, cond, eqb, leb, ltb, List, [], ◌∷◌, ◌++◌, length, Option, Some, None, refl, sym, ap, subst, ◌∙◌, arith}
+use Rattle.std.proofs.Common.{◌≡◌, ℕ, zero, suc, ◌+◌, ◌-◌, get_or, take, drop, ◌<◌, ◌≤◌, Bool, true, false, cond, eqb, leb, ltb, List, [], ◌∷◌, ◌++◌, length, Option, Some, None, refl, sym, ap, subst, ◌∙◌, arith}
 use Rattle.std.proofs.lemmas.Bool.{eqb-true, ltb-false, le-leb}
-use Rattle.std.proofs.lemmas.List.{append-nil, nil_from_length}
+use Rattle.std.proofs.lemmas.List.{append-nil, nil_from_length, take_rest}
 use Rattle.wnum.specs.Reading.{◌>>=◌}
 use Rattle.wsyntax.specs.Instructions.{Token, Do, OpenBlock, OpenLoop, OpenIf, Else, End}
 use Rattle.wsyntax.specs.Types.{FuncType}
@@ -17,9 +17,10 @@ use Rattle.wsyntax.specs.Validation.Context.{Stack, Context, enter, leave, body_
 use Rattle.wsyntax.specs.Validation.Algorithm.{Accepted, Operands, Frame, on, when, rule, apply, take_all, take_one, open_frame, ends_with, may_lack_else, pass_on, context_in, put, fresh, step, start, alg, alg_from}
 use Rattle.wsyntax.specs.Validation.ModuleContext.{function_context}
 use Rattle.wsyntax.specs.Validation.Verdict.{result_of}
-use Rattle.wcheck.specs.Checking.{Checking, begun}
+use Rattle.wcheck.specs.Checking.{Checking, begun, with_frames}
+use Rattle.wdecode.specs.Gives.{ReadsPlain}
 use Rattle.verdict.specs.Judged.{typing_class, read_class, class_of}
-use Rattle.verdict.specs.OnePass.{PassesAs}
+use Rattle.verdict.specs.OnePass.{Takes, PassesAs}
 use Rattle.verdict.specs.declared.refusal.Class.{Class}
 use Rattle.verdict.specs.declared.refusal.Class.TheVariants.{TooManyLocals}
 
@@ -184,6 +185,29 @@ goes_on C D fs gs bytes after new lent token ok All same some is a lt b taken so
     lt
     (ap (λ (x : Context). step x (seen lent token) fs) (sym same) ∙ b ∙ ap (λ (x : Bool). when x (Some gs)) taken)
     so
+
+-- one instruction more that is frequent
+pub takes_on : (C : Context) (old new : Checking) (bytes after : List ℕ) (All : Type 0) → old.inside ≡ C → (old.frames ≡ [] → ⊥) → Takes bytes old new after → ((ts : List Token) → PassesAs C old.frames bytes ts → All) → (ts : List Token) → PassesAs C new.frames after ts → All
+takes_on C old new bytes after All same some h so =
+    next_token C old.frames new.frames bytes after h.0 All some h.1 h.2 (ap (λ (x : Context). step x h.0 old.frames) (sym same) ∙ h.3) so
+
+in_front : (bytes : List ℕ) → 1 ≤ length bytes → get_or bytes 0 0 ∷ take (length bytes - 1) (drop 1 bytes) ≡ bytes
+in_front [] le = absurd (omega arith)
+in_front (b ∷ bytes) le = ap (λ (x : List ℕ). b ∷ x) (take_rest (b ∷ bytes) 1)
+
+-- a frequent instruction that is read and taken
+pub looked : (old new : Checking) (bytes after lent : List ℕ) (b : ℕ) (token : Held) (ok : Bool) → 1 ≤ length bytes → get_or bytes 0 0 ≡ b → ReadsPlain (b ∷ take (length bytes - 1) (drop 1 bytes)) token after → step old.inside (seen lent token) old.frames ≡ when ok (Some new.frames) → ok ≡ true → new ≡ with_frames old new.frames → Takes bytes old new after
+looked old new bytes after lent b token ok some is read step_is taken same =
+    let rest = take (length bytes - 1) (drop 1 bytes) in
+    let whole : b ∷ rest ≡ bytes = ap (λ (x : ℕ). x ∷ rest) (sym is) ∙ in_front bytes some in
+    let r : ReadsPlain bytes token after = subst (λ (x : List ℕ). ReadsPlain x token after) whole read in
+    let i = r.2 lent in (
+      Do i.0,
+      i.2,
+      r.0,
+      ap (λ (t : Token). step old.inside t old.frames) (sym i.1) ∙ step_is ∙ ap (λ (x : Bool). when x (Some new.frames)) taken,
+      same,
+    )
 
 -- no frame is open, and no byte is left
 pub finished : (C : Context) (fs : List Frame) (bytes : List ℕ) (All : Type 0) → fs ≡ [] → eqb (length bytes) 0 ≡ true → ((ts : List Token) → PassesAs C fs bytes ts → All) → All

@@ -1,12 +1,15 @@
 ghost use Rattle.std.specs.Prelude.{◌≡◌, ◌<◌, List, None, true, length};
 ghost use Rattle.wsyntax.specs.Instructions.{Token as Instruction};
 ghost use Rattle.verdict.specs.Judged.{class_of};
-ghost use Rattle.verdict.specs.OnePass.{PassesAs};
+ghost use Rattle.verdict.specs.OnePass.{Passes, PassesAs};
 
 use std::alloc::Global;
 use wcheck::Checker;
 use wcontext::Context;
-use wdecode::{has_too_many_locals, locals_at, token_at};
+use wdecode::{
+    branch_at, call_at, constant_at, has_too_many_locals, load_at, locals_at, numeric_at, store_at,
+    token_at, variable_at,
+};
 
 /// What one worker keeps from body to body.
 #[derive(Drop)]
@@ -46,6 +49,54 @@ impl<'a> Scratch<'a> {
     }
 }
 
+/// What became of the instruction at the front.
+enum Front<'a> {
+    /// It was taken, and these are the bytes after it.
+    Taken(&'a [u8]),
+    /// It was not taken, or memory was refused.
+    Refused,
+    /// It was not looked at.
+    Other,
+}
+
+/// Lets the checker look at what was read.
+macro_rules! look_at {
+    ($checker:expr, $read:expr) => {
+        match $read {
+            None => Front::Other,
+            Some((token, after)) => match $checker.step(token, &[]) {
+                Ok(true) => Front::Taken(after),
+                _ => Front::Refused,
+            },
+        }
+    };
+}
+
+/// Reads and checks the instruction at the front, where it is one of those that bodies are mostly made of. Each way
+/// checks by itself, so that what it read need not be told apart again.
+#[inline(always)]
+fn frequent_passes<'a>(checker: &mut Checker<'_>, bytes: &'a [u8]) -> Front<'a>
+    ensures outside { checker.new.outside ≡ checker.old.outside }
+    ensures passes { Passes bytes.now checker.old checker.new result }
+{
+    let [byte, rest @ ..] = bytes else {
+        return Front::Other;
+    };
+    match *byte {
+        0x0D => look_at!(checker, branch_at(rest)),
+        0x10 => look_at!(checker, call_at(rest)),
+        0x20 => look_at!(checker, variable_at(0x20, rest)),
+        0x21 => look_at!(checker, variable_at(0x21, rest)),
+        0x22 => look_at!(checker, variable_at(0x22, rest)),
+        0x23..=0x24 => look_at!(checker, variable_at(*byte, rest)),
+        0x28..=0x35 => look_at!(checker, load_at(*byte, rest)),
+        0x36..=0x3E => look_at!(checker, store_at(*byte, rest)),
+        0x41 => look_at!(checker, constant_at(rest)),
+        0x45..=0xBF => look_at!(checker, numeric_at(*byte, rest)),
+        _ => Front::Other,
+    }
+}
+
 /// Whether the bytes are the tokens of an expression, all of them, and each is taken.
 fn tokens_pass(checker: &mut Checker<'_>, targets: &mut Vec<u32>, bytes: &[u8]) -> bool
     ensures outside { checker.new.outside ≡ checker.old.outside }
@@ -53,6 +104,14 @@ fn tokens_pass(checker: &mut Checker<'_>, targets: &mut Vec<u32>, bytes: &[u8]) 
 {
     let mut rest = bytes;
     'each: while !checker.finish() {
+        match frequent_passes(checker, rest) {
+            Front::Taken(after) => {
+                rest = after;
+                continue 'each;
+            }
+            Front::Refused => return false,
+            Front::Other => (),
+        }
         targets.clear();
         let Ok((token, after)) = token_at(targets, rest) else {
             return false;

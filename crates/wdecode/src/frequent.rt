@@ -1,218 +1,157 @@
-ghost use Rattle.std.specs.Prelude.{◌≡◌, ◌≤◌, ℕ, List, ◌∷◌, Some, IfOk, IfErr, IsTrue};
+ghost use Rattle.std.specs.Prelude.{◌≡◌, ◌∷◌, Some, IfOk, IfErr, IfSome};
 ghost use Rattle.std.specs.Option.{option_map};
-ghost use Rattle.wdecode.specs.Gives.{Pushes, PushesPlain};
-ghost use Rattle.wsyntax.specs.Brackets.{lies_within};
-ghost use Rattle.wsyntax.specs.Instructions.{Do};
-ghost use Rattle.wsyntax.specs.Modules.{seen};
+ghost use Rattle.wdecode.specs.Gives.{ReadsPlain, Pushes};
 ghost use Rattle.wsyntax.specs.Table.{opcode_of};
-ghost use Rattle.wsyntax.specs.Binary.Instructions.{plain_instruction};
-ghost use Rattle.wsyntax.specs.Binary.Nesting.{seen_as};
-ghost use Rattle.wsyntax.specs.Binary.Values.{u32 as u32_production};
 
 use crate::fault::Fault;
 use wsyntax::{Load, Opcode, Store, Token};
 
-/// The instruction of a local or a global with that opcode.
-#[inline(always)]
-#[tactic(auto, unfolding(wsyntax::specs::Binary::Instructions::plain_instruction, wsyntax::specs::Table::opcode_of))]
-fn variable(byte: u8, index: u32) -> Token
-    requires low { 0x20 ≤ byte }
-    requires high { byte ≤ 0x24 }
-    ensures value { (targets bytes rest : List ℕ) → u32_production.read bytes ≡ Some (index, rest)
-        → seen_as Do (plain_instruction.read (byte ∷ bytes)) ≡ Some (seen targets result, rest) }
-    ensures within { (targets : ℕ) → IsTrue (lies_within targets result) }
-{
-    match byte {
-        0x20 => Token::LocalGet(index),
-        0x21 => Token::LocalSet(index),
-        0x22 => Token::LocalTee(index),
-        0x23 => Token::GlobalGet(index),
-        0x24 => Token::GlobalSet(index),
-        _ => unreachable!(),
-    }
-}
-
 /// The load with that opcode.
 #[inline(always)]
 #[tactic(auto, unfolding(wsyntax::specs::Table::opcode_of))]
-fn load_of(byte: u8) -> Load
-    requires low { 0x28 ≤ byte }
-    requires high { byte ≤ 0x35 }
-    ensures { opcode_of byte ≡ Some (Opcode.Load result) }
+fn load_of(byte: u8) -> Option<Load>
+    ensures { IfSome result (λ x. opcode_of byte ≡ Some (Opcode.Load x)) }
 {
     match byte {
-        0x28 => Load::I32Load,
-        0x29 => Load::I64Load,
-        0x2A => Load::F32Load,
-        0x2B => Load::F64Load,
-        0x2C => Load::I32Load8S,
-        0x2D => Load::I32Load8U,
-        0x2E => Load::I32Load16S,
-        0x2F => Load::I32Load16U,
-        0x30 => Load::I64Load8S,
-        0x31 => Load::I64Load8U,
-        0x32 => Load::I64Load16S,
-        0x33 => Load::I64Load16U,
-        0x34 => Load::I64Load32S,
-        0x35 => Load::I64Load32U,
-        _ => unreachable!(),
+        0x28 => Some(Load::I32Load),
+        0x29 => Some(Load::I64Load),
+        0x2A => Some(Load::F32Load),
+        0x2B => Some(Load::F64Load),
+        0x2C => Some(Load::I32Load8S),
+        0x2D => Some(Load::I32Load8U),
+        0x2E => Some(Load::I32Load16S),
+        0x2F => Some(Load::I32Load16U),
+        0x30 => Some(Load::I64Load8S),
+        0x31 => Some(Load::I64Load8U),
+        0x32 => Some(Load::I64Load16S),
+        0x33 => Some(Load::I64Load16U),
+        0x34 => Some(Load::I64Load32S),
+        0x35 => Some(Load::I64Load32U),
+        _ => None,
     }
 }
 
 /// The store with that opcode.
 #[inline(always)]
 #[tactic(auto, unfolding(wsyntax::specs::Table::opcode_of))]
-fn store_of(byte: u8) -> Store
-    requires low { 0x36 ≤ byte }
-    requires high { byte ≤ 0x3E }
-    ensures { opcode_of byte ≡ Some (Opcode.Store result) }
+fn store_of(byte: u8) -> Option<Store>
+    ensures { IfSome result (λ x. opcode_of byte ≡ Some (Opcode.Store x)) }
 {
     match byte {
-        0x36 => Store::I32Store,
-        0x37 => Store::I64Store,
-        0x38 => Store::F32Store,
-        0x39 => Store::F64Store,
-        0x3A => Store::I32Store8,
-        0x3B => Store::I32Store16,
-        0x3C => Store::I64Store8,
-        0x3D => Store::I64Store16,
-        0x3E => Store::I64Store32,
-        _ => unreachable!(),
+        0x36 => Some(Store::I32Store),
+        0x37 => Some(Store::I64Store),
+        0x38 => Some(Store::F32Store),
+        0x39 => Some(Store::F64Store),
+        0x3A => Some(Store::I32Store8),
+        0x3B => Some(Store::I32Store16),
+        0x3C => Some(Store::I64Store8),
+        0x3D => Some(Store::I64Store16),
+        0x3E => Some(Store::I64Store32),
+        _ => None,
     }
 }
 
-/// Puts the instruction of a local or a global behind the tokens; its opcode apart, it is at the front.
+/// The instruction of a local or a global with that opcode, and the bytes after it.
 #[inline(always)]
-fn push_variable<'a>(
-    tokens: &mut Vec<Token>,
-    byte: u8,
-    bytes: &'a [u8],
-) -> Result<Option<&'a [u8]>, Fault>
-    requires low { 0x20 ≤ byte }
-    requires high { byte ≤ 0x24 }
-    ensures ok { IfOk result (λ rest. PushesPlain tokens.old.items tokens.new.items (plain_instruction.read (byte ∷ bytes.now)) (option_map (λ x. x.now) rest)) }
-    ensures err { IfErr result (λ e. e ≡ Fault.Memory) }
+pub fn variable_at(byte: u8, bytes: &[u8]) -> Option<(Token, &[u8])>
+    ensures { IfSome result (λ x. ReadsPlain (byte ∷ bytes.now) x.0 x.1.now) }
 {
-    let Some((index, rest)) = wnum::front_u32(bytes) else {
-        return Ok(None);
-    };
-    tokens.push(variable(byte, index))?;
-    Ok(Some(rest))
+    let (index, rest) = wnum::front_u32(bytes)?;
+    match byte {
+        0x20 => Some((Token::LocalGet(index), rest)),
+        0x21 => Some((Token::LocalSet(index), rest)),
+        0x22 => Some((Token::LocalTee(index), rest)),
+        0x23 => Some((Token::GlobalGet(index), rest)),
+        0x24 => Some((Token::GlobalSet(index), rest)),
+        _ => None,
+    }
 }
 
-/// Puts a load behind the tokens; its opcode apart, it is at the front.
+/// The load with that opcode, and the bytes after it.
 #[inline(always)]
-fn push_load<'a>(
-    tokens: &mut Vec<Token>,
-    byte: u8,
-    bytes: &'a [u8],
-) -> Result<Option<&'a [u8]>, Fault>
-    requires low { 0x28 ≤ byte }
-    requires high { byte ≤ 0x35 }
-    ensures ok { IfOk result (λ rest. PushesPlain tokens.old.items tokens.new.items (plain_instruction.read (byte ∷ bytes.now)) (option_map (λ x. x.now) rest)) }
-    ensures err { IfErr result (λ e. e ≡ Fault.Memory) }
+pub fn load_at(byte: u8, bytes: &[u8]) -> Option<(Token, &[u8])>
+    ensures { IfSome result (λ x. ReadsPlain (byte ∷ bytes.now) x.0 x.1.now) }
 {
-    let Some((align, rest)) = wnum::front_u32(bytes) else {
-        return Ok(None);
-    };
-    let Some((offset, rest)) = wnum::front_u32(rest) else {
-        return Ok(None);
-    };
-    let load = load_of(byte);
-    tokens.push(Token::Load {
-        load,
-        align,
-        offset,
-    })?;
-    Ok(Some(rest))
+    let load = load_of(byte)?;
+    let (align, rest) = wnum::front_u32(bytes)?;
+    let (offset, rest) = wnum::front_u32(rest)?;
+    Some((
+        Token::Load {
+            load,
+            align,
+            offset,
+        },
+        rest,
+    ))
 }
 
-/// Puts a store behind the tokens; its opcode apart, it is at the front.
+/// The store with that opcode, and the bytes after it.
 #[inline(always)]
-fn push_store<'a>(
-    tokens: &mut Vec<Token>,
-    byte: u8,
-    bytes: &'a [u8],
-) -> Result<Option<&'a [u8]>, Fault>
-    requires low { 0x36 ≤ byte }
-    requires high { byte ≤ 0x3E }
-    ensures ok { IfOk result (λ rest. PushesPlain tokens.old.items tokens.new.items (plain_instruction.read (byte ∷ bytes.now)) (option_map (λ x. x.now) rest)) }
-    ensures err { IfErr result (λ e. e ≡ Fault.Memory) }
+pub fn store_at(byte: u8, bytes: &[u8]) -> Option<(Token, &[u8])>
+    ensures { IfSome result (λ x. ReadsPlain (byte ∷ bytes.now) x.0 x.1.now) }
 {
-    let Some((align, rest)) = wnum::front_u32(bytes) else {
-        return Ok(None);
-    };
-    let Some((offset, rest)) = wnum::front_u32(rest) else {
-        return Ok(None);
-    };
-    let store = store_of(byte);
-    tokens.push(Token::Store {
-        store,
-        align,
-        offset,
-    })?;
-    Ok(Some(rest))
+    let store = store_of(byte)?;
+    let (align, rest) = wnum::front_u32(bytes)?;
+    let (offset, rest) = wnum::front_u32(rest)?;
+    Some((
+        Token::Store {
+            store,
+            align,
+            offset,
+        },
+        rest,
+    ))
 }
 
-/// Puts a numeric instruction behind the tokens.
+/// The numeric instruction with that opcode, and the bytes after it.
 #[inline(always)]
-fn push_numeric<'a>(
-    tokens: &mut Vec<Token>,
-    byte: u8,
-    bytes: &'a [u8],
-) -> Result<Option<&'a [u8]>, Fault>
-    ensures ok { IfOk result (λ rest. PushesPlain tokens.old.items tokens.new.items (plain_instruction.read (byte ∷ bytes.now)) (option_map (λ x. x.now) rest)) }
-    ensures err { IfErr result (λ e. e ≡ Fault.Memory) }
+pub fn numeric_at(byte: u8, bytes: &[u8]) -> Option<(Token, &[u8])>
+    ensures { IfSome result (λ x. ReadsPlain (byte ∷ bytes.now) x.0 x.1.now) }
 {
     match Opcode::from_byte(byte) {
-        Some(Opcode::Numeric(operator)) => {
-            tokens.push(Token::Numeric(operator))?;
-            Ok(Some(bytes))
-        }
-        _ => Ok(None),
+        Some(Opcode::Numeric(operator)) => Some((Token::Numeric(operator), bytes)),
+        _ => None,
     }
 }
 
-/// Puts a branch under a condition behind the tokens; its opcode apart, it is at the front.
+/// A branch under a condition behind its opcode, and the bytes after it.
 #[inline(always)]
-#[tactic(auto, unfolding(wsyntax::specs::Binary::Instructions::plain_instruction, wsyntax::specs::Table::opcode_of))]
-fn push_branch<'a>(tokens: &mut Vec<Token>, bytes: &'a [u8]) -> Result<Option<&'a [u8]>, Fault>
-    ensures ok { IfOk result (λ rest. PushesPlain tokens.old.items tokens.new.items (plain_instruction.read (0x0D ∷ bytes.now)) (option_map (λ x. x.now) rest)) }
-    ensures err { IfErr result (λ e. e ≡ Fault.Memory) }
+pub fn branch_at(bytes: &[u8]) -> Option<(Token, &[u8])>
+    ensures { IfSome result (λ x. ReadsPlain (0x0D ∷ bytes.now) x.0 x.1.now) }
 {
-    let Some((label, rest)) = wnum::front_u32(bytes) else {
-        return Ok(None);
-    };
-    tokens.push(Token::BrIf(label))?;
-    Ok(Some(rest))
+    let (label, rest) = wnum::front_u32(bytes)?;
+    Some((Token::BrIf(label), rest))
 }
 
-/// Puts a call behind the tokens; its opcode apart, it is at the front.
+/// A call behind its opcode, and the bytes after it.
 #[inline(always)]
-#[tactic(auto, unfolding(wsyntax::specs::Binary::Instructions::plain_instruction, wsyntax::specs::Table::opcode_of))]
-fn push_call<'a>(tokens: &mut Vec<Token>, bytes: &'a [u8]) -> Result<Option<&'a [u8]>, Fault>
-    ensures ok { IfOk result (λ rest. PushesPlain tokens.old.items tokens.new.items (plain_instruction.read (0x10 ∷ bytes.now)) (option_map (λ x. x.now) rest)) }
-    ensures err { IfErr result (λ e. e ≡ Fault.Memory) }
+pub fn call_at(bytes: &[u8]) -> Option<(Token, &[u8])>
+    ensures { IfSome result (λ x. ReadsPlain (0x10 ∷ bytes.now) x.0 x.1.now) }
 {
-    let Some((index, rest)) = wnum::front_u32(bytes) else {
-        return Ok(None);
-    };
-    tokens.push(Token::Call(index))?;
-    Ok(Some(rest))
+    let (index, rest) = wnum::front_u32(bytes)?;
+    Some((Token::Call(index), rest))
 }
 
-/// Puts a constant i32 behind the tokens; its opcode apart, it is at the front.
+/// A constant i32 behind its opcode, and the bytes after it.
 #[inline(always)]
-#[tactic(auto, unfolding(wsyntax::specs::Binary::Instructions::plain_instruction, wsyntax::specs::Table::opcode_of))]
-fn push_constant<'a>(tokens: &mut Vec<Token>, bytes: &'a [u8]) -> Result<Option<&'a [u8]>, Fault>
-    ensures ok { IfOk result (λ rest. PushesPlain tokens.old.items tokens.new.items (plain_instruction.read (0x41 ∷ bytes.now)) (option_map (λ x. x.now) rest)) }
-    ensures err { IfErr result (λ e. e ≡ Fault.Memory) }
+pub fn constant_at(bytes: &[u8]) -> Option<(Token, &[u8])>
+    ensures { IfSome result (λ x. ReadsPlain (0x41 ∷ bytes.now) x.0 x.1.now) }
 {
-    let Some((value, rest)) = wnum::front_s32(bytes) else {
-        return Ok(None);
+    let (value, rest) = wnum::front_s32(bytes)?;
+    Some((Token::I32Const(value), rest))
+}
+
+/// Puts what was read behind the tokens.
+macro_rules! push_read {
+    ($tokens:expr, $read:expr) => {
+        match $read {
+            None => Ok(None),
+            Some((token, rest)) => {
+                $tokens.push(token)?;
+                Ok(Some(rest))
+            }
+        }
     };
-    tokens.push(Token::I32Const(value))?;
-    Ok(Some(rest))
 }
 
 /// Puts the instruction at the front behind the tokens, where it is one of those that bodies are mostly made of, and
@@ -229,13 +168,13 @@ pub fn push_frequent<'a>(
         return Ok(None);
     };
     match *byte {
-        0x0D => push_branch(tokens, rest),
-        0x10 => push_call(tokens, rest),
-        0x20..=0x24 => push_variable(tokens, *byte, rest),
-        0x28..=0x35 => push_load(tokens, *byte, rest),
-        0x36..=0x3E => push_store(tokens, *byte, rest),
-        0x41 => push_constant(tokens, rest),
-        0x45..=0xBF => push_numeric(tokens, *byte, rest),
+        0x0D => push_read!(tokens, branch_at(rest)),
+        0x10 => push_read!(tokens, call_at(rest)),
+        0x20..=0x24 => push_read!(tokens, variable_at(*byte, rest)),
+        0x28..=0x35 => push_read!(tokens, load_at(*byte, rest)),
+        0x36..=0x3E => push_read!(tokens, store_at(*byte, rest)),
+        0x41 => push_read!(tokens, constant_at(rest)),
+        0x45..=0xBF => push_read!(tokens, numeric_at(*byte, rest)),
         _ => Ok(None),
     }
 }

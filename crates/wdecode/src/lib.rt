@@ -14,6 +14,7 @@ mod values;
 
 pub use body::{decode_body, has_too_many_locals, locals_at};
 pub use fault::{BodyFault, DecodeFault, Fault};
+pub use frequent::{branch_at, call_at, constant_at, load_at, numeric_at, store_at, variable_at};
 pub use instructions::{enter, expression_at, token_at};
 pub use laws::{
     bodies_are_determined, grammar_is_read, modules_are_determined, tokens_have_one_tree,
