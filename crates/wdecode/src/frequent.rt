@@ -1,3 +1,5 @@
+// Readers of the instructions that bodies are mostly made of. Where one answers None, it saw another instruction or no
+// well-formed one: that says nothing, and the caller goes on with `token_at`, which decides.
 ghost use Rattle.std.specs.Prelude.{◌≡◌, ◌∷◌, Some, IfOk, IfErr, IfSome};
 ghost use Rattle.std.specs.Option.{option_map};
 ghost use Rattle.wdecode.specs.Gives.{ReadsPlain, Pushes};
