@@ -3,12 +3,14 @@ use Rattle.std.proofs.Common.{◌≡◌, ℕ, zero, suc, ◌+◌, ◌-◌, get_o
 use Rattle.std.proofs.lemmas.Bool.{eqb-true, ltb-false, le-leb}
 use Rattle.std.proofs.lemmas.List.{append-nil, nil_from_length, take_rest}
 use Rattle.wnum.specs.Reading.{◌>>=◌}
-use Rattle.wsyntax.specs.Instructions.{Token, Do, OpenBlock, OpenLoop, OpenIf, Else, End}
+use Rattle.wsyntax.specs.Instructions.{Token, Do, Drop, OpenBlock, OpenLoop, OpenIf, Else, End}
 use Rattle.wsyntax.specs.Types.{FuncType}
 use Rattle.wsyntax.specs.declared.ValType.TheVariants.{I32}
 use Rattle.wsyntax.specs.Modules.{seen}
 use Rattle.wsyntax.specs.declared.instructions.Token.{Token as Held}
 use Rattle.wsyntax.specs.declared.module.LocalRun.{LocalRun}
+use Rattle.wsyntax.specs.Table.{opcode_of}
+use Rattle.wsyntax.specs.Binary.Instructions.{plain_instruction}
 use Rattle.wsyntax.specs.Binary.Production.{whole_at}
 use Rattle.wsyntax.specs.Binary.Nesting.{token_at, nest, and_then, tokens_at, expression}
 use Rattle.wsyntax.specs.Binary.Sections.{locals, body, locals_of}
@@ -208,6 +210,26 @@ looked old new bytes after lent b token ok some is read step_is taken same =
       ap (λ (t : Token). step old.inside t old.frames) (sym i.1) ∙ step_is ∙ ap (λ (x : Bool). when x (Some new.frames)) taken,
       same,
     )
+
+-- a token of one byte that is taken
+pub looked_one : (old new : Checking) (bytes : List ℕ) (b : ℕ) (t : Token) (ok : Bool) → 1 ≤ length bytes → get_or bytes 0 0 ≡ b → ((rest : List ℕ) → token_at (b ∷ rest) ≡ Some (t, rest)) → step old.inside t old.frames ≡ when ok (Some new.frames) → ok ≡ true → new ≡ with_frames old new.frames → Takes bytes old new (take (length bytes - 1) (drop 1 bytes))
+looked_one old new bytes b t ok some is read step_is taken same =
+    let rest = take (length bytes - 1) (drop 1 bytes) in
+    let whole : b ∷ rest ≡ bytes = ap (λ (x : ℕ). x ∷ rest) (sym is) ∙ in_front bytes some in (
+      t,
+      ap token_at (sym whole) ∙ read rest,
+      omega (arith, ap length whole),
+      step_is ∙ ap (λ (x : Bool). when x (Some new.frames)) taken,
+      same,
+    )
+
+pub end_read : (rest : List ℕ) → token_at (0x0B ∷ rest) ≡ Some (End, rest)
+unfolding token_at
+end_read rest = refl
+
+pub drop_read : (rest : List ℕ) → token_at (0x1A ∷ rest) ≡ Some (Do Drop, rest)
+unfolding token_at plain_instruction opcode_of
+drop_read rest = refl
 
 -- no frame is open, and no byte is left
 pub finished : (C : Context) (fs : List Frame) (bytes : List ℕ) (All : Type 0) → fs ≡ [] → eqb (length bytes) 0 ≡ true → ((ts : List Token) → PassesAs C fs bytes ts → All) → All

@@ -10,6 +10,7 @@ use wdecode::{
     branch_at, call_at, constant_at, has_too_many_locals, load_at, locals_at, numeric_at, store_at,
     token_at, variable_at,
 };
+use wsyntax::Token;
 
 /// What one worker keeps from body to body.
 #[derive(Drop)]
@@ -59,15 +60,22 @@ enum Front<'a> {
     Other,
 }
 
+/// Lets the checker look at a token.
+macro_rules! look {
+    ($checker:expr, $token:expr, $after:expr) => {
+        match $checker.step($token, &[]) {
+            Ok(true) => Front::Taken($after),
+            _ => Front::Refused,
+        }
+    };
+}
+
 /// Lets the checker look at what was read.
 macro_rules! look_at {
     ($checker:expr, $read:expr) => {
         match $read {
             None => Front::Other,
-            Some((token, after)) => match $checker.step(token, &[]) {
-                Ok(true) => Front::Taken(after),
-                _ => Front::Refused,
-            },
+            Some((token, after)) => look!($checker, token, after),
         }
     };
 }
@@ -83,8 +91,10 @@ fn frequent_passes<'a>(checker: &mut Checker<'_>, bytes: &'a [u8]) -> Front<'a>
         return Front::Other;
     };
     match *byte {
+        0x0B => look!(checker, Token::End, rest),
         0x0D => look_at!(checker, branch_at(rest)),
         0x10 => look_at!(checker, call_at(rest)),
+        0x1A => look!(checker, Token::Drop, rest),
         0x20 => look_at!(checker, variable_at(0x20, rest)),
         0x21 => look_at!(checker, variable_at(0x21, rest)),
         0x22 => look_at!(checker, variable_at(0x22, rest)),

@@ -14,3 +14,4 @@ pub mod Closed
 pub mod ClosedTrees
 pub mod OneLoop
 pub mod OnePush
+pub mod OneRead

@@ -4,7 +4,7 @@ use Rattle.wsyntax.specs.Brackets.{lies_within}
 use Rattle.wsyntax.specs.Instructions.{Op, Token, Do}
 use Rattle.wsyntax.specs.declared.instructions.Token.{Token as Held}
 use Rattle.wsyntax.specs.Modules.{seen}
-use Rattle.wsyntax.specs.Binary.Nesting.{token_at}
+use Rattle.wsyntax.specs.Binary.Nesting.{seen_as, token_at}
 use Rattle.wdecode.specs.declared.fault.Fault.{Fault}
 use Rattle.wdecode.specs.declared.fault.Fault.TheVariants.{Malformed, Memory}
 
@@ -28,7 +28,16 @@ ReadsPlain bytes t rest = (length rest < length bytes)
     × ((targets : ℕ) → IsTrue (lies_within targets t))
     × ((targets : List ℕ) → (i : Op) × (seen targets t ≡ Do i) × (token_at bytes ≡ Some (Do i, rest)))
 
--- It goes behind the others; or nothing is done.
+-- A token goes behind the others that is read, has no labels and is no bracket; or nothing is done.
 abbrev pub Pushes : List Held → List Held → List ℕ → Option (List ℕ) → Type 0
 Pushes old new bytes None = new ≡ old
-Pushes old new bytes (Some rest) = (t : Held) × (new ≡ old ++ t ∷ []) × ReadsPlain bytes t rest
+Pushes old new bytes (Some rest) = (t : Held) × (new ≡ old ++ t ∷ [])
+    × ((targets : ℕ) → IsTrue (lies_within targets t))
+    × ((targets : List ℕ) → (i : Op) × (seen targets t ≡ Do i) × (token_at bytes ≡ Some (Do i, rest)))
+
+-- The same of an instruction without a body, by what is read as one.
+abbrev pub PushesPlain : List Held → List Held → Option (Op × List ℕ) → Option (List ℕ) → Type 0
+PushesPlain old new read None = new ≡ old
+PushesPlain old new read (Some rest) = (t : Held) × (new ≡ old ++ t ∷ [])
+    × ((targets : ℕ) → IsTrue (lies_within targets t))
+    × ((targets : List ℕ) → seen_as Do read ≡ Some (seen targets t, rest))

@@ -1,11 +1,9 @@
 // Readers of the instructions that bodies are mostly made of. Where one answers None, it saw another instruction or no
 // well-formed one: that says nothing, and the caller goes on with `token_at`, which decides.
-ghost use Rattle.std.specs.Prelude.{◌≡◌, ◌∷◌, Some, IfOk, IfErr, IfSome};
-ghost use Rattle.std.specs.Option.{option_map};
-ghost use Rattle.wdecode.specs.Gives.{ReadsPlain, Pushes};
+ghost use Rattle.std.specs.Prelude.{◌≡◌, ◌∷◌, Some, IfSome};
+ghost use Rattle.wdecode.specs.Gives.{ReadsPlain};
 ghost use Rattle.wsyntax.specs.Table.{opcode_of};
 
-use crate::fault::Fault;
 use wsyntax::{Load, Opcode, Store, Token};
 
 /// The load with that opcode.
@@ -141,42 +139,4 @@ pub fn constant_at(bytes: &[u8]) -> Option<(Token, &[u8])>
 {
     let (value, rest) = wnum::front_s32(bytes)?;
     Some((Token::I32Const(value), rest))
-}
-
-/// Puts what was read behind the tokens.
-macro_rules! push_read {
-    ($tokens:expr, $read:expr) => {
-        match $read {
-            None => Ok(None),
-            Some((token, rest)) => {
-                $tokens.push(token)?;
-                Ok(Some(rest))
-            }
-        }
-    };
-}
-
-/// Puts the instruction at the front behind the tokens, where it is one of those that bodies are mostly made of, and
-/// gives the bytes after it. One of a few jumps decides, and each way pushes by itself; `None` says nothing.
-#[inline(always)]
-pub fn push_frequent<'a>(
-    tokens: &mut Vec<Token>,
-    bytes: &'a [u8],
-) -> Result<Option<&'a [u8]>, Fault>
-    ensures ok { IfOk result (λ rest. Pushes tokens.old.items tokens.new.items bytes.now (option_map (λ x. x.now) rest)) }
-    ensures err { IfErr result (λ e. e ≡ Fault.Memory) }
-{
-    let [byte, rest @ ..] = bytes else {
-        return Ok(None);
-    };
-    match *byte {
-        0x0D => push_read!(tokens, branch_at(rest)),
-        0x10 => push_read!(tokens, call_at(rest)),
-        0x20..=0x24 => push_read!(tokens, variable_at(*byte, rest)),
-        0x28..=0x35 => push_read!(tokens, load_at(*byte, rest)),
-        0x36..=0x3E => push_read!(tokens, store_at(*byte, rest)),
-        0x41 => push_read!(tokens, constant_at(rest)),
-        0x45..=0xBF => push_read!(tokens, numeric_at(*byte, rest)),
-        _ => Ok(None),
-    }
 }

@@ -9,7 +9,7 @@ ghost use Rattle.wsyntax.specs.Binary.Instructions.{immediates, plain_instructio
 ghost use Rattle.wsyntax.specs.Binary.Nesting.{seen_as, nest, token_at as token_of, expression};
 
 use crate::fault::Fault;
-use crate::frequent::push_frequent;
+use crate::pushing::push_frequent;
 use crate::types::block_type_at;
 use crate::values::u32_at;
 use std::alloc::Global;

@@ -7,6 +7,7 @@ mod frequent;
 mod instructions;
 mod laws;
 mod module;
+mod pushing;
 mod section;
 mod sections;
 mod types;

@@ -1,33 +1,40 @@
 use Rattle.std.proofs.Common.{refl, get_or}
-use Rattle.verdict.proofs.OnePass.{looked}
+use Rattle.wsyntax.specs.Instructions.{Do, Drop, End}
+use Rattle.verdict.proofs.OnePass.{looked, looked_one, end_read, drop_read}
 use Rattle.verdict.proofs.passing.frequent_passes.Goals as goal
 
 pub returns-in-Ok-true-clause-passes : goal.returns-in-Ok-true-clause-passes
-returns-in-Ok-true-clause-passes c = looked c.args.checker.now c.step.new.self c.args.bytes.now c.in-Some.after.now _ 13 c.in-Some.token c.in-Ok-true.field-0 c.in-len1-up.len_at_least c.in-13.is c.in-Some.ensures c.in-Ok-true.ensures.step c.in-Ok-true.field-0-test c.in-Ok-true.ensures.same
+returns-in-Ok-true-clause-passes c = looked_one c.args.checker.now c.step.new.self c.args.bytes.now 11 End c.in-Ok-true.field-0 c.in-len1-up.len_at_least c.in-11.is end_read c.in-Ok-true.ensures.step c.in-Ok-true.field-0-test c.in-Ok-true.ensures.same
 
 pub returns-in-Ok-true-step-clause-passes : goal.returns-in-Ok-true-step-clause-passes
-returns-in-Ok-true-step-clause-passes c = looked c.args.checker.now c.step-in-Some-call_at.new.self c.args.bytes.now c.in-Some-call_at.after.now _ 16 c.in-Some-call_at.token c.in-Ok-true-step.field-0 c.in-len1-up.len_at_least c.in-16.is c.in-Some-call_at.ensures c.in-Ok-true-step.ensures.step c.in-Ok-true-step.field-0-test c.in-Ok-true-step.ensures.same
+returns-in-Ok-true-step-clause-passes c = looked c.args.checker.now c.step-in-Some.new.self c.args.bytes.now c.in-Some.after.now _ 13 c.in-Some.token c.in-Ok-true-step.field-0 c.in-len1-up.len_at_least c.in-13.is c.in-Some.ensures c.in-Ok-true-step.ensures.step c.in-Ok-true-step.field-0-test c.in-Ok-true-step.ensures.same
 
 pub returns-in-Ok-true-step-2-clause-passes : goal.returns-in-Ok-true-step-2-clause-passes
-returns-in-Ok-true-step-2-clause-passes c = looked c.args.checker.now c.step-in-Some-variable_at.new.self c.args.bytes.now c.in-Some-variable_at.after.now _ 32 c.in-Some-variable_at.token c.in-Ok-true-step-2.field-0 c.in-len1-up.len_at_least c.in-32.is c.in-Some-variable_at.ensures c.in-Ok-true-step-2.ensures.step c.in-Ok-true-step-2.field-0-test c.in-Ok-true-step-2.ensures.same
+returns-in-Ok-true-step-2-clause-passes c = looked c.args.checker.now c.step-in-Some-call_at.new.self c.args.bytes.now c.in-Some-call_at.after.now _ 16 c.in-Some-call_at.token c.in-Ok-true-step-2.field-0 c.in-len1-up.len_at_least c.in-16.is c.in-Some-call_at.ensures c.in-Ok-true-step-2.ensures.step c.in-Ok-true-step-2.field-0-test c.in-Ok-true-step-2.ensures.same
 
 pub returns-in-Ok-true-step-3-clause-passes : goal.returns-in-Ok-true-step-3-clause-passes
-returns-in-Ok-true-step-3-clause-passes c = looked c.args.checker.now c.step-in-Some-variable_at-2.new.self c.args.bytes.now c.in-Some-variable_at-2.after.now _ 33 c.in-Some-variable_at-2.token c.in-Ok-true-step-3.field-0 c.in-len1-up.len_at_least c.in-33.is c.in-Some-variable_at-2.ensures c.in-Ok-true-step-3.ensures.step c.in-Ok-true-step-3.field-0-test c.in-Ok-true-step-3.ensures.same
+returns-in-Ok-true-step-3-clause-passes c = looked_one c.args.checker.now c.step-in-26.new.self c.args.bytes.now 26 (Do Drop) c.in-Ok-true-step-3.field-0 c.in-len1-up.len_at_least c.in-26.is drop_read c.in-Ok-true-step-3.ensures.step c.in-Ok-true-step-3.field-0-test c.in-Ok-true-step-3.ensures.same
 
 pub returns-in-Ok-true-step-4-clause-passes : goal.returns-in-Ok-true-step-4-clause-passes
-returns-in-Ok-true-step-4-clause-passes c = looked c.args.checker.now c.step-in-Some-variable_at-3.new.self c.args.bytes.now c.in-Some-variable_at-3.after.now _ 34 c.in-Some-variable_at-3.token c.in-Ok-true-step-4.field-0 c.in-len1-up.len_at_least c.in-34.is c.in-Some-variable_at-3.ensures c.in-Ok-true-step-4.ensures.step c.in-Ok-true-step-4.field-0-test c.in-Ok-true-step-4.ensures.same
+returns-in-Ok-true-step-4-clause-passes c = looked c.args.checker.now c.step-in-Some-variable_at.new.self c.args.bytes.now c.in-Some-variable_at.after.now _ 32 c.in-Some-variable_at.token c.in-Ok-true-step-4.field-0 c.in-len1-up.len_at_least c.in-32.is c.in-Some-variable_at.ensures c.in-Ok-true-step-4.ensures.step c.in-Ok-true-step-4.field-0-test c.in-Ok-true-step-4.ensures.same
 
 pub returns-in-Ok-true-step-5-clause-passes : goal.returns-in-Ok-true-step-5-clause-passes
-returns-in-Ok-true-step-5-clause-passes c = looked c.args.checker.now c.step-in-Some-constant_at.new.self c.args.bytes.now c.in-Some-constant_at.after.now _ 65 c.in-Some-constant_at.token c.in-Ok-true-step-5.field-0 c.in-len1-up.len_at_least c.in-65.is c.in-Some-constant_at.ensures c.in-Ok-true-step-5.ensures.step c.in-Ok-true-step-5.field-0-test c.in-Ok-true-step-5.ensures.same
+returns-in-Ok-true-step-5-clause-passes c = looked c.args.checker.now c.step-in-Some-variable_at-2.new.self c.args.bytes.now c.in-Some-variable_at-2.after.now _ 33 c.in-Some-variable_at-2.token c.in-Ok-true-step-5.field-0 c.in-len1-up.len_at_least c.in-33.is c.in-Some-variable_at-2.ensures c.in-Ok-true-step-5.ensures.step c.in-Ok-true-step-5.field-0-test c.in-Ok-true-step-5.ensures.same
 
 pub returns-in-Ok-true-step-6-clause-passes : goal.returns-in-Ok-true-step-6-clause-passes
-returns-in-Ok-true-step-6-clause-passes c = looked c.args.checker.now c.step-in-Some-variable_at-4.new.self c.args.bytes.now c.in-Some-variable_at-4.after.now _ (get_or c.args.bytes.now 0 0) c.in-Some-variable_at-4.token c.in-Ok-true-step-6.field-0 c.in-len1-up.len_at_least refl c.in-Some-variable_at-4.ensures c.in-Ok-true-step-6.ensures.step c.in-Ok-true-step-6.field-0-test c.in-Ok-true-step-6.ensures.same
+returns-in-Ok-true-step-6-clause-passes c = looked c.args.checker.now c.step-in-Some-variable_at-3.new.self c.args.bytes.now c.in-Some-variable_at-3.after.now _ 34 c.in-Some-variable_at-3.token c.in-Ok-true-step-6.field-0 c.in-len1-up.len_at_least c.in-34.is c.in-Some-variable_at-3.ensures c.in-Ok-true-step-6.ensures.step c.in-Ok-true-step-6.field-0-test c.in-Ok-true-step-6.ensures.same
 
 pub returns-in-Ok-true-step-7-clause-passes : goal.returns-in-Ok-true-step-7-clause-passes
-returns-in-Ok-true-step-7-clause-passes c = looked c.args.checker.now c.step-in-Some-load_at.new.self c.args.bytes.now c.in-Some-load_at.after.now _ (get_or c.args.bytes.now 0 0) c.in-Some-load_at.token c.in-Ok-true-step-7.field-0 c.in-len1-up.len_at_least refl c.in-Some-load_at.ensures c.in-Ok-true-step-7.ensures.step c.in-Ok-true-step-7.field-0-test c.in-Ok-true-step-7.ensures.same
+returns-in-Ok-true-step-7-clause-passes c = looked c.args.checker.now c.step-in-Some-constant_at.new.self c.args.bytes.now c.in-Some-constant_at.after.now _ 65 c.in-Some-constant_at.token c.in-Ok-true-step-7.field-0 c.in-len1-up.len_at_least c.in-65.is c.in-Some-constant_at.ensures c.in-Ok-true-step-7.ensures.step c.in-Ok-true-step-7.field-0-test c.in-Ok-true-step-7.ensures.same
 
 pub returns-in-Ok-true-step-8-clause-passes : goal.returns-in-Ok-true-step-8-clause-passes
-returns-in-Ok-true-step-8-clause-passes c = looked c.args.checker.now c.step-in-Some-store_at.new.self c.args.bytes.now c.in-Some-store_at.after.now _ (get_or c.args.bytes.now 0 0) c.in-Some-store_at.token c.in-Ok-true-step-8.field-0 c.in-len1-up.len_at_least refl c.in-Some-store_at.ensures c.in-Ok-true-step-8.ensures.step c.in-Ok-true-step-8.field-0-test c.in-Ok-true-step-8.ensures.same
+returns-in-Ok-true-step-8-clause-passes c = looked c.args.checker.now c.step-in-Some-variable_at-4.new.self c.args.bytes.now c.in-Some-variable_at-4.after.now _ (get_or c.args.bytes.now 0 0) c.in-Some-variable_at-4.token c.in-Ok-true-step-8.field-0 c.in-len1-up.len_at_least refl c.in-Some-variable_at-4.ensures c.in-Ok-true-step-8.ensures.step c.in-Ok-true-step-8.field-0-test c.in-Ok-true-step-8.ensures.same
 
 pub returns-in-Ok-true-step-9-clause-passes : goal.returns-in-Ok-true-step-9-clause-passes
-returns-in-Ok-true-step-9-clause-passes c = looked c.args.checker.now c.step-in-Some-numeric_at.new.self c.args.bytes.now c.in-Some-numeric_at.after.now _ (get_or c.args.bytes.now 0 0) c.in-Some-numeric_at.token c.in-Ok-true-step-9.field-0 c.in-len1-up.len_at_least refl c.in-Some-numeric_at.ensures c.in-Ok-true-step-9.ensures.step c.in-Ok-true-step-9.field-0-test c.in-Ok-true-step-9.ensures.same
+returns-in-Ok-true-step-9-clause-passes c = looked c.args.checker.now c.step-in-Some-load_at.new.self c.args.bytes.now c.in-Some-load_at.after.now _ (get_or c.args.bytes.now 0 0) c.in-Some-load_at.token c.in-Ok-true-step-9.field-0 c.in-len1-up.len_at_least refl c.in-Some-load_at.ensures c.in-Ok-true-step-9.ensures.step c.in-Ok-true-step-9.field-0-test c.in-Ok-true-step-9.ensures.same
+
+pub returns-in-Ok-true-step-10-clause-passes : goal.returns-in-Ok-true-step-10-clause-passes
+returns-in-Ok-true-step-10-clause-passes c = looked c.args.checker.now c.step-in-Some-store_at.new.self c.args.bytes.now c.in-Some-store_at.after.now _ (get_or c.args.bytes.now 0 0) c.in-Some-store_at.token c.in-Ok-true-step-10.field-0 c.in-len1-up.len_at_least refl c.in-Some-store_at.ensures c.in-Ok-true-step-10.ensures.step c.in-Ok-true-step-10.field-0-test c.in-Ok-true-step-10.ensures.same
+
+pub returns-in-Ok-true-step-11-clause-passes : goal.returns-in-Ok-true-step-11-clause-passes
+returns-in-Ok-true-step-11-clause-passes c = looked c.args.checker.now c.step-in-Some-numeric_at.new.self c.args.bytes.now c.in-Some-numeric_at.after.now _ (get_or c.args.bytes.now 0 0) c.in-Some-numeric_at.token c.in-Ok-true-step-11.field-0 c.in-len1-up.len_at_least refl c.in-Some-numeric_at.ensures c.in-Ok-true-step-11.ensures.step c.in-Ok-true-step-11.field-0-test c.in-Ok-true-step-11.ensures.same

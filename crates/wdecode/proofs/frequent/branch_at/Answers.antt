@@ -3,7 +3,7 @@ use Rattle.wsyntax.specs.Instructions as op
 use Rattle.wsyntax.specs.Table.{opcode_of}
 use Rattle.wsyntax.specs.declared.instructions.Token.TheVariants as held
 use Rattle.wsyntax.specs.declared.opcode.Opcode.TheVariants as code
-use Rattle.wdecode.proofs.OnePush.{reads}
+use Rattle.wdecode.proofs.OneRead.{reads}
 use Rattle.wdecode.proofs.frequent.branch_at.Goals as goal
 
 pub returns : goal.returns

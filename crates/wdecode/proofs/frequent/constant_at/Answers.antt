@@ -8,7 +8,7 @@ use Rattle.wsyntax.specs.Table.{opcode_of}
 use Rattle.wsyntax.specs.declared.ValType.TheVariants.{I32}
 use Rattle.wsyntax.specs.declared.instructions.Token.TheVariants as held
 use Rattle.wsyntax.specs.declared.opcode.Opcode.TheVariants as code
-use Rattle.wdecode.proofs.OnePush.{reads}
+use Rattle.wdecode.proofs.OneRead.{reads}
 use Rattle.wdecode.proofs.frequent.constant_at.Goals as goal
 
 pub returns : goal.returns
