@@ -9,7 +9,6 @@ of the file, the start of the process included; in brackets the ratio to one wor
 Peak memory is that of `gate` with one worker, by module size.
 """
 import os
-import resource
 import shutil
 import subprocess
 import sys
@@ -42,14 +41,9 @@ def printed(words):
 
 
 def peak(words):
-    reader, writer = os.pipe()
-    pid = os.fork()
-    if pid == 0:
-        os.dup2(os.open(os.devnull, os.O_WRONLY), 1)
-        os.execv(words[0], words)
-    _, _, usage = os.wait4(pid, 0)
-    os.close(reader), os.close(writer)
-    return usage.ru_maxrss * 1024
+    # Asked of `time`, since a child of this process would be counted with this process's own memory.
+    ran = subprocess.run(['/usr/bin/time', '-f', '%M'] + words, capture_output=True, check=True)
+    return int(ran.stderr.split()[-1]) * 1024
 
 
 def main(gate, sizes):
@@ -73,8 +67,8 @@ def main(gate, sizes):
                 if shutil.which('wasm-validate') and kind not in ('lists', 'labels'):
                     others.append(length / best_of(['wasm-validate', path]) / 1e6)
                 cells = [f'{speed[0]:10.1f}'] + [f'{s:7.1f} ({s / speed[0]:4.2f})' if s else '-' for s in speed[1:] + others]
-                memory = peak([gate, 'check', path, '--workers', '1']) / length
-                print(f'{kind + " " + format(length / 1e6, ".1f"):14}' + ''.join(f'{c:>14}' for c in cells) + f'   {memory:4.1f} x', flush=True)
+                memory = f'{peak([gate, "check", path, "--workers", "1"]) / length:4.1f} x' if os.path.exists('/usr/bin/time') else '-'
+                print(f'{kind + " " + format(length / 1e6, ".1f"):14}' + ''.join(f'{c:>14}' for c in cells) + f'   {memory}', flush=True)
 
 
 if __name__ == '__main__':
