@@ -1,7 +1,7 @@
 -- The operators at their edges compute to what is stated.
 use Rattle.std.proofs.Common.{refl}
 use Rattle.wnum.specs.Arithmetic.{leading, trailing, ones}
-use Rattle.wnum.specs.OperatorEdges.{CountEdges, ArithmeticEdges, BitEdges, ComparisonEdges, ExtensionEdges}
+use Rattle.wnum.specs.OperatorEdges.{CountEdges, ArithmeticEdges, BitEdges, ComparisonEdges, ExtensionEdges, LowExtensionEdges}
 
 pub counts : CountEdges
 unfolding leading trailing ones
@@ -18,3 +18,6 @@ comparisons = record { eq = refl; ne = refl; lt_s = refl; lt_u = refl; gt_s = re
 
 pub extensions : ExtensionEdges
 extensions = record { of_minus_one = refl; of_least = refl; of_most = refl }
+
+pub low_extensions : LowExtensionEdges
+low_extensions = record { extend8_s_of_most = refl; extend8_s_of_least = refl; extend8_s_of_minus_one = refl; extend8_s_drops = refl; extend16_s_of_least = refl; extend16_s_drops = refl; extend8_s_long_of_least = refl; extend8_s_long_drops = refl; extend16_s_long_of_least = refl; extend32_s_of_most = refl; extend32_s_of_least = refl; extend32_s_of_minus_one = refl; extend32_s_drops = refl }

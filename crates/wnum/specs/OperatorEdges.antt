@@ -1,5 +1,5 @@
 -- The integer operators (4.3.2) at their edges.
-use Rattle.std.specs.Prelude.{◌≡◌, ◌+◌, ◌-◌, ◌^◌, true, false, Ok, Err}
+use Rattle.std.specs.Prelude.{◌≡◌, ◌+◌, ◌-◌, ◌%◌, ◌^◌, true, false, Ok, Err}
 use Rattle.wnum.specs.declared.trap.NumTrap.TheVariants.{DivideByZero, IntegerOverflow}
 use Rattle.wnum.specs.Arithmetic.{Clz, Ctz, Popcnt, Add, Sub, Mul, DivS, DivU, RemS, RemU, And, Or, Xor, Shl, ShrS, ShrU, Rotl, Rotr, Eq, Ne, LtS, LtU, GtS, GtU, LeS, LeU, GeS, GeU, unary, binary, compare_by, extended}
 
@@ -68,3 +68,19 @@ pub record ExtensionEdges : Type 0 where
   pub of_minus_one : extended 32 64 (2 ^ 32 - 1) ≡ 2 ^ 64 - 1
   pub of_least : extended 32 64 (2 ^ 31) ≡ 2 ^ 64 - 2 ^ 31
   pub of_most : extended 32 64 (2 ^ 31 - 1) ≡ 2 ^ 31 - 1
+
+-- the lowest bits, read with their sign
+pub record LowExtensionEdges : Type 0 where
+  pub extend8_s_of_most : extended 8 32 (127 % 2 ^ 8) ≡ 127
+  pub extend8_s_of_least : extended 8 32 (128 % 2 ^ 8) ≡ 2 ^ 32 - 128
+  pub extend8_s_of_minus_one : extended 8 32 (255 % 2 ^ 8) ≡ 2 ^ 32 - 1
+  pub extend8_s_drops : extended 8 32 (256 % 2 ^ 8) ≡ 0
+  pub extend16_s_of_least : extended 16 32 (32768 % 2 ^ 16) ≡ 2 ^ 32 - 32768
+  pub extend16_s_drops : extended 16 32 ((2 ^ 31 + 32767) % 2 ^ 16) ≡ 32767
+  pub extend8_s_long_of_least : extended 8 64 (128 % 2 ^ 8) ≡ 2 ^ 64 - 128
+  pub extend8_s_long_drops : extended 8 64 (256 % 2 ^ 8) ≡ 0
+  pub extend16_s_long_of_least : extended 16 64 (32768 % 2 ^ 16) ≡ 2 ^ 64 - 32768
+  pub extend32_s_of_most : extended 32 64 ((2 ^ 31 - 1) % 2 ^ 32) ≡ 2 ^ 31 - 1
+  pub extend32_s_of_least : extended 32 64 (2147483648 % 2 ^ 32) ≡ 2 ^ 64 - 2147483648
+  pub extend32_s_of_minus_one : extended 32 64 (4294967295 % 2 ^ 32) ≡ 2 ^ 64 - 1
+  pub extend32_s_drops : extended 32 64 (4294967296 % 2 ^ 32) ≡ 0

@@ -2,7 +2,7 @@ ghost use Rattle.std.specs.Prelude.{ℕ};
 ghost use Rattle.wnum.specs.Number.{SpellsUnsigned, SpellsSigned};
 ghost use Rattle.wnum.specs.Reading.{Reads, unsigned_at, signed_at};
 ghost use Rattle.wnum.specs.OperatorLaws.{OperatorsStayInRange, SignsInvert, ComparesSigned};
-ghost use Rattle.wnum.specs.OperatorEdges.{CountEdges, ArithmeticEdges, BitEdges, ComparisonEdges, ExtensionEdges};
+ghost use Rattle.wnum.specs.OperatorEdges.{CountEdges, ArithmeticEdges, BitEdges, ComparisonEdges, ExtensionEdges, LowExtensionEdges};
 
 /// What is read is spelled so and what is spelled so is read, for each number of bits (5.2.2).
 pub fn numbers_are_read()
@@ -28,4 +28,5 @@ pub fn operators_at_their_edges()
     ensures bits { BitEdges }
     ensures comparisons { ComparisonEdges }
     ensures extensions { ExtensionEdges }
+    ensures low_extensions { LowExtensionEdges }
 {}

@@ -107,6 +107,36 @@ fn long_s32(bytes: &[u8]) -> Option<(i32, &[u8])>
     }
 }
 
+/// A number s33 at the front, and the bytes after it (5.2.2; the index of a block type is one).
+#[inline(always)]
+#[tactic(auto, unfolding(crate::specs::Reading::signed_at))]
+pub fn front_s33(bytes: &[u8]) -> Option<(i64, &[u8])>
+    ensures { option_map (λ x. (x.0, x.1.now)) result ≡ signed_at 33 bytes.now }
+{
+    if let [a, rest @ ..] = bytes
+        && *a < 128
+    {
+        let group = i64::from(*a);
+        return Some((if group < 64 { group } else { group - 128 }, rest));
+    }
+    long_s33(bytes)
+}
+
+/// A number s33 of any length.
+#[inline(never)]
+#[tactic(auto, unfolding(crate::specs::Reading::signed_at))]
+fn long_s33(bytes: &[u8]) -> Option<(i64, &[u8])>
+    ensures { option_map (λ x. (x.0, x.1.now)) result ≡ signed_at 33 bytes.now }
+{
+    let groups = groups_5(bytes)?;
+    let value = groups.sum as i64 - groups.sign as i64;
+    if value >= -4294967296 && value < 4294967296 {
+        Some((value, groups.rest))
+    } else {
+        None
+    }
+}
+
 /// A number s64 at the front, and the bytes after it (5.2.2).
 #[inline(always)]
 #[tactic(auto, unfolding(crate::specs::Reading::signed_at))]
@@ -187,6 +217,20 @@ pub fn read_s32(bytes: &[u8], at: usize) -> Option<(i32, usize)>
     ensures none { IfNone result (NoneSpelledAt (SpellsSigned 32) bytes.now at) }
 {
     match front_s32(&bytes[at..]) {
+        None => None,
+        Some((value, rest)) => Some((value, bytes.len() - rest.len())),
+    }
+}
+
+/// The number s33 that is spelled at a place, and the place after it (5.2.2).
+pub fn read_s33(bytes: &[u8], at: usize) -> Option<(i64, usize)>
+    requires { at ≤ length bytes.now }
+    // What is read is spelled so.
+    ensures found { IfSome result (IsSpelledAt (SpellsSigned 33) bytes.now at) }
+    // Nothing is read only where no front spells a number.
+    ensures none { IfNone result (NoneSpelledAt (SpellsSigned 33) bytes.now at) }
+{
+    match front_s33(&bytes[at..]) {
         None => None,
         Some((value, rest)) => Some((value, bytes.len() - rest.len())),
     }

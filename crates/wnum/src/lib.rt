@@ -11,7 +11,7 @@ pub mod word64;
 pub use laws::{
     numbers_are_read, operators_at_their_edges, operators_stay_in_range, signed_words_are_numbers,
 };
-pub use leb::{front_s32, front_s64, front_u32, read_s32, read_s64, read_u32};
+pub use leb::{front_s32, front_s33, front_s64, front_u32, read_s32, read_s33, read_s64, read_u32};
 pub use trap::NumTrap;
 
 #[cfg(test)]

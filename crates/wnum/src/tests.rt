@@ -16,6 +16,17 @@ fn signed_numbers_are_read(rt: HostRuntime) {
 }
 
 #[test]
+fn numbers_of_33_bits_are_read(rt: HostRuntime) {
+    assert!(rt; read_s33(&[0x40], 0) == Some((-64, 1)));
+    assert!(rt; read_s33(&[0x7F], 0) == Some((-1, 1)));
+    assert!(rt; read_s33(&[0xFF, 0xFF, 0xFF, 0xFF, 0x0F], 0) == Some((4294967295, 5)));
+    assert!(rt; read_s33(&[0x80, 0x80, 0x80, 0x80, 0x10], 0) == None);
+    assert!(rt; read_s33(&[0x80, 0x80, 0x80, 0x80, 0x70], 0) == Some((-4294967296, 5)));
+    assert!(rt; read_s33(&[0xFF, 0xFF, 0xFF, 0xFF, 0x6F], 0) == None);
+    assert!(rt; read_s33(&[0x80, 0x80, 0x80, 0x80, 0x80, 0x00], 0) == None);
+}
+
+#[test]
 fn words_of_32_bits(rt: HostRuntime) {
     assert!(rt; word32::clz(1) == 31);
     assert!(rt; word32::sub(0, 1) == 0xFFFF_FFFF);
@@ -46,4 +57,18 @@ fn words_are_converted(rt: HostRuntime) {
     assert!(rt; conversions::wrap(0x1_0000_0002) == 2);
     assert!(rt; conversions::extend_s(0xFFFF_FFFF) == 0xFFFF_FFFF_FFFF_FFFF);
     assert!(rt; conversions::extend_u(0xFFFF_FFFF) == 0xFFFF_FFFF);
+}
+
+#[test]
+fn low_bits_are_extended(rt: HostRuntime) {
+    assert!(rt; word32::extend8_s(127) == 127);
+    assert!(rt; word32::extend8_s(0xFFFF_FF80) == 0xFFFF_FF80);
+    assert!(rt; word32::extend8_s(0x1FF) == 0xFFFF_FFFF);
+    assert!(rt; word32::extend8_s(256) == 0);
+    assert!(rt; word32::extend16_s(0x8000) == 0xFFFF_8000);
+    assert!(rt; word64::extend8_s(128) == 0xFFFF_FFFF_FFFF_FF80);
+    assert!(rt; word64::extend16_s(0x1_7FFF) == 0x7FFF);
+    assert!(rt; word64::extend32_s(4294967295) == 0xFFFF_FFFF_FFFF_FFFF);
+    assert!(rt; word64::extend32_s(2147483648) == 0xFFFF_FFFF_8000_0000);
+    assert!(rt; word64::extend32_s(4294967296) == 0);
 }

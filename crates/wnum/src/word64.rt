@@ -1,7 +1,7 @@
 //! The integer operators on words of 64 bits (4.3.2). Of two operands `x` is the one pushed first.
 
-ghost use Rattle.std.specs.Prelude.{◌≡◌, nat_eq};
-ghost use Rattle.wnum.specs.Arithmetic.{unary, binary, compare_by, Clz, Ctz, Popcnt, Add, Sub, Mul, DivS, DivU, RemS, RemU, And, Or, Xor, Shl, ShrS, ShrU, Rotl, Rotr, Eq, Ne, LtS, LtU, GtS, GtU, LeS, LeU, GeS, GeU};
+ghost use Rattle.std.specs.Prelude.{◌≡◌, ◌%◌, ◌^◌, nat_eq};
+ghost use Rattle.wnum.specs.Arithmetic.{unary, binary, compare_by, extended, Clz, Ctz, Popcnt, Add, Sub, Mul, DivS, DivU, RemS, RemU, And, Or, Xor, Shl, ShrS, ShrU, Rotl, Rotr, Eq, Ne, LtS, LtU, GtS, GtU, LeS, LeU, GeS, GeU};
 
 use crate::trap::NumTrap;
 
@@ -258,4 +258,31 @@ pub fn ge_u(x: u64, y: u64) -> bool
     ensures { result ≡ compare_by 64 GeU x y }
 {
     x >= y
+}
+
+/// The lowest 8 bits, read with their sign (iextend8_s).
+#[inline(always)]
+pub fn extend8_s(x: u64) -> u64
+    ensures { result ≡ extended 8 64 (x % 2 ^ 8) }
+{
+    let low = (x & 0xFF) as u8;
+    i64::from(low.cast_signed()).cast_unsigned()
+}
+
+/// The lowest 16 bits, read with their sign (iextend16_s).
+#[inline(always)]
+pub fn extend16_s(x: u64) -> u64
+    ensures { result ≡ extended 16 64 (x % 2 ^ 16) }
+{
+    let low = (x & 0xFFFF) as u16;
+    i64::from(low.cast_signed()).cast_unsigned()
+}
+
+/// The lowest 32 bits, read with their sign (iextend32_s).
+#[inline(always)]
+pub fn extend32_s(x: u64) -> u64
+    ensures { result ≡ extended 32 64 (x % 2 ^ 32) }
+{
+    let low = (x & 0xFFFF_FFFF) as u32;
+    i64::from(low.cast_signed()).cast_unsigned()
 }

@@ -14,6 +14,8 @@ pub data NumOp : Type 0 where
   Comparing : Width → Compare → NumOp
   -- i32.wrap_i64, i64.extend_i32_s, i64.extend_i32_u
   Wrap ExtendS ExtendU : NumOp
+  -- iN.extend8_s, iN.extend16_s and i64.extend32_s of Core 2.0: the width, and how many of the lowest bits are read with their sign
+  ExtendLow : Width → ℕ → NumOp
   FloatOp : Operator → NumOp
 
 -- ---- 2.4.4 memory instructions

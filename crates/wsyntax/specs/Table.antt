@@ -1,7 +1,7 @@
 -- 5.4 The instruction table: what each opcode stands for, and of each operator what it is made of and its type.
 use Rattle.std.specs.Prelude.{ℕ, ◌+◌, ◌*◌, List, [], ◌∷◌, Option, Some, None, false, true, slice_get}
 use Rattle.wsyntax.specs.Types.{I32, I64, F32, F64, FuncType}
-use Rattle.wsyntax.specs.Instructions.{Access, NumOp, OfOne, OfTwo, Eqz, Comparing, Wrap, ExtendS, ExtendU, FloatOp, Width32, Width64, Clz, Ctz, Popcnt, Add, Sub, Mul, DivS, DivU, RemS, RemU, And, Or, Xor, Shl, ShrS, ShrU, Rotl, Rotr, Eq, Ne, LtS, LtU, GtS, GtU, LeS, LeU, GeS, GeU}
+use Rattle.wsyntax.specs.Instructions.{Access, NumOp, OfOne, OfTwo, Eqz, Comparing, Wrap, ExtendS, ExtendU, ExtendLow, FloatOp, Width32, Width64, Clz, Ctz, Popcnt, Add, Sub, Mul, DivS, DivU, RemS, RemU, And, Or, Xor, Shl, ShrS, ShrU, Rotl, Rotr, Eq, Ne, LtS, LtU, GtS, GtU, LeS, LeU, GeS, GeU}
 use Rattle.wsyntax.specs.declared.instructions.Operator.{Operator}
 use Rattle.wsyntax.specs.declared.instructions.Operator.TheVariants as op
 use Rattle.wsyntax.specs.declared.instructions.Load.{Load}
@@ -141,6 +141,11 @@ num_op op.I32ReinterpretF32 = FloatOp op.I32ReinterpretF32
 num_op op.I64ReinterpretF64 = FloatOp op.I64ReinterpretF64
 num_op op.F32ReinterpretI32 = FloatOp op.F32ReinterpretI32
 num_op op.F64ReinterpretI64 = FloatOp op.F64ReinterpretI64
+num_op op.I32Extend8S = ExtendLow Width32 8
+num_op op.I32Extend16S = ExtendLow Width32 16
+num_op op.I64Extend8S = ExtendLow Width64 8
+num_op op.I64Extend16S = ExtendLow Width64 16
+num_op op.I64Extend32S = ExtendLow Width64 32
 
 -- 3.3.1 the type of a float operator, as it is written; the other operators have theirs by their width
 abbrev pub float_type : Operator → FuncType
@@ -288,6 +293,8 @@ opcodes =
     Some (code.Numeric op.I64TruncF64S) ∷ Some (code.Numeric op.I64TruncF64U) ∷ Some (code.Numeric op.F32ConvertI32S) ∷ Some (code.Numeric op.F32ConvertI32U) ∷ Some (code.Numeric op.F32ConvertI64S) ∷ Some (code.Numeric op.F32ConvertI64U) ∷ Some (code.Numeric op.F32DemoteF64) ∷ Some (code.Numeric op.F64ConvertI32S) ∷
     -- B8
     Some (code.Numeric op.F64ConvertI32U) ∷ Some (code.Numeric op.F64ConvertI64S) ∷ Some (code.Numeric op.F64ConvertI64U) ∷ Some (code.Numeric op.F64PromoteF32) ∷ Some (code.Numeric op.I32ReinterpretF32) ∷ Some (code.Numeric op.I64ReinterpretF64) ∷ Some (code.Numeric op.F32ReinterpretI32) ∷ Some (code.Numeric op.F64ReinterpretI64) ∷
+    -- C0, of Core 2.0
+    Some (code.Numeric op.I32Extend8S) ∷ Some (code.Numeric op.I32Extend16S) ∷ Some (code.Numeric op.I64Extend8S) ∷ Some (code.Numeric op.I64Extend16S) ∷ Some (code.Numeric op.I64Extend32S) ∷ None ∷ None ∷ None ∷
     []
 
 -- what stands there, where something does

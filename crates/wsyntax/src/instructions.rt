@@ -1,6 +1,6 @@
 use crate::types::ValType;
 
-/// What a block takes and leaves, as it is spelled (2.4.5; `Index` is of Core 2.0, and no spelling of 1.0 gives it).
+/// What a block takes and leaves, as it is spelled (2.4.5; `Index`, of a type, is of Core 2.0).
 #[derive(Clone, Copy, Debug, PartialEq, Eq)]
 pub enum BlockType {
     Empty,
@@ -8,7 +8,7 @@ pub enum BlockType {
     Index(u32),
 }
 
-/// A numeric operator (2.4.1), in the order of the opcodes from `45` to `BF`.
+/// A numeric operator (2.4.1), in the order of the opcodes from `45` to `C4` (the last five are of Core 2.0).
 #[derive(Clone, Copy, Debug, PartialEq, Eq)]
 pub enum Operator {
     I32Eqz,
@@ -134,6 +134,11 @@ pub enum Operator {
     I64ReinterpretF64,
     F32ReinterpretI32,
     F64ReinterpretI64,
+    I32Extend8S,
+    I32Extend16S,
+    I64Extend8S,
+    I64Extend16S,
+    I64Extend32S,
 }
 
 /// A load (2.4.4), in the order of the opcodes from `28` to `35`.

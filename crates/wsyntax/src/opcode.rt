@@ -217,7 +217,12 @@ impl Opcode {
             0xBD => Some(Opcode::Numeric(Operator::I64ReinterpretF64)),
             0xBE => Some(Opcode::Numeric(Operator::F32ReinterpretI32)),
             0xBF => Some(Opcode::Numeric(Operator::F64ReinterpretI64)),
-            0xC0..=0xFF => None,
+            0xC0 => Some(Opcode::Numeric(Operator::I32Extend8S)),
+            0xC1 => Some(Opcode::Numeric(Operator::I32Extend16S)),
+            0xC2 => Some(Opcode::Numeric(Operator::I64Extend8S)),
+            0xC3 => Some(Opcode::Numeric(Operator::I64Extend16S)),
+            0xC4 => Some(Opcode::Numeric(Operator::I64Extend32S)),
+            0xC5..=0xFF => None,
         }
     }
 }

@@ -80,7 +80,7 @@ mod tests {
 
     #[test]
     fn one_opcode_of_each_kind(rt: HostRuntime) {
-        let rows: [(u8, Immediates, &[ValType], &[ValType], u32); 20] = [
+        let rows: [(u8, Immediates, &[ValType], &[ValType], u32); 22] = [
             (0x00, Immediates::Nothing, &[], &[], 0),
             (0x04, Immediates::BlockType, &[], &[], 0),
             (0x0D, Immediates::Label, &[], &[], 0),
@@ -101,6 +101,8 @@ mod tests {
             (0x54, Immediates::Nothing, &[I64, I64], &[I32], 0),
             (0x98, Immediates::Nothing, &[F32, F32], &[F32], 0),
             (0xBF, Immediates::Nothing, &[I64], &[F64], 0),
+            (0xC1, Immediates::Nothing, &[I32], &[I32], 0),
+            (0xC4, Immediates::Nothing, &[I64], &[I64], 0),
         ];
         for (opcode, imm, operands, results, width) in rows {
             assert_eq!(rt;
@@ -118,7 +120,7 @@ mod tests {
 
     #[test]
     fn no_instruction_begins_so(rt: HostRuntime) {
-        for opcode in [0x05, 0x0B, 0xC0, 0xFF] {
+        for opcode in [0x05, 0x0B, 0xC5, 0xFF] {
             assert_eq!(rt; row(opcode), None, "at {opcode:#x}");
         }
     }

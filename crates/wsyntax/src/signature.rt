@@ -28,8 +28,12 @@ impl Operator {
         ensures results { result.results.now ≡ results_of (num_op self) }
     {
         match self {
-            Operator::I32Eqz | Operator::I32Clz | Operator::I32Ctz | Operator::I32Popcnt =>
-                Signature::new(&[I32], &[I32]),
+            Operator::I32Eqz
+            | Operator::I32Clz
+            | Operator::I32Ctz
+            | Operator::I32Popcnt
+            | Operator::I32Extend8S
+            | Operator::I32Extend16S => Signature::new(&[I32], &[I32]),
             Operator::I32Eq
             | Operator::I32Ne
             | Operator::I32LtS
@@ -78,10 +82,12 @@ impl Operator {
             | Operator::F64Gt
             | Operator::F64Le
             | Operator::F64Ge => Signature::new(&[F64, F64], &[I32]),
-            Operator::I64Clz | Operator::I64Ctz | Operator::I64Popcnt => Signature::new(
-                &[I64],
-                &[I64],
-            ),
+            Operator::I64Clz
+            | Operator::I64Ctz
+            | Operator::I64Popcnt
+            | Operator::I64Extend8S
+            | Operator::I64Extend16S
+            | Operator::I64Extend32S => Signature::new(&[I64], &[I64]),
             Operator::I64Add
             | Operator::I64Sub
             | Operator::I64Mul

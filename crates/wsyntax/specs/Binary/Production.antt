@@ -1,6 +1,6 @@
 -- 5.1.2 The words that productions of the binary grammar are built of.
 -- A production says which bytes spell which value, and how the front of bytes is read. Both come of the same words, so that a production is written once.
-use Rattle.std.specs.Prelude.{◌≡◌, ℕ, zero, suc, List, [], ◌∷◌, ◌++◌, length, take, drop, Option, Some, None, nat_lt, ◌==◌, if◌then◌else◌}
+use Rattle.std.specs.Prelude.{◌⊎◌, ◌≡◌, ℕ, zero, suc, List, [], ◌∷◌, ◌++◌, length, take, drop, Option, Some, None, nat_lt, ◌==◌, if◌then◌else◌}
 use Rattle.wnum.specs.Reading.{Reads}
 use Rattle.wnum.specs.Reading as reading
 
@@ -41,6 +41,14 @@ abbrev pub exactly : ℕ → Production ℕ
 exactly b = do
   c ← byte
   given (if c == b then Some c else None)
+
+-- what one production spells, or the other. The first is tried first, so that this agrees only where no bytes of the second begin as those of the first
+abbrev pub or_read : {A : Type 0} → Option (A × List ℕ) → Option (A × List ℕ) → Option (A × List ℕ)
+or_read (Some x) other = Some x
+or_read None other = other
+
+abbrev pub either : {A : Type 0} → Production A → Production A → Production A
+either p q = record { spells = λ bytes a. p.spells bytes a ⊎ q.spells bytes a; read = λ bytes. or_read (p.read bytes) (q.read bytes) }
 
 -- n bytes
 abbrev pub raw : ℕ → Production (List ℕ)

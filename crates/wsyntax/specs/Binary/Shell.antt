@@ -91,7 +91,7 @@ module_limit = 16777216
 
 -- the most declared locals of a body, parameters aside
 abbrev pub local_limit : ℕ
-local_limit = 50000
+local_limit = 100000
 
 abbrev pub FewLocals : BodyShape → Type 0
 FewLocals b = locals_of b.runs ≤ local_limit

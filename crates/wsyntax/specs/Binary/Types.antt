@@ -1,11 +1,11 @@
 -- 5.3 Types.
-use Rattle.std.specs.Prelude.{ℕ, zero, suc, List, Bool, true, false, Option, Some, None, ◌==◌, if◌then◌else◌}
+use Rattle.std.specs.Prelude.{ℕ, zero, suc, ℤ, pos, negsuc, List, Bool, true, false, Option, Some, None, ◌==◌, if◌then◌else◌}
 use Rattle.wnum.specs.Reading as reading
 use Rattle.wsyntax.specs.Types.{ValType, I32, I64, F32, F64, FuncType, Limits, GlobalType}
-use Rattle.wsyntax.specs.Instructions.{BlockType, Empty, Value}
+use Rattle.wsyntax.specs.Instructions.{BlockType, Empty, Value, Index}
 use Rattle.wsyntax.specs.declared.module.Table.{Table}
-use Rattle.wsyntax.specs.Binary.Production.{Production, byte, given, pure, ◌>>=◌, exactly}
-use Rattle.wsyntax.specs.Binary.Values.{u32, vector}
+use Rattle.wsyntax.specs.Binary.Production.{Production, byte, given, pure, ◌>>=◌, exactly, either}
+use Rattle.wsyntax.specs.Binary.Values.{u32, s33, vector}
 
 -- 5.3.1 value types
 abbrev pub val_type_of : ℕ → Option ValType
@@ -14,12 +14,18 @@ val_type_of b = if b == 0x7F then Some I32 else if b == 0x7E then Some I64 else 
 unfoldable pub val_type : Production ValType
 val_type = byte >>= λ b. given (val_type_of b)
 
--- 5.3.2 block types: no result, or one
+-- 5.3.2 block types: empty, or one value type
 abbrev pub block_type_of : ℕ → Option BlockType
 block_type_of b = if b == 0x40 then Some Empty else reading.◌>>=◌ (val_type_of b) (λ t. Some (Value t))
 
+-- the index of a type is not negative
+abbrev pub index_of : ℤ → Option BlockType
+index_of (pos y) = Some (Index y)
+index_of (negsuc y) = None
+
+-- 5.4.1 of Core 2.0: empty, one value type, or the index of a type, which is a number s33
 unfoldable pub block_type : Production BlockType
-block_type = byte >>= λ b. given (block_type_of b)
+block_type = either (byte >>= λ b. given (block_type_of b)) (s33 >>= λ z. given (index_of z))
 
 -- 5.3.3 function types
 unfoldable pub func_type : Production FuncType

@@ -6,7 +6,7 @@ use Rattle.wnum.specs.Reading.{unsigned_at, signed_at}
 use Rattle.wnum.specs.Reading as reading
 use Rattle.wsyntax.specs.Binary.Production.{Production, ◌>>=◌, raw, times, times_at}
 
--- 5.2.2 u32, s32 and s64
+-- 5.2.2 u32, s32, s64, and s33 of Core 2.0
 abbrev pub u32 : Production ℕ
 u32 = record { spells = SpellsUnsigned 32; read = unsigned_at 32 }
 
@@ -15,6 +15,9 @@ s32 = record { spells = SpellsSigned 32; read = signed_at 32 }
 
 abbrev pub s64 : Production ℤ
 s64 = record { spells = SpellsSigned 64; read = signed_at 64 }
+
+abbrev pub s33 : Production ℤ
+s33 = record { spells = SpellsSigned 33; read = signed_at 33 }
 
 -- 5.1.3 a vector: a count, and then that many
 abbrev pub vector_at : {A : Type 0} → (List ℕ → Option (A × List ℕ)) → List ℕ → Option (List A × List ℕ)

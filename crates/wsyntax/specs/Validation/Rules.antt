@@ -10,9 +10,9 @@ use Rattle.wsyntax.specs.declared.module.ExportKind.TheVariants.{Function, Table
 
 -- ---- types and limits
 
--- rule 1 (3.2.3): each function type has at most one result. The limit of 1.0 stands here and in the grammar of block types alone
-abbrev pub FewResults : ModuleShape → Type 0
-FewResults m = All (λ t. length t.results ≤ 1) m.types
+-- rule 1 is no longer asked: function types have any number of results, as in Core 2.0. The other rules keep their numbers
+abbrev pub NotAsked : ModuleShape → Type 0
+NotAsked m = Unit {0}
 
 -- rule 2 (3.4.9): the type of each imported function exists
 abbrev pub ImportsTyped : ModuleShape → Type 0
@@ -108,7 +108,7 @@ SegmentsValid m = All (DataValid m) m.segments
 -- the rules in order, the first of which is rule 1
 abbrev pub rules : List (ModuleShape → Type 0)
 rules =
-    FewResults ∷ ImportsTyped ∷ FunctionsTyped ∷ TablesLimited ∷ MemoriesLimited ∷ OneTable ∷ OneMemory ∷ GlobalsConstant ∷ ExportsExist ∷ ExportsDistinct
+    NotAsked ∷ ImportsTyped ∷ FunctionsTyped ∷ TablesLimited ∷ MemoriesLimited ∷ OneTable ∷ OneMemory ∷ GlobalsConstant ∷ ExportsExist ∷ ExportsDistinct
     ∷ StartsPlainly ∷ ElementsValid ∷ SegmentsValid ∷ []
 
 -- the module keeps rule k, if there is a rule of that number

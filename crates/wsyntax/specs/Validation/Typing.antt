@@ -1,7 +1,7 @@
 -- 3.3 The typing of instructions. Stacks are written from the topmost operand on, so `[t* r]` of the standard is `r ++ t`.
 use Rattle.std.specs.Prelude.{◌≡◌, ◌^◌, ◌≤◌, IsTrue, List, [], ◌∷◌, ◌++◌, Some, slice_get, All, reverse}
 use Rattle.wsyntax.specs.Types.{ValType, I32, I64, FuncType, GlobalType}
-use Rattle.wsyntax.specs.Instructions.{Width, Width32, Width64, NumOp, OfOne, OfTwo, Eqz, Comparing, Wrap, ExtendS, ExtendU, FloatOp, Op, Unreachable, Nop, Return, Br, BrIf, Call, CallIndirect, BrTable, Drop, Select, LocalGet, LocalSet, LocalTee, GlobalGet, GlobalSet, MemoryLoad, MemoryStore, MemorySize, MemoryGrow, Const, Numeric, Code, Stop, Plain, Block, Loop, If, IfElse}
+use Rattle.wsyntax.specs.Instructions.{Width, Width32, Width64, NumOp, OfOne, OfTwo, Eqz, Comparing, Wrap, ExtendS, ExtendU, ExtendLow, FloatOp, Op, Unreachable, Nop, Return, Br, BrIf, Call, CallIndirect, BrTable, Drop, Select, LocalGet, LocalSet, LocalTee, GlobalGet, GlobalSet, MemoryLoad, MemoryStore, MemorySize, MemoryGrow, Const, Numeric, Code, Stop, Plain, Block, Loop, If, IfElse}
 use Rattle.wsyntax.specs.Table.{float_type}
 use Rattle.wsyntax.specs.Validation.Context.{Stack, enter, leave, Context, under, body_context, block_sig}
 
@@ -19,6 +19,7 @@ operands (Comparing w f) = type_at w ∷ type_at w ∷ []
 operands Wrap = I64 ∷ []
 operands ExtendS = I32 ∷ []
 operands ExtendU = I32 ∷ []
+operands (ExtendLow w n) = type_at w ∷ []
 operands (FloatOp f) = (float_type f).params
 
 -- 3.3.1 the result types of a numeric operator
@@ -30,6 +31,7 @@ results (Comparing w f) = I32 ∷ []
 results Wrap = I32 ∷ []
 results ExtendS = I64 ∷ []
 results ExtendU = I64 ∷ []
+results (ExtendLow w n) = type_at w ∷ []
 results (FloatOp f) = (float_type f).results
 
 -- 3.3.1 to 3.3.5: the instruction takes a from the stack, and leaves b. What a rule of the standard leaves free is free here

@@ -19,6 +19,6 @@ pub returns-in-37-to-39 : goal.returns-in-37-to-39
 unfolding opcode_of
 returns-in-37-to-39 c = sym (in_gap 0x25 3 c.args.byte refl (omega arith) (omega arith))
 
-pub returns-in-192-to-255 : goal.returns-in-192-to-255
+pub returns-in-197-to-255 : goal.returns-in-197-to-255
 unfolding opcode_of
-returns-in-192-to-255 c = sym (in_gap 0xC0 64 c.args.byte refl (omega arith) (omega arith))
+returns-in-197-to-255 c = sym (in_gap 0xC5 59 c.args.byte refl (omega arith) (omega arith))
