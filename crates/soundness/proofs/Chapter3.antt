@@ -9,3 +9,4 @@ pub mod Known
 pub mod Compose
 pub mod Families
 pub mod Unique
+pub mod Back

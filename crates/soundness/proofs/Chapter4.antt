@@ -12,3 +12,7 @@ pub mod Weight
 pub mod Pair
 pub mod Checked
 pub mod Exact
+pub mod State
+pub mod Slots
+pub mod Straight
+pub mod Leads

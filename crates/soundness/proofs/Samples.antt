@@ -45,7 +45,7 @@ count_examples = record { of_one_turn = refl; charges = refl; work = refl; work_
 
 pub operator_examples : OperatorExamples
 unfolding leading trailing ones
-operator_examples = record { unary32 = refl; unary64 = refl; sums32 = refl; sums64 = refl; quotients32 = refl; quotients64 = refl; by_zero32 = refl; by_zero64 = refl; least32 = refl; least64 = refl; bits32 = refl; bits64 = refl; shifts32 = refl; shifts64 = refl; tests32 = refl; tests64 = refl; zero_tests = refl; narrower = refl; wider = refl; other_operands = refl }
+operator_examples = record { unary32 = refl; unary64 = refl; sums32 = refl; sums64 = refl; quotients32 = refl; quotients64 = refl; by_zero32 = refl; by_zero64 = refl; least32 = refl; least64 = refl; bits32 = refl; bits64 = refl; shifts32 = refl; shifts64 = refl; tests32 = refl; tests64 = refl; zero_tests = refl; narrower = refl; wider = refl; low32 = refl; low_edges = refl; low64 = refl; other_operands = refl }
 
 pub variable_examples : VariableExamples
 unfolding step

@@ -6,3 +6,10 @@ pub mod Counts
 pub mod Operators
 pub mod Pair
 pub mod Exact
+pub mod State
+pub mod Slots
+pub mod Leads
+pub mod Rules
+pub mod Instances
+pub mod OneAnswer
+pub mod Sole

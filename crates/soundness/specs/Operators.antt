@@ -1,7 +1,7 @@
 -- The integer operators on values (4.4.1). At their edges as functions of numbers they stand in `wnum`.
 use Rattle.std.specs.Prelude.{◌≡◌, ℕ, ◌-◌, ◌^◌, List, [], ◌∷◌, map, Option, Some, None, Ok, Err}
 use Rattle.wnum.specs.declared.trap.NumTrap.TheVariants.{DivideByZero, IntegerOverflow}
-use Rattle.wsyntax.specs.Instructions.{Width32, Width64, NumOp, OfOne, OfTwo, Eqz, Comparing, Wrap, ExtendS, ExtendU, Clz, Ctz, Popcnt, Add, Sub, Mul, DivS, DivU, RemS, RemU, And, Or, Xor, Shl, ShrS, ShrU, Rotl, Rotr, Eq, Ne, LtS, LtU, GtS, GtU, LeS, LeU, GeS, GeU}
+use Rattle.wsyntax.specs.Instructions.{Width32, Width64, NumOp, OfOne, OfTwo, Eqz, Comparing, Wrap, ExtendS, ExtendU, ExtendLow, Clz, Ctz, Popcnt, Add, Sub, Mul, DivS, DivU, RemS, RemU, And, Or, Xor, Shl, ShrS, ShrU, Rotl, Rotr, Eq, Ne, LtS, LtU, GtS, GtU, LeS, LeU, GeS, GeU}
 use Rattle.wsyntax.specs.declared.value.Value.{Value}
 use Rattle.wsyntax.specs.declared.value.Value.TheVariants.{I32 as V32, I64 as V64}
 use Rattle.wsyntax.specs.declared.value.Trap.TheVariants.{ByOperator}
@@ -48,4 +48,8 @@ pub record OperatorExamples : Type 0 where
   pub zero_tests : apply (Eqz Width32) (V32 0 ∷ []) ∷ apply (Eqz Width64) (V64 0 ∷ []) ∷ apply (Eqz Width64) (V64 (2 ^ 63) ∷ []) ∷ [] ≡ words32 (1 ∷ 1 ∷ 0 ∷ [])
   pub narrower : apply Wrap (V64 (2 ^ 64 - 2) ∷ []) ≡ Some (Ok (V32 4294967294))
   pub wider : all_on (V32 4294967294 ∷ []) (ExtendS ∷ ExtendU ∷ []) ≡ words64 (18446744073709551614 ∷ 4294967294 ∷ [])
+  -- the low bits of -129, of 128 and of 255, read with their sign
+  pub low32 : all_on (V32 4294967167 ∷ []) (ExtendLow Width32 8 ∷ ExtendLow Width32 16 ∷ []) ≡ words32 (127 ∷ 4294967167 ∷ [])
+  pub low_edges : apply (ExtendLow Width32 8) (V32 128 ∷ []) ∷ apply (ExtendLow Width32 8) (V32 255 ∷ []) ∷ apply (ExtendLow Width32 16) (V32 32768 ∷ []) ∷ [] ≡ words32 (4294967168 ∷ 4294967295 ∷ 4294934528 ∷ [])
+  pub low64 : all_on (V64 4294967295 ∷ []) (ExtendLow Width64 8 ∷ ExtendLow Width64 16 ∷ ExtendLow Width64 32 ∷ []) ≡ words64 (18446744073709551615 ∷ 18446744073709551615 ∷ 18446744073709551615 ∷ [])
   pub other_operands : all_on (V32 0 ∷ V64 0 ∷ []) (OfTwo Width32 Add ∷ OfTwo Width64 Add ∷ OfOne Width32 Clz ∷ []) ≡ None ∷ None ∷ None ∷ []

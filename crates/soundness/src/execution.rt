@@ -1,7 +1,10 @@
 //! What holds of values, stores, configurations and chains of steps.
 
 ghost use Rattle.soundness.specs.Exact.{ResultsAreExact};
+ghost use Rattle.soundness.specs.Leads.{EffectLeads, TeeTakesTwo};
 ghost use Rattle.soundness.specs.Pair.{PairTyped};
+ghost use Rattle.soundness.specs.Slots.{EffectIsStep, StraightTyped, TeeIsSet};
+ghost use Rattle.soundness.specs.State.{BranchLands, FramesStand, ReturnEnds, ReturnGives, StateTyped, StepsThere, TrapFalls};
 ghost use Rattle.wsyntax.specs.Execution.Allocation.{FreshTyped};
 ghost use Rattle.wsyntax.specs.Execution.Laws.{CheckedIsTyped, Computed, CountsAdd, Joins, NeverStuck, OneEnd, OneOfThree, OneStep, Paid, Preservation, Progress, ResultsTyped, StoreKept};
 ghost use Rattle.wsyntax.specs.Execution.Layers.{BranchTaken, ReturnTaken, StepsInside};
@@ -113,3 +116,63 @@ pub fn results_are_exact()
 {
     wnum::operators_stay_in_range();
 }
+
+/// A step of what stands in the labels of the running activation is a step of the whole.
+pub fn steps_there()
+    ensures { StepsThere }
+{}
+
+/// A branch lands in an activation with the labels outside its own.
+pub fn branch_lands()
+    ensures { BranchLands }
+{}
+
+/// A return gives its topmost values to the activation that waits.
+pub fn return_gives()
+    ensures { ReturnGives }
+{}
+
+/// The last return leaves values alone.
+pub fn return_ends()
+    ensures { ReturnEnds }
+{}
+
+/// A trap passes everything around it, in steps that are neither charged nor work.
+pub fn trap_falls()
+    ensures { TrapFalls }
+{}
+
+/// One frame stands for each activation.
+pub fn frames_stand()
+    ensures { FramesStand }
+{}
+
+/// What the type of a configuration says of the running activation.
+pub fn state_typed()
+    ensures { StateTyped }
+{}
+
+/// Slots need no tags: on typed values the effect on the numbers is the step.
+pub fn effect_is_step()
+    ensures { EffectIsStep }
+{}
+
+/// The effect of `local.tee` is that of `local.set` on the operand twice.
+pub fn tee_is_set()
+    ensures { TeeIsSet }
+{}
+
+/// What an instruction leaves has its types, whatever code follows.
+pub fn straight_typed()
+    ensures { StraightTyped }
+{}
+
+/// `local.tee` is two steps, the second of which is work.
+pub fn tee_takes_two()
+    ensures { TeeTakesTwo }
+{}
+
+/// A configuration goes where the effect of its instruction says.
+pub fn effect_leads()
+    ensures { EffectLeads }
+{}

@@ -4,4 +4,6 @@
 
 pub mod examples;
 pub mod execution;
+pub mod instances;
+pub mod texts;
 pub mod validation;

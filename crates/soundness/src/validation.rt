@@ -1,5 +1,6 @@
 //! What holds of the typing rules and of the algorithm that decides them.
 
+ghost use Rattle.soundness.specs.Rules.{RuleBack, SameRules};
 ghost use Rattle.wsyntax.specs.Validation.Family.{RulesAgree};
 ghost use Rattle.wsyntax.specs.Validation.Laws.{AcceptedIsTyped, Composes, FaultInside, OneFault, ReachedIsKnown, RefusedAtFirstFault, RunsDecide, Splits, TypedIsAccepted, TypedOrFault, TypedWhereNoFault, UniqueTree};
 
@@ -66,4 +67,14 @@ pub fn unique_tree()
 /// The rules by recursion are the rules of inference.
 pub fn rules_agree()
     ensures { RulesAgree }
+{}
+
+/// An instruction that has a rule of the algorithm is typed as the rule says.
+pub fn rule_back()
+    ensures { RuleBack }
+{}
+
+/// Rules and typing are the same under contexts that say the same.
+pub fn same_rules()
+    ensures { SameRules }
 {}

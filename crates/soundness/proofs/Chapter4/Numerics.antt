@@ -1,9 +1,9 @@
 -- An integer operator on operands of its types gives a word of its result type, or a trap.
-use Rattle.std.proofs.Common.{◌≡◌, ℕ, Bool, true, false, List, [], ◌∷◌, Option, Some, Result, Ok, Err, refl, ap, arith}
+use Rattle.std.proofs.Common.{◌≡◌, ℕ, ◌%◌, ◌^◌, Bool, true, false, List, [], ◌∷◌, Option, Some, Result, Ok, Err, refl, ap, arith}
 use Rattle.std.specs.Prelude.{option_map, reverse, nat_eq}
 use Rattle.wsyntax.specs.declared.types.ValType.{ValType}
 use Rattle.wsyntax.specs.declared.types.ValType.TheVariants.{I32, I64}
-use Rattle.wsyntax.specs.Instructions.{Width, Width32, Width64, NumOp, OfOne, OfTwo, Eqz, Comparing, Wrap, ExtendS, ExtendU, FloatOp}
+use Rattle.wsyntax.specs.Instructions.{Width, Width32, Width64, NumOp, OfOne, OfTwo, Eqz, Comparing, Wrap, ExtendS, ExtendU, ExtendLow, FloatOp}
 use Rattle.wnum.specs.declared.trap.NumTrap.{NumTrap}
 use Rattle.wnum.specs.Arithmetic.{bits, unary, binary, compare_by, extended}
 use Rattle.wsyntax.specs.Validation.Typing.{type_at, operands, results}
@@ -70,4 +70,5 @@ apply_ok (Comparing w f) vs i h = with_two_ok (type_at w) _ vs _ h (λ x y. trut
 apply_ok Wrap vs i h = with_one_ok I64 _ vs _ h (λ x. one_word Width32 x)
 apply_ok ExtendS vs i h = with_one_ok I32 _ vs _ h (λ x. one_word Width64 (extended 32 64 x))
 apply_ok ExtendU vs i h = with_one_ok I32 _ vs _ h (λ x. one_word Width64 x)
+apply_ok (ExtendLow w n) vs i h = with_one_ok (type_at w) _ vs _ h (λ x. one_word w (extended n (bits w) (x % 2 ^ n)))
 apply_ok (FloatOp f) vs i h = absurd i
