@@ -282,7 +282,7 @@ static int decode_body(Slice s) {
             sum += run.count;
             PUSH(&runs, run);
         }
-        good = i == count && sum < 4294967296 && expression_at(&s, &code) && s.at == s.end && sum <= 50000;
+        good = i == count && sum < 4294967296 && expression_at(&s, &code) && s.at == s.end && sum <= 100000;
     }
     free(runs.items);
     drop_expression(&code);

@@ -190,7 +190,7 @@ __attribute__((noinline)) static int one_body(const Module *m, u32 func, Scratch
     U32(runs);
     for (u32 i = 0; i < runs; i++) {
         U32(n); BYTE(t);
-        if (locals + n > type->count + 50000) return 0;
+        if (locals + n > type->count + 100000) return 0;
         GROW(s->locals, s->local_room, locals + n)
         memset(s->locals + locals, t, n);
         locals += n;

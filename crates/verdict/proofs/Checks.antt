@@ -1,4 +1,4 @@
--- The class of a body that is checked, by what the check promises.
+-- The class of a body that is checked, and what it is, by what the check promises.
 use Rattle.std.proofs.Common.{◌≡◌, ℕ, List, Some, None, sym, ap, ◌∙◌}
 use Rattle.wsyntax.specs.declared.Body.{Body}
 use Rattle.wsyntax.specs.Modules.{body_shape}
@@ -10,9 +10,11 @@ use Rattle.wsyntax.specs.Validation.Algorithm.{Accepted, Refused, alg}
 use Rattle.wsyntax.specs.Validation.Laws.{TypedIsAccepted, RefusedAtFirstFault}
 use Rattle.wsyntax.specs.Validation.ModuleContext.{function_context}
 use Rattle.wsyntax.specs.Validation.Verdict.{result_of}
-use Rattle.wcheck.specs.Bodies.{IsTypedAs, IsFaultyAt}
+use Rattle.wcheck.specs.declared.checked.CheckedBody.{CheckedBody}
+use Rattle.wcheck.specs.Bodies.{IsTypedAs, IsFaultyAt, FitsAs}
 use Rattle.verdict.specs.declared.refusal.Class.TheVariants.{IllTyped}
 use Rattle.verdict.specs.Judged.{class_of}
+use Rattle.verdict.specs.Judgement.{IsCheckedFrom}
 use Rattle.verdict.proofs.Bodies.{tree_of, class_typing}
 
 pub typed_class : Agrees body → TypedIsAccepted → (C : Context) (f : ℕ) (bytes : List ℕ) (b : Body) → SpellsBody bytes (body_shape b) → FewLocals (body_shape b) → IsTypedAs C f b → class_of C f bytes ≡ None
@@ -28,3 +30,9 @@ faulty_class agrees law C f bytes b at s few fault =
     let r = result_of C f in
     let t = tree_of bytes (body_shape b) s in
     class_typing agrees C f bytes (body_shape b) (Refused at) s few (ap (alg D r) (sym t.1) ∙ (law D r t.0 at).1 (fault t.0 t.1))
+
+-- what is decoded and checked has a tree, too
+pub checked_from : (C : Context) (f : ℕ) (bytes : List ℕ) (c : CheckedBody) → SpellsBody bytes (body_shape c.body) → FewLocals (body_shape c.body) → IsTypedAs C f c.body → FitsAs C f c → IsCheckedFrom C f bytes c
+checked_from C f bytes c s few typed fits =
+    let t = tree_of bytes (body_shape c.body) s in
+    record { spelled = s; few = few; code = t.0; tree = t.1; typed = typed; fits = fits }

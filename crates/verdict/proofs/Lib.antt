@@ -6,3 +6,8 @@ pub mod Checks
 pub mod SearchedNames
 pub mod ExportNumbers
 pub mod OneVerdict
+pub mod Judgements
+pub mod Mentions
+pub mod KeptBodies
+pub mod NumberedTexts
+pub mod Numbering

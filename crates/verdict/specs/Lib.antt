@@ -1,6 +1,9 @@
 pub mod Refusals
 pub mod Judged
 pub mod OnePass
+pub mod Floats
+pub mod Judgement
 pub mod Kept
 pub mod Exports
+pub mod TypeNumbers
 pub mod Laws

@@ -1,35 +1,60 @@
-ghost use Rattle.std.specs.Prelude.{length};
+ghost use Rattle.std.specs.Prelude.{◌≡◌, length};
 ghost use Rattle.std.specs.List.{range_with_len};
 ghost use Rattle.std.specs.List.Sorted.{IsPermutation};
 ghost use Rattle.wsyntax.specs.Modules.{module_shape};
 ghost use Rattle.wsyntax.specs.Validation.Rules.{ExportsDistinct};
 ghost use Rattle.verdict.specs.Exports.{AreAscending};
+ghost use Rattle.wsyntax.specs.Execution.Start.{has_floats};
+ghost use Rattle.verdict.specs.TypeNumbers.{AreTypeNumbers};
+ghost use Rattle.verdict.specs.Judgement.{IsJudged, checked_of, shapes_of};
 
 use crate::exports::number_of;
+use crate::kept_body::KeptBody;
 use wcheck::CheckedBody;
 use wcontext::Context;
 use wsyntax::{ExportKind, Module};
 
 /// A module that is accepted, with its context and its checked bodies, and its exports in the order of their names. It
-/// borrows the bytes that were judged.
+/// borrows the bytes that were judged. Whoever holds one knows what `accepted_holds` says.
 #[derive(Debug, Drop)]
 pub struct Accepted<'a> {
     pub(crate) module: Module<'a>,
     pub(crate) context: Context,
-    pub(crate) bodies: Vec<CheckedBody>,
+    pub(crate) bodies: Vec<KeptBody>,
     /// The number of each export, in the order of their names.
     pub(crate) by_name: Vec<usize>,
+    pub(crate) mentions_floats: bool,
+    /// Of each type its number, equal for equal types.
+    pub(crate) type_numbers: Vec<u32>,
+    pub(crate) ghost judged: { ∥ IsJudged (module_shape «module») context (checked_of bodies.items) ∥₁ },
+    pub(crate) ghost looked: { mentions_floats ≡ has_floats (module_shape «module») (shapes_of (checked_of bodies.items)) },
+    pub(crate) ghost numbered: { ∥ AreTypeNumbers (module_shape «module»).types type_numbers.items ∥₁ },
     pub(crate) ghost distinct: { ExportsDistinct (module_shape «module») },
     pub(crate) ghost each: { ∥ IsPermutation (range_with_len 0 (length «module».exports.items)) by_name.items ∥₁ },
     pub(crate) ghost ascending: { AreAscending «module».exports.items by_name.items },
 }
 
 impl<'a> Accepted<'a> {
-    ghost use Rattle.std.specs.Prelude.{◌≡◌, ◌↔◌, ℕ, Some, IsNone, option_map};
+    ghost use Rattle.std.specs.Prelude.{◌↔◌, ℕ, slice_get, Some, IsNone, option_map};
     ghost use Rattle.wsyntax.specs.declared.module.ExportKind.{ExportKind};
     ghost use Rattle.wsyntax.specs.Texts.Answer.{IsMissing};
     ghost use Rattle.verdict.specs.Exports.{IsExported};
-    ghost use Rattle.verdict.specs.Kept.{body_at};
+    ghost use Rattle.wsyntax.specs.Binary.Sections.{locals_of};
+    ghost use Rattle.verdict.specs.TypeNumbers.{function_number};
+    ghost use Rattle.verdict.specs.Kept.{body_at, kept_at};
+
+    /// What holds of every accepted module, for a proof that is handed one: no rule is broken, the context is that of the
+    /// module, and of each function there is the checked body, which declares few locals, is typed under that context,
+    /// and has a side table that fits.
+    pub fn accepted_holds(&self)
+        ensures { ∥ IsJudged (module_shape self.now.module) self.now.context (checked_of self.now.bodies.items) ∥₁ }
+    {}
+
+    /// What holds of the numbers of types: each is below the count of types, and two are equal exactly where the types
+    /// are the same.
+    pub fn types_are_numbered(&self)
+        ensures { ∥ AreTypeNumbers (module_shape self.now.module).types self.now.type_numbers.items ∥₁ }
+    {}
 
     /// The module that the bytes spell.
     pub fn module(&self) -> &Module<'a>
@@ -49,7 +74,16 @@ impl<'a> Accepted<'a> {
     /// none.
     #[inline]
     pub fn body(&self, func: u32) -> Option<&CheckedBody>
-        ensures { option_map (λ b. b.now) result ≡ body_at self.now.context.imported self.now.bodies.items func }
+        ensures { option_map (λ b. b.now) result ≡ body_at self.now.context.imported (checked_of self.now.bodies.items) func }
+    {
+        let kept = self.kept(func)?;
+        Some(&kept.checked)
+    }
+
+    /// What is kept of the body of the function of that index.
+    #[inline]
+    fn kept(&self, func: u32) -> Option<&KeptBody>
+        ensures { option_map (λ b. b.now) result ≡ kept_at self.now.context.imported self.now.bodies.items func }
     {
         let imported = self.context.imported_functions();
         let func = func as usize;
@@ -57,6 +91,42 @@ impl<'a> Accepted<'a> {
             return None;
         }
         self.bodies.get(func - imported)
+    }
+
+    /// The number of declared locals of the function of that index, imported ones counted, its parameters aside; `None`
+    /// where it is imported or there is none.
+    #[inline]
+    pub fn declared_locals(&self, func: u32) -> Option<u32>
+        ensures { result ≡ option_map (λ b. locals_of b.body.runs.items) (body_at self.now.context.imported (checked_of self.now.bodies.items) func) }
+    {
+        let kept = self.kept(func)?;
+        Some(kept.locals)
+    }
+
+    /// Whether f32 or f64 is mentioned: by a type, a global, a declared local, a block or an instruction.
+    pub fn has_floats(&self) -> bool
+        ensures { result ≡ has_floats (module_shape self.now.module) (shapes_of (checked_of self.now.bodies.items)) }
+    {
+        self.mentions_floats
+    }
+
+    /// The number of the type of that index, by which equal types are known equal; `None` where the module has no such
+    /// type.
+    #[inline]
+    pub fn type_number(&self, type_index: u32) -> Option<u32>
+        ensures { result ≡ slice_get self.now.type_numbers.items type_index }
+    {
+        self.type_numbers.get(type_index as usize).copied()
+    }
+
+    /// The number of the type of the function of that index, imported ones counted; `None` where the module has no such
+    /// function.
+    #[inline]
+    pub fn function_type_number(&self, func: u32) -> Option<u32>
+        ensures { result ≡ function_number self.now.type_numbers.items (slice_get self.now.context.function_types func) }
+    {
+        let type_index = self.context.type_of(func)?;
+        self.type_number(type_index)
     }
 
     /// What is exported under a name: its kind, and its index in the space of that kind. Takes no memory, and compares

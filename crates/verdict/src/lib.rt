@@ -5,13 +5,16 @@ mod accepted;
 mod body;
 mod examining;
 mod exports;
+mod floats;
 mod jobs;
 mod judging;
 mod keeping;
 mod keeping_jobs;
+mod kept_body;
 mod laws;
 mod passing;
 mod refusal;
+mod type_numbers;
 
 pub use accepted::Accepted;
 pub use examining::examine;

@@ -102,7 +102,7 @@ fn frequent_passes<'a>(checker: &mut Checker<'_>, bytes: &'a [u8]) -> Front<'a>
         0x28..=0x35 => look_at!(checker, load_at(*byte, rest)),
         0x36..=0x3E => look_at!(checker, store_at(*byte, rest)),
         0x41 => look_at!(checker, constant_at(rest)),
-        0x45..=0xBF => look_at!(checker, numeric_at(*byte, rest)),
+        0x45..=0xC4 => look_at!(checker, numeric_at(*byte, rest)),
         _ => Front::Other,
     }
 }

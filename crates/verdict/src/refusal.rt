@@ -10,7 +10,7 @@ pub enum Class {
     /// Its bytes spell no body.
     #[error("malformed")]
     Malformed,
-    /// It declares more than 50,000 locals, parameters aside.
+    /// It declares more than 100,000 locals, parameters aside.
     #[error("too-many-locals")]
     TooManyLocals,
     /// It has no type. `at` is the number of the first token that no completion can save, from 0.

@@ -21,3 +21,10 @@ pub mod Verdicts
 pub mod EndedRuns
 pub mod FirstLocals
 pub mod SeenOperands
+pub mod Lasts
+pub mod Stretched
+pub mod Pushed
+pub mod Shortened
+pub mod Topmost
+pub mod Singles
+pub mod Putting

@@ -1,13 +1,10 @@
 -- A list of operands, seen as their types.
 use Rattle.std.proofs.Common.{◌≡◌, ◌≤◌, ◌-◌, ℕ, zero, suc, List, [], ◌∷◌, ◌++◌, map, take, length, Option, Some, refl, sym, ap, ap₂, ◌∙◌, arith}
 use Rattle.std.specs.Prelude.{set}
-use Rattle.std.proofs.lemmas.List.{take-map, length-map}
+use Rattle.std.proofs.lemmas.List.{length-map}
 use Rattle.wsyntax.specs.declared.ValType.{ValType}
 use Rattle.wcheck.specs.declared.operand.Operand.{Operand}
 use Rattle.wcheck.specs.Heights.{type_of}
-
-pub seen_take : (xs : List Operand) (n : ℕ) → map type_of (take n xs) ≡ take n (map type_of xs)
-seen_take xs n = sym (take-map type_of n xs)
 
 -- a write over the last
 seen_last : (xs : List Operand) (i : ℕ) (x : Operand) → suc i ≡ length xs → map type_of (set xs i x) ≡ take i (map type_of xs) ++ type_of x ∷ []

@@ -3,7 +3,7 @@ use Rattle.std.specs.Prelude.{List, Option, Some, None}
 use Rattle.wsyntax.specs.declared.ValType.{ValType}
 use Rattle.wsyntax.specs.declared.ValType.TheVariants as types
 use Rattle.wcheck.specs.declared.operand.Operand.{Operand}
-use Rattle.wcheck.specs.declared.operand.Operand.TheVariants.{I32, I64, F32, F64, Unknown}
+use Rattle.wcheck.specs.declared.operand.Operand.TheVariants.{I32, I64, F32, F64, Unknown, Several}
 use Rattle.wsyntax.specs.Validation.Algorithm.{Operands}
 
 -- what stands below the height of the innermost frame, the lowest first, and that frame's operands
@@ -11,10 +11,11 @@ pub record Stacked : Type 0 where
   pub below : List (Option ValType)
   pub above : Operands
 
--- the type that a byte stands for, None where it is not known
+-- the type that a place stands for, None where it is not known, and where there are several
 abbrev pub type_of : Operand → Option ValType
 type_of I32 = Some types.I32
 type_of I64 = Some types.I64
 type_of F32 = Some types.F32
 type_of F64 = Some types.F64
 type_of Unknown = None
+type_of Several = None

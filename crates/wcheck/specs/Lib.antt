@@ -1,13 +1,13 @@
-pub mod Table
 pub mod Pass
 pub mod Laws
 pub mod Heights
+pub mod Runs
 pub mod Views
-pub mod Effects
+pub mod OperandRules
 pub mod Frames
 pub mod Checking
 pub mod Checked
-pub mod NoteViews
+pub mod TableViews
 pub mod Outcomes
 pub mod Promise
 pub mod Bodies

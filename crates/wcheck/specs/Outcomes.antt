@@ -5,7 +5,7 @@ use Rattle.wsyntax.specs.Validation.Context.{Stack, Context}
 use Rattle.wcheck.specs.declared.body.SideTable.{SideTable}
 use Rattle.wcheck.specs.declared.body.Outcome.{Outcome}
 use Rattle.wcheck.specs.declared.body.Outcome.TheVariants as outcome
-use Rattle.wcheck.specs.Table.{Filled}
+use Rattle.side_table.specs.SideTable.{Filled}
 use Rattle.wcheck.specs.Pass.{Notes, Through, Refused, pass_all, filled}
 
 -- the tokens with the side table

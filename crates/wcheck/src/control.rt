@@ -5,10 +5,10 @@ ghost use Rattle.wsyntax.specs.Validation.Algorithm.{on, when, apply, open_frame
 ghost use Rattle.wcheck.specs.Views.{scope_context, context_at, token_rule, cut, frame_of};
 ghost use Rattle.wcheck.specs.Frames.{inner_of, frames_of, IsTight};
 
-use crate::effect::effect_of;
+use crate::apply::apply_rule;
 use crate::frames::{Level, Shape};
 use crate::operands::OperandStack;
-use crate::perform::perform;
+use crate::rule::rule_of_token;
 use crate::scope::{Scope, block_signature};
 use std::alloc::AllocError;
 use wcontext::Signature;
@@ -16,17 +16,17 @@ use wsyntax::{Token, ValType};
 
 /// The open frames: the innermost one apart, and the others.
 #[derive(Drop)]
-pub struct Control<'a> {
-    pub operands: OperandStack,
-    pub top: Shape<'a>,
-    pub outer: Vec<Level<'a>>,
+pub(crate) struct Control<'a> {
+    pub(crate) operands: OperandStack<'a>,
+    pub(crate) top: Shape<'a>,
+    pub(crate) outer: Vec<Level<'a>>,
     /// False once the function is closed.
-    pub is_open: bool,
+    pub(crate) is_open: bool,
 }
 
 /// Opens a frame.
 #[tactic(auto, using(crate::proofs::Cuts::opened_frames, crate::proofs::Cuts::opened_under))]
-pub fn open_level<'a>(
+pub(crate) fn open_level<'a>(
     control: &mut Control<'a>,
     is_then: bool,
     is_loop: bool,
@@ -58,7 +58,7 @@ pub fn open_level<'a>(
 }
 
 /// Goes on from the first branch of an if to the second.
-pub fn other_branch(control: &mut Control) -> Result<bool, AllocError>
+pub(crate) fn other_branch<'a>(control: &mut Control<'a>) -> Result<bool, AllocError>
     ensures frames { IfOk result (λ yes. when control.old.top.is_then (when (ends_with (reverse control.old.top.gives.now) control.old.operands.above) (Some (record (frame_of control.old.top control.old.operands.above) { is_then = false; operands = fresh (reverse control.old.top.starts.now) } ∷ cut (reverse control.old.outer.items) control.old.operands.below))) ≡ when yes (Some (inner_of control.new))) }
     ensures open { IfOk result (λ yes. control.new.is_open ≡ control.old.is_open) }
     ensures tight { IsTight control.old → IsTight control.new }
@@ -69,7 +69,7 @@ pub fn other_branch(control: &mut Control) -> Result<bool, AllocError>
     if !control.operands.ends_with(control.top.gives) {
         return Ok(false);
     }
-    control.operands.again();
+    control.operands.begin_again();
     control.operands.put(control.top.starts)?;
     control.top.is_then = false;
     Ok(true)
@@ -77,7 +77,7 @@ pub fn other_branch(control: &mut Control) -> Result<bool, AllocError>
 
 /// Closes the innermost frame.
 #[tactic(auto, using(crate::proofs::Cuts::closed_under))]
-pub fn close_level(control: &mut Control) -> Result<bool, AllocError>
+pub(crate) fn close_level<'a>(control: &mut Control<'a>) -> Result<bool, AllocError>
     requires { control.old.is_open ≡ true }
     ensures tight { IsTight control.old → IsTight control.new }
     ensures frames { IfOk result (λ yes. when (ends_with (reverse control.old.top.gives.now) control.old.operands.above) (when (may_lack_else (frame_of control.old.top control.old.operands.above)) (Some (pass_on (reverse control.old.top.gives.now) (cut (reverse control.old.outer.items) control.old.operands.below)))) ≡ when yes (Some (frames_of control.new))) }
@@ -86,7 +86,7 @@ pub fn close_level(control: &mut Control) -> Result<bool, AllocError>
         return Ok(false);
     }
     if control.top.is_then {
-        control.operands.again();
+        control.operands.begin_again();
         control.operands.put(control.top.starts)?;
         if !control.operands.ends_with(control.top.gives) {
             return Ok(false);
@@ -118,9 +118,9 @@ fn act<'a>(
     ensures frames { IfOk result (λ yes. (i : Op) → seen targets.now token ≡ Do i → step (scope_context scope.now) (seen targets.now token) (frames_of control.old) ≡ when yes (Some (frames_of control.new))) }
     ensures tight { IsTight control.old → IsTight control.new }
 {
-    match effect_of(scope, control.top, &control.outer, targets, token) {
-        Some(effect) => {
-            let yes = perform(&mut control.operands, effect)?;
+    match rule_of_token(scope, control.top, &control.outer, targets, token) {
+        Some(rule) => {
+            let yes = apply_rule(&mut control.operands, rule)?;
             Ok(yes)
         }
         None => Ok(false),
@@ -129,7 +129,7 @@ fn act<'a>(
 
 /// One token.
 #[inline(always)]
-pub fn step_control<'a>(
+pub(crate) fn step_control<'a>(
     scope: &Scope<'a>,
     targets: &[u32],
     control: &mut Control<'a>,

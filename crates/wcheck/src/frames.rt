@@ -8,25 +8,25 @@ use wsyntax::ValType;
 
 /// What a frame takes at its beginning, and what it gives.
 #[derive(Clone, Copy)]
-pub struct Shape<'a> {
+pub(crate) struct Shape<'a> {
     /// Whether it is an if whose else may still come.
-    pub is_then: bool,
-    pub is_loop: bool,
-    pub starts: &'a [ValType],
-    pub gives: &'a [ValType],
+    pub(crate) is_then: bool,
+    pub(crate) is_loop: bool,
+    pub(crate) starts: &'a [ValType],
+    pub(crate) gives: &'a [ValType],
 }
 
 /// A frame that is not the innermost: where its operands begin, and whether its rest can be reached.
 #[derive(Clone, Copy)]
-pub struct Level<'a> {
-    pub shape: Shape<'a>,
-    pub base: usize,
-    pub is_dead: bool,
+pub(crate) struct Level<'a> {
+    pub(crate) shape: Shape<'a>,
+    pub(crate) base: usize,
+    pub(crate) is_dead: bool,
 }
 
 /// What a branch to this frame takes.
 #[inline]
-pub fn label<'a>(shape: Shape<'a>) -> &'a [ValType]
+pub(crate) fn label<'a>(shape: Shape<'a>) -> &'a [ValType]
     ensures { reverse result.now ≡ label_of shape.entry }
 {
     if shape.is_loop {
@@ -38,7 +38,7 @@ pub fn label<'a>(shape: Shape<'a>) -> &'a [ValType]
 
 /// What a branch to this label takes.
 #[inline]
-pub fn label_at<'a>(shape: Shape<'a>, outer: &[Level<'a>], l: u32) -> Option<&'a [ValType]>
+pub(crate) fn label_at<'a>(shape: Shape<'a>, outer: &[Level<'a>], l: u32) -> Option<&'a [ValType]>
     ensures { MatchOption result (slice_get (labels_in shape.entry outer.now) l ≡ None) (λ r. slice_get (labels_in shape.entry outer.now) l ≡ Some (reverse r.now)) }
 {
     let depth = l as usize;
@@ -53,7 +53,7 @@ pub fn label_at<'a>(shape: Shape<'a>, outer: &[Level<'a>], l: u32) -> Option<&'a
 }
 
 /// Whether two lists of types are the same.
-pub fn are_same(a: &[ValType], b: &[ValType]) -> bool
+pub(crate) fn are_same(a: &[ValType], b: &[ValType]) -> bool
     ensures { result ≡ same_types (reverse a.now) (reverse b.now) }
 {
     if a.len() != b.len() {
@@ -70,7 +70,12 @@ pub fn are_same(a: &[ValType], b: &[ValType]) -> bool
 }
 
 /// Whether all these labels take the types r.
-pub fn all_labels_take<'a>(shape: Shape<'a>, outer: &[Level<'a>], r: &[ValType], ls: &[u32]) -> bool
+pub(crate) fn all_labels_take<'a>(
+    shape: Shape<'a>,
+    outer: &[Level<'a>],
+    r: &[ValType],
+    ls: &[u32],
+) -> bool
     ensures { result ≡ all_take (labels_in shape.entry outer.now) (reverse r.now) ls.now }
 {
     for l in ls {

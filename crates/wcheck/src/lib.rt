@@ -1,27 +1,26 @@
 //! The typing of function bodies (Core 1.0, 3.3 and 3.4.1), and the side table that a checked body carries.
 #![tactic(auto)]
 
+mod apply;
 mod body;
+mod building;
+mod check;
 mod checked;
 mod checker;
 mod control;
-mod destination;
-mod effect;
 mod frames;
 mod laws;
 mod locals;
-mod notes;
-mod noting;
 mod operand;
 mod operands;
-mod perform;
+mod rule;
 mod scope;
-mod typing;
+mod table;
 
+pub use check::{CheckFault, check_body};
 pub use checked::CheckedBody;
 pub use checker::Checker;
-pub use destination::Destination;
-pub use typing::{CheckFault, check_body};
+pub use side_table::Destination;
 
 #[cfg(test)]
 mod tests;

@@ -8,9 +8,9 @@ use wsyntax::{LocalRun, ValType};
 
 /// A run of declared locals, and how many declared locals there are up to its end, or the greatest number.
 #[derive(Clone, Copy)]
-pub struct EndedRun {
-    pub run: LocalRun,
-    pub end: usize,
+pub(crate) struct EndedRun {
+    pub(crate) run: LocalRun,
+    pub(crate) end: usize,
 }
 
 /// How many locals are written out.
@@ -19,7 +19,7 @@ const NEAR: usize = 256;
 /// The types of the locals of one body: the parameters, which the module's context keeps, and the declared ones, of
 /// which there may be more than could be written out.
 #[derive(Drop)]
-pub struct Locals<'a> {
+pub(crate) struct Locals<'a> {
     params: &'a [ValType],
     runs: Vec<EndedRun>,
     /// The first of them all, written out.
@@ -146,7 +146,7 @@ fn far_local(params: &[ValType], runs: &[EndedRun], x: u32) -> Option<ValType>
 impl<'a> Locals<'a> {
     /// These parameters, and no declared locals.
     #[tactic(auto, using(crate::proofs::FirstLocals::none_first))]
-    pub fn new(alloc: Global, params: &'a [ValType]) -> Self
+    pub(crate) fn new(alloc: Global, params: &'a [ValType]) -> Self
         ensures { result ≡ params.now }
     {
         Locals {
@@ -158,7 +158,7 @@ impl<'a> Locals<'a> {
 
     /// Changes to these parameters and declared locals. Takes time for each run, and for the first locals, but not for each local.
     #[tactic(auto, using(crate::proofs::FirstLocals::none_first, crate::proofs::FirstLocals::same_first))]
-    pub fn set(&mut self, params: &'a [ValType], runs: &[LocalRun]) -> Result<(), AllocError>
+    pub(crate) fn set(&mut self, params: &'a [ValType], runs: &[LocalRun]) -> Result<(), AllocError>
         ensures { IfOk result (λ _. self.new ≡ params.now ++ declared runs.now) }
     {
         self.near.clear();
@@ -170,7 +170,7 @@ impl<'a> Locals<'a> {
 
     /// The type of a local; `None` past the last.
     #[inline]
-    pub fn get(&self, x: u32) -> Option<ValType>
+    pub(crate) fn get(&self, x: u32) -> Option<ValType>
         ensures { result ≡ slice_get self.now x }
     {
         match self.near.get(x as usize) {

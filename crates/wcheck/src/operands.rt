@@ -8,13 +8,13 @@ use wsyntax::ValType;
 
 /// The types of the operands of all open frames, in one list. `None` is a type that is not known.
 #[derive(Drop)]
-pub struct OperandStack {
-    types: OperandList,
+pub(crate) struct OperandStack<'a> {
+    types: OperandList<'a>,
     base: usize,
     is_dead: bool,
 }
 
-impl Model for OperandStack {
+impl<'a> Model for OperandStack<'a> {
     ghost use Rattle.std.specs.Prelude.{reverse, take, drop, length, ◌≤◌};
     ghost use Rattle.wcheck.specs.Heights.{Stacked};
 
@@ -25,8 +25,11 @@ impl Model for OperandStack {
     ghost invariant = { λ p. p.base ≤ length p.types };
 }
 
-impl OperandStack {
-    pub fn new(alloc: Global) -> Self
+/// A list of more types than this is put as a run.
+const SHORT: usize = 8;
+
+impl<'a> OperandStack<'a> {
+    pub(crate) fn new(alloc: Global) -> Self
         ensures { result ≡ record { below = []; above = fresh [] } }
     {
         OperandStack {
@@ -37,7 +40,7 @@ impl OperandStack {
     }
 
     /// Forgets all operands and all frames but one.
-    pub fn clear(&mut self)
+    pub(crate) fn clear(&mut self)
         ensures { self.new ≡ record { below = []; above = fresh [] } }
     {
         self.types.truncate(0);
@@ -47,7 +50,7 @@ impl OperandStack {
 
     /// The operands in all frames.
     #[inline]
-    pub fn height(&self) -> usize
+    pub(crate) fn height(&self) -> usize
         ensures { result ≡ length self.now.below + length self.now.above.known }
     {
         self.types.len()
@@ -55,7 +58,7 @@ impl OperandStack {
 
     /// The operands below the innermost frame.
     #[inline]
-    pub fn base(&self) -> usize
+    pub(crate) fn base(&self) -> usize
         ensures { result ≡ length self.now.below }
     {
         self.base
@@ -63,7 +66,7 @@ impl OperandStack {
 
     /// Whether the innermost frame has no operand that is known.
     #[inline]
-    pub fn is_empty(&self) -> bool
+    pub(crate) fn is_empty(&self) -> bool
         ensures { result ≡ is_nil self.now.above.known }
     {
         self.types.len() == self.base
@@ -71,7 +74,7 @@ impl OperandStack {
 
     /// Whether what follows in the innermost frame cannot be reached.
     #[inline]
-    pub fn is_dead(&self) -> bool
+    pub(crate) fn is_dead(&self) -> bool
         ensures { result ≡ self.now.above.is_dead }
     {
         self.is_dead
@@ -79,7 +82,7 @@ impl OperandStack {
 
     /// Takes the topmost operand of the innermost frame.
     #[inline]
-    pub fn take_any(&mut self) -> Option<Option<ValType>>
+    pub(crate) fn take_any(&mut self) -> Option<Option<ValType>>
         ensures above { MatchOption result (take_any self.old.above ≡ None) (λ x. take_any self.old.above ≡ Some (x, self.new.above)) }
         ensures below { self.new.below ≡ self.old.below }
     {
@@ -94,7 +97,7 @@ impl OperandStack {
 
     /// Takes the topmost operand, if it may be of this type.
     #[inline]
-    pub fn take_one(&mut self, t: ValType) -> bool
+    pub(crate) fn take_one(&mut self, t: ValType) -> bool
         ensures above { take_one t self.old.above ≡ when result (Some self.new.above) }
         ensures below { self.new.below ≡ self.old.below }
     {
@@ -122,12 +125,12 @@ impl OperandStack {
 
     /// Takes an operand of the first type, and puts one of the second.
     #[inline]
-    pub fn change(&mut self, t: ValType, u: ValType) -> Result<bool, AllocError>
+    pub(crate) fn change(&mut self, t: ValType, u: ValType) -> Result<bool, AllocError>
         ensures above { IfOk result (λ yes. apply (Takes (t ∷ []) (u ∷ [])) self.old.above ≡ when yes (Some self.new.above)) }
         ensures below { self.new.below ≡ self.old.below }
     {
         if self.types.len() > self.base && self.types.ends_in(t) {
-            self.types.retype_last(u);
+            self.types.retype_last(u)?;
             Ok(true)
         } else {
             self.change_fitting(t, u)
@@ -148,14 +151,14 @@ impl OperandStack {
 
     /// Takes two operands of the first type, and puts one of the second.
     #[inline]
-    pub fn combine(&mut self, t: ValType, u: ValType) -> Result<bool, AllocError>
+    pub(crate) fn combine(&mut self, t: ValType, u: ValType) -> Result<bool, AllocError>
         ensures above { IfOk result (λ yes. apply (Takes (t ∷ t ∷ []) (u ∷ [])) self.old.above ≡ when yes (Some self.new.above)) }
         ensures below { self.new.below ≡ self.old.below }
     {
         let count = self.types.len();
         if count - self.base >= 2 && self.types.ends_in_both(t, t) {
             self.types.truncate(count - 1);
-            self.types.retype_last(u);
+            self.types.retype_last(u)?;
             Ok(true)
         } else {
             self.combine_fitting(t, u)
@@ -179,7 +182,7 @@ impl OperandStack {
 
     /// Takes an operand of the first type, and below it one of the second.
     #[inline]
-    pub fn take_two(&mut self, t: ValType, u: ValType) -> bool
+    pub(crate) fn take_two(&mut self, t: ValType, u: ValType) -> bool
         ensures above { apply (Takes (t ∷ u ∷ []) []) self.old.above ≡ when result (Some self.new.above) }
         ensures below { self.new.below ≡ self.old.below }
     {
@@ -202,7 +205,7 @@ impl OperandStack {
 
     /// Takes operands of these types, the last first. Once none is known, nothing more is looked at.
     #[tactic(auto, using(crate::proofs::ListFacts::taken_empty))]
-    pub fn take_all(&mut self, ts: &[ValType]) -> bool
+    pub(crate) fn take_all(&mut self, ts: &[ValType]) -> bool
         ensures above { take_all (reverse ts.now) self.old.above ≡ when result (Some self.new.above) }
         ensures below { self.new.below ≡ self.old.below }
     {
@@ -221,7 +224,7 @@ impl OperandStack {
 
     /// Puts an operand on top.
     #[inline]
-    pub fn put_one(&mut self, x: Option<ValType>) -> Result<(), AllocError>
+    pub(crate) fn put_one(&mut self, x: Option<ValType>) -> Result<(), AllocError>
         ensures above { IfOk result (λ _. self.new.above ≡ record { known = x ∷ self.old.above.known; is_dead = self.old.above.is_dead }) }
         ensures below { self.new.below ≡ self.old.below }
     {
@@ -230,10 +233,14 @@ impl OperandStack {
     }
 
     /// Puts operands of these types, the last one topmost.
-    pub fn put(&mut self, ts: &[ValType]) -> Result<(), AllocError>
+    pub(crate) fn put(&mut self, ts: &'a [ValType]) -> Result<(), AllocError>
         ensures above { IfOk result (λ _. self.new.above ≡ put (reverse ts.now) self.old.above) }
         ensures below { self.new.below ≡ self.old.below }
     {
+        if ts.len() > SHORT {
+            self.types.push_run(ts)?;
+            return Ok(());
+        }
         for t in ts {
             self.put_one(Some(*t))?;
         }
@@ -242,7 +249,7 @@ impl OperandStack {
 
     /// What follows cannot be reached: no operand is known, and any may be taken.
     #[inline]
-    pub fn kill(&mut self)
+    pub(crate) fn make_unreachable(&mut self)
         ensures above { self.new.above ≡ record { known = []; is_dead = true } }
         ensures below { self.new.below ≡ self.old.below }
     {
@@ -252,7 +259,7 @@ impl OperandStack {
 
     /// Begins a frame with no operands.
     #[inline]
-    pub fn open(&mut self)
+    pub(crate) fn open(&mut self)
         ensures above { self.new.above ≡ fresh [] }
         ensures below { self.new.below ≡ self.old.below ++ reverse self.old.above.known }
     {
@@ -262,7 +269,7 @@ impl OperandStack {
 
     /// Begins the frame again, with no operands.
     #[inline]
-    pub fn again(&mut self)
+    pub(crate) fn begin_again(&mut self)
         ensures above { self.new.above ≡ fresh [] }
         ensures below { self.new.below ≡ self.old.below }
     {
@@ -272,7 +279,7 @@ impl OperandStack {
 
     /// Goes back to the frame that began at this height.
     #[inline]
-    pub fn close(&mut self, base: usize, is_dead: bool)
+    pub(crate) fn close(&mut self, base: usize, is_dead: bool)
         ensures above { self.new.above ≡ record { known = reverse (drop base self.old.below); is_dead = is_dead } }
         ensures below { self.new.below ≡ take base self.old.below }
     {
@@ -286,7 +293,7 @@ impl OperandStack {
     }
 
     /// Whether the operands are exactly these, which are taken.
-    pub fn ends_with(&mut self, ts: &[ValType]) -> bool
+    pub(crate) fn ends_with(&mut self, ts: &[ValType]) -> bool
         ensures answer { result ≡ ends_with (reverse ts.now) self.old.above }
         ensures below { self.new.below ≡ self.old.below }
     {

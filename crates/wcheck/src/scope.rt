@@ -8,10 +8,10 @@ use wsyntax::{BlockType, ValType};
 
 /// What the instructions of one body look up (3.4.1).
 #[derive(Drop)]
-pub struct Scope<'a> {
-    pub context: &'a Context,
-    pub locals: Locals<'a>,
-    pub results: &'a [ValType],
+pub(crate) struct Scope<'a> {
+    pub(crate) context: &'a Context,
+    pub(crate) locals: Locals<'a>,
+    pub(crate) results: &'a [ValType],
 }
 
 static NONE: [ValType; 0] = [];
@@ -26,7 +26,7 @@ static ONE_F64: [ValType; 1] = [ValType::F64];
 
 /// The list of no type.
 #[inline]
-pub fn none() -> &'static [ValType]
+pub(crate) fn none() -> &'static [ValType]
     ensures { result.now ≡ [] }
 {
     &NONE
@@ -34,7 +34,7 @@ pub fn none() -> &'static [ValType]
 
 /// The list of this type alone.
 #[inline]
-pub fn one(t: ValType) -> &'static [ValType]
+pub(crate) fn one(t: ValType) -> &'static [ValType]
     ensures { result.now ≡ t ∷ [] }
 {
     match t {
@@ -47,7 +47,7 @@ pub fn one(t: ValType) -> &'static [ValType]
 
 /// The function type that a block type stands for; `None` where it names none.
 #[inline]
-pub fn block_signature<'a>(context: &'a Context, block: BlockType) -> Option<Signature<'a>>
+pub(crate) fn block_signature<'a>(context: &'a Context, block: BlockType) -> Option<Signature<'a>>
     ensures { option_map lent_type result ≡ block_sig context.now.context.types block }
 {
     match block {

@@ -4,15 +4,10 @@ use std::test::Fail;
 use wcontext::check_module;
 use wsyntax::{BlockType, Body, Expression, FuncType, LocalRun, Module, Operator, Token, ValType};
 
-/// A module with one function, `[] -> []`.
-fn one_function(alloc: Global) -> Result<Module<'static>, AllocError> {
-    let mut types = Vec::new(alloc);
-    types.push(FuncType {
-        params: Vec::new(alloc),
-        results: Vec::new(alloc),
-    })?;
-    let mut functions = Vec::new(alloc);
-    functions.push(0)?;
+/// A module with functions whose types have these indices, and with no type yet.
+fn some_functions(alloc: Global, type_indices: &[u32]) -> Result<Module<'static>, AllocError> {
+    let types = Vec::new(alloc);
+    let functions = type_indices.to_vec(alloc)?;
     Ok(Module {
         types,
         imports: Vec::new(alloc),
@@ -28,11 +23,48 @@ fn one_function(alloc: Global) -> Result<Module<'static>, AllocError> {
     })
 }
 
-/// Where the tokens, as those of a body of that function with locals f32, f32 and i64, are refused; `None` where they are
-/// a body that is taken.
-fn refused_at(alloc: Global, tokens: &[Token], targets: &[u32]) -> Result<Option<usize>, Fail> {
-    let module = one_function(alloc)?;
-    let context = check_module(alloc, &module)?;
+/// A function type.
+fn func_type(
+    alloc: Global,
+    params: &[ValType],
+    results: &[ValType],
+) -> Result<FuncType, AllocError> {
+    Ok(FuncType {
+        params: params.to_vec(alloc)?,
+        results: results.to_vec(alloc)?,
+    })
+}
+
+/// A module with one function, `[] -> []`.
+fn one_function(alloc: Global) -> Result<Module<'static>, AllocError> {
+    let mut module = some_functions(alloc, &[0])?;
+    module.types.push(func_type(alloc, &[], &[])?)?;
+    Ok(module)
+}
+
+/// A module with the types `[i32] -> [i32]`, `[] -> []`, `[] -> [i32 i64]` and `[i32] -> [i64]`, and functions of the
+/// second and the third.
+fn several_types(alloc: Global) -> Result<Module<'static>, AllocError> {
+    let i32 = [ValType::I32];
+    let mut module = some_functions(alloc, &[1, 2])?;
+    module.types.push(func_type(alloc, &i32, &i32)?)?;
+    module.types.push(func_type(alloc, &[], &[])?)?;
+    module
+        .types
+        .push(func_type(alloc, &[], &[ValType::I32, ValType::I64])?)?;
+    module.types.push(func_type(alloc, &i32, &[ValType::I64])?)?;
+    Ok(module)
+}
+
+/// Where the tokens, as those of a body of the module's first function with locals f32, f32 and i64, are refused; `None`
+/// where they are a body that is taken.
+fn refused_in(
+    alloc: Global,
+    module: &Module<'_>,
+    tokens: &[Token],
+    targets: &[u32],
+) -> Result<Option<usize>, Fail> {
+    let context = check_module(alloc, module)?;
     if context.function(0).is_none() {
         return Err("the function is there".into());
     }
@@ -60,6 +92,18 @@ fn refused_at(alloc: Global, tokens: &[Token], targets: &[u32]) -> Result<Option
     }
 }
 
+/// The same, in a module with one function, `[] -> []`.
+fn refused_at(alloc: Global, tokens: &[Token], targets: &[u32]) -> Result<Option<usize>, Fail> {
+    let module = one_function(alloc)?;
+    refused_in(alloc, &module, tokens, targets)
+}
+
+/// The same, in the module with several types.
+fn refused_among(alloc: Global, tokens: &[Token]) -> Result<Option<usize>, Fail> {
+    let module = several_types(alloc)?;
+    refused_in(alloc, &module, tokens, &[])
+}
+
 const ADD: Token = Token::Numeric(Operator::I32Add);
 
 const EQZ: Token = Token::Numeric(Operator::I32Eqz);
@@ -71,6 +115,11 @@ const CHOICE: Token = Token::If(BlockType::Value(ValType::I32));
 const TABLE: Token = Token::BrTable { count: 1, first: 0 };
 
 const I32_BLOCK: Token = Token::Block(BlockType::Value(ValType::I32));
+
+/// `[i32] -> [i32]` and `[i32] -> [i64]`, of the module with several types.
+const SAME: BlockType = BlockType::Index(0);
+
+const WIDER: BlockType = BlockType::Index(3);
 
 /// An operand is left at the end.
 #[test]
@@ -266,5 +315,279 @@ fn loop_with_its_table(rt: HostRuntime) -> Result<(), Fail> {
     assert_eq!(rt; checked.entries().get(2), Some(&back));
     assert_eq!(rt; checked.entries().len(), 5);
     assert_eq!(rt; checked.height(), 1);
+    Ok(())
+}
+
+/// A loop takes its parameters, and they lie in it.
+#[test]
+fn loop_with_parameter(rt: HostRuntime) -> Result<(), Fail> {
+    let tokens = [
+        Token::I32Const(1),
+        Token::Loop(SAME),
+        EQZ,
+        Token::End,
+        Token::Drop,
+        Token::End,
+    ];
+    assert_eq!(rt; refused_among(rt.alloc(), &tokens)?, None);
+    let lacking = [Token::Loop(SAME), Token::End, Token::Drop, Token::End];
+    assert_eq!(rt; refused_among(rt.alloc(), &lacking)?, Some(0));
+    Ok(())
+}
+
+/// A branch to a loop takes the parameters, not the results.
+#[test]
+fn branch_to_loop_with_parameter(rt: HostRuntime) -> Result<(), Fail> {
+    let tokens = [
+        Token::I32Const(1),
+        Token::Loop(WIDER),
+        Token::Br(0),
+        Token::End,
+        Token::Drop,
+        Token::End,
+    ];
+    assert_eq!(rt; refused_among(rt.alloc(), &tokens)?, None);
+    let by_results = [
+        Token::I32Const(1),
+        Token::Loop(WIDER),
+        Token::Drop,
+        Token::I64Const(0),
+        Token::Br(0),
+        Token::End,
+        Token::Drop,
+        Token::End,
+    ];
+    assert_eq!(rt; refused_among(rt.alloc(), &by_results)?, Some(4));
+    Ok(())
+}
+
+/// A block that takes an i32 and gives an i64.
+#[test]
+fn block_by_index(rt: HostRuntime) -> Result<(), Fail> {
+    let tokens = [
+        Token::I32Const(1),
+        Token::Block(WIDER),
+        Token::Drop,
+        Token::I64Const(0),
+        Token::End,
+        LONG_EQZ,
+        Token::Drop,
+        Token::End,
+    ];
+    assert_eq!(rt; refused_among(rt.alloc(), &tokens)?, None);
+    Ok(())
+}
+
+/// The block names a type that there is not.
+#[test]
+fn block_by_missing_index(rt: HostRuntime) -> Result<(), Fail> {
+    let tokens = [
+        Token::Nop,
+        Token::Block(BlockType::Index(4)),
+        Token::End,
+        Token::End,
+    ];
+    assert_eq!(rt; refused_among(rt.alloc(), &tokens)?, Some(1));
+    Ok(())
+}
+
+/// Without `else` the parameters are the results, so they have to be of the same types.
+#[test]
+fn if_by_index_without_else(rt: HostRuntime) -> Result<(), Fail> {
+    let tokens = [
+        Token::I32Const(7),
+        Token::I32Const(1),
+        Token::If(SAME),
+        EQZ,
+        Token::End,
+        Token::Drop,
+        Token::End,
+    ];
+    assert_eq!(rt; refused_among(rt.alloc(), &tokens)?, None);
+    let other_results = [
+        Token::I32Const(7),
+        Token::I32Const(1),
+        Token::If(WIDER),
+        Token::Drop,
+        Token::I64Const(1),
+        Token::End,
+        Token::Drop,
+        Token::End,
+    ];
+    assert_eq!(rt; refused_among(rt.alloc(), &other_results)?, Some(5));
+    Ok(())
+}
+
+/// Each branch of an `if` begins with the parameters.
+#[test]
+fn if_by_index_with_else(rt: HostRuntime) -> Result<(), Fail> {
+    let tokens = [
+        Token::I32Const(7),
+        Token::I32Const(1),
+        Token::If(WIDER),
+        Token::Drop,
+        Token::I64Const(1),
+        Token::Else,
+        Token::Drop,
+        Token::I64Const(2),
+        Token::End,
+        Token::Drop,
+        Token::End,
+    ];
+    assert_eq!(rt; refused_among(rt.alloc(), &tokens)?, None);
+    Ok(())
+}
+
+/// The last of the results lies on top.
+#[test]
+fn call_with_two_results(rt: HostRuntime) -> Result<(), Fail> {
+    let tokens = [Token::Call(1), LONG_EQZ, ADD, Token::Drop, Token::End];
+    assert_eq!(rt; refused_among(rt.alloc(), &tokens)?, None);
+    let turned_round = [Token::Call(1), EQZ, Token::Drop, Token::Drop, Token::End];
+    assert_eq!(rt; refused_among(rt.alloc(), &turned_round)?, Some(1));
+    Ok(())
+}
+
+/// An operator that reads the low bits with their sign keeps the type.
+#[test]
+fn sign_extension(rt: HostRuntime) -> Result<(), Fail> {
+    let narrow = Token::Numeric(Operator::I32Extend16S);
+    let wide = Token::Numeric(Operator::I64Extend32S);
+    let tokens = [Token::I32Const(1), narrow, EQZ, Token::Drop, Token::End];
+    assert_eq!(rt; refused_at(rt.alloc(), &tokens, &[])?, None);
+    let other_width = [Token::I32Const(1), narrow, wide, Token::Drop, Token::End];
+    assert_eq!(rt; refused_at(rt.alloc(), &other_width, &[])?, Some(2));
+    Ok(())
+}
+
+/// A branch back to a loop keeps its parameter, above the operand that lies under the loop.
+#[test]
+fn loop_with_parameter_and_its_table(rt: HostRuntime) -> Result<(), Fail> {
+    let alloc = rt.alloc();
+    let module = several_types(alloc)?;
+    let context = check_module(alloc, &module)?;
+    if context.function(0).is_none() {
+        return Err("the function is there".into());
+    }
+    let tokens = [
+        Token::I64Const(0),
+        Token::I32Const(1),
+        Token::Loop(SAME),
+        Token::Br(0),
+        Token::End,
+        Token::Drop,
+        Token::Drop,
+        Token::End,
+    ];
+    let body = Body {
+        runs: Vec::new(alloc),
+        code: Expression {
+            tokens: tokens.to_vec(alloc)?,
+            targets: Vec::new(alloc),
+        },
+    };
+    let checked = check_body(alloc, &context, 0, body)?;
+    let back = Destination {
+        target: 2,
+        arity: 1,
+        height: 1,
+    };
+    assert_eq!(rt; checked.entries().get(3), Some(&back));
+    assert_eq!(rt; checked.height(), 2);
+    Ok(())
+}
+
+/// A module with the types `[] -> []`, `[] -> [t*]`, `[t*] -> []` and `[t*] -> [t*]`, where t* is five i32 and five i64, and
+/// functions of the first three.
+fn long_lists(alloc: Global) -> Result<Module<'static>, AllocError> {
+    let long = [
+        ValType::I32,
+        ValType::I32,
+        ValType::I32,
+        ValType::I32,
+        ValType::I32,
+        ValType::I64,
+        ValType::I64,
+        ValType::I64,
+        ValType::I64,
+        ValType::I64,
+    ];
+    let mut module = some_functions(alloc, &[0, 1, 2])?;
+    module.types.push(func_type(alloc, &[], &[])?)?;
+    module.types.push(func_type(alloc, &[], &long)?)?;
+    module.types.push(func_type(alloc, &long, &[])?)?;
+    module.types.push(func_type(alloc, &long, &long)?)?;
+    Ok(module)
+}
+
+/// Where the tokens are refused in that module.
+fn refused_with_long_lists(alloc: Global, tokens: &[Token]) -> Result<Option<usize>, Fail> {
+    let module = long_lists(alloc)?;
+    refused_in(alloc, &module, tokens, &[])
+}
+
+/// A long list is taken whole, in a block and after a loop too.
+#[test]
+fn long_list_whole(rt: HostRuntime) -> Result<(), Fail> {
+    let same = BlockType::Index(3);
+    let tokens = [
+        Token::Call(1),
+        Token::Block(same),
+        Token::Loop(same),
+        Token::I32Const(0),
+        Token::BrIf(0),
+        Token::End,
+        Token::End,
+        Token::Call(2),
+        Token::End,
+    ];
+    assert_eq!(rt; refused_with_long_lists(rt.alloc(), &tokens)?, None);
+    let lacking = [Token::Call(1), Token::Call(2), Token::Call(2), Token::End];
+    assert_eq!(rt; refused_with_long_lists(rt.alloc(), &lacking)?, Some(2));
+    Ok(())
+}
+
+/// The last of a long list lies on top, and what is left of it stays where it is.
+#[test]
+fn long_list_cut(rt: HostRuntime) -> Result<(), Fail> {
+    let tokens = [
+        Token::Call(1),
+        LONG_EQZ,
+        Token::Drop,
+        Token::Drop,
+        Token::I64Const(0),
+        Token::I64Const(0),
+        Token::Call(2),
+        Token::End,
+    ];
+    assert_eq!(rt; refused_with_long_lists(rt.alloc(), &tokens)?, None);
+    let other_type = [
+        Token::Call(1),
+        Token::Drop,
+        Token::I32Const(0),
+        Token::Call(2),
+        Token::End,
+    ];
+    assert_eq!(rt; refused_with_long_lists(rt.alloc(), &other_type)?, Some(3));
+    let one_left = [Token::Call(1), Token::I32Const(0), Token::End];
+    assert_eq!(rt; refused_with_long_lists(rt.alloc(), &one_left)?, Some(2));
+    Ok(())
+}
+
+/// What is put behind a branch is known.
+#[test]
+fn long_list_in_dead_code(rt: HostRuntime) -> Result<(), Fail> {
+    let tokens = [
+        Token::Unreachable,
+        Token::Call(2),
+        Token::Call(1),
+        Token::Drop,
+        Token::Unreachable,
+        Token::Call(2),
+        Token::End,
+    ];
+    assert_eq!(rt; refused_with_long_lists(rt.alloc(), &tokens)?, None);
+    let known = [Token::Unreachable, Token::Call(1), EQZ, Token::End];
+    assert_eq!(rt; refused_with_long_lists(rt.alloc(), &known)?, Some(2));
     Ok(())
 }

@@ -7,7 +7,7 @@ use thiserror::Error;
 /// Why a module has no context.
 #[derive(Clone, Copy, Debug, PartialEq, Eq, Error)]
 pub enum ModuleFault {
-    /// The least number of a rule that is broken, from 1 on.
+    /// The least number of a rule that is broken, from 2 on.
     #[error("rule {0} is broken")]
     Rule(u32),
     #[error("out of memory")]

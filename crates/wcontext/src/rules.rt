@@ -1,7 +1,8 @@
 //! The rules that a module keeps (3.2, 3.4), one function a rule, in the order in which they are looked at.
+//! Rule 1, at most one result a function type, is no longer asked; the others keep their numbers.
 ghost use Rattle.std.specs.Prelude.{◌↔◌, IsTrue, IfOk};
 ghost use Rattle.wsyntax.specs.Modules.{module_shape};
-ghost use Rattle.wsyntax.specs.Validation.Rules.{FewResults, ImportsTyped, FunctionsTyped, TablesLimited, MemoriesLimited, OneTable, OneMemory, GlobalsConstant, ExportsExist, ExportsDistinct, StartsPlainly, ElementsValid, SegmentsValid};
+ghost use Rattle.wsyntax.specs.Validation.Rules.{ImportsTyped, FunctionsTyped, TablesLimited, MemoriesLimited, OneTable, OneMemory, GlobalsConstant, ExportsExist, ExportsDistinct, StartsPlainly, ElementsValid, SegmentsValid};
 ghost use Rattle.wcontext.specs.Spaces.{AreSpacesOf};
 
 use crate::constant::are_constant;
@@ -12,16 +13,6 @@ use crate::spaces::Spaces;
 use crate::start::has_empty_type;
 use std::alloc::{AllocError, Global};
 use wsyntax::Module;
-
-/// Rule 1: each function type has at most one result.
-pub fn few_results(module: &Module<'_>) -> bool
-    ensures { IsTrue result ↔ FewResults (module_shape «module».now) }
-{
-    module
-        .types
-        .iter()
-        .all(|of_type| of_type.results.len() <= 1)
-}
 
 /// Rule 2: the type of each imported function exists.
 pub fn imports_typed(module: &Module<'_>, spaces: &Spaces) -> bool

@@ -23,11 +23,11 @@ fn empty<'a>(alloc: Global) -> Module<'a> {
     }
 }
 
-/// A module that imports one function of type `[i32 i64] -> [f32]`.
+/// A module that imports one function of type `[i32 i64] -> [f32 i32]`.
 fn one_import<'a>(alloc: Global) -> Result<Module<'a>, AllocError> {
     let mut module = empty(alloc);
     let params = vec![in alloc; ValType::I32, ValType::I64]?;
-    let results = vec![in alloc; ValType::F32]?;
+    let results = vec![in alloc; ValType::F32, ValType::I32]?;
     module.types.push(FuncType { params, results })?;
     let kind = ImportKind::Function(0);
     module.imports.push(Import {
@@ -55,7 +55,7 @@ fn looks_up(rt: HostRuntime) -> Result<(), Fail> {
     let context = check_module(rt.alloc(), &module)?;
     let signature = context.function(1).ok_or("no function")?;
     assert_eq!(rt; signature.params, [ValType::I32, ValType::I64].as_slice());
-    assert_eq!(rt; signature.results, [ValType::F32].as_slice());
+    assert_eq!(rt; signature.results, [ValType::F32, ValType::I32].as_slice());
     assert!(rt; context.signature(1).is_none());
     assert_eq!(rt; context.type_of(1), Some(0));
     assert_eq!(rt; context.global(0), Some(content));

@@ -1,13 +1,13 @@
 -- Reading agrees with spelling, for each word that productions are built of.
-use Rattle.std.proofs.Common.{◌≡◌, ℕ, zero, suc, ◌≤◌, Bool, true, false, cond, eqb, ltb, List, [], ◌∷◌, ◌++◌, length, take, drop, Option, Some, None, refl, sym, ap, subst, ◌∙◌, append_assoc, arith}
+use Rattle.std.proofs.Common.{◌≡◌, ℕ, zero, suc, ◌≤◌, Bool, true, false, cond, eqb, ltb, List, [], ◌∷◌, ◌++◌, length, take, drop, Option, Some, None, ◌⊎◌, inl, inr, refl, sym, ap, subst, ◌∙◌, append_assoc, arith}
 use Rattle.std.proofs.lemmas.Bool.{eqb-true, ltb-false, le-ltb}
 use Rattle.std.proofs.lemmas.List.{take_at, drop_at, take-append-drop, length-append, length-take, append-nil, nil_from_length}
 use Rattle.wnum.specs.Reading.{◌>>=◌}
 use Rattle.std.specs.Str.{is_utf8}
 use Rattle.std.proofs.lemmas.Str.{IsUtf8-from_is_utf8, is_utf8-from_IsUtf8}
 use Rattle.wnum.proofs.Numbers.{bind_some, unsigned_reads, signed_reads}
-use Rattle.wsyntax.specs.Binary.Production.{Production, Agrees, byte_at, byte, given, pure, exactly, raw, times_at, SpellsAll, times, whole_at, inside, begins}
-use Rattle.wsyntax.specs.Binary.Values.{u32, s32, s64, vector, blob, text, name}
+use Rattle.wsyntax.specs.Binary.Production.{Production, Agrees, byte_at, byte, given, pure, exactly, or_read, either, raw, times_at, SpellsAll, times, whole_at, inside, begins}
+use Rattle.wsyntax.specs.Binary.Values.{u32, s32, s33, s64, vector, blob, text, name}
 use Rattle.wsyntax.specs.Binary.Production as p
 
 pub pair_is : {A B : Type 0} (a c : A) (b d : B) → ◌≡◌ {A = Option (A × B)} (Some (a, b)) (Some (c, d)) → (a ≡ c) × (b ≡ d)
@@ -55,11 +55,31 @@ bind_agrees {A} {B} q f q_agrees f_agrees = record {
 pub exactly_agrees : (b : ℕ) → Agrees (exactly b)
 exactly_agrees b = bind_agrees byte _ byte_agrees λ c. given_agrees _
 
+either_some : {A : Type 0} (x y : Option (A × List ℕ)) (z : A × List ℕ) → or_read x y ≡ Some z → (x ≡ Some z) ⊎ (y ≡ Some z)
+either_some (Some x) y z e = inl e
+either_some None y z e = inr e
+
+-- one production or another, where what the second spells the first does not read
+pub either_agrees : {A : Type 0} (q r : Production A) → Agrees q → Agrees r → ((front : List ℕ) (a : A) (rest : List ℕ) → r.spells front a → q.read (front ++ rest) ≡ None) → Agrees (either q r)
+either_agrees {A} q r q_agrees r_agrees apart = record {
+  sound = λ bytes a rest e. elim (either_some (q.read bytes) (r.read bytes) (a, rest) e) [
+    | inl h ↦ let f = q_agrees.sound bytes a rest h in (f.0, inl f.1, f.2)
+    | inr h ↦ let f = r_agrees.sound bytes a rest h in (f.0, inr f.1, f.2)
+  ];
+  complete = λ front a rest s. elim s [
+    | inl h ↦ rw (q_agrees.complete front a rest h) refl
+    | inr h ↦ rw (apart front a rest h) (r_agrees.complete front a rest h)
+  ];
+}
+
 pub u32_agrees : Agrees u32
 u32_agrees = unsigned_reads 32
 
 pub s32_agrees : Agrees s32
 s32_agrees = signed_reads 32
+
+pub s33_agrees : Agrees s33
+s33_agrees = signed_reads 33
 
 pub s64_agrees : Agrees s64
 s64_agrees = signed_reads 64

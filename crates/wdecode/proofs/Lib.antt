@@ -1,5 +1,6 @@
 pub mod Agree
 pub mod TypeLaws
+pub mod BlockTypes
 pub mod Loop
 pub mod InstructionLaws
 pub mod OneToken

@@ -15,7 +15,7 @@ use Rattle.wsyntax.specs.Binary.Types.{block_type}
 use Rattle.wsyntax.specs.Binary.Instructions.{plain_instruction, immediates}
 use Rattle.wsyntax.specs.Binary.Nesting.{SpellsToken, seen_as, token_at}
 use Rattle.wdecode.proofs.InstructionLaws.{plain_agrees}
-use Rattle.wdecode.proofs.TypeLaws.{block_type_agrees}
+use Rattle.wdecode.proofs.BlockTypes.{block_type_agrees}
 
 abbrev Found : List ℕ → Token → List ℕ → Type 0
 Found bytes t rest = (front : List ℕ) × SpellsToken front t × (bytes ≡ front ++ rest)

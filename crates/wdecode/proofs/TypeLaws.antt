@@ -2,16 +2,12 @@
 use Rattle.std.proofs.Common.{ℕ, zero, suc, None}
 use Rattle.wsyntax.specs.Binary.Production.{Agrees, byte, given, exactly}
 use Rattle.wsyntax.specs.Binary.Values.{u32, vector}
-use Rattle.wsyntax.specs.Binary.Types.{val_type, block_type, func_type, limits_of, limits, table_type, mutable_of, global_type}
+use Rattle.wsyntax.specs.Binary.Types.{val_type, func_type, limits_of, limits, table_type, mutable_of, global_type}
 use Rattle.wdecode.proofs.Agree.{byte_agrees, given_agrees, bind_agrees, u32_agrees, vector_agrees, exactly_agrees}
 
 pub val_type_agrees : Agrees val_type
 unfolding val_type
 val_type_agrees = bind_agrees byte _ byte_agrees λ b. given_agrees _
-
-pub block_type_agrees : Agrees block_type
-unfolding block_type
-block_type_agrees = bind_agrees byte _ byte_agrees λ b. given_agrees _
 
 pub func_type_agrees : Agrees func_type
 unfolding func_type

@@ -12,7 +12,7 @@ use std::alloc::Global as Alloc;
 use wsyntax::{Body, LocalRun};
 
 /// The most declared locals of a body, parameters aside.
-const LOCAL_LIMIT: u32 = 50_000;
+const LOCAL_LIMIT: u32 = 100_000;
 
 /// How many locals runs declare, where they are fewer than 2^32.
 fn count_locals(runs: &[LocalRun]) -> Option<u32>

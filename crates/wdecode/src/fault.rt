@@ -49,7 +49,7 @@ pub enum BodyFault {
     /// The bytes spell no body.
     #[error("malformed")]
     Malformed,
-    /// The bytes spell a body that declares more than 50,000 locals.
+    /// The bytes spell a body that declares more than 100,000 locals.
     #[error("too many locals")]
     TooManyLocals,
     #[error("out of memory")]

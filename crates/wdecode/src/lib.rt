@@ -1,4 +1,5 @@
 //! Modules of WebAssembly (Core 1.0, chapter 5) from their bytes, and the bodies of their functions from theirs.
+//! Of Core 2.0 are the block types that are the index of a type, and the sign extensions of the lowest bits.
 #![tactic(auto)]
 
 mod body;

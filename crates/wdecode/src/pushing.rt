@@ -235,7 +235,7 @@ pub fn push_frequent<'a>(
         0x28..=0x35 => push_load(tokens, *byte, rest),
         0x36..=0x3E => push_store(tokens, *byte, rest),
         0x41 => push_constant(tokens, rest),
-        0x45..=0xBF => push_numeric(tokens, *byte, rest),
+        0x45..=0xC4 => push_numeric(tokens, *byte, rest),
         _ => Ok(None),
     }
 }

@@ -5,7 +5,9 @@ ghost use Rattle.wsyntax.specs.declared.types.ValType.{ValType as ValTypeShape};
 ghost use Rattle.wsyntax.specs.declared.types.Limits.{Limits as LimitsShape};
 ghost use Rattle.wsyntax.specs.declared.module.Table.{Table as TableShape};
 ghost use Rattle.wsyntax.specs.Modules.{func_type_of};
-ghost use Rattle.wsyntax.specs.Binary.Types.{val_type, block_type, func_type, limits, table_type, global_type};
+ghost use Rattle.wsyntax.specs.Binary.Production.{given, ◌>>=◌ as followed_by};
+ghost use Rattle.wsyntax.specs.Binary.Values.{s33};
+ghost use Rattle.wsyntax.specs.Binary.Types.{val_type, block_type, index_of, func_type, limits, table_type, global_type};
 
 use crate::fault::Fault;
 use crate::values::{Item, u32_at, vector_at};
@@ -27,7 +29,21 @@ pub fn val_type_at(bytes: &[u8]) -> Result<(ValType, &[u8]), Fault>
     }
 }
 
-/// A block type (5.3.2).
+/// The index of a type as a block type: a number s33 that is not negative (5.4.1 of Core 2.0).
+#[inline(never)]
+fn type_index_at(bytes: &[u8]) -> Result<(BlockType, &[u8]), Fault>
+    ensures { Gives (λ x. (x.0, x.1.now)) result ((followed_by s33 (λ z. given (index_of z))).read bytes.now) }
+{
+    let Some((index, rest)) = wnum::front_s33(bytes) else {
+        return Err(Fault::Malformed);
+    };
+    if index < 0 {
+        return Err(Fault::Malformed);
+    }
+    Ok((BlockType::Index(index as u32), rest))
+}
+
+/// A block type (5.3.2): empty, one value type, or the index of a type.
 #[inline(always)]
 #[tactic(auto, unfolding(wsyntax::specs::Binary::Types::block_type))]
 pub fn block_type_at(bytes: &[u8]) -> Result<(BlockType, &[u8]), Fault>
@@ -39,7 +55,7 @@ pub fn block_type_at(bytes: &[u8]) -> Result<(BlockType, &[u8]), Fault>
         [0x7E, rest @ ..] => Ok((BlockType::Value(ValType::I64), rest)),
         [0x7D, rest @ ..] => Ok((BlockType::Value(ValType::F32), rest)),
         [0x7C, rest @ ..] => Ok((BlockType::Value(ValType::F64), rest)),
-        _ => Err(Fault::Malformed),
+        _ => type_index_at(bytes),
     }
 }
 

@@ -1,7 +1,7 @@
 use std::alloc::Global;
 use std::test::*;
 use wdecode::{BodyFault, decode_body};
-use wsyntax::Token;
+use wsyntax::{BlockType, Operator, Token, ValType};
 
 /// A body that opens so many blocks and holds these bytes, and closes the blocks and itself, but for the last so many.
 fn nested(alloc: Global, depth: u32, inside: &[u8], missing: u32) -> Result<Vec<u8>, Fail> {
@@ -14,6 +14,18 @@ fn nested(alloc: Global, depth: u32, inside: &[u8], missing: u32) -> Result<Vec<
         bytes.push(0x0B)?;
     }
     Ok(bytes)
+}
+
+/// The type of a loop that is spelled so, where it is one.
+fn block_type(alloc: Global, spelled: &[u8]) -> Option<BlockType> {
+    let mut bytes = [0x00, 0x03].to_vec(alloc).ok()?;
+    bytes.extend_from_slice(spelled).ok()?;
+    bytes.extend_from_slice(&[0x0B, 0x0B]).ok()?;
+    let body = decode_body(alloc, &bytes).ok()?;
+    match body.code.tokens.get(0).copied() {
+        Some(Token::Loop(block_type)) => Some(block_type),
+        _ => None,
+    }
 }
 
 #[test]
@@ -32,11 +44,11 @@ fn declared_locals(rt: HostRuntime) {
     // Malformed goes first.
     let both = [0x01, 0xFF, 0xFF, 0xFF, 0xFF, 0x0F, 0x7F, 0x05];
     assert!(rt; matches!(decode_body(rt.alloc(), &both), Err(BodyFault::Malformed)));
-    // 50,000 locals, and 50,001.
-    assert!(rt; decode_body(rt.alloc(), &[0x01, 0xD0, 0x86, 0x03, 0x7F, 0x0B]).is_ok());
+    // 100,000 locals, and 100,001.
+    assert!(rt; decode_body(rt.alloc(), &[0x01, 0xA0, 0x8D, 0x06, 0x7F, 0x0B]).is_ok());
     assert!(rt;
         matches!(
-            decode_body(rt.alloc(), &[0x01, 0xD1, 0x86, 0x03, 0x7F, 0x0B]),
+            decode_body(rt.alloc(), &[0x01, 0xA1, 0x8D, 0x06, 0x7F, 0x0B]),
             Err(BodyFault::TooManyLocals)
         )
     );
@@ -54,6 +66,60 @@ fn tokens_and_targets(rt: HostRuntime) -> Result<(), Fail> {
     assert_eq!(rt;
         body.code.tokens.get(2).copied(),
         Some(Token::BrTable { count: 1, first: 0 })
+    );
+    Ok(())
+}
+
+#[test]
+fn block_types(rt: HostRuntime) {
+    assert_eq!(rt; block_type(rt.alloc(), &[0x40]), Some(BlockType::Empty));
+    assert_eq!(rt;
+        block_type(rt.alloc(), &[0x7C]),
+        Some(BlockType::Value(ValType::F64))
+    );
+    // Indices of types: 0, 63, 64, 128 and the greatest.
+    assert_eq!(rt; block_type(rt.alloc(), &[0x00]), Some(BlockType::Index(0)));
+    assert_eq!(rt; block_type(rt.alloc(), &[0x3F]), Some(BlockType::Index(63)));
+    assert_eq!(rt;
+        block_type(rt.alloc(), &[0xC0, 0x00]),
+        Some(BlockType::Index(64))
+    );
+    assert_eq!(rt;
+        block_type(rt.alloc(), &[0x80, 0x01]),
+        Some(BlockType::Index(128))
+    );
+    assert_eq!(rt;
+        block_type(rt.alloc(), &[0xFF, 0xFF, 0xFF, 0xFF, 0x0F]),
+        Some(BlockType::Index(4294967295))
+    );
+    // Negative numbers, and one out of range.
+    assert_eq!(rt; block_type(rt.alloc(), &[0x41]), None);
+    assert_eq!(rt; block_type(rt.alloc(), &[0x70]), None);
+    assert_eq!(rt; block_type(rt.alloc(), &[0xFF, 0x7F]), None);
+    assert_eq!(rt;
+        block_type(rt.alloc(), &[0x80, 0x80, 0x80, 0x80, 0x10]),
+        None
+    );
+}
+
+#[test]
+fn extensions_of_low_bits(rt: HostRuntime) -> Result<(), Fail> {
+    // i32.const 0, i32.extend8_s, drop, i64.const 0, i64.extend32_s, drop, end
+    let bytes = [0x00, 0x41, 0x00, 0xC0, 0x1A, 0x42, 0x00, 0xC4, 0x1A, 0x0B];
+    let body = decode_body(rt.alloc(), &bytes).ok().ok_or("a body")?;
+    assert_eq!(rt;
+        body.code.tokens.get(1).copied(),
+        Some(Token::Numeric(Operator::I32Extend8S))
+    );
+    assert_eq!(rt;
+        body.code.tokens.get(4).copied(),
+        Some(Token::Numeric(Operator::I64Extend32S))
+    );
+    assert!(rt;
+        matches!(
+            decode_body(rt.alloc(), &[0x00, 0xC5, 0x0B]),
+            Err(BodyFault::Malformed)
+        )
     );
     Ok(())
 }

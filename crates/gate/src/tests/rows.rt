@@ -7,7 +7,7 @@ use std::test::Fail;
 use std::thread::Threads;
 
 // What follows the header, the verdict line, and the status.
-const ROWS: [(&[u8], &str, u8); 9] = [
+const ROWS: [(&[u8], &str, u8); 10] = [
     (&[], "accepted\n", 0),
     (&[0x01, 0x81, 0x80, 0x80, 0x80, 0x00, 0x00], "accepted\n", 0),
     (
@@ -29,7 +29,12 @@ const ROWS: [(&[u8], &str, u8); 9] = [
     ),
     (
         &[0x01, 0x06, 0x01, 0x60, 0x00, 0x02, 0x7F, 0x7F],
-        "refused rule 1\n",
+        "accepted\n",
+        0,
+    ),
+    (
+        &[0x04, 0x05, 0x01, 0x70, 0x01, 0x02, 0x01],
+        "refused rule 4\n",
         2,
     ),
     (&[0x0C], "refused malformed\n", 2),

@@ -1,5 +1,6 @@
 use Rattle.wdecode.proofs.Agree.{name_agrees, blob_agrees}
-use Rattle.wdecode.proofs.TypeLaws.{val_type_agrees, block_type_agrees, func_type_agrees, limits_agrees, table_type_agrees, global_type_agrees}
+use Rattle.wdecode.proofs.BlockTypes.{block_type_agrees}
+use Rattle.wdecode.proofs.TypeLaws.{val_type_agrees, func_type_agrees, limits_agrees, table_type_agrees, global_type_agrees}
 use Rattle.wdecode.proofs.InstructionLaws.{plain_agrees}
 use Rattle.wdecode.proofs.Trees.{expression_agrees}
 use Rattle.wdecode.proofs.SectionLaws.{an_import_agrees, an_export_agrees, global_agrees, element_agrees, data_segment_agrees, locals_agrees, body_agrees, section_agrees}

@@ -21,5 +21,5 @@ returns-in-40-to-53-clause-ok c = all_pushed c.args.tokens.now.items c.push_load
 pub returns-in-54-to-62-clause-ok : goal.returns-in-54-to-62-clause-ok
 returns-in-54-to-62-clause-ok c = all_pushed c.args.tokens.now.items c.push_store.new.tokens.items c.args.bytes.now (get_or c.args.bytes.now 0 0) (λ x. option_map (λ y. y.now) x) c.push_store.result c.in-len1-up.len_at_least refl (omega (arith, c.in-54-to-62)) c.push_store.ensures.ok
 
-pub returns-in-69-to-191-clause-ok : goal.returns-in-69-to-191-clause-ok
-returns-in-69-to-191-clause-ok c = all_pushed c.args.tokens.now.items c.push_numeric.new.tokens.items c.args.bytes.now (get_or c.args.bytes.now 0 0) (λ x. option_map (λ y. y.now) x) c.push_numeric.result c.in-len1-up.len_at_least refl (omega (arith, c.in-69-to-191)) c.push_numeric.ensures.ok
+pub returns-in-69-to-196-clause-ok : goal.returns-in-69-to-196-clause-ok
+returns-in-69-to-196-clause-ok c = all_pushed c.args.tokens.now.items c.push_numeric.new.tokens.items c.args.bytes.now (get_or c.args.bytes.now 0 0) (λ x. option_map (λ y. y.now) x) c.push_numeric.result c.in-len1-up.len_at_least refl (omega (arith, c.in-69-to-196)) c.push_numeric.ensures.ok

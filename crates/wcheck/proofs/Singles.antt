@@ -1,0 +1,37 @@
+-- A list of operands without a run: each place is an operand.
+use Rattle.std.proofs.Common.{◌≡◌, ℕ, ◌+◌, ◌-◌, ◌≤◌, Bool, true, List, [], ◌∷◌, ◌++◌, map, length, take, Option, Some, refl, sym, ap, ◌∙◌, arith}
+use Rattle.std.specs.Prelude.{set, ◌==◌}
+use Rattle.std.proofs.lemmas.List.{length-map, take-map}
+use Rattle.wsyntax.specs.declared.ValType.{ValType}
+use Rattle.wcheck.specs.declared.operand.Operand.{Operand}
+use Rattle.wcheck.specs.declared.operand.Run.{Run}
+use Rattle.wcheck.specs.Heights.{type_of}
+use Rattle.wcheck.specs.Runs.{types_of_run, types_in, IsCounted}
+use Rattle.wcheck.proofs.SeenOperands.{seen_write}
+use Rattle.wcheck.proofs.Stretched.{singles}
+
+pub no_runs : (rs : List Run) (b : Bool) → b ≡ (length rs == 0) → b ≡ true → map types_of_run rs ≡ []
+no_runs [] b e t = refl
+no_runs (r ∷ rs) b e t = absurd (let h : (length (r ∷ rs) == 0) ≡ true = sym e ∙ t in grind (arith, h))
+
+-- none is left out of the count
+pub counted_any : (xs ys : List Operand) (rs : List (List ValType)) (m : ℕ) → rs ≡ [] → IsCounted xs rs m → IsCounted ys rs m
+counted_any xs ys rs m e c =
+    let long : length (types_in xs rs) ≡ length xs = ap (λ z. length (types_in xs z)) e ∙ ap length (singles xs) ∙ length-map xs type_of in
+    let also : length (types_in ys rs) ≡ length ys = ap (λ z. length (types_in ys z)) e ∙ ap length (singles ys) ∙ length-map ys type_of in
+    record { count = omega (arith, also, long, c.count); small = c.small }
+
+pub taken_singles : (xs ys : List Operand) (rs : List (List ValType)) (v : List (Option ValType)) (n : ℕ) → rs ≡ [] → types_in xs rs ≡ v → ys ≡ take n xs → types_in ys rs ≡ take n v
+taken_singles xs ys rs v n e w q =
+    ap (λ z. types_in z rs) q
+    ∙ ap (types_in (take n xs)) e
+    ∙ singles (take n xs)
+    ∙ sym (take-map type_of n xs)
+    ∙ ap (take n) (sym (singles xs) ∙ ap (types_in xs) (sym e) ∙ w)
+
+-- a type written over the last, where there is no run
+pub retyped : (xs : List Operand) (rs : List (List ValType)) (v : List (Option ValType)) (n : ℕ) (x : Operand) (t : ValType) → types_in xs rs ≡ v → n ≡ length xs → 1 ≤ length v → type_of x ≡ Some t → rs ≡ [] → types_in (set xs (n - 1) x) rs ≡ take (length v - 1) v ++ Some t ∷ []
+retyped xs rs v n x t w e le k r =
+    ap (types_in (set xs (n - 1) x)) r
+    ∙ singles (set xs (n - 1) x)
+    ∙ seen_write xs v n x t (sym (singles xs) ∙ ap (types_in xs) (sym r) ∙ w) e le k

@@ -1,5 +1,0 @@
-use Rattle.wcheck.proofs.Access.{power_order}
-use Rattle.wcheck.proofs.effect.is_aligned.Goals as goal
-
-pub returns : goal.returns
-returns c = power_order c.args.align c.args.natural

@@ -1,0 +1,113 @@
+ghost use Rattle.std.specs.Prelude.{◌≡◌, [], ◌∷◌, Option, IfOk, reverse};
+ghost use Rattle.wsyntax.specs.Validation.Algorithm.{when, apply, join};
+ghost use Rattle.wcheck.specs.OperandRules.{rule_of};
+
+use crate::operand::is_same;
+use crate::operands::OperandStack;
+use crate::rule::OperandRule;
+use std::alloc::AllocError;
+use wsyntax::ValType;
+
+/// The type of both, if they may be of one type.
+#[inline]
+fn joined(x: Option<ValType>, y: Option<ValType>) -> Option<Option<ValType>>
+    ensures { result ≡ join x y }
+{
+    match (x, y) {
+        (None, _) => Some(y),
+        (Some(_), None) => Some(x),
+        (Some(t), Some(u)) => { if is_same(t, u) { Some(x) } else { None } }
+    }
+}
+
+/// Takes an i32 and two operands that may be of one type, and puts one of that type.
+#[inline]
+fn selects(operands: &mut OperandStack) -> Result<bool, AllocError>
+    ensures above { IfOk result (λ yes. apply (rule_of OperandRule.Selects) operands.old.above ≡ when yes (Some operands.new.above)) }
+    ensures below { operands.new.below ≡ operands.old.below }
+{
+    if !operands.take_one(ValType::I32) {
+        return Ok(false);
+    }
+    let Some(x) = operands.take_any() else {
+        return Ok(false);
+    };
+    let Some(y) = operands.take_any() else {
+        return Ok(false);
+    };
+    let Some(z) = joined(x, y) else {
+        return Ok(false);
+    };
+    operands.put_one(z)?;
+    Ok(true)
+}
+
+/// Takes some types, and puts others.
+#[inline]
+fn moves<'a>(
+    operands: &mut OperandStack<'a>,
+    has_index: bool,
+    takes: &[ValType],
+    gives: &'a [ValType],
+) -> Result<bool, AllocError>
+    ensures above { IfOk result (λ yes. apply (rule_of (OperandRule.Moves has_index takes.entry gives.entry)) operands.old.above ≡ when yes (Some operands.new.above)) }
+    ensures below { operands.new.below ≡ operands.old.below }
+{
+    if has_index && !operands.take_one(ValType::I32) {
+        return Ok(false);
+    }
+    if !operands.take_all(takes) {
+        return Ok(false);
+    }
+    operands.put(gives)?;
+    Ok(true)
+}
+
+/// Takes some types, and what follows is not reached.
+#[inline]
+fn ends(operands: &mut OperandStack, has_index: bool, takes: &[ValType]) -> bool
+    ensures above { apply (rule_of (OperandRule.Ends has_index takes.entry)) operands.old.above ≡ when result (Some operands.new.above) }
+    ensures below { operands.new.below ≡ operands.old.below }
+{
+    if has_index && !operands.take_one(ValType::I32) {
+        return false;
+    }
+    if !operands.take_all(takes) {
+        return false;
+    }
+    operands.make_unreachable();
+    true
+}
+
+/// Does to the operands what the instruction does. After a refusal or an error nothing is said of them.
+#[inline(always)]
+pub(crate) fn apply_rule<'a>(
+    operands: &mut OperandStack<'a>,
+    rule: OperandRule<'a>,
+) -> Result<bool, AllocError>
+    ensures above { IfOk result (λ yes. apply (rule_of rule.entry) operands.old.above ≡ when yes (Some operands.new.above)) }
+    ensures below { operands.new.below ≡ operands.old.below }
+{
+    match rule {
+        OperandRule::Nothing => Ok(true),
+        OperandRule::Puts(t) => {
+            operands.put_one(Some(t))?;
+            Ok(true)
+        }
+        OperandRule::Takes(t) => Ok(operands.take_one(t)),
+        OperandRule::Changes(t, u) => operands.change(t, u),
+        OperandRule::Combines(t, u) => operands.combine(t, u),
+        OperandRule::Stores(t) => Ok(operands.take_two(t, ValType::I32)),
+        OperandRule::Moves {
+            has_index,
+            takes,
+            gives,
+        } => moves(operands, has_index, takes, gives),
+        OperandRule::Ends { has_index, takes } => Ok(ends(operands, has_index, takes)),
+        OperandRule::Drops => match operands.take_any() {
+            Some(_) => Ok(true),
+            None => Ok(false),
+        },
+        OperandRule::Selects => selects(operands),
+    }
+}
