@@ -1,0 +1,3 @@
+pub mod TreeFound
+pub mod OneTurn
+pub mod Kept

@@ -1,0 +1,9 @@
+pub mod Stacks
+pub mod Labels
+pub mod Branches
+pub mod Tests
+pub mod Straight
+pub mod Tee
+pub mod Calls
+pub mod Returns
+pub mod Indirect

@@ -1,0 +1,10 @@
+pub mod Machine
+pub mod Joint
+pub mod Ready
+pub mod Reached
+pub mod Invariant
+pub mod Laws
+pub mod Reduction
+pub mod Turns
+pub mod Trees
+pub mod Measure
