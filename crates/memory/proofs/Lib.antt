@@ -1,0 +1,5 @@
+pub mod Puts
+pub mod Parts
+pub mod Memories
+pub mod PoolSteps
+pub mod Tickets

@@ -1,0 +1,128 @@
+-- What the operations on a memory in its buffer leave is what the definitions say.
+use Rattle.std.proofs.Common.{◌≡◌, ℕ, zero, suc, ◌+◌, ◌*◌, ◌/◌, ◌<◌, ◌≤◌, List, ◌++◌, length, take, drop, replicate, get_or, true, Option, Some, refl, sym, ap, subst, ◌∙◌, arith}
+use Rattle.std.specs.Prelude.{nat_le}
+use Rattle.std.proofs.lemmas.List.{length-take-le, take-append-le, take-take, ext_get_or, get_or-take}
+use Rattle.std.proofs.lemmas.Bool.{le-leb}
+use Rattle.wsyntax.specs.Table.{little_endian}
+use Rattle.wsyntax.specs.Execution.Store.{Memory, may_have, to_bytes, read, write, write_if, grow_if}
+use Rattle.wsyntax.specs.Execution.Allocation.{overwrite}
+use Rattle.wsyntax.specs.Execution.ConfigTyped.{AreBytes, MemoryTyped}
+use Rattle.memory.specs.Zeros.{AreZero, AreZeroOutside}
+use Rattle.memory.specs.Buffered.{Buffered, front_of, zeros, Writes, Overwrites, Grows, IsBuffered}
+use Rattle.memory.proofs.Parts.{length-overwrite, take-overwrite, read_front, take-zeros, take_grown, take_bytes}
+
+-- the bytes of a number are as many as asked for
+length-to_bytes : (width n : ℕ) → length (to_bytes width n) ≡ width
+length-to_bytes zero n = refl
+length-to_bytes (suc width) n = ap suc (length-to_bytes width (n / 256))
+
+-- a write within the bytes
+write_within : (bs : List ℕ) (at width n : ℕ) → at + width ≤ length bs → write bs at width n ≡ Some (overwrite at (to_bytes width n) bs)
+write_within bs at width n within =
+    ap (λ t. write_if t bs at width n) (le-leb (at + width) (length bs) within)
+    ∙ ap (λ w. Some (take at bs ++ (to_bytes width n ++ drop (at + w) bs))) (sym (length-to_bytes width n))
+
+-- a read within the memory
+pub did_read : (old : Buffered) (items slice : List ℕ) (n room at width result : ℕ) (most : Option ℕ) (pages : ℕ) → front_of items n most pages room ≡ old
+    → n ≤ length items → at + width ≤ n → slice ≡ items → result ≡ little_endian (take width (drop at slice)) → Some result ≡ read old.memory.bytes at width
+did_read old items slice n room at width result most pages view fits within whole is =
+    let P : Buffered → Type 0 = λ o. Some result ≡ read o.memory.bytes at width in
+    subst P view
+    (let l : length (take n items) ≡ n = length-take-le n items fits in
+    let t : nat_le (at + width) (length (take n items)) ≡ true = le-leb (at + width) (length (take n items)) (omega arith) in
+    rw t (ap Some (is ∙ ap (λ ys. little_endian (take width (drop at ys))) whole ∙ ap little_endian (sym (read_front n at width items within)))))
+
+-- what is written to the buffer within the memory is written to the memory
+front_written : (items slice put xs : List ℕ) (n room at : ℕ) → n ≤ length items → room ≡ length items → at + length xs ≤ n → slice ≡ items → put ≡ overwrite at xs slice
+    → take n (take room (put ++ drop (length put) items)) ≡ overwrite at xs (take n items)
+front_written items slice put xs n room at fits all within whole wrote =
+    let is : put ≡ overwrite at xs items = wrote ∙ ap (overwrite at xs) whole in
+    let same : length put ≡ length items = ap length is ∙ length-overwrite at xs items (omega arith) in
+    take-take n room (put ++ drop (length put) items) (omega arith)
+    ∙ take-append-le n put (drop (length put) items) (omega arith)
+    ∙ ap (take n) is ∙ take-overwrite at xs items n within fits
+
+pub did_write : (old : Buffered) (items slice put : List ℕ) (n room at width bits : ℕ) (most : Option ℕ) (pages : ℕ) → front_of items n most pages room ≡ old
+    → n ≤ length items → room ≡ length items → at + width ≤ n → slice ≡ items → put ≡ overwrite at (to_bytes width bits) slice
+    → Writes old at width bits true (front_of (take room (put ++ drop (length put) items)) n most pages room)
+did_write old items slice put n room at width bits most pages view fits all within whole wrote =
+    let new = front_of (take room (put ++ drop (length put) items)) n most pages room in
+    let P : Buffered → Type 0 = λ o. Writes o at width bits true new in
+    let l : length (take n items) ≡ n = length-take-le n items fits in
+    let few : at + length (to_bytes width bits) ≤ n = omega (arith, length-to_bytes width bits) in
+    subst P view (
+      write_within (take n items) at width bits (omega arith) ∙ ap Some (sym (front_written items slice put (to_bytes width bits) n room at fits all few whole wrote)),
+      refl,
+      refl,
+    )
+
+-- and so is a data segment
+pub did_overwrite : (old : Buffered) (items slice put xs : List ℕ) (n room at : ℕ) (most : Option ℕ) (pages : ℕ) → front_of items n most pages room ≡ old
+    → n ≤ length items → room ≡ length items → at + length xs ≤ length old.memory.bytes → slice ≡ items → put ≡ overwrite at xs slice
+    → Overwrites old at xs (front_of (take room (put ++ drop (length put) items)) n most pages room)
+did_overwrite old items slice put xs n room at most pages view fits all within whole wrote =
+    let new = front_of (take room (put ++ drop (length put) items)) n most pages room in
+    let P : Buffered → Type 0 = λ o. at + length xs ≤ length o.memory.bytes → Overwrites o at xs new in
+    let l : length (take n items) ≡ n = length-take-le n items fits in
+    subst P view (λ h.
+    ap (λ ys. let b : Buffered = record { memory = record { bytes = ys; most = most; pages = pages }; room = room } in b)
+    (front_written items slice put xs n room at fits all (omega arith) whole wrote)) within
+
+-- the law of a memory in its buffer
+pub is_typed : (old : Buffered) (items : List ℕ) (n room from to : ℕ) (most : Option ℕ) (pages : ℕ) → front_of items n most pages room ≡ old
+    → IsBuffered items n from to most pages → (slice : List ℕ) → slice ≡ items → ((k : ℕ) → get_or slice k 0 < 256) → MemoryTyped old.memory
+is_typed old items n room from to most pages view b slice same each =
+    let P : Buffered → Type 0 = λ o. MemoryTyped o.memory in
+    let ap_bytes : AreBytes (take n items) = rw (← same) (take_bytes n slice each) in
+    subst P view (record { count = b.count; whole = length-take-le n items b.fits ∙ b.whole; bounded = b.bounded; bytes = ap_bytes })
+
+-- zeros stay zeros in a buffer with more zeros
+pub still_zero : (items more : List ℕ) (from to : ℕ) → AreZeroOutside items from to → ((k : ℕ) → get_or more k 0 ≡ get_or items k 0) → AreZeroOutside more from to
+still_zero items more from to z same = record { below = λ k h. same k ∙ z.below k h; above = λ k h. same k ∙ z.above k h }
+
+-- after a growth it is whole pages in its buffer
+pub grown_buffered : (items more : List ℕ) (n count from to : ℕ) (most : Option ℕ) (pages : ℕ) → IsBuffered items n from to most pages
+    → may_have (zeros 0 most pages) count ≡ true → n / 65536 ≤ count → count * 65536 ≤ length more → ((k : ℕ) → get_or more k 0 ≡ get_or items k 0)
+    → IsBuffered more (count * 65536) from to most pages
+grown_buffered items more n count from to most pages b allowed grows fits same =
+    let whole : n ≡ b.count * 65536 = b.whole in
+    let written : to ≤ n = b.written in
+    record { count = count; whole = refl; bounded = allowed; fits = fits; written = omega arith; zero = still_zero items more from to b.zero same }
+
+-- the front of a buffer with more zeros
+same_front : (items more : List ℕ) (n : ℕ) → n ≤ length items → n ≤ length more → ((k : ℕ) → get_or more k 0 ≡ get_or items k 0) → take n more ≡ take n items
+same_front items more n fits fits' same =
+    let l : length (take n items) ≡ n = length-take-le n items fits in
+    let l' : length (take n more) ≡ n = length-take-le n more fits' in
+    ext_get_or 0 (take n more) (take n items) (l' ∙ sym l)
+    (λ i below. let h : i < n = omega arith in get_or-take n more i 0 h ∙ same i ∙ sym (get_or-take n items i 0 h))
+
+-- and it is the definition's
+pub did_grow : (old : Buffered) (items more : List ℕ) (n room from to by : ℕ) (most : Option ℕ) (pages : ℕ) → front_of items n most pages room ≡ old
+    → IsBuffered items n from to most pages → (room' : ℕ) → may_have (zeros 0 most pages) (n / 65536 + by) ≡ true → (n / 65536 + by) * 65536 ≤ length more
+    → ((k : ℕ) → get_or more k 0 ≡ get_or items k 0)
+    → Grows old.memory by (Some (n / 65536)) (front_of more ((n / 65536 + by) * 65536) most pages room').memory
+did_grow old items more n room from to by most pages view b room' allowed fits same =
+    let new = (front_of more ((n / 65536 + by) * 65536) most pages room').memory in
+    let P : Buffered → Type 0 = λ o. Grows o.memory by (Some (n / 65536)) new in
+    let whole : n ≡ b.count * 65536 = b.whole in
+    let in_items : n ≤ length items = b.fits in
+    let written : to ≤ n = b.written in
+    let l : length (take n items) ≡ n = length-take-le n items in_items in
+    let together : (n / 65536 + by) * 65536 ≡ n + by * 65536 = omega arith in
+    let in_more : n + by * 65536 ≤ length more = omega arith in
+    let bytes : take ((n / 65536 + by) * 65536) more ≡ take n items ++ replicate (by * 65536) 0 =
+    ap (λ i. take i more) together ∙ take_grown n (by * 65536) more (λ k h. same k ∙ b.zero.above k (omega arith)) in_more
+    ∙ ap (λ ys. ys ++ replicate (by * 65536) 0) (same_front items more n in_items (omega arith) same) in
+    let was : Memory = record { bytes = take n items; most = most; pages = pages } in
+    subst P view (
+      ap (λ i. i / 65536) (sym l),
+      ap (λ i. grow_if (may_have was (i / 65536 + by)) was by) l ∙ ap (λ t. grow_if t was by) allowed
+          ∙ ap (λ ys. let m : Memory = record { bytes = ys; most = most; pages = pages } in Some m) (sym bytes),
+    )
+
+-- the front of a buffer of zeros is pages of zeros
+pub did_allocate : (items more : List ℕ) (min : ℕ) (most : Option ℕ) (pages : ℕ) → AreZero items → ((k : ℕ) → get_or more k 0 ≡ get_or items k 0)
+    → min * 65536 ≤ length more → (front_of more (min * 65536) most pages 0).memory ≡ zeros min most pages
+did_allocate items more min most pages clean same fits =
+    ap (λ ys. let m : Memory = record { bytes = ys; most = most; pages = pages } in m) (take-zeros more (min * 65536) (λ k. same k ∙ clean k) fits)

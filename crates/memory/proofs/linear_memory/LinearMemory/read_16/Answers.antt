@@ -1,0 +1,5 @@
+use Rattle.memory.proofs.Memories.{did_read}
+use Rattle.memory.proofs.linear_memory.LinearMemory.read_16.Goals as goal
+
+pub returns-then-at-self : goal.returns-then-at-self
+returns-then-at-self c = did_read _ c.self.inside.bytes.items c.deref.result.now c.self.inside.length _ c.args.at 2 _ _ _ c.self.view_is c.self.invariant.fits c.if-at-self.true c.deref.ensures.value c.number_16.ensures

@@ -1,0 +1,46 @@
+-- 4.2.8 A memory instance in the buffer that holds its bytes.
+use Rattle.std.specs.Prelude.{◌≡◌, ℕ, ◌*◌, ◌/◌, ◌≤◌, ◌⊎◌, List, length, take, replicate, Bool, true, false, Option, Some, None}
+use Rattle.wsyntax.specs.Execution.Store.{Memory, page, may_have, write, grown}
+use Rattle.wsyntax.specs.Execution.Allocation.{overwrite}
+use Rattle.memory.specs.Zeros.{AreZeroOutside}
+
+-- a memory instance, and the number of bytes of its buffer: those past the memory's end wait for it to grow
+pub record Buffered : Type 0 where
+  pub memory : Memory
+  pub room : ℕ
+
+-- the memory at the front of a buffer
+abbrev pub front_of : List ℕ → ℕ → Option ℕ → ℕ → ℕ → Buffered
+front_of bytes n most pages room = record { memory = record { bytes = take n bytes; most = most; pages = pages }; room = room }
+
+-- 4.5.3 a memory of so many pages of zeros, its declared maximum, and the setting
+abbrev pub zeros : ℕ → Option ℕ → ℕ → Memory
+zeros min most pages = record { bytes = replicate (min * page) 0; most = most; pages = pages }
+
+-- the numbers of bytes of which a load or a store has one
+abbrev pub IsWidth : ℕ → Type 0
+IsWidth width = (width ≡ 1) ⊎ (width ≡ 2) ⊎ (width ≡ 4) ⊎ (width ≡ 8)
+
+-- 4.4.4 what a write of a number leaves, by whether it lies within the memory: the definition's bytes, or all as it was
+abbrev pub Writes : Buffered → ℕ → ℕ → ℕ → Bool → Buffered → Type 0
+Writes old at width n true new =
+    (write old.memory.bytes at width n ≡ Some new.memory.bytes) × (new.memory ≡ record old.memory { bytes = new.memory.bytes }) × (new.room ≡ old.room)
+Writes old at width n false new = (write old.memory.bytes at width n ≡ None) × (new ≡ old)
+
+-- 4.4.4 what a growth leaves, by the size that it answers: the definition's memory, or all as it was
+abbrev pub Grows : Memory → ℕ → Option ℕ → Memory → Type 0
+Grows old more (Some size) new = (size ≡ length old.bytes / page) × (grown old more ≡ Some new)
+Grows old more None new = (grown old more ≡ None) × (new ≡ old)
+
+-- 4.5.4 what a data segment leaves: the definition's bytes
+abbrev pub Overwrites : Buffered → ℕ → List ℕ → Buffered → Type 0
+Overwrites old at bytes new = new ≡ record old { memory = record old.memory { bytes = overwrite at bytes old.memory.bytes } }
+
+-- Whole pages stand in the buffer, within the bounds, and outside the range that was written every byte is zero.
+pub record IsBuffered (bytes : List ℕ) (length' from to : ℕ) (most : Option ℕ) (pages : ℕ) : Type 0 where
+  pub count : ℕ
+  pub whole : length' ≡ count * page
+  pub bounded : may_have (zeros 0 most pages) count ≡ true
+  pub fits : length' ≤ length bytes
+  pub written : to ≤ length'
+  pub zero : AreZeroOutside bytes from to

@@ -1,0 +1,4 @@
+pub mod Zeros
+pub mod Buffered
+pub mod PoolHistory
+pub mod Pools

@@ -1,0 +1,82 @@
+-- The history of a pool: a queue of memories, each seen as the number of its bytes.
+use Rattle.std.specs.Prelude.{◌≡◌, ℕ, suc, ◌<◌, ◌≤◌, nat_eq, Bool, true, false, List, [], ◌∷◌, ◌++◌, length, take, drop}
+use mathlib.Core.Option.{some}
+use lib.ListN.{get_elem?}
+use Rattle.memory.specs.declared.history.PoolStep.{PoolStep}
+use Rattle.memory.specs.declared.history.PoolStep.TheVariants.{Gave, Lent}
+use Rattle.memory.specs.declared.history.PoolEntry.{PoolEntry}
+use Rattle.memory.specs.declared.history.TicketView.{TicketView}
+
+abbrev pub entry : ℕ → PoolStep → PoolEntry
+entry ticket step = record { ticket = ticket; step = step }
+
+abbrev pub ticket_view : ℕ → Bool → List PoolEntry → List PoolStep → TicketView
+ticket_view ticket newest seen made = record { ticket = ticket; newest = newest; seen = seen; made = made }
+
+-- what a pool that keeps these memories, the first in front, keeps after a step, and after several
+abbrev pub after_step : List ℕ → PoolStep → List ℕ
+after_step kept (Gave n) = kept ++ n ∷ []
+after_step kept (Lent n) = drop 1 kept
+
+abbrev pub after : List ℕ → List PoolEntry → List ℕ
+after kept [] = kept
+after kept (e ∷ es) = after (after_step kept e.step) es
+
+-- only the first memory is lent
+abbrev pub CanMake : List ℕ → PoolStep → Type 0
+CanMake kept (Gave n) = Unit {0}
+CanMake kept (Lent n) = take 1 kept ≡ n ∷ []
+
+-- each step of the history can be made where it stands
+abbrev pub IsLegal : List ℕ → List PoolEntry → Type 0
+IsLegal kept [] = Unit {0}
+IsLegal kept (e ∷ es) = CanMake kept e.step × IsLegal (after_step kept e.step) es
+
+-- the steps that one ticket made, in order
+abbrev pub if_same : Bool → PoolStep → List PoolStep
+if_same true step = step ∷ []
+if_same false step = []
+
+abbrev pub made_by : ℕ → List PoolEntry → List PoolStep
+made_by ticket [] = []
+made_by ticket (e ∷ es) = if_same (nat_eq e.ticket ticket) e.step ++ made_by ticket es
+
+-- a history begins with another
+abbrev pub Begins : List PoolEntry → List PoolEntry → Type 0
+Begins seen log = (more : List PoolEntry) × (log ≡ seen ++ more)
+
+-- what a ticket knows of the history: its number, the beginning that it has seen, and that its steps are those that it made
+pub record Knows (log : List PoolEntry) (count number : ℕ) (v : TicketView) : Type 0 where
+  pub number' : v.ticket ≡ number
+  pub newest : v.newest ≡ true → suc number ≡ count
+  pub begins : Begins v.seen log
+  pub own : made_by number log ≡ v.made
+
+-- The rule of the queue: there is one legal history of the steps of all tickets, which leaves what the queue holds.
+pub record IsInOrder (kept : List ℕ) (views : List TicketView) : Type 0 where
+  pub log : List PoolEntry
+  pub legal : IsLegal [] log
+  pub leaves : after [] log ≡ kept
+  pub fits : (number : ℕ) (v : TicketView) → get_elem? views number ≡ some v → Knows log (length views) number v
+  pub none : (number : ℕ) → length views ≤ number → made_by number log ≡ []
+
+-- After a step the ticket has seen a legal history that begins with all that it had seen before, and ends with the step.
+-- Of this ticket it has the steps that it made and no others.
+pub record Extends (v : TicketView) (step : PoolStep) (w : TicketView) : Type 0 where
+  pub between : List PoolEntry
+  pub seen : w.seen ≡ (v.seen ++ between) ++ entry v.ticket step ∷ []
+  pub legal : IsLegal [] w.seen
+  pub made : w.made ≡ v.made ++ step ∷ []
+  pub own : made_by v.ticket w.seen ≡ w.made
+  pub ticket : w.ticket ≡ v.ticket
+  pub newest : w.newest ≡ v.newest
+
+-- At one moment the pool kept these memories: there is a legal history that begins with all that the ticket has seen and
+-- leaves them. Of this ticket it has the steps that it made, and none of tickets above the greatest number.
+pub record Finds (v : TicketView) (kept : List ℕ) : Type 0 where
+  pub log : List PoolEntry
+  pub begins : Begins v.seen log
+  pub legal : IsLegal [] log
+  pub leaves : after [] log ≡ kept
+  pub own : made_by v.ticket log ≡ v.made
+  pub above : v.newest ≡ true → (number : ℕ) → v.ticket < number → made_by number log ≡ []

@@ -1,0 +1,9 @@
+/// What stands at a place of a table (4.2.7).
+#[derive(Clone, Copy, Debug, PartialEq, Eq)]
+pub enum Entry {
+    /// The place lies past the end.
+    Outside,
+    Unset,
+    /// The index of a function.
+    Func(u32),
+}

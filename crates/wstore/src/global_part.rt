@@ -1,0 +1,34 @@
+//! The globals of a fresh store.
+
+ghost use Rattle.std.specs.Prelude.{◌≡◌, map, IfOk};
+ghost use Rattle.wsyntax.specs.Modules.{global_shape};
+ghost use Rattle.wsyntax.specs.Execution.Start.{first_value};
+ghost use Rattle.soundness.specs.Slots.{bits};
+
+use crate::constant::constant;
+use std::alloc::{AllocError, Global as Alloc};
+use wnum::conversions::wrap;
+use wsyntax::{Global, ValType};
+
+/// The first value of a global without its tag. A global of a float type is never met.
+fn first_word(global: &Global) -> u64
+    ensures { result ≡ bits (first_value (global_shape global.now)) }
+{
+    let number = constant(&global.init);
+    match global.content.content {
+        ValType::I32 => u64::from(wrap(number)),
+        ValType::I64 => number,
+        ValType::F32 | ValType::F64 => 0,
+    }
+}
+
+/// The first values of the globals in order.
+pub(crate) fn module_globals(alloc: Alloc, globals: &[Global]) -> Result<Vec<u64>, AllocError>
+    ensures { IfOk result (λ v. v.items ≡ map (λ g. bits (first_value (global_shape g))) globals.now) }
+{
+    let mut words = Vec::new(alloc);
+    for global in globals {
+        words.push(first_word(global))?;
+    }
+    Ok(words)
+}

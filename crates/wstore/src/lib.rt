@@ -1,0 +1,23 @@
+//! Instances of accepted modules (Core 1.0, 4.5.4): what refuses one, the fresh store that it begins with, and the clean
+//! memory that is lent for it and comes back.
+#![tactic(auto)]
+
+mod constant;
+mod entry;
+mod fault;
+mod fresh;
+mod global_part;
+mod instance;
+mod judged;
+mod memory_part;
+mod refusal;
+mod segment;
+mod settings;
+mod store;
+mod table_part;
+
+pub use entry::Entry;
+pub use fault::{NotStarted, StartFault};
+pub use instance::{Instance, instantiate};
+pub use judged::accepted_is_judged;
+pub use settings::Settings;

@@ -1,0 +1,63 @@
+ghost use Rattle.std.specs.Prelude.{◌≡◌, option_map};
+ghost use Rattle.wstore.specs.Settings.{AreSettings};
+
+/// The most units of fuel.
+const MOST_FUEL: u32 = 1_000_000_000;
+/// The most frames.
+const MOST_FRAMES: u32 = 4_096;
+/// The most pages of a memory.
+const MOST_PAGES: u32 = 1_024;
+
+/// The limits of each call: units of fuel, at most 1,000,000,000; frames, 1 to 4,096; and pages of memory, at most 1,024.
+#[derive(Clone, Copy, Debug, PartialEq, Eq)]
+pub struct Settings {
+    fuel: u32,
+    frames: u32,
+    pages: u32,
+    ghost in_range: { AreSettings fuel frames pages },
+}
+
+impl Settings {
+    ghost use Rattle.wstore.specs.Settings.{limits, limits_in_range};
+
+    /// Settings of these limits; `None` exactly where one of them is out of its range.
+    pub fn new(fuel: u32, frames: u32, pages: u32) -> Option<Settings>
+        ensures { option_map (λ s. limits s.fuel s.frames s.pages) result ≡ limits_in_range fuel frames pages }
+    {
+        if fuel <= MOST_FUEL && 1 <= frames && frames <= MOST_FRAMES && pages <= MOST_PAGES {
+            Some(Settings {
+                fuel,
+                frames,
+                pages,
+            })
+        } else {
+            None
+        }
+    }
+
+    /// The law that each limit is in its range.
+    pub fn in_range(&self)
+        ensures { AreSettings self.now.fuel self.now.frames self.now.pages }
+    {}
+
+    /// The units of fuel.
+    pub fn fuel(&self) -> u32
+        ensures { result ≡ self.now.fuel }
+    {
+        self.fuel
+    }
+
+    /// The frames.
+    pub fn frames(&self) -> u32
+        ensures { result ≡ self.now.frames }
+    {
+        self.frames
+    }
+
+    /// The pages of a memory.
+    pub fn pages(&self) -> u32
+        ensures { result ≡ self.now.pages }
+    {
+        self.pages
+    }
+}

@@ -1,0 +1,102 @@
+//! The store of an instance, as the calls that run on it see it.
+
+ghost use Rattle.std.specs.Prelude.{◌≡◌, ◌<◌, ◌^◌, ◌≤◌, option_and_then, IfOk, OnErr, true};
+ghost use Rattle.parts.specs.Seen.{seen};
+ghost use Rattle.memory.specs.Buffered.{IsWidth};
+ghost use Rattle.wsyntax.specs.Execution.Store.{read};
+ghost use Rattle.wstore.specs.Buffers.{room_with};
+ghost use Rattle.wstore.specs.Stores.{entry_at, pages_in, StoreWrites, StoreGrows};
+
+use crate::entry::Entry;
+use crate::instance::Instance;
+use parts::TableEntry;
+use std::alloc::AllocError;
+
+impl<'a> Instance<'a> {
+    /// The number of pages of its memory; 0 where it has none.
+    pub fn pages(&self) -> u32
+        ensures { result ≡ pages_in (seen self.now.parts).memory }
+    {
+        match &self.parts.memory {
+            Some(memory) => memory.pages(),
+            None => 0,
+        }
+    }
+
+    /// The number in so many bytes of its memory from a place on, little-endian. `None` exactly where they reach past the
+    /// end.
+    pub fn read(&self, at: u64, width: u32) -> Option<u64>
+        requires at { at < 2 ^ 33 }
+        requires width { IsWidth width }
+        ensures { result ≡ option_and_then (λ m. read m.bytes at width) (seen self.now.parts).memory }
+    {
+        match &self.parts.memory {
+            Some(memory) => memory.read(at, width),
+            None => None,
+        }
+    }
+
+    /// Writes the so many lowest bits to its memory from a place on, little-endian. Where they reach past the end it answers
+    /// false, and nothing changes.
+    pub fn write(&mut self, at: u64, width: u32, bits: u64) -> bool
+        requires at { at < 2 ^ 33 }
+        requires width { IsWidth width }
+        ensures memory { StoreWrites (seen self.old.parts) at width bits result (seen self.new.parts) }
+        ensures room { room_with self.new.parts.memory self.new.lent ≡ room_with self.old.parts.memory self.old.lent }
+        ensures marks { (self.new.accepted.now ≡ self.old.accepted.now) × (self.new.failed ≡ self.old.failed) × (self.new.dispatches ≡ self.old.dispatches) }
+    {
+        match &mut self.parts.memory {
+            Some(memory) => memory.write(at, width, bits),
+            None => false,
+        }
+    }
+
+    /// Grows its memory by so many pages of zeros, and answers the size before, in pages. `None` exactly where it may not
+    /// have so many pages, or where there is no memory. An error says that memory was refused. Nothing changes after either.
+    pub fn grow(&mut self, more: u32) -> Result<Option<u32>, AllocError>
+        ensures grown { IfOk result (λ size. StoreGrows (seen self.old.parts) more size (seen self.new.parts)) }
+        ensures room { room_with self.old.parts.memory self.old.lent ≤ room_with self.new.parts.memory self.new.lent }
+        ensures refused { OnErr result (seen self.new.parts ≡ seen self.old.parts) }
+        ensures marks { (self.new.accepted.now ≡ self.old.accepted.now) × (self.new.failed ≡ self.old.failed) × (self.new.dispatches ≡ self.old.dispatches) }
+    {
+        match &mut self.parts.memory {
+            Some(memory) => memory.grow(more),
+            None => Ok(None),
+        }
+    }
+
+    /// The entry of its table at a place.
+    pub fn entry(&self, at: u32) -> Entry
+        ensures { result ≡ entry_at (seen self.now.parts).table at }
+    {
+        let Some(entries) = &self.parts.table else {
+            return Entry::Outside;
+        };
+        match entries.get(at as usize) {
+            Some(TableEntry::SetTo(func)) => Entry::Func(*func),
+            Some(TableEntry::Unset) => Entry::Unset,
+            None => Entry::Outside,
+        }
+    }
+
+    /// Notes that a call met want of memory.
+    pub fn fail(&mut self)
+        ensures { self.new ≡ record self.old { failed = true } }
+    {
+        self.failed = true;
+    }
+
+    /// How many instructions the calls have dispatched.
+    pub fn dispatches(&self) -> u64
+        ensures { result ≡ self.now.dispatches }
+    {
+        self.dispatches
+    }
+
+    /// Notes how many instructions the calls have dispatched.
+    pub fn set_dispatches(&mut self, dispatches: u64)
+        ensures { self.new ≡ record self.old { dispatches = dispatches } }
+    {
+        self.dispatches = dispatches;
+    }
+}

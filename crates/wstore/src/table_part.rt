@@ -1,0 +1,67 @@
+//! The table of a fresh store.
+
+ghost use Rattle.std.specs.Prelude.{◌≡◌, ◌+◌, ◌≤◌, length, map, replicate, option_map, IfOk};
+ghost use Rattle.wsyntax.specs.Execution.Allocation.{overwrite, put_elements, AllWithin};
+ghost use Rattle.wsyntax.specs.Execution.Store.{SetTo, Unset};
+ghost use Rattle.parts.specs.Seen.{entry_of};
+ghost use Rattle.wsyntax.specs.Modules.{module_shape};
+ghost use Rattle.wsyntax.specs.Execution.Start.{layout_of};
+ghost use Rattle.wstore.specs.Refusals.{table_size};
+ghost use Rattle.wstore.specs.Segments.{element_segments};
+
+use crate::constant::constant;
+use parts::TableEntry;
+use std::alloc::{AllocError, Global};
+use wsyntax::{Element, Module, Table};
+
+/// Sets the entries from a place on to these functions.
+fn put_functions(entries: &mut [TableEntry], place: usize, functions: &[u32])
+    requires { place + length functions.now ≤ length entries.old }
+    ensures { map entry_of entries.new ≡ overwrite place (map SetTo functions.now) (map entry_of entries.old) }
+{
+    for (i, func) in functions.iter().enumerate() {
+        entries[place + i] = TableEntry::SetTo(*func);
+    }
+}
+
+/// Writes the element segments in order.
+fn put_elements(entries: &mut [TableEntry], segments: &[Element])
+    requires { AllWithin (length entries.old) (element_segments segments.now) }
+    ensures { map entry_of entries.new ≡ put_elements (element_segments segments.now) (map entry_of entries.old) }
+{
+    for segment in segments {
+        put_functions(
+            entries,
+            constant(&segment.offset) as usize,
+            &segment.functions,
+        );
+    }
+}
+
+/// A table of its minimum with unset entries, and then the element segments in order.
+pub(crate) fn fresh_table(
+    alloc: Global,
+    table: &Table,
+    segments: &[Element],
+) -> Result<Vec<TableEntry>, AllocError>
+    requires { AllWithin table.now.limits.min (element_segments segments.now) }
+    ensures { IfOk result (λ t. map entry_of t.items ≡ put_elements (element_segments segments.now) (replicate table.now.limits.min Unset)) }
+{
+    let mut entries = Vec::from_elem(alloc, TableEntry::Unset, table.limits.min as usize)?;
+    put_elements(&mut entries, segments);
+    Ok(entries)
+}
+
+/// The table of a fresh store, where the module has one.
+pub(crate) fn module_table(
+    alloc: Global,
+    module: &Module<'_>,
+) -> Result<Option<Vec<TableEntry>>, AllocError>
+    requires { AllWithin (table_size (module_shape «module».now)) (layout_of (module_shape «module».now)).elements }
+    ensures { IfOk result (λ t. option_map (λ v. map entry_of v.items) t ≡ option_map (λ n. put_elements (layout_of (module_shape «module».now)).elements (replicate n Unset)) (layout_of (module_shape «module».now)).table) }
+{
+    let Some(table) = module.tables.first() else {
+        return Ok(None);
+    };
+    Ok(Some(fresh_table(alloc, table, &module.elements)?))
+}
