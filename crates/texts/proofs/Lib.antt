@@ -1,0 +1,7 @@
+mod CallLines
+mod Decimals
+mod Fields
+mod Joined
+mod Marks
+mod SignedWords
+mod Signs

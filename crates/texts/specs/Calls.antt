@@ -1,0 +1,21 @@
+-- What reading a text of calls gives.
+use Rattle.std.specs.Prelude.{ℕ, List, map, Result, Ok, Err, Vec}
+use Rattle.std.specs.declared.alloc.Global.{Global}
+use Rattle.wsyntax.specs.Texts.Calls.{Call as Meant, TooLong, BadLine, Good, IsCalls}
+use Rattle.texts.specs.declared.call.Call.{Call}
+use Rattle.texts.specs.declared.fault.CallsFault.{CallsFault}
+use Rattle.texts.specs.declared.fault.CallsFault.TheVariants.{TooLarge, Line, Memory}
+
+-- the call that a call of the code is
+abbrev pub call_of : Call → Meant
+call_of c = record { name = c.name.now; args = c.args.items }
+
+abbrev pub calls_of : List Call → List Meant
+calls_of calls = map call_of calls
+
+-- the calls that the text says; or it is too long; or its least bad line. Want of memory says nothing
+abbrev pub ReadsCalls : List ℕ → Result (Vec Call Global) CallsFault → Type 0
+ReadsCalls text (Ok calls) = IsCalls text (Good (calls_of calls.items))
+ReadsCalls text (Err TooLarge) = IsCalls text TooLong
+ReadsCalls text (Err (Line k)) = IsCalls text (BadLine k)
+ReadsCalls text (Err Memory) = Unit {0}

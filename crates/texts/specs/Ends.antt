@@ -1,0 +1,19 @@
+-- What a line of the code says of a call.
+use Rattle.std.specs.Prelude.{List, map}
+use Rattle.wsyntax.specs.Texts.Report as report
+use Rattle.texts.specs.declared.line.Line.{Line}
+use Rattle.texts.specs.declared.line.Line.TheVariants.{Ran, NoExport, NotAFunction, BadArguments, NotStarted, NoMemory}
+use Rattle.ends.specs.Outcomes.{outcome_of}
+use Rattle.ends.specs.StartRefusals.{refusal_of}
+
+-- how a call ended
+abbrev pub end_of : Line → report.CallEnd
+end_of (Ran outcome fuel) = report.Ran (outcome_of outcome) fuel
+end_of NoExport = report.NoExport
+end_of NotAFunction = report.NotAFunction
+end_of BadArguments = report.BadArguments
+end_of (NotStarted r) = report.NotStarted (refusal_of r)
+end_of NoMemory = report.NoMemory
+
+abbrev pub ends_of : List Line → List report.CallEnd
+ends_of lines = map end_of lines

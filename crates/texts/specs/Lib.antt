@@ -1,0 +1,4 @@
+pub mod Calls
+pub mod Ends
+pub mod Reading
+pub mod Totals

@@ -1,0 +1,34 @@
+ghost use Rattle.std.specs.Prelude.{◌≡◌, IfOk, All, ◌≢◌, option_map};
+ghost use Rattle.wsyntax.specs.Texts.Calls.{IsCall, call_text};
+ghost use Rattle.texts.specs.Reading.{IsReading};
+ghost use Rattle.texts.specs.Calls.{call_of};
+
+use crate::split::split_before;
+use crate::value::read_value;
+use std::alloc::{AllocError, Global};
+use wsyntax::Value;
+
+/// A call of an export: its name, whose bytes are those of the text, and its arguments.
+#[derive(Debug, Drop)]
+pub struct Call<'a> {
+    pub name: &'a [u8],
+    pub args: Vec<Value>,
+}
+
+// The call that a line without its newline says.
+pub(crate) fn read_call(alloc: Global, line: &[u8]) -> Result<Option<Call<'_>>, AllocError>
+    requires { All (λ b. b ≢ 0x0A) line.now }
+    ensures { IfOk result (λ call. IsReading IsCall call_text line.now (option_map call_of call)) }
+{
+    let (name, mut rest) = split_before(line, b'\t');
+    let mut args = Vec::new(alloc);
+    'fields: while !rest.is_empty() {
+        let (field, after) = split_before(&rest[1..], b'\t');
+        let Some(value) = read_value(field) else {
+            return Ok(None);
+        };
+        args.push(value)?;
+        rest = after;
+    }
+    Ok(Some(Call { name, args }))
+}

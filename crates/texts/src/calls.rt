@@ -1,0 +1,41 @@
+ghost use Rattle.std.specs.Prelude.{◌≤◌, IfOk, vec_len};
+ghost use Rattle.texts.specs.Calls.{ReadsCalls};
+
+use crate::call::{Call, read_call};
+use crate::fault::CallsFault;
+use crate::split::split_before;
+use std::alloc::Global;
+
+// The most bytes of the text.
+const MOST_BYTES: usize = 4_194_304;
+
+// The most lines of the text.
+const MOST_LINES: usize = 100_000;
+
+/// Reads a text of calls: a line a call, each ended by a newline. The names are slices of the text.
+pub fn read_calls(alloc: Global, text: &[u8]) -> Result<Vec<Call<'_>>, CallsFault>
+    ensures said { ReadsCalls text.now result }
+    ensures few { IfOk result (λ calls. vec_len calls ≤ 100000) }
+{
+    if text.len() > MOST_BYTES {
+        return Err(CallsFault::TooLarge);
+    }
+    let mut calls = Vec::new(alloc);
+    let mut rest = text;
+    'lines: while !rest.is_empty() {
+        let bad_line = CallsFault::Line(calls.len() as u32 + 1);
+        if calls.len() == MOST_LINES {
+            return Err(bad_line);
+        }
+        let (line, after) = split_before(rest, b'\n');
+        if after.is_empty() {
+            return Err(bad_line);
+        }
+        let Some(call) = read_call(alloc, line)? else {
+            return Err(bad_line);
+        };
+        calls.push(call)?;
+        rest = &after[1..];
+    }
+    Ok(calls)
+}

@@ -1,0 +1,23 @@
+//! The text of calls that is read, and the report that is written of how they ended.
+#![tactic(auto)]
+
+mod call;
+mod calls;
+mod fault;
+mod line;
+mod number;
+mod reports;
+mod split;
+mod total;
+mod value;
+mod words;
+
+pub use call::Call;
+pub use calls::read_calls;
+pub use ends::{Outcome, StartRefusal};
+pub use fault::CallsFault;
+pub use line::Line;
+pub use reports::report;
+
+#[cfg(test)]
+mod tests;

@@ -1,0 +1,85 @@
+// The counts of the last line.
+ghost use Rattle.std.specs.Prelude.{◌≡◌, ◌+◌, ◌<◌, ◌^◌, ◌++◌, OnOk, string_bytes};
+ghost use Rattle.wsyntax.specs.Texts.Report.{plus, tally_of, none};
+ghost use Rattle.texts.specs.Ends.{end_of};
+ghost use Rattle.texts.specs.Totals.{tally, IsWithin, total_text};
+
+use crate::line::Line;
+use ends::Outcome;
+use std::alloc::AllocError;
+
+// How many calls ended in each way, and the fuel that they cost together.
+#[derive(Clone, Copy)]
+pub(crate) struct Total {
+    calls: usize,
+    values: usize,
+    traps: usize,
+    exhausted: usize,
+    refused: usize,
+    no_memory: usize,
+    fuel: u128,
+}
+
+impl Total {
+    // Of no calls.
+    pub(crate) fn new() -> Total
+        ensures calls { result.calls ≡ 0 }
+        ensures tally { tally result ≡ none }
+        ensures within { IsWithin result }
+    {
+        Total {
+            calls: 0,
+            values: 0,
+            traps: 0,
+            exhausted: 0,
+            refused: 0,
+            no_memory: 0,
+            fuel: 0,
+        }
+    }
+
+    // Counts a call.
+    pub(crate) fn count(&mut self, line: &Line)
+        requires room { self.old.calls + 1 < 2 ^ 64 }
+        requires within { IsWithin self.old }
+        ensures calls { self.new.calls ≡ self.old.calls + 1 }
+        ensures tally { tally self.new ≡ plus (tally self.old) (tally_of (end_of line.now)) }
+        ensures within { IsWithin self.new }
+    {
+        self.calls += 1;
+        match line {
+            Line::Ran { outcome, fuel } => {
+                self.fuel += u128::from(*fuel);
+                match outcome {
+                    Outcome::Values(_) => self.values += 1,
+                    Outcome::Trapped(_) => self.traps += 1,
+                    Outcome::OutOfFuel | Outcome::OutOfFrames => self.exhausted += 1,
+                }
+            }
+            Line::NoExport | Line::NotAFunction | Line::BadArguments | Line::NotStarted(_) => {
+                self.refused += 1;
+            }
+            Line::NoMemory => self.no_memory += 1,
+        }
+    }
+
+    // The last line.
+    pub(crate) fn push_line(&self, text: &mut String) -> Result<(), AllocError>
+        ensures { OnOk result (string_bytes text.new ≡ string_bytes text.old ++ total_text self.now.calls (tally self.now)) }
+    {
+        let Total {
+            calls,
+            values,
+            traps,
+            exhausted,
+            refused,
+            no_memory,
+            fuel,
+        } = *self;
+        write!(
+            text,
+            "total {calls} values {values} traps {traps} exhausted {exhausted}"
+        )?;
+        writeln!(text, " refused {refused} no-memory {no_memory} fuel {fuel}")
+    }
+}
