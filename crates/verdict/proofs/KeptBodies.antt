@@ -1,6 +1,6 @@
 -- From what is kept of bodies to the bodies.
-use Rattle.std.proofs.Common.{◌≡◌, ℕ, ◌-◌, Bool, true, false, cond, List, Some, None, refl, sym, ap, subst, ◌∙◌, inl, inr}
-use Rattle.std.specs.Prelude.{slice_get, option_map, nat_lt}
+use Rattle.std.proofs.Common.{◌≡◌, ℕ, List, Some, None, sym, ap, subst, ◌∙◌, inl, inr}
+use Rattle.std.specs.Prelude.{slice_get, option_map}
 use Rattle.std.proofs.lemmas.List.{length-map}
 use Rattle.std.proofs.lemmas.Option.{slice_get-map, slice_get_cases}
 use Rattle.pieces.specs.TryAll.{AllPass}
@@ -8,7 +8,6 @@ use Rattle.wsyntax.specs.Validation.Context.{Context}
 use Rattle.wcheck.specs.declared.checked.CheckedBody.{CheckedBody}
 use Rattle.verdict.specs.declared.kept_body.KeptBody.{KeptBody}
 use Rattle.verdict.specs.Judgement.{IsCheckedAt, AreChecked, checked_of}
-use Rattle.verdict.specs.Kept.{body_at, kept_at}
 
 some_is : {A : Type 0} (a c : A) → Some a ≡ Some c → a ≡ c
 some_is a c e = cc
@@ -30,11 +29,3 @@ all_checked passes C i j bodies n kept is all = record { count = length-map _ _ 
               (subst (λ (x : ℕ). IsCheckedAt C x bodies k h.0.checked) is (all.each k h.0 h.2).1)
           | inr h ↦ absurd (none_some checked (sym (ap (option_map (λ (b : KeptBody). b.checked)) h.1) ∙ there))
         ]
-
-chosen : (t : Bool) (kept : List KeptBody) (k : ℕ) → cond t None (slice_get (checked_of kept) k) ≡ option_map (λ b. b.checked) (cond t None (slice_get kept k))
-chosen true kept k = refl
-chosen false kept k = slice_get-map (λ (b : KeptBody). b.checked) kept k
-
--- the body of a function is that of what is kept of it
-pub body_is : (imported : ℕ) (kept : List KeptBody) (f : ℕ) → body_at imported (checked_of kept) f ≡ option_map (λ b. b.checked) (kept_at imported kept f)
-body_is imported kept f = chosen (nat_lt f imported) kept (f - imported)

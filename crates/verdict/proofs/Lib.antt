@@ -1,4 +1,7 @@
 pub mod Sizes
+pub mod TokenCounts
+pub mod Smallness
+pub mod SegmentBytes
 pub mod Bodies
 pub mod Firsts
 pub mod OnePass
@@ -8,6 +11,8 @@ pub mod ExportNumbers
 pub mod OneVerdict
 pub mod Judgements
 pub mod Mentions
+pub mod FunctionShapes
+pub mod Partings
 pub mod KeptBodies
 pub mod NumberedTexts
 pub mod Numbering

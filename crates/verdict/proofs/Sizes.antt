@@ -1,6 +1,6 @@
--- How many imports and bodies a module of so many bytes has: each takes a byte at least.
-use Rattle.std.proofs.Common.{◌≡◌, ℕ, ◌+◌, ◌≤◌, List, [], ◌∷◌, ◌++◌, length, Option, Some, None, ap, subst, ◌∙◌, arith}
-use Rattle.std.specs.Prelude.{filter_map}
+-- How many imports, bodies and segments a module of so many bytes has, and how long its bodies are: each takes a byte at least.
+use Rattle.std.proofs.Common.{◌≡◌, ℕ, zero, suc, ◌+◌, ◌≤◌, List, [], ◌∷◌, ◌++◌, length, Option, Some, None, ap, subst, ◌∙◌, arith}
+use Rattle.std.specs.Prelude.{slice_get, filter_map}
 use Rattle.std.specs.List.{cons_option}
 use Rattle.std.proofs.lemmas.List.{length-append}
 use Rattle.wnum.specs.Number.{SpellsUnsigned}
@@ -41,6 +41,14 @@ an_import_fills : Fills an_import
 unfolding an_import
 an_import_fills bytes a s = front_fills name name_fills bytes s.0 s.1 s.2 s.3 s.4
 
+element_fills : Fills element
+unfolding element
+element_fills bytes a s = front_fills u32 (number_fills 32) bytes s.0 s.1 s.2 s.3 s.4
+
+data_segment_fills : Fills data_segment
+unfolding data_segment
+data_segment_fills bytes a s = front_fills u32 (number_fills 32) bytes s.0 s.1 s.2 s.3 s.4
+
 all_fill : {A : Type 0} (p : Production A) → Fills p → (bytes : List ℕ) (values : List A) → SpellsAll p.spells bytes values → length values ≤ length bytes
 all_fill p fills bytes [] s = omega arith
 all_fill p fills bytes (a ∷ rest) s =
@@ -55,7 +63,33 @@ vector_fills p fills bytes values s =
     let e : length bytes ≡ length s.0 + length s.1 = ap length s.3 ∙ length-append s.0 s.1 in
     omega arith
 
--- the imports and the bodies of a section
+-- bodies by their bytes, and one more each
+abbrev weight : List (List ℕ) → ℕ
+weight [] = 0
+weight (b ∷ bs) = length b + 1 + weight bs
+
+blob_weighs : (bytes s : List ℕ) → blob.spells bytes s → length s + 1 ≤ length bytes
+blob_weighs bytes s t =
+    let count : 1 ≤ length t.0 = number_fills 32 t.0 t.2 t.4 in
+    let same : length t.1 ≡ length s = ap length t.5.0 in
+    let e : length bytes ≡ length t.0 + length t.1 = ap length t.3 ∙ length-append t.0 t.1 in
+    omega arith
+
+blobs_weigh : (bytes : List ℕ) (values : List (List ℕ)) → SpellsAll blob.spells bytes values → weight values ≤ length bytes
+blobs_weigh bytes [] s = omega arith
+blobs_weigh bytes (a ∷ rest) s =
+    let h : length a + 1 ≤ length s.0 = blob_weighs s.0 a s.3 in
+    let t : weight rest ≤ length s.1 = blobs_weigh s.1 rest s.4 in
+    let e : length bytes ≡ length s.0 + length s.1 = ap length s.2 ∙ length-append s.0 s.1 in
+    omega arith
+
+bodies_weigh : (bytes : List ℕ) (values : List (List ℕ)) → (vector blob).spells bytes values → weight values ≤ length bytes
+bodies_weigh bytes values s =
+    let t : weight values ≤ length s.1 = blobs_weigh s.1 values s.5.1 in
+    let e : length bytes ≡ length s.0 + length s.1 = ap length s.3 ∙ length-append s.0 s.1 in
+    omega arith
+
+-- the imports, the bodies and the segments of a section
 abbrev held : SectionShape → ℕ
 held Custom = 0
 held (Types v) = 0
@@ -66,9 +100,9 @@ held (Memories v) = 0
 held (Globals v) = 0
 held (Exports v) = 0
 held (Start x) = 0
-held (Elements v) = 0
-held (Bodies v) = length v
-held (Segments v) = 0
+held (Elements v) = length v
+held (Bodies v) = weight v
+held (Segments v) = length v
 
 filling_holds : {A : Type 0} (s : List ℕ) (p : Production A) (made : A → SectionShape) → ((v : A) → p.spells s v → held (made v) ≤ length s) → (bytes : List ℕ) (shape : SectionShape) → (filling s p made).spells bytes shape → held shape ≤ length s
 filling_holds s p made h bytes shape t = subst (λ (x : SectionShape). held x ≤ length s) (some_is (made t.2) shape t.5.1) (h t.2 t.4.1)
@@ -83,9 +117,9 @@ contents_hold MemorySection s bytes shape t = filling_holds s (vector limits) Me
 contents_hold GlobalSection s bytes shape t = filling_holds s (vector global) Globals (λ v h. omega arith) bytes shape t
 contents_hold ExportSection s bytes shape t = filling_holds s (vector an_export) Exports (λ v h. omega arith) bytes shape t
 contents_hold StartSection s bytes shape t = filling_holds s u32 Start (λ v h. omega arith) bytes shape t
-contents_hold ElementSection s bytes shape t = filling_holds s (vector element) Elements (λ v h. omega arith) bytes shape t
-contents_hold CodeSection s bytes shape t = filling_holds s (vector blob) Bodies (λ v h. vector_fills blob blob_fills s v h) bytes shape t
-contents_hold DataSection s bytes shape t = filling_holds s (vector data_segment) Segments (λ v h. omega arith) bytes shape t
+contents_hold ElementSection s bytes shape t = filling_holds s (vector element) Elements (λ v h. vector_fills element element_fills s v h) bytes shape t
+contents_hold CodeSection s bytes shape t = filling_holds s (vector blob) Bodies (λ v h. bodies_weigh s v h) bytes shape t
+contents_hold DataSection s bytes shape t = filling_holds s (vector data_segment) Segments (λ v h. vector_fills data_segment data_segment_fills s v h) bytes shape t
 
 -- a blob has fewer bytes than what spells it
 blob_within : (bytes s : List ℕ) → blob.spells bytes s → length s ≤ length bytes
@@ -105,9 +139,9 @@ section_holds bytes shape t =
     let f : length t.1 ≡ length u.0 + length u.1 = ap length u.3 ∙ length-append u.0 u.1 in
     omega arith
 
--- the imports and the bodies of a module
+-- the imports, the bodies and the segments of a module
 abbrev total : ModuleShape → ℕ
-total m = length m.imports + length m.bodies
+total m = length m.imports + weight m.bodies + length m.elements + length m.segments
 
 put_holds : (m : ModuleShape) (s : SectionShape) → total (put m s) ≤ total m + held s
 put_holds m Custom = omega arith
@@ -151,10 +185,41 @@ filtered f (x ∷ xs) =
     let others : length (filter_map f xs) ≤ length xs = filtered f xs in
     omega arith
 
+weight_counts : (bodies : List (List ℕ)) → length bodies ≤ weight bodies
+weight_counts [] = omega arith
+weight_counts (b ∷ bs) =
+    let others : length bs ≤ weight bs = weight_counts bs in
+    omega arith
+
+weight_of : (bodies : List (List ℕ)) (k : ℕ) (b : List ℕ) → slice_get bodies k ≡ Some b → length b ≤ weight bodies
+weight_of [] k b e = absurd cc
+weight_of (a ∷ more) zero b e =
+    let same : a ≡ b = some_is a b e in
+    omega (arith, ap length same)
+weight_of (a ∷ more) (suc k) b e =
+    let others : length b ≤ weight more = weight_of more k b e in
+    omega arith
+
 -- the imported functions and the bodies of a module within the limit
 pub functions_fit : (bytes : List ℕ) (m : ModuleShape) → IsModule bytes m → length (imported_functions m) + length m.bodies ≤ module_limit
 functions_fit bytes m s =
     let all : total m ≤ length bytes = shell_holds bytes m s.shell in
     let imports : length (imported_functions m) ≤ length m.imports = filtered _ m.imports in
+    let bodies : length m.bodies ≤ weight m.bodies = weight_counts m.bodies in
+    let small : length bytes ≤ module_limit = s.small in
+    omega arith
+
+-- its segments
+pub segments_fit : (bytes : List ℕ) (m : ModuleShape) → IsModule bytes m → length m.elements + length m.segments ≤ module_limit
+segments_fit bytes m s =
+    let all : total m ≤ length bytes = shell_holds bytes m s.shell in
+    let small : length bytes ≤ module_limit = s.small in
+    omega arith
+
+-- and the bytes of each body
+pub body_fits : (bytes : List ℕ) (m : ModuleShape) (k : ℕ) (b : List ℕ) → IsModule bytes m → slice_get m.bodies k ≡ Some b → length b ≤ module_limit
+body_fits bytes m k b s e =
+    let all : total m ≤ length bytes = shell_holds bytes m s.shell in
+    let one : length b ≤ weight m.bodies = weight_of m.bodies k b e in
     let small : length bytes ≤ module_limit = s.small in
     omega arith

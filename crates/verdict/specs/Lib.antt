@@ -6,4 +6,6 @@ pub mod Judgement
 pub mod Kept
 pub mod Exports
 pub mod TypeNumbers
+pub mod FunctionShapes
+pub mod Small
 pub mod Laws

@@ -6,10 +6,13 @@ ghost use Rattle.wsyntax.specs.Validation.Rules.{ExportsDistinct};
 ghost use Rattle.verdict.specs.Exports.{AreAscending};
 ghost use Rattle.wsyntax.specs.Execution.Start.{has_floats};
 ghost use Rattle.verdict.specs.TypeNumbers.{AreTypeNumbers};
-ghost use Rattle.verdict.specs.Judgement.{IsJudged, checked_of, shapes_of};
+ghost use Rattle.verdict.specs.Judgement.{IsJudged, shapes_of};
+ghost use Rattle.verdict.specs.FunctionShapes.{function_shapes};
+ghost use Rattle.verdict.specs.Small.{IsSmall};
+ghost use Rattle.soundness.specs.Instances.{SegmentsAreBytes};
 
 use crate::exports::number_of;
-use crate::kept_body::KeptBody;
+use side_table::FunctionShape;
 use wcheck::CheckedBody;
 use wcontext::Context;
 use wsyntax::{ExportKind, Module};
@@ -20,15 +23,20 @@ use wsyntax::{ExportKind, Module};
 pub struct Accepted<'a> {
     pub(crate) module: Module<'a>,
     pub(crate) context: Context,
-    pub(crate) bodies: Vec<KeptBody>,
+    pub(crate) bodies: Vec<CheckedBody>,
+    /// Of each body what the entry of its function needs to know.
+    pub(crate) shapes: Vec<FunctionShape>,
     /// The number of each export, in the order of their names.
     pub(crate) by_name: Vec<usize>,
     pub(crate) mentions_floats: bool,
     /// Of each type its number, equal for equal types.
     pub(crate) type_numbers: Vec<u32>,
-    pub(crate) ghost judged: { ∥ IsJudged (module_shape «module») context (checked_of bodies.items) ∥₁ },
-    pub(crate) ghost looked: { mentions_floats ≡ has_floats (module_shape «module») (shapes_of (checked_of bodies.items)) },
+    pub(crate) ghost judged: { ∥ IsJudged (module_shape «module») context bodies.items ∥₁ },
+    pub(crate) ghost looked: { mentions_floats ≡ has_floats (module_shape «module») (shapes_of bodies.items) },
     pub(crate) ghost numbered: { ∥ AreTypeNumbers (module_shape «module»).types type_numbers.items ∥₁ },
+    pub(crate) ghost shaped: { shapes.items ≡ function_shapes (module_shape «module»).types type_numbers.items (module_shape «module»).functions bodies.items },
+    pub(crate) ghost filled: { SegmentsAreBytes (module_shape «module») },
+    pub(crate) ghost small: { ∥ IsSmall (module_shape «module») bodies.items ∥₁ },
     pub(crate) ghost distinct: { ExportsDistinct (module_shape «module») },
     pub(crate) ghost each: { ∥ IsPermutation (range_with_len 0 (length «module».exports.items)) by_name.items ∥₁ },
     pub(crate) ghost ascending: { AreAscending «module».exports.items by_name.items },
@@ -41,19 +49,35 @@ impl<'a> Accepted<'a> {
     ghost use Rattle.verdict.specs.Exports.{IsExported};
     ghost use Rattle.wsyntax.specs.Binary.Sections.{locals_of};
     ghost use Rattle.verdict.specs.TypeNumbers.{function_number};
-    ghost use Rattle.verdict.specs.Kept.{body_at, kept_at};
+    ghost use Rattle.verdict.specs.Kept.{body_at, place_of};
 
     /// What holds of every accepted module, for a proof that is handed one: no rule is broken, the context is that of the
     /// module, and of each function there is the checked body, which declares few locals, is typed under that context,
     /// and has a side table that fits.
     pub fn accepted_holds(&self)
-        ensures { ∥ IsJudged (module_shape self.now.module) self.now.context (checked_of self.now.bodies.items) ∥₁ }
+        ensures { ∥ IsJudged (module_shape self.now.module) self.now.context self.now.bodies.items ∥₁ }
     {}
 
     /// What holds of the numbers of types: each is below the count of types, and two are equal exactly where the types
     /// are the same.
     pub fn types_are_numbered(&self)
         ensures { ∥ AreTypeNumbers (module_shape self.now.module).types self.now.type_numbers.items ∥₁ }
+    {}
+
+    /// What the shapes of its functions are: of each body the counts of parameters, declared locals and results, and the
+    /// number of the type.
+    pub fn functions_have_shapes(&self)
+        ensures { self.now.shapes.items ≡ function_shapes (module_shape self.now.module).types self.now.type_numbers.items (module_shape self.now.module).functions self.now.bodies.items }
+    {}
+
+    /// How large it can be, having been spelled by at most 16,777,216 bytes.
+    pub fn is_small(&self)
+        ensures { ∥ IsSmall (module_shape self.now.module) self.now.bodies.items ∥₁ }
+    {}
+
+    /// The law that what its data segments hold are bytes.
+    pub fn segments_are_bytes(&self)
+        ensures { SegmentsAreBytes (module_shape self.now.module) }
     {}
 
     /// The module that the bytes spell.
@@ -74,38 +98,56 @@ impl<'a> Accepted<'a> {
     /// none.
     #[inline]
     pub fn body(&self, func: u32) -> Option<&CheckedBody>
-        ensures { option_map (λ b. b.now) result ≡ body_at self.now.context.imported (checked_of self.now.bodies.items) func }
+        ensures { option_map (λ b. b.now) result ≡ body_at self.now.context.imported self.now.bodies.items func }
     {
-        let kept = self.kept(func)?;
-        Some(&kept.checked)
+        self.bodies.get(self.place_of(func)?)
     }
 
-    /// What is kept of the body of the function of that index.
+    /// The place of the body of the function of that index among the bodies; `None` where it is imported.
     #[inline]
-    fn kept(&self, func: u32) -> Option<&KeptBody>
-        ensures { option_map (λ b. b.now) result ≡ kept_at self.now.context.imported self.now.bodies.items func }
+    fn place_of(&self, func: u32) -> Option<usize>
+        ensures { result ≡ place_of self.now.context.imported func }
     {
-        let imported = self.context.imported_functions();
-        let func = func as usize;
-        if func < imported {
-            return None;
-        }
-        self.bodies.get(func - imported)
+        (func as usize).checked_sub(self.context.imported_functions())
+    }
+
+    /// The checked bodies, of each function that is not imported.
+    #[inline]
+    pub fn bodies(&self) -> &[CheckedBody]
+        ensures { result.now ≡ self.now.bodies.items }
+    {
+        &self.bodies
+    }
+
+    /// Of each of these bodies what the entry of its function needs to know.
+    #[inline]
+    pub fn function_shapes(&self) -> &[FunctionShape]
+        ensures { result.now ≡ self.now.shapes.items }
+    {
+        &self.shapes
+    }
+
+    /// Of each type its number.
+    #[inline]
+    pub fn type_numbers(&self) -> &[u32]
+        ensures { result.now ≡ self.now.type_numbers.items }
+    {
+        &self.type_numbers
     }
 
     /// The number of declared locals of the function of that index, imported ones counted, its parameters aside; `None`
     /// where it is imported or there is none.
     #[inline]
     pub fn declared_locals(&self, func: u32) -> Option<u32>
-        ensures { result ≡ option_map (λ b. locals_of b.body.runs.items) (body_at self.now.context.imported (checked_of self.now.bodies.items) func) }
+        ensures { result ≡ option_map (λ b. locals_of b.body.runs.items) (body_at self.now.context.imported self.now.bodies.items func) }
     {
-        let kept = self.kept(func)?;
-        Some(kept.locals)
+        let shape = self.shapes.get(self.place_of(func)?)?;
+        Some(shape.declared)
     }
 
     /// Whether f32 or f64 is mentioned: by a type, a global, a declared local, a block or an instruction.
     pub fn has_floats(&self) -> bool
-        ensures { result ≡ has_floats (module_shape self.now.module) (shapes_of (checked_of self.now.bodies.items)) }
+        ensures { result ≡ has_floats (module_shape self.now.module) (shapes_of self.now.bodies.items) }
     {
         self.mentions_floats
     }

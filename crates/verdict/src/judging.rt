@@ -13,6 +13,7 @@ use crate::floats::declarations_have_floats;
 use crate::keeping_jobs::KeptBodies;
 use crate::kept_body::KeptBody;
 use crate::refusal::Refusal;
+use crate::shapes::{checked_bodies, function_shapes};
 use crate::type_numbers::type_numbers;
 use pieces::{Plan, TryFault, Watch, try_all};
 use soundness::validation::{accepted_is_typed, refused_at_first_fault};
@@ -89,18 +90,23 @@ pub fn judge<'a, R: Threads + Wait + Sync, W: Watch + Sync>(
     refused_at_first_fault();
     let module = decode_module(alloc, bytes)?;
     let context = check_module(alloc, &module)?;
-    let bodies = judge_bodies(rt, alloc, &context, &module.bodies, plan, watch)?;
-    let Ok(by_name) = numbers_by_name(alloc, &module.exports) else {
-        return Err(Refusal::Memory);
-    };
-    let Ok(type_numbers) = type_numbers(alloc, &module.types) else {
-        return Err(Refusal::Memory);
-    };
-    let mentions_floats = has_floats(&module, &bodies);
+    let kept = judge_bodies(rt, alloc, &context, &module.bodies, plan, watch)?;
+    let by_name = numbers_by_name(alloc, &module.exports)?;
+    let type_numbers = type_numbers(alloc, &module.types)?;
+    let shapes = function_shapes(
+        alloc,
+        &module.types,
+        &type_numbers,
+        &module.functions,
+        &kept,
+    )?;
+    let mentions_floats = has_floats(&module, &kept);
+    let bodies = checked_bodies(alloc, kept)?;
     Ok(Accepted {
         module,
         context,
         bodies,
+        shapes,
         by_name,
         mentions_floats,
         type_numbers,

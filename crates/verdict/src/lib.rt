@@ -14,6 +14,7 @@ mod kept_body;
 mod laws;
 mod passing;
 mod refusal;
+mod shapes;
 mod type_numbers;
 
 pub use accepted::Accepted;

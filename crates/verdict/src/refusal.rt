@@ -1,5 +1,6 @@
 ghost use Rattle.std.specs.Prelude.{◌≡◌};
 
+use std::alloc::AllocError;
 use thiserror::Error;
 use wcontext::ModuleFault;
 use wdecode::DecodeFault;
@@ -62,5 +63,15 @@ impl From<ModuleFault> for Refusal {
             ModuleFault::Rule(rule) => Refusal::Rule(rule),
             ModuleFault::Memory => Refusal::Memory,
         }
+    }
+}
+
+impl From<AllocError> for Refusal {
+    ghost use Rattle.verdict.specs.declared.refusal.Refusal.TheVariants.{Memory};
+
+    ghost from_gives = { λ e r. r ≡ Memory };
+
+    fn from(_: AllocError) -> Refusal {
+        Refusal::Memory
     }
 }

@@ -1,4 +1,4 @@
-use Rattle.std.proofs.Common.{◌≡◌, Ok, Err, List, length, map, ap, sym, subst, ◌∙◌}
+use Rattle.std.proofs.Common.{Ok, Err, List, length, map, ap, sym, subst, ◌∙◌, arith}
 use Rattle.std.specs.List.{range_with_len}
 use Rattle.std.specs.List.Sorted.{IsPermutation}
 use Rattle.wsyntax.specs.declared.module.Export.{Export}
@@ -8,11 +8,13 @@ use Rattle.verdict.specs.Exports.{AreAscending}
 use Rattle.verdict.specs.Refusals.{of_decoding, of_rules}
 use Rattle.verdict.proofs.Firsts.{decoded, not_decoded, not_kept, judged, refused_so, indices_fit}
 use Rattle.wsyntax.specs.declared.FuncType.{FuncType}
-use Rattle.wsyntax.specs.Execution.Start.{has_floats}
-use Rattle.verdict.specs.declared.kept_body.KeptBody.{KeptBody}
 use Rattle.verdict.specs.TypeNumbers.{AreTypeNumbers}
-use Rattle.verdict.specs.Judgement.{checked_of, shapes_of}
+use Rattle.verdict.specs.Judgement.{checked_of}
+use Rattle.std.proofs.Math.Logic.{∥∥₁_map}
 use Rattle.verdict.proofs.Judgements.{is_judged}
+use Rattle.verdict.proofs.Partings.{all_same, shaped_same, looked_same, typed_same, numbered_same, paired_same}
+use Rattle.verdict.proofs.SegmentBytes.{segments_are_bytes}
+use Rattle.verdict.proofs.Smallness.{is_small}
 use Rattle.verdict.proofs.judging.judge.Goals as goal
 
 pub returns-in_err-module-clause-verdict : goal.returns-in_err-module-clause-verdict
@@ -33,10 +35,10 @@ judge_bodies-requires-clause-few g c κs within =
     c.in_ok-context.ensures.context
     (ap length c.deref.ensures.value ∙ sym (length-map _ _))
 
-pub returns-in_err-bodies-clause-verdict : goal.returns-in_err-bodies-clause-verdict
-returns-in_err-bodies-clause-verdict g c =
-    refused_so _ _ c.in_err-bodies.field-0.0 (let h = c.from_residual-in_err-bodies.ensures.1 in h)
-    (judged {T = Unit {0}} c.args.bytes.now (module_shape c.in_ok-module.module) c.in_ok-context.context (map (λ b. b.now) c.deref.result.now) (length c.deref.result.now) (Err c.in_err-bodies.field-0.0)
+pub returns-in_err-kept-clause-verdict : goal.returns-in_err-kept-clause-verdict
+returns-in_err-kept-clause-verdict g c =
+    refused_so _ _ c.in_err-kept.field-0.0 (let h = c.from_residual-in_err-kept.ensures.1 in h)
+    (judged {T = Unit {0}} c.args.bytes.now (module_shape c.in_ok-module.module) c.in_ok-context.context (map (λ b. b.now) c.deref.result.now) (length c.deref.result.now) (Err c.in_err-kept.field-0.0)
     record {
       whole = decoded _ _ c.in_ok-module.module c.in_ok-module.ensures.found c.in_ok-module.ensures.too_large;
       rules = c.in_ok-context.ensures.valid;
@@ -47,11 +49,11 @@ returns-in_err-bodies-clause-verdict g c =
     c.in_ok-context.ensures.context
     (ap (map (λ b. b.now)) c.deref.ensures.value)
     (ap length c.deref.ensures.value ∙ sym (length-map _ _))
-    c.in_err-bodies.ensures.verdict)
+    c.in_err-kept.ensures.verdict)
 
 pub returns-clause-verdict : goal.returns-clause-verdict
 returns-clause-verdict g c =
-    judged c.args.bytes.now (module_shape c.in_ok-module.module) c.in_ok-context.context (map (λ b. b.now) c.deref.result.now) (length c.deref.result.now) (Ok c.in_ok-bodies.bodies)
+    judged c.args.bytes.now (module_shape c.in_ok-module.module) c.in_ok-context.context (map (λ b. b.now) c.deref.result.now) (length c.deref.result.now) (Ok c.in_ok-kept.kept)
     record {
       whole = decoded _ _ c.in_ok-module.module c.in_ok-module.ensures.found c.in_ok-module.ensures.too_large;
       rules = c.in_ok-context.ensures.valid;
@@ -62,17 +64,31 @@ returns-clause-verdict g c =
     c.in_ok-context.ensures.context
     (ap (map (λ b. b.now)) c.deref.ensures.value)
     (ap length c.deref.ensures.value ∙ sym (length-map _ _))
-    c.in_ok-bodies.ensures.verdict
+    c.in_ok-kept.ensures.verdict
 
 pub invariant_of-result-clause-judged : goal.invariant_of-result-clause-judged
 invariant_of-result-clause-judged g c =
-    ∣ is_judged (module_shape c.in_ok-module.module) c.in_ok-context.context (map (λ b. b.now) c.deref.result.now) (length c.deref.result.now) (checked_of c.in_ok-bodies.bodies.items)
+    ∣ is_judged (module_shape c.in_ok-module.module) c.in_ok-context.context (map (λ b. b.now) c.deref.result.now) (length c.deref.result.now) c.in_ok-bodies.bodies.items
     c.in_ok-context.ensures.valid
     c.in_ok-context.ensures.context
     c.in_ok-module.ensures.found.paired
     (ap (map (λ b. b.now)) c.deref.ensures.value)
     (ap length c.deref.ensures.value ∙ sym (length-map _ _))
-    c.in_ok-bodies.ensures.bodies ∣₁
+    (all_same _ _ _ _ c.in_ok-bodies.bodies.items (checked_of c.in_ok-kept.kept.items) c.in_ok-bodies.ensures c.in_ok-kept.ensures.bodies) ∣₁
+
+pub invariant_of-result-clause-shaped : goal.invariant_of-result-clause-shaped
+invariant_of-result-clause-shaped g c =
+    shaped_same _ c.deref-4.result.now c.in_ok-module.module.types.items c.deref-5.result.now c.in_ok-type_numbers.type_numbers.items c.deref-6.result.now c.in_ok-module.module.functions.items c.deref-7.result.now c.in_ok-kept.kept.items c.in_ok-bodies.bodies.items
+    c.deref-4.ensures.value c.deref-5.ensures.value c.deref-6.ensures.value c.deref-7.ensures.value c.in_ok-bodies.ensures c.in_ok-shapes.ensures
+
+pub invariant_of-result-clause-small : goal.invariant_of-result-clause-small
+invariant_of-result-clause-small g c =
+    ∥∥₁_map (invariant_of-result-clause-judged g c)
+    (is_small c.args.bytes.now (module_shape c.in_ok-module.module) c.in_ok-context.context c.in_ok-bodies.bodies.items
+    (decoded _ _ c.in_ok-module.module c.in_ok-module.ensures.found c.in_ok-module.ensures.too_large))
+
+pub invariant_of-result-clause-filled : goal.invariant_of-result-clause-filled
+invariant_of-result-clause-filled g c = segments_are_bytes c.args.bytes.now (module_shape c.in_ok-module.module) c.in_ok-module.ensures.found (λ k. omega (arith, c.type_inv.bytes k))
 
 -- rule 10 is kept
 pub invariant_of-result-clause-distinct : goal.invariant_of-result-clause-distinct
@@ -80,15 +96,31 @@ invariant_of-result-clause-distinct g c = c.in_ok-context.ensures.valid 10
 
 pub invariant_of-result-clause-each : goal.invariant_of-result-clause-each
 invariant_of-result-clause-each g c =
-    ∣ subst (λ (es : List Export). IsPermutation (range_with_len 0 (length es)) c.in-Ok.by_name.items) c.deref-2.ensures.value c.in-Ok.ensures.each ∣₁
+    ∣ subst (λ (es : List Export). IsPermutation (range_with_len 0 (length es)) c.in_ok-by_name.by_name.items) c.deref-2.ensures.value c.in_ok-by_name.ensures.each ∣₁
 
 pub invariant_of-result-clause-ascending : goal.invariant_of-result-clause-ascending
-invariant_of-result-clause-ascending g c = subst (λ (es : List Export). AreAscending es c.in-Ok.by_name.items) c.deref-2.ensures.value c.in-Ok.ensures.ascending
+invariant_of-result-clause-ascending g c = subst (λ (es : List Export). AreAscending es c.in_ok-by_name.by_name.items) c.deref-2.ensures.value c.in_ok-by_name.ensures.ascending
 
 pub invariant_of-result-clause-looked : goal.invariant_of-result-clause-looked
 invariant_of-result-clause-looked g c =
-    subst (λ (bs : List KeptBody). c.has_floats-mentions_floats.result ≡ has_floats (module_shape c.in_ok-module.module) (shapes_of (checked_of bs))) c.deref-4.ensures.value c.has_floats-mentions_floats.ensures
+    looked_same c.has_floats-mentions_floats.result (module_shape c.in_ok-module.module) c.deref-8.result.now c.in_ok-kept.kept.items c.in_ok-bodies.bodies.items c.deref-8.ensures.value c.in_ok-bodies.ensures c.has_floats-mentions_floats.ensures
 
 pub invariant_of-result-clause-numbered : goal.invariant_of-result-clause-numbered
 invariant_of-result-clause-numbered g c =
-    ∣ subst (λ (ts : List FuncType). AreTypeNumbers (map func_type_of ts) c.in-Ok-type_numbers.type_numbers.items) c.deref-3.ensures.value c.in-Ok-type_numbers.ensures ∣₁
+    ∣ subst (λ (ts : List FuncType). AreTypeNumbers (map func_type_of ts) c.in_ok-type_numbers.type_numbers.items) c.deref-3.ensures.value c.in_ok-type_numbers.ensures ∣₁
+
+-- rule 3 is kept
+pub function_shapes-requires-clause-typed : goal.function_shapes-requires-clause-typed
+function_shapes-requires-clause-typed g c =
+    typed_same c.deref-4.result.now c.in_ok-module.module.types.items c.deref-6.result.now c.in_ok-module.module.functions.items c.deref-4.ensures.value c.deref-6.ensures.value (c.in_ok-context.ensures.valid 3)
+
+pub function_shapes-requires-clause-numbered : goal.function_shapes-requires-clause-numbered
+function_shapes-requires-clause-numbered g c =
+    numbered_same c.deref-3.result.now c.deref-4.result.now c.in_ok-module.module.types.items c.deref-5.result.now c.in_ok-type_numbers.type_numbers.items c.deref-3.ensures.value c.deref-4.ensures.value c.deref-5.ensures.value c.in_ok-type_numbers.ensures
+
+pub function_shapes-requires-clause-paired : goal.function_shapes-requires-clause-paired
+function_shapes-requires-clause-paired g c =
+    paired_same _ _ _ _ c.deref-6.result.now c.in_ok-module.module.functions.items c.deref-7.result.now c.in_ok-kept.kept.items (module_shape c.in_ok-module.module) c.deref-6.ensures.value c.deref-7.ensures.value
+    (ap length c.deref.ensures.value ∙ sym (length-map _ _))
+    c.in_ok-module.ensures.found.paired
+    c.in_ok-kept.ensures.bodies
