@@ -1,8 +1,13 @@
 pub mod Buffers
+pub mod Declared
 pub mod Globals
+pub mod Held
 pub mod Judging
 pub mod LaidOut
 pub mod Lists
 pub mod Refusals
 pub mod Steps
 pub mod Tables
+pub mod Programs
+pub mod ProgramCode
+pub mod TypedCalls

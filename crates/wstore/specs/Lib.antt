@@ -6,3 +6,6 @@ pub mod Refusals
 pub mod Segments
 pub mod Settings
 pub mod Stores
+pub mod Held
+pub mod Views
+pub mod Runs

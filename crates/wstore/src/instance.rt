@@ -1,20 +1,14 @@
-ghost use Rattle.std.specs.Prelude.{◌≡◌, ◌≤◌, ℕ, length, false, None, OnOk, IfOk, IfErr};
+ghost use Rattle.std.specs.Prelude.{◌≡◌, ◌≤◌, length};
 ghost use Rattle.wsyntax.specs.Modules.{module_shape};
-ghost use Rattle.wsyntax.specs.Execution.Start.{start_refusal, fresh_store};
-ghost use Rattle.soundness.specs.Slots.{slot_store};
+ghost use Rattle.wsyntax.specs.Validation.ModuleContext.{module_context};
+ghost use Rattle.soundness.specs.Instances.{Runnable};
 ghost use Rattle.parts.specs.Seen.{seen};
-ghost use Rattle.verdict.specs.Judgement.{checked_of, shapes_of};
+ghost use Rattle.verdict.specs.Judgement.{shapes_of};
 ghost use Rattle.wstore.specs.Buffers.{room_with};
-ghost use Rattle.wstore.specs.Faults.{IsFault};
-ghost use Rattle.wstore.specs.Refusals.{HasFewSegments};
+ghost use Rattle.wstore.specs.Held.{IsHeld};
 
-use crate::fault::{NotStarted, StartFault};
-use crate::fresh::fresh_parts;
-use crate::refusal::refusal;
-use crate::settings::Settings;
 use memory::CleanMem;
 use parts::Parts;
-use std::alloc::Global;
 use verdict::Accepted;
 
 /// An instance of an accepted module (4.2.5): the parts of its store, and the marks of the calls that run on it.
@@ -28,54 +22,19 @@ pub struct Instance<'a> {
     pub(crate) failed: bool,
     /// How many instructions the calls have dispatched.
     pub(crate) dispatches: u64,
-}
-
-/// Makes an instance in the memory that is lent (4.5.4), and runs nothing. What refuses it is asked before any memory is;
-/// then the element segments are written, and the data segments, each in order. Where there is no instance, what was lent
-/// comes back as it was.
-pub fn instantiate<'a>(
-    alloc: Global,
-    accepted: &'a Accepted<'a>,
-    settings: Settings,
-    clean: CleanMem,
-) -> Result<Instance<'a>, NotStarted>
-    requires { HasFewSegments (module_shape accepted.now.module) }
-    ensures allowed { OnOk result (start_refusal settings.pages (module_shape accepted.now.module) (shapes_of (checked_of accepted.now.bodies.items)) ≡ None) }
-    ensures fresh { IfOk result (λ i. seen i.parts ≡ slot_store (fresh_store settings.pages (module_shape accepted.now.module))) }
-    ensures of { IfOk result (λ i. i.accepted.now ≡ accepted.now) }
-    ensures marks { IfOk result (λ i. (i.failed ≡ false) × (i.dispatches ≡ 0)) }
-    ensures room { IfOk result (λ i. clean ≤ room_with i.parts.memory i.lent) }
-    ensures refused { IfErr result (λ e. IsFault settings.pages (module_shape accepted.now.module) (shapes_of (checked_of accepted.now.bodies.items)) e.fault) }
-    ensures back { IfErr result (λ e. e.clean ≡ clean) }
-{
-    accepted.accepted_holds();
-    settings.in_range();
-    let module = accepted.module();
-    let pages = settings.pages();
-    if let Some(refusal) = refusal(module, accepted.has_floats(), pages) {
-        return Err(NotStarted {
-            fault: StartFault::Refused(refusal),
-            clean,
-        });
-    }
-    match fresh_parts(alloc, module, pages, clean) {
-        Ok((parts, lent)) => Ok(Instance {
-            accepted,
-            parts,
-            lent,
-            failed: false,
-            dispatches: 0,
-        }),
-        Err(clean) => Err(NotStarted {
-            fault: StartFault::Memory,
-            clean,
-        }),
-    }
+    pub(crate) ghost held: { ∥ IsHeld (module_context (module_shape accepted.now.module)) (seen parts) ∥₁ },
+    pub(crate) ghost runnable: { ∥ Runnable (module_shape accepted.now.module) (shapes_of accepted.now.bodies.items) ∥₁ },
 }
 
 impl<'a> Instance<'a> {
     ghost use Rattle.std.specs.Prelude.{option_map};
     ghost use Rattle.wstore.specs.Buffers.{bytes_of};
+
+    /// The law that its store is typed for its module, which may be run.
+    pub fn holds(&self)
+        ensures store { ∥ IsHeld (module_context (module_shape self.now.accepted.now.module)) (seen self.now.parts) ∥₁ }
+        ensures runnable { ∥ Runnable (module_shape self.now.accepted.now.module) (shapes_of self.now.accepted.now.bodies.items) ∥₁ }
+    {}
 
     /// The module that it is an instance of.
     pub fn accepted(&self) -> &'a Accepted<'a>

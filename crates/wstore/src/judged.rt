@@ -1,13 +1,13 @@
 ghost use Rattle.wsyntax.specs.Modules.{module_shape};
 ghost use Rattle.soundness.specs.Instances.{Judged};
-ghost use Rattle.verdict.specs.Judgement.{checked_of, shapes_of};
+ghost use Rattle.verdict.specs.Judgement.{shapes_of};
 
 use verdict::Accepted;
 
 /// The law that an accepted module is one that was judged: no rule is broken, and each function has its body, which is
 /// typed. So the laws on the execution of judged modules hold of its instances.
 pub fn accepted_is_judged(accepted: &Accepted<'_>)
-    ensures { ∥ Judged (module_shape accepted.now.module) (shapes_of (checked_of accepted.now.bodies.items)) ∥₁ }
+    ensures { ∥ Judged (module_shape accepted.now.module) (shapes_of accepted.now.bodies.items) ∥₁ }
 {
     accepted.accepted_holds();
 }

@@ -4,10 +4,12 @@
 
 mod constant;
 mod entry;
+mod execution;
 mod fault;
 mod fresh;
 mod global_part;
 mod instance;
+mod instantiating;
 mod judged;
 mod memory_part;
 mod refusal;
@@ -15,9 +17,14 @@ mod segment;
 mod settings;
 mod store;
 mod table_part;
+mod word;
 
 pub use entry::Entry;
 pub use fault::{NotStarted, StartFault};
-pub use instance::{Instance, instantiate};
+pub use instance::Instance;
+pub use instantiating::instantiate;
 pub use judged::accepted_is_judged;
 pub use settings::Settings;
+
+#[cfg(test)]
+mod tests;

@@ -1,16 +1,20 @@
 //! The store of an instance, as the calls that run on it see it.
 
-ghost use Rattle.std.specs.Prelude.{◌≡◌, ◌<◌, ◌^◌, ◌≤◌, option_and_then, IfOk, OnErr, true};
+ghost use Rattle.std.specs.Prelude.{◌≡◌, ◌<◌, ◌^◌, ◌≤◌, option_and_then, option_map, slice_get, slice_set, length, Some, IfOk, OnErr, true};
+ghost use Rattle.wsyntax.specs.Execution.Values.{type_of};
 ghost use Rattle.parts.specs.Seen.{seen};
 ghost use Rattle.memory.specs.Buffered.{IsWidth};
 ghost use Rattle.wsyntax.specs.Execution.Store.{read};
 ghost use Rattle.wstore.specs.Buffers.{room_with};
 ghost use Rattle.wstore.specs.Stores.{entry_at, pages_in, StoreWrites, StoreGrows};
+ghost use Rattle.wstore.specs.Views.{context_in, store_in};
 
 use crate::entry::Entry;
 use crate::instance::Instance;
+use crate::word::{value_in, word_of};
 use parts::TableEntry;
 use std::alloc::AllocError;
+use wsyntax::Value;
 
 impl<'a> Instance<'a> {
     /// The number of pages of its memory; 0 where it has none.
@@ -46,7 +50,11 @@ impl<'a> Instance<'a> {
         ensures marks { (self.new.accepted.now ≡ self.old.accepted.now) × (self.new.failed ≡ self.old.failed) × (self.new.dispatches ≡ self.old.dispatches) }
     {
         match &mut self.parts.memory {
-            Some(memory) => memory.write(at, width, bits),
+            Some(memory) => {
+                let written = memory.write(at, width, bits);
+                memory.typed();
+                written
+            }
             None => false,
         }
     }
@@ -60,7 +68,11 @@ impl<'a> Instance<'a> {
         ensures marks { (self.new.accepted.now ≡ self.old.accepted.now) × (self.new.failed ≡ self.old.failed) × (self.new.dispatches ≡ self.old.dispatches) }
     {
         match &mut self.parts.memory {
-            Some(memory) => memory.grow(more),
+            Some(memory) => {
+                let grown = memory.grow(more);
+                memory.typed();
+                grown
+            }
             None => Ok(None),
         }
     }
@@ -79,9 +91,30 @@ impl<'a> Instance<'a> {
         }
     }
 
+    /// The value of its global of that index.
+    pub fn global(&self, x: u32) -> Value
+        requires { x < length (context_in self.now).globals }
+        ensures { slice_get (store_in self.now).globals x ≡ Some result }
+    {
+        let global = &self.accepted.module().globals[x as usize];
+        value_in(global.content.content, self.parts.globals[x as usize])
+    }
+
+    /// Sets its global of that index to a value of the global's type.
+    pub fn set_global(&mut self, x: u32, value: Value)
+        requires { option_map (λ g. g.content) (slice_get (context_in self.old).globals x) ≡ Some (type_of value) }
+        ensures globals { (store_in self.new).globals ≡ slice_set (store_in self.old).globals x value }
+        ensures rest { ((store_in self.new).memory ≡ (store_in self.old).memory) × ((store_in self.new).table ≡ (store_in self.old).table) }
+        ensures room { room_with self.new.parts.memory self.new.lent ≡ room_with self.old.parts.memory self.old.lent }
+        ensures marks { (self.new.accepted.now ≡ self.old.accepted.now) × (self.new.failed ≡ self.old.failed) × (self.new.dispatches ≡ self.old.dispatches) }
+    {
+        self.parts.globals[x as usize] = word_of(value);
+    }
+
     /// Notes that a call met want of memory.
     pub fn fail(&mut self)
-        ensures { self.new ≡ record self.old { failed = true } }
+        ensures failed { self.new.failed ≡ true }
+        ensures rest { (self.new.accepted ≡ self.old.accepted) × (self.new.parts ≡ self.old.parts) × (self.new.lent ≡ self.old.lent) × (self.new.dispatches ≡ self.old.dispatches) }
     {
         self.failed = true;
     }
@@ -95,7 +128,8 @@ impl<'a> Instance<'a> {
 
     /// Notes how many instructions the calls have dispatched.
     pub fn set_dispatches(&mut self, dispatches: u64)
-        ensures { self.new ≡ record self.old { dispatches = dispatches } }
+        ensures noted { self.new.dispatches ≡ dispatches }
+        ensures rest { (self.new.accepted ≡ self.old.accepted) × (self.new.parts ≡ self.old.parts) × (self.new.lent ≡ self.old.lent) × (self.new.failed ≡ self.old.failed) }
     {
         self.dispatches = dispatches;
     }

@@ -1,0 +1,144 @@
+-- A call that fits is a typed call of the module's program, and what its execution leaves.
+use Rattle.std.proofs.Common.{◌≡◌, ℕ, ◌≤◌, ◌^◌, List, length, refl, sym, ap, ◌∙◌, subst, arith}
+use Rattle.std.specs.Prelude.{slice_get, Result, Ok, Err, IfOk, OnErr}
+use Rattle.std.proofs.Math.Logic.{∥∥₁_elim, ∥∥₁_prop, ∥∥₁_map}
+use Rattle.wsyntax.specs.declared.value.Value.{Value}
+use Rattle.wsyntax.specs.Modules.{ModuleShape, BodyShape}
+use Rattle.wsyntax.specs.Binary.Shell.{module_limit}
+use Rattle.wsyntax.specs.Validation.Context.{Context}
+use Rattle.wsyntax.specs.Validation.ModuleContext.{IndexedContext, module_context}
+use Rattle.wsyntax.specs.Execution.Store.{Module, Store}
+use Rattle.wsyntax.specs.Execution.Chain.{worked}
+use Rattle.wsyntax.specs.Execution.ConfigTyped.{ModuleTyped, StoreTyped}
+use Rattle.wsyntax.specs.Execution.Ends.{Outcome, Ends}
+use Rattle.wsyntax.specs.Execution.Laws.{StoreKept}
+use Rattle.wsyntax.specs.Execution.Start.{InstanceOf}
+use Rattle.soundness.specs.Slots.{SlotStore}
+use Rattle.soundness.specs.Instances.{Runnable, OneInstance}
+use Rattle.wcheck.specs.declared.checked.CheckedBody.{CheckedBody}
+use Rattle.refinement.specs.Machine.{Program, module_of}
+use Rattle.refinement.specs.Reached.{BodyHolds, ProgramHolds}
+use Rattle.refinement.specs.Trees.{TreeIsFound}
+use Rattle.interpreter.specs.declared.code.Code.{Code}
+use Rattle.interpreter.specs.Code.{bodies_of, program_of}
+use Rattle.interpreter.specs.Ended.{EndsWith, IsTypedStore}
+use Rattle.interpreter.specs.Execution.{Executes, LeavesTyped}
+use Rattle.interpreter.specs.declared.machine.Execution.{Execution}
+use Rattle.ends.specs.Outcomes.{outcome_of}
+use Rattle.verdict.specs.Judgement.{IsJudged, shapes_of}
+use Rattle.verdict.specs.Small.{IsSmall}
+use Rattle.verdict.specs.TypeNumbers.{AreTypeNumbers}
+use Rattle.wstore.specs.Held.{store_of, IsHeld}
+use Rattle.wstore.specs.Runs.{Fits, Runs, IsTypedCall, longest}
+use Rattle.wstore.proofs.Held.{tagged_again, is_held}
+use Rattle.wstore.proofs.Programs.{has_tree, functions_are, body_at, body_there, defined_at, longest_within, body_holds}
+use Rattle.wstore.proofs.ProgramCode.{HasParts, parts_program, is_code}
+
+-- ---- before the call
+
+-- what is known of an accepted module, its program and its store
+pub record Known (m : ModuleShape) (x : IndexedContext) (all : List CheckedBody) (numbers : List ℕ) (store : SlotStore) : Type 0 where
+  pub judged : IsJudged m x all
+  pub small : IsSmall m all
+  pub numbered : AreTypeNumbers m.types numbers
+  pub runnable : Runnable m (shapes_of all)
+  pub held : IsHeld (module_context m) store
+
+pub known : (m : ModuleShape) (x : IndexedContext) (all : List CheckedBody) (numbers : List ℕ) (store : SlotStore) → ∥ IsJudged m x all ∥₁ → ∥ IsSmall m all ∥₁ → ∥ AreTypeNumbers m.types numbers ∥₁
+    → ∥ Runnable m (shapes_of all) ∥₁ → ∥ IsHeld (module_context m) store ∥₁ → ∥ Known m x all numbers store ∥₁
+known m x all numbers store judged small numbered runnable held =
+    ∥∥₁_elim judged ∥∥₁_prop (λ j. ∥∥₁_elim small ∥∥₁_prop (λ s. ∥∥₁_elim numbered ∥∥₁_prop (λ n. ∥∥₁_elim runnable ∥∥₁_prop (λ r.
+    ∥∥₁_map held (λ h. record { judged = j; small = s; numbered = n; runnable = r; held = h })))))
+
+-- the program of the module
+abbrev program_in : ModuleShape → List CheckedBody → Program
+program_in m all = record { types = m.types; bodies = bodies_of m.types m.functions all }
+
+bodies_count : (m : ModuleShape) (x : IndexedContext) (all : List CheckedBody) → IsJudged m x all → length m.functions ≡ length all
+bodies_count m x all j = j.paired ∙ sym j.bodies.count
+
+program_instance : (m : ModuleShape) (x : IndexedContext) (all : List CheckedBody) → TreeIsFound → IsJudged m x all → InstanceOf m (shapes_of all) (module_of (program_in m all))
+program_instance m x all found j = record { same_types = refl; each = functions_are m.types m.functions all (bodies_count m x all j) (λ k c is. has_tree m x all k c found j is) }
+
+program_holds : (m : ModuleShape) (x : IndexedContext) (all : List CheckedBody) → TreeIsFound → OneInstance → IsJudged m x all → Runnable m (shapes_of all) → ProgramHolds (module_context m) (longest (shapes_of all)) (program_in m all)
+program_holds m x all found one j r = record {
+  typed = one.typed m (shapes_of all) (module_of (program_in m all)) r (program_instance m x all found j);
+  each = λ f b e.
+      let at = body_at m.types m.functions all f b e in
+      subst (BodyHolds (module_context m) (longest (shapes_of all))) at.same (body_holds m x all f at.of_type at.checked found j r.no_imports at.typed at.there);
+}
+
+short_bodies : (m : ModuleShape) (all : List CheckedBody) → IsSmall m all → longest (shapes_of all) ≤ 2 ^ 31
+short_bodies m all s = let h = longest_within module_limit all s.tokens in omega (arith, h)
+
+pub typed_call : (m : ModuleShape) (x : IndexedContext) (all : List CheckedBody) (numbers : List ℕ) (store : SlotStore) (c : Code) (f : ℕ) (args : List Value) (fuel frames : ℕ)
+    → TreeIsFound → OneInstance → Known m x all numbers store → HasParts c m numbers all → Fits (module_context m) f args → IsTypedCall m (shapes_of all) c store f args fuel frames
+typed_call m x all numbers store c f args fuel frames found one k h fits =
+    let count = bodies_count m x all k.judged in
+    let program = sym (parts_program c m numbers all h) in
+    let instance = program_instance m x all found k.judged in
+    let held = program_holds m x all found one k.judged k.runnable in
+    let at = defined_at m f fits.sig k.runnable.no_imports fits.function in
+    let b = body_there m.types m.functions all f at.0 count at.1 in
+    record {
+      body = b.0;
+      sig = fits.sig;
+      coded = is_code c m numbers all h (k.judged.rules 3) count k.numbered;
+      instance = subst (λ (p : Program). InstanceOf m (shapes_of all) (module_of p)) program instance;
+      call = record {
+        called = record {
+          program = subst (ProgramHolds (module_context m) (longest (shapes_of all))) program held;
+          typed = record {
+            typed_module = subst (λ (p : Program). ModuleTyped (module_context m) (module_of p)) program held.typed;
+            typed_store = k.held.typed;
+            function = fits.function;
+            arguments = fits.arguments;
+          };
+          body = ap (λ (p : Program). slice_get p.bodies f) (sym program) ∙ b.1;
+        };
+        stored = k.held.same;
+        short = short_bodies m all k.small;
+      };
+    }
+
+-- ---- after the call
+
+typed_is_held : (C : Context) (store : SlotStore) → IsTypedStore C store → IsHeld C store
+typed_is_held C store h = subst (IsHeld C) h.2 (is_held C h.0 h.1)
+
+module _ (m : ModuleShape) (bodies : List BodyShape) (c : Code) (store store' : SlotStore) (f : ℕ) (args : List Value) (fuel frames : ℕ) (kept : StoreKept) (t : IsTypedCall m bodies c store f args fuel frames) where
+  -- how the call ended
+  abbrev EndedIn : Outcome → ℕ → ℕ → Type 0
+  EndedIn o left dispatches = EndsWith (module_of (program_of c)) (store_of (module_context m) store) f args fuel frames (longest bodies) o store' left dispatches
+
+  after_typed : (o : Outcome) (left dispatches : ℕ) (e : EndedIn o left dispatches) → StoreTyped (module_context m) e.after
+  after_typed o left dispatches e = kept (module_context m) (module_of (program_of c)) (store_of (module_context m) store) f args t.sig t.call.called.typed fuel frames e.spent o e.after e.ends
+
+  pub runs : (o : Outcome) (left dispatches : ℕ) → OneInstance → EndedIn o left dispatches → Runs m bodies (store_of (module_context m) store) f args fuel frames o (store_of (module_context m) store') left dispatches
+  runs o left dispatches one e =
+      let C = module_context m in
+      let there : e.after ≡ store_of C store' = sym (tagged_again C e.after (after_typed o left dispatches e)) ∙ ap (store_of C) e.stored in
+      let EndsIn : Module → Store → Type 0 = λ i s'. (x : Ends i (store_of C store) f args fuel frames o e.spent s') × (worked x.kinds ≤ dispatches) in
+      record {
+        spent = e.spent;
+        ends = λ i is. subst (λ j. EndsIn j (store_of C store')) (one.same m bodies (module_of (program_of c)) i t.instance is) (subst (EndsIn (module_of (program_of c))) there (e.ends, e.least));
+        paid = e.paid;
+        most = e.most;
+      }
+
+  abbrev Executed : Execution → Type 0
+  Executed = Executes c store f args fuel frames store'
+
+  ended : (x : Execution) → Executed x → EndedIn (outcome_of x.outcome) x.left x.dispatches
+  ended x h = h (module_context m) (longest bodies) (store_of (module_context m) store) t.body t.sig t.call
+
+  pub all_runs : {E : Type 0} (r : Result Execution E) → OneInstance → IfOk r Executed
+      → IfOk r (λ x. Runs m bodies (store_of (module_context m) store) f args fuel frames (outcome_of x.outcome) (store_of (module_context m) store') x.left x.dispatches)
+  all_runs (Ok x) one h = runs (outcome_of x.outcome) x.left x.dispatches one (ended x h)
+  all_runs (Err e) one h = tt
+
+  pub held_after : {E : Type 0} (r : Result Execution E) → IfOk r Executed → OnErr r (LeavesTyped c store f args fuel frames store') → IsHeld (module_context m) store'
+  held_after (Ok x) h k =
+      let e = ended x h in
+      typed_is_held (module_context m) store' (e.after, after_typed (outcome_of x.outcome) x.left x.dispatches e, e.stored)
+  held_after (Err e) h k = typed_is_held (module_context m) store' (k (module_context m) (longest bodies) (store_of (module_context m) store) t.body t.sig t.call)

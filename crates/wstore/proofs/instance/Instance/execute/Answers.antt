@@ -1,0 +1,38 @@
+use Rattle.std.proofs.Common.{ap, map, ◌∙◌}
+use Rattle.std.proofs.Math.Logic.{∥∥₁_map}
+use Rattle.wsyntax.specs.Modules.{func_type_of}
+use Rattle.verdict.specs.Judgement.{shapes_of}
+use Rattle.parts.specs.Seen.{seen}
+use Rattle.wstore.specs.Views.{module_in}
+use Rattle.wstore.proofs.TypedCalls.{known, typed_call, all_runs, held_after}
+use Rattle.wstore.proofs.instance.Instance.execute.Goals as goal
+
+pub is_typed_call-requires : goal.is_typed_call-requires
+is_typed_call-requires c =
+    let i = c.args.self.now in
+    let all = i.accepted.now.bodies.items in
+    let numbers = i.accepted.now.type_numbers.items in
+    let code = c.code_of-code in
+    ∥∥₁_map (known (module_in i) i.accepted.now.context all numbers (seen i.parts) c.accepted_holds.ensures c.is_small.ensures c.types_are_numbered.ensures i.runnable i.held) (λ k.
+    typed_call (module_in i) i.accepted.now.context all numbers (seen i.parts) code.result c.args.function c.args.args.now c.args.fuel c.args.frames c.tree_is_found.ensures c.one_instance.ensures k
+    (record {
+      types = ap (map func_type_of) code.ensures.types;
+      functions = code.ensures.functions;
+      bodies = code.ensures.bodies;
+      shapes = code.ensures.shapes ∙ c.functions_have_shapes.ensures;
+      kinds = code.ensures.kinds;
+    })
+    c.requires)
+
+pub invariant_of-self : goal.invariant_of-self
+invariant_of-self c =
+    let i = c.args.self.now in
+    record {
+      held = ∣ held_after (module_in i) (shapes_of i.accepted.now.bodies.items) c.code_of-code.result (seen i.parts) (seen c.execute.new.parts) c.args.function c.args.args.now c.args.fuel c.args.frames c.store_kept.ensures c.is_typed_call.ensures c.execute.result c.execute.ensures.executed c.execute.ensures.refused ∣₁;
+      runnable = i.runnable;
+    }
+
+pub returns-clause-runs : goal.returns-clause-runs
+returns-clause-runs c =
+    let i = c.args.self.now in
+    all_runs (module_in i) (shapes_of i.accepted.now.bodies.items) c.code_of-code.result (seen i.parts) (seen c.execute.new.parts) c.args.function c.args.args.now c.args.fuel c.args.frames c.store_kept.ensures c.is_typed_call.ensures c.execute.result c.one_instance.ensures c.execute.ensures.executed

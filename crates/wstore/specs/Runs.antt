@@ -1,0 +1,45 @@
+-- 4.5.5 A call on the store of an instance.
+use Rattle.std.specs.Prelude.{◌≡◌, ℕ, ◌+◌, ◌≤◌, List, [], ◌∷◌, length, max, Some, slice_get}
+use Rattle.wsyntax.specs.Types.{FuncType}
+use Rattle.wsyntax.specs.declared.value.Value.{Value}
+use Rattle.wsyntax.specs.Modules.{ModuleShape, BodyShape}
+use Rattle.wsyntax.specs.Validation.Context.{Context}
+use Rattle.wsyntax.specs.Execution.Store.{Module, Store}
+use Rattle.wsyntax.specs.Execution.Chain.{worked}
+use Rattle.wsyntax.specs.Execution.ConfigTyped.{ValuesTyped}
+use Rattle.wsyntax.specs.Execution.Ends.{Outcome, Ends}
+use Rattle.wsyntax.specs.Execution.Start.{InstanceOf}
+use Rattle.wsyntax.specs.Validation.ModuleContext.{module_context}
+use Rattle.soundness.specs.Slots.{SlotStore}
+use Rattle.refinement.specs.Machine.{Body, module_of}
+use Rattle.interpreter.specs.declared.code.Code.{Code}
+use Rattle.interpreter.specs.Code.{program_of, IsCode}
+use Rattle.interpreter.specs.Ended.{WithinBound}
+use Rattle.interpreter.specs.Execution.{IsCall}
+use Rattle.wstore.specs.Held.{store_of}
+
+-- the function is there, and the arguments are of its type
+pub record Fits (C : Context) (f : ℕ) (args : List Value) : Type 0 where
+  pub sig : FuncType
+  pub function : slice_get C.functions f ≡ Some sig
+  pub arguments : ValuesTyped args sig.params
+
+-- the tokens of the longest body
+abbrev pub longest : List BodyShape → ℕ
+longest [] = 0
+longest (b ∷ bs) = max (length b.code) (longest bs)
+
+-- the call of f on store s ends so, and leaves store s'; so much fuel is left; the tokens that were taken are no more than the longest body has for each unit that was spent (one more where fuel ran out), and no fewer than there is work in the chain
+pub record Runs (m : ModuleShape) (bodies : List BodyShape) (s : Store) (f : ℕ) (args : List Value) (fuel frames : ℕ) (o : Outcome) (s' : Store) (left dispatches : ℕ) : Type 0 where
+  pub spent : ℕ
+  pub ends : (i : Module) → InstanceOf m bodies i → (e : Ends i s f args fuel frames o spent s') × (worked e.kinds ≤ dispatches)
+  pub paid : spent + left ≡ fuel
+  pub most : WithinBound (longest bodies) spent dispatches o
+
+-- the code is that of the module with these bodies, and the call is a typed call of it
+pub record IsTypedCall (m : ModuleShape) (bodies : List BodyShape) (code : Code) (store : SlotStore) (f : ℕ) (args : List Value) (fuel frames : ℕ) : Type 0 where
+  pub body : Body
+  pub sig : FuncType
+  pub coded : IsCode code
+  pub instance : InstanceOf m bodies (module_of (program_of code))
+  pub call : IsCall code store f args fuel frames (module_context m) (longest bodies) (store_of (module_context m) store) body sig

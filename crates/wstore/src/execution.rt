@@ -1,0 +1,75 @@
+//! Calls on the store of an instance.
+
+ghost use Rattle.std.specs.Prelude.{◌≡◌, IfOk};
+ghost use Rattle.ends.specs.Outcomes.{outcome_of};
+ghost use Rattle.parts.specs.Seen.{seen};
+ghost use Rattle.verdict.specs.Judgement.{shapes_of};
+ghost use Rattle.wstore.specs.Views.{module_in, context_in, store_in};
+ghost use Rattle.wstore.specs.Runs.{Fits, IsTypedCall, Runs};
+
+use crate::instance::Instance;
+use interpreter::{Code, Execution, execute};
+use std::alloc::{AllocError, Global};
+use verdict::Accepted;
+use wsyntax::Value;
+
+/// The code of a module without imports.
+fn code_of<'a>(accepted: &'a Accepted<'_>) -> Code<'a>
+    ensures types { result.types.now ≡ accepted.now.module.types.items }
+    ensures functions { result.functions.now ≡ accepted.now.module.functions.items }
+    ensures bodies { result.bodies.now ≡ accepted.now.bodies.items }
+    ensures shapes { result.shapes.now ≡ accepted.now.shapes.items }
+    ensures kinds { result.kinds.now ≡ accepted.now.type_numbers.items }
+{
+    let module = accepted.module();
+    Code {
+        types: &module.types,
+        functions: &module.functions,
+        bodies: accepted.bodies(),
+        shapes: accepted.function_shapes(),
+        kinds: accepted.type_numbers(),
+    }
+}
+
+/// The law that a call is typed where it is merely known that there is a proof of it: no promise tells one proof from
+/// another, so the proof may be taken in hand.
+fn is_typed_call(
+    instance: &Instance<'_>,
+    code: &Code<'_>,
+    function: u32,
+    args: &[Value],
+    fuel: u32,
+    frames: u32,
+)
+    requires { ∥ IsTypedCall (module_in instance.now) (shapes_of instance.now.accepted.now.bodies.items) code.now (seen instance.now.parts) function args.now fuel frames ∥₁ }
+    ensures { IsTypedCall (module_in instance.now) (shapes_of instance.now.accepted.now.bodies.items) code.now (seen instance.now.parts) function args.now fuel frames }
+{}
+
+impl<'a> Instance<'a> {
+    /// Calls a function on its store (4.5.5), under limits of fuel and frames. Fuel is tested first, then frames; then
+    /// memory is asked for: for the results, and for the frames as they are entered. An error says that memory was
+    /// refused; the store is then one that the call had reached.
+    pub fn execute(
+        &mut self,
+        alloc: Global,
+        function: u32,
+        args: &[Value],
+        fuel: u32,
+        frames: u32,
+    ) -> Result<Execution, AllocError>
+        requires { Fits (context_in self.old) function args.now }
+        ensures runs { IfOk result (λ x. Runs (module_in self.old) (shapes_of self.old.accepted.now.bodies.items) (store_in self.old) function args.now fuel frames (outcome_of x.outcome) (store_in self.new) x.left x.dispatches) }
+        ensures marks { (self.new.accepted.now ≡ self.old.accepted.now) × (self.new.failed ≡ self.old.failed) × (self.new.dispatches ≡ self.old.dispatches) }
+    {
+        self.accepted.accepted_holds();
+        self.accepted.types_are_numbered();
+        self.accepted.functions_have_shapes();
+        self.accepted.is_small();
+        soundness::instances::one_instance();
+        soundness::execution::store_kept();
+        refinement::tree_is_found();
+        let code = code_of(self.accepted);
+        is_typed_call(self, &code, function, args, fuel, frames);
+        execute(alloc, &code, &mut self.parts, function, args, fuel, frames)
+    }
+}

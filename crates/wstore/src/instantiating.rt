@@ -1,0 +1,65 @@
+ghost use Rattle.std.specs.Prelude.{◌≡◌, ◌≤◌, false, None, OnOk, IfOk, IfErr};
+ghost use Rattle.wsyntax.specs.Modules.{module_shape};
+ghost use Rattle.wsyntax.specs.Execution.Start.{start_refusal, fresh_store};
+ghost use Rattle.soundness.specs.Slots.{slot_store};
+ghost use Rattle.parts.specs.Seen.{seen};
+ghost use Rattle.verdict.specs.Judgement.{shapes_of};
+ghost use Rattle.wstore.specs.Buffers.{room_with};
+ghost use Rattle.wstore.specs.Faults.{IsFault};
+ghost use Rattle.wstore.specs.Views.{store_in};
+
+use crate::fault::{NotStarted, StartFault};
+use crate::fresh::fresh_parts;
+use crate::instance::Instance;
+use crate::refusal::refusal;
+use crate::settings::Settings;
+use memory::CleanMem;
+use soundness::instances::starts_typed;
+use std::alloc::Global;
+use verdict::Accepted;
+
+/// Makes an instance in the memory that is lent (4.5.4), and runs nothing. What refuses it is asked before any memory is;
+/// then the element segments are written, and the data segments, each in order. Where there is no instance, what was lent
+/// comes back as it was.
+pub fn instantiate<'a>(
+    alloc: Global,
+    accepted: &'a Accepted<'a>,
+    settings: Settings,
+    clean: CleanMem,
+) -> Result<Instance<'a>, NotStarted>
+    ensures allowed { OnOk result (start_refusal settings.pages (module_shape accepted.now.module) (shapes_of accepted.now.bodies.items) ≡ None) }
+    ensures fresh { IfOk result (λ i. store_in i ≡ fresh_store settings.pages (module_shape accepted.now.module)) }
+    ensures parts { IfOk result (λ i. seen i.parts ≡ slot_store (fresh_store settings.pages (module_shape accepted.now.module))) }
+    ensures of { IfOk result (λ i. i.accepted.now ≡ accepted.now) }
+    ensures marks { IfOk result (λ i. (i.failed ≡ false) × (i.dispatches ≡ 0)) }
+    ensures room { IfOk result (λ i. clean ≤ room_with i.parts.memory i.lent) }
+    ensures refused { IfErr result (λ e. IsFault settings.pages (module_shape accepted.now.module) (shapes_of accepted.now.bodies.items) e.fault) }
+    ensures back { IfErr result (λ e. e.clean ≡ clean) }
+{
+    accepted.accepted_holds();
+    accepted.segments_are_bytes();
+    accepted.is_small();
+    starts_typed();
+    settings.in_range();
+    let module = accepted.module();
+    let pages = settings.pages();
+    if let Some(refusal) = refusal(module, accepted.has_floats(), pages) {
+        return Err(NotStarted {
+            fault: StartFault::Refused(refusal),
+            clean,
+        });
+    }
+    match fresh_parts(alloc, module, pages, clean) {
+        Ok((parts, lent)) => Ok(Instance {
+            accepted,
+            parts,
+            lent,
+            failed: false,
+            dispatches: 0,
+        }),
+        Err(clean) => Err(NotStarted {
+            fault: StartFault::Memory,
+            clean,
+        }),
+    }
+}
