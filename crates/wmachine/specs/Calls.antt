@@ -1,0 +1,31 @@
+-- 4.5.5 What a call promises beside how it ends.
+use Rattle.std.specs.Prelude.{◌≡◌, ℕ, List, Some, slice_get}
+use Rattle.wsyntax.specs.Types.{FuncType}
+use Rattle.wsyntax.specs.declared.value.Value.{Value}
+use Rattle.wsyntax.specs.Modules.{ModuleShape, BodyShape}
+use Rattle.wsyntax.specs.Validation.Context.{Context}
+use Rattle.wsyntax.specs.Execution.Values.{types}
+use Rattle.wsyntax.specs.Execution.Store.{Module, Store}
+use Rattle.wsyntax.specs.Execution.Step.{Config, Kind}
+use Rattle.wsyntax.specs.Execution.Chain.{Chain}
+use Rattle.wsyntax.specs.Execution.ConfigTyped.{ValuesTyped}
+use Rattle.wsyntax.specs.Execution.Ends.{Outcome, Values, Trapped, OutOfFuel, OutOfFrames, IsStuck, start}
+use Rattle.wsyntax.specs.Execution.Start.{InstanceOf}
+
+-- the function is there, and its parameters are of the types of the arguments
+pub record HasParams (C : Context) (f : ℕ) (args : List Value) : Type 0 where
+  pub sig : FuncType
+  pub function : slice_get C.functions f ≡ Some sig
+  pub params : types args ≡ sig.params
+
+-- the values are of the function's result types
+abbrev pub GivesTyped : Context → ℕ → Outcome → Type 0
+GivesTyped C f (Values vs) = (sig : FuncType) × (slice_get C.functions f ≡ Some sig) × ValuesTyped vs sig.results
+GivesTyped C f (Trapped k) = Unit {0}
+GivesTyped C f OutOfFuel = Unit {0}
+GivesTyped C f OutOfFrames = Unit {0}
+
+-- 7.5 no configuration that a chain from the call reaches is stuck
+abbrev pub NeverStuck : ModuleShape → List BodyShape → Store → ℕ → List Value → Type 0
+NeverStuck m bodies s f args =
+    (i : Module) (kinds : List Kind) (c : Config) → InstanceOf m bodies i → Chain i (start s f args) kinds c → IsStuck i c → ⊥

@@ -1,0 +1,50 @@
+ghost use Rattle.std.specs.Prelude.{◌≡◌, ◌≤◌, ◌-◌, option_map};
+ghost use Rattle.wmachine.specs.Fuel.{limit_in_range};
+
+/// The most units of fuel.
+const MOST: u32 = 1_000_000_000;
+
+/// Fuel, of which each entry of a function and each turn of a loop takes a unit. One serves the start function and the
+/// call.
+#[derive(Drop)]
+pub struct Fuel {
+    limit: u32,
+    left: u32,
+    ghost in_range: { (left ≤ limit) × (limit ≤ 1000000000) },
+}
+
+impl Fuel {
+    /// Fuel of so many units; `None` exactly where there would be more than 1,000,000,000.
+    pub fn new(limit: u32) -> Option<Fuel>
+        ensures limit { option_map (λ f. f.limit) result ≡ limit_in_range limit }
+        ensures whole { option_map (λ f. f.left) result ≡ limit_in_range limit }
+    {
+        if limit > MOST {
+            return None;
+        }
+        Some(Fuel { limit, left: limit })
+    }
+
+    /// The units that are spent.
+    pub fn spent(&self) -> u32
+        ensures { result ≡ self.now.limit - self.now.left }
+    {
+        self.limit - self.left
+    }
+
+    /// The units that are left.
+    pub fn left(&self) -> u32
+        ensures { result ≡ self.now.left }
+    {
+        self.left
+    }
+
+    /// So many units are left now.
+    pub(crate) fn lower(&mut self, left: u32)
+        requires { left ≤ self.old.left }
+        ensures left { self.new.left ≡ left }
+        ensures limit { self.new.limit ≡ self.old.limit }
+    {
+        self.left = left;
+    }
+}

@@ -1,0 +1,64 @@
+ghost use Rattle.std.specs.Prelude.{◌≡◌, ℕ, true, IsErr, IfOk, OnErr};
+ghost use Rattle.ends.specs.Outcomes.{outcome_of};
+ghost use Rattle.wsyntax.specs.Execution.Store.{Store};
+ghost use Rattle.wsyntax.specs.Execution.Ends.{Outcome as MeantOutcome};
+ghost use Rattle.verdict.specs.Judgement.{shapes_of};
+ghost use Rattle.wstore.specs.Views.{module_in, context_in, store_in};
+ghost use Rattle.wstore.specs.Runs.{Fits, Runs};
+ghost use Rattle.wmachine.specs.Calls.{HasParams, GivesTyped, NeverStuck};
+
+use crate::arguments::are_words;
+use crate::fuel::Fuel;
+use ends::Outcome;
+use std::alloc::{AllocError, Global};
+use wstore::Instance;
+use wsyntax::Value;
+
+/// The law that a call on an instance is typed where its arguments have the parameter types: they are of the type of the
+/// function, nothing that the call reaches is stuck, and where it ends in values they are of the result types.
+fn call_is_typed(instance: &Instance<'_>, function: u32, args: &[Value])
+    requires { HasParams (context_in instance.now) function args.now }
+    ensures fit { Fits (context_in instance.now) function args.now }
+    ensures never_stuck { NeverStuck (module_in instance.now) (shapes_of instance.now.accepted.now.bodies.items) (store_in instance.now) function args.now }
+    ensures typed { (fuel frames left dispatches : ℕ) (o : MeantOutcome) (s : Store) → Runs (module_in instance.now) (shapes_of instance.now.accepted.now.bodies.items) (store_in instance.now) function args.now fuel frames o s left dispatches → GivesTyped (context_in instance.now) function o }
+{
+    are_words(args);
+    instance.holds();
+}
+
+/// Calls a function of an instance (4.5.5) with the fuel that is left. An error says that memory was refused, now or on an
+/// earlier call of the instance; then the instance has failed, and no fuel is taken.
+pub fn invoke(
+    alloc: Global,
+    instance: &mut Instance<'_>,
+    function: u32,
+    args: &[Value],
+    fuel: &mut Fuel,
+    frames: u32,
+) -> Result<Outcome, AllocError>
+    requires { HasParams (context_in instance.old) function args.now }
+    ensures ends { IfOk result (λ o. Runs (module_in instance.old) (shapes_of instance.old.accepted.now.bodies.items) (store_in instance.old) function args.now fuel.old.left frames (outcome_of o) (store_in instance.new) fuel.new.left instance.new.dispatches) }
+    ensures typed { IfOk result (λ o. GivesTyped (context_in instance.old) function (outcome_of o)) }
+    ensures never_stuck { NeverStuck (module_in instance.old) (shapes_of instance.old.accepted.now.bodies.items) (store_in instance.old) function args.now }
+    ensures limit { fuel.new.limit ≡ fuel.old.limit }
+    ensures of { instance.new.accepted.now ≡ instance.old.accepted.now }
+    ensures failed { instance.old.failed ≡ true → IsErr result }
+    ensures fails { OnErr result (instance.new.failed ≡ true) }
+    ensures untouched { OnErr result (fuel.new.left ≡ fuel.old.left) }
+{
+    call_is_typed(instance, function, args);
+    if instance.failed() {
+        return Err(AllocError);
+    }
+    match instance.execute(alloc, function, args, fuel.left(), frames) {
+        Ok(execution) => {
+            fuel.lower(execution.left);
+            instance.set_dispatches(execution.dispatches);
+            Ok(execution.outcome)
+        }
+        Err(refused) => {
+            instance.fail();
+            Err(refused)
+        }
+    }
+}
