@@ -1,15 +1,24 @@
-//! What is written for a module.
+//! What is written for a module and a text of calls.
 #![tactic(auto)]
 
+mod answering;
+mod call;
+mod calls;
+mod laws;
 mod line;
 mod output;
 mod report;
+mod running;
 mod status;
 
+pub use answering::answer;
+pub use laws::one_answer;
 pub use output::{WriteFailed, write_text};
 pub use pieces::{Plan, Quiet, Watch};
 pub use report::report_verdict;
+pub use running::run_batch;
 pub use status::{AnswerFault, Status};
+pub use wstore::Settings;
 
 #[cfg(test)]
 mod tests;

@@ -1,11 +1,16 @@
-// The lines word by word, and writers that fail, take a byte at a time, or take none.
+// The lines word by word, writers that fail, take a byte at a time, or take none, and whole answers.
+use crate::answering::answer;
 use crate::report::write_verdict;
 use crate::status::{AnswerFault, Status};
+use pieces::{Plan, Quiet};
 use std::alloc::Global;
 use std::io;
 use std::io::{ErrorKind, Write};
+use std::sync::Wait;
 use std::test::Fail;
+use std::thread::Threads;
 use verdict::{Class, Refusal};
+use wstore::Settings;
 
 // Holds what it takes: `at_once` bytes a write, `room` in all. Then it fails, or takes no byte.
 #[derive(Drop)]
@@ -116,4 +121,92 @@ fn without_memory_nothing_is_written(rt: HostRuntime) {
         Err(AnswerFault::Memory)
     );
     assert!(rt; out.held.is_empty());
+}
+
+// (func (export "add") (param i32 i32) (result i32) (i32.add (local.get 0) (local.get 1)))
+const ADD: &[u8] = b"\0asm\x01\0\0\0\
+    \x01\x07\x01\x60\x02\x7f\x7f\x01\x7f\
+    \x03\x02\x01\0\
+    \x07\x07\x01\x03add\0\0\
+    \x0a\x09\x01\x07\0\x20\0\x20\x01\x6a\x0b";
+
+// A global that the start function sets to 7, and functions that read it, trap, and go round a loop.
+const STARTED: &[u8] = b"\0asm\x01\0\0\0\
+    \x01\x08\x02\x60\0\0\x60\0\x01\x7f\
+    \x03\x05\x04\0\x01\0\0\
+    \x06\x06\x01\x7f\x01\x41\0\x0b\
+    \x07\x19\x04\x03get\0\x01\x04trap\0\x02\x04spin\0\x03\x01g\x03\0\
+    \x08\x01\0\
+    \x0a\x19\x04\x06\0\x41\x07\x24\0\x0b\x04\0\x23\0\x0b\x03\0\0\x0b\x07\0\x03\x40\x0c\0\x0b\x0b";
+
+// What is written for a module and calls, and its status.
+fn answered<R: AllocGlobal + Threads + Wait + Sync>(
+    rt: &R,
+    module: &[u8],
+    calls: &[u8],
+) -> Result<(Vec<u8>, Status), Fail> {
+    let plan = Plan::new(3, 2).ok_or("plan")?;
+    let settings = Settings::new(10, 100, 1).ok_or("settings")?;
+    let mut out = Narrow::new(rt.alloc(), 100, 100_000, true);
+    let status = answer(
+        rt,
+        rt.alloc(),
+        module,
+        calls,
+        settings,
+        plan,
+        &Quiet,
+        &mut out,
+    )?;
+    Ok((out.held, status))
+}
+
+#[test]
+fn a_call_is_answered(rt: HostRuntime) -> Result<(), Fail> {
+    let (text, status) = answered(&rt, ADD, b"add\ti32:2147483647\ti32:1\n")?;
+    assert_eq!(rt;
+        text.as_slice(),
+        "0 values i32:-2147483648 fuel 1\n\
+        total 1 values 1 traps 0 exhausted 0 refused 0 no-memory 0 fuel 1\n"
+            .as_bytes()
+    );
+    assert_eq!(rt; status, Status::Good);
+    Ok(())
+}
+
+#[test]
+fn each_call_is_alone_behind_the_start_function(rt: HostRuntime) -> Result<(), Fail> {
+    let (text, status) = answered(&rt, STARTED, b"get\ntrap\nspin\ng\nno\nget\ti32:1\nget\n")?;
+    assert_eq!(rt;
+        text.as_slice(),
+        "0 values i32:7 fuel 2\n\
+        1 trap unreachable fuel 2\n\
+        2 out-of-fuel fuel 10\n\
+        3 not-a-function\n\
+        4 no-export\n\
+        5 bad-arguments\n\
+        6 values i32:7 fuel 2\n\
+        total 7 values 2 traps 1 exhausted 1 refused 3 no-memory 0 fuel 16\n"
+            .as_bytes()
+    );
+    assert_eq!(rt; status, Status::Good);
+    Ok(())
+}
+
+#[test]
+fn refusals_are_answered(rt: HostRuntime) -> Result<(), Fail> {
+    let (text, status) = answered(&rt, b"\0asm\x02\0\0\0", b"add")?;
+    assert_eq!(rt; text.as_slice(), "refused malformed\n".as_bytes());
+    assert_eq!(rt; status, Status::ModuleRefused);
+    let (text, status) = answered(&rt, ADD, b"add\n\nadd\ti32:01\n")?;
+    assert_eq!(rt;
+        text.as_slice(),
+        "accepted\ncalls line 3 refused\n".as_bytes()
+    );
+    assert_eq!(rt; status, Status::CallsRefused);
+    let long = vec![in rt.alloc(); b'\n'; 4_194_305]?;
+    let (text, status) = answered(&rt, ADD, &long)?;
+    assert_eq!(rt; text.as_slice(), "accepted\ncalls too-large\n".as_bytes());
+    assert_eq!(rt; status, Status::CallsRefused);
+    Ok(())
 }

@@ -1,4 +1,4 @@
-use Rattle.std.proofs.Common.{◌≡◌, ℕ, List, ◌++◌, codes, decimal, IfOk, ◌∙◌, ap, sym, append_assoc}
+use Rattle.std.proofs.Common.{◌≡◌, ℕ, List, ◌++◌, codes, decimal, ◌∙◌, ap, sym, append_assoc}
 use Rattle.std.proofs.lemmas.Result.{IfOk-weaker}
 use Rattle.wsyntax.specs.Texts.Words.{newline}
 use Rattle.batch.proofs.line.body_line.Goals as goal

@@ -1,0 +1,78 @@
+-- The answer, from what its parts say.
+use Rattle.std.proofs.Common.{◌≡◌, ℕ, suc, false, List, [], ◌∷◌, ◌++◌, Some, IsSomeAnd, Err, length, refl, sym, ap, subst, ◌∙◌, arith}
+use Rattle.std.specs.Prelude.{slice_get, map, IfSome}
+use Rattle.std.proofs.lemmas.Option.{same_Some}
+use Rattle.std.proofs.Math.Logic.{∥∥₁_map}
+use Rattle.wsyntax.specs.Modules.{BodyShape, module_shape, body_shape}
+use Rattle.wsyntax.specs.Binary.Shell.{SpellsBody, SpellsBodies, Spells}
+use Rattle.wsyntax.specs.Validation.Verdict.{IsVerdict, Accepted, TooLarge, Malformed, RuleBroken, BodyRefused}
+use Rattle.wsyntax.specs.Texts.Calls.{TooLong, BadLine, Good, IsCalls}
+use Rattle.wsyntax.specs.Texts.Lines.{verdict_line}
+use Rattle.wsyntax.specs.Texts.Report.{report_text}
+use Rattle.wsyntax.specs.Texts.Answer.{Limits, IsAnswer, calls_line}
+use Rattle.texts.specs.Calls.{ReadsCalls, calls_of}
+use Rattle.texts.specs.Ends.{ends_of}
+use Rattle.texts.specs.declared.call.Call.{Call}
+use Rattle.texts.specs.declared.line.Line.{Line}
+use Rattle.texts.specs.declared.fault.CallsFault.{CallsFault}
+use Rattle.texts.specs.declared.fault.CallsFault.TheVariants as fault
+use Rattle.verdict.specs.Kept.{IsAcceptedFrom}
+use Rattle.verdict.specs.Judgement.{shapes_of}
+use Rattle.verdict.specs.Refusals.{verdict_of, fault_of}
+use Rattle.verdict.specs.declared.accepted.Accepted.{Accepted as AcceptedModule}
+use Rattle.verdict.specs.declared.refusal.Refusal.{Refusal}
+use Rattle.verdict.specs.declared.refusal.Refusal.TheVariants as refusal
+use Rattle.wstore.specs.declared.settings.Settings.{Settings}
+use Rattle.wstore.specs.Settings.{limits}
+use Rattle.batch.specs.Ends.{is_short, AreEnds}
+use Rattle.batch.specs.Answers.{IsSomeAnswer, refused_text}
+
+-- ---- what the bytes spell
+
+-- each checked body is that of its bytes
+spell_bodies : {A : Type 0} (shape : A → BodyShape) (bodies : List (List ℕ)) (all : List A) → length all ≡ length bodies
+    → ((k : ℕ) (checked : A) → slice_get all k ≡ Some checked → (bytes : List ℕ) × (slice_get bodies k ≡ Some bytes) × SpellsBody bytes (shape checked))
+    → SpellsBodies bodies (map shape all)
+spell_bodies shape [] [] count each = tt
+spell_bodies shape [] (x ∷ xs) count each = absurd (omega (arith, count))
+spell_bodies shape (b ∷ bs) [] count each = absurd (omega (arith, count))
+spell_bodies shape (b ∷ bs) (x ∷ xs) count each =
+    let (bytes, at, spelled) = each 0 x refl in
+    let same : bytes ≡ b = sym (same_Some b bytes at) in
+    let rest : length xs ≡ length bs = omega (arith, count) in
+    (subst (λ (s : List ℕ). SpellsBody s (shape x)) same spelled, spell_bodies shape bs xs rest (λ k checked e. each (suc k) checked e))
+
+pub spelled : (bytes : List ℕ) (a : AcceptedModule) → IsAcceptedFrom bytes a → Spells bytes (module_shape a.«module») (shapes_of a.bodies.items)
+spelled bytes a h = (
+  h.shell,
+  spell_bodies (λ c. body_shape c.body) (module_shape a.«module»).bodies a.bodies.items h.bodies.count
+      (λ k checked e. let (s, at, from) = h.bodies.each k checked e in (s, at, from.spelled)),
+)
+
+-- ---- the answer
+
+-- on a refused module
+pub refused_module : (bytes text : List ℕ) (l : Limits) (r : Refusal) (out : List ℕ) → IfSome (verdict_of r) (IsVerdict bytes) → IsSomeAnd (verdict_of r) (λ v. out ≡ verdict_line v) → IsSomeAnswer bytes text l out
+unfolding IsAnswer
+refused_module bytes text l refusal.TooLarge out v e = ((λ n. false), ∣ (TooLarge, v, e) ∣₁)
+refused_module bytes text l refusal.Malformed out v e = ((λ n. false), ∣ (Malformed, v, e) ∣₁)
+refused_module bytes text l (refusal.Rule k) out v e = ((λ n. false), ∣ (RuleBroken k, v, e) ∣₁)
+refused_module bytes text l (refusal.Body f c) out v e = ((λ n. false), ∣ (BodyRefused f (fault_of c), v, e) ∣₁)
+refused_module bytes text l refusal.Memory out v e = absurd e
+
+-- on calls that are refused
+pub refused_calls : (bytes text : List ℕ) (l : Limits) (f : CallsFault) (out : List ℕ) → IsVerdict bytes Accepted → ReadsCalls text (Err f) → IsSomeAnd (refused_text f) (λ c. out ≡ verdict_line Accepted ++ calls_line c) → IsSomeAnswer bytes text l out
+unfolding IsAnswer
+refused_calls bytes text l fault.TooLarge out v said e = ((λ n. false), ∣ (Accepted, v, (TooLong, said, e)) ∣₁)
+refused_calls bytes text l (fault.Line k) out v said e = ((λ n. false), ∣ (Accepted, v, (BadLine k, said, e)) ∣₁)
+refused_calls bytes text l fault.Memory out v said e = absurd e
+
+-- on calls that were run
+pub report_is : (bytes text : List ℕ) (a : AcceptedModule) (s : Settings) (calls given : List Call) (lines written : List Line) (out : List ℕ)
+    → IsVerdict bytes Accepted → Spells bytes (module_shape a.«module») (shapes_of a.bodies.items) → IsCalls text (Good (calls_of calls)) → given ≡ calls → ∥ AreEnds a s given lines ∥₁
+    → written ≡ lines → out ≡ report_text (ends_of written) → IsSomeAnswer bytes text (limits s.fuel s.frames s.pages) out
+unfolding IsAnswer
+report_is bytes text a s calls given lines written out v spells said same ends wrote e =
+    let ends' : ∥ AreEnds a s calls lines ∥₁ = subst (λ (x : List Call). ∥ AreEnds a s x lines ∥₁) same ends in
+    let text' : out ≡ report_text (ends_of lines) = e ∙ ap (λ (x : List Line). report_text (ends_of x)) wrote in
+    ((λ n. is_short (slice_get lines n)), ∥∥₁_map ends' (λ (h : AreEnds a s calls lines). (Accepted, v, (Good (calls_of calls), said, (module_shape a.«module», shapes_of a.bodies.items, ends_of lines, spells, h, text')))))

@@ -1,0 +1,4 @@
+pub mod Alone
+pub mod CallEnds
+pub mod Batches
+pub mod Answered

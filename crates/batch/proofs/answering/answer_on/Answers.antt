@@ -1,0 +1,13 @@
+use Rattle.wstore.specs.Settings.{limits}
+use Rattle.batch.proofs.Answered.{refused_calls, report_is}
+use Rattle.batch.proofs.answering.answer_on.Goals as goal
+
+pub returns-in-Err-clause-answer : goal.returns-in-Err-clause-answer
+returns-in-Err-clause-answer g c bytes v spells =
+    let s = c.args.settings in
+    refused_calls bytes c.args.calls.now (limits s.fuel s.frames s.pages) c.in-Err.fault _ v c.in-Err.ensures.said c.in_ok-calls_line-in-Err.ensures
+
+pub returns-clause-answer : goal.returns-clause-answer
+returns-clause-answer g c bytes v spells =
+    report_is bytes c.args.calls.now c.args.accepted.now c.args.settings c.in-Ok.calls.items c.deref.result.now c.in_ok-lines.lines.items c.deref-2.result.now _
+    v spells c.in-Ok.ensures.said c.deref.ensures.value c.in_ok-lines.ensures c.deref-2.ensures.value c.in_ok-report.ensures

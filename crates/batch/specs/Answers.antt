@@ -1,0 +1,42 @@
+-- What is left behind for a module and a text of calls.
+use Rattle.std.specs.Prelude.{◌≡◌, ℕ, Bool, IsTrue, List, Option, Some, None, Result, Ok, Err}
+use Rattle.std.specs.Io.KnownBytes.{Keeps, Appends}
+use Rattle.wsyntax.specs.Validation.Verdict.{Verdict, Accepted, IsVerdict}
+use Rattle.wsyntax.specs.Texts.Calls.{CallsText, TooLong, BadLine, Good as GoodCalls, IsCalls}
+use Rattle.wsyntax.specs.Texts.Answer.{Limits, IsAnswer}
+use Rattle.texts.specs.declared.fault.CallsFault.{CallsFault}
+use Rattle.texts.specs.declared.fault.CallsFault.TheVariants as fault
+use Rattle.batch.specs.Output.{AppendsFront}
+use Rattle.batch.specs.declared.status.Status.{Status}
+use Rattle.batch.specs.declared.status.Status.TheVariants.{Good, ModuleRefused, CallsRefused}
+use Rattle.batch.specs.declared.status.AnswerFault.{AnswerFault}
+use Rattle.batch.specs.declared.status.AnswerFault.TheVariants.{Memory, Write}
+
+-- the answer, where some of the calls met want of memory
+abbrev pub IsSomeAnswer : List ℕ → List ℕ → Limits → List ℕ → Type 0
+IsSomeAnswer bytes text l out = (short : ℕ → Bool) × ∥ IsAnswer bytes text l (λ n. IsTrue (short n)) out ∥₁
+
+-- what a text of calls is that is refused; want of memory says nothing
+abbrev pub refused_text : CallsFault → Option CallsText
+refused_text fault.TooLarge = Some TooLong
+refused_text (fault.Line k) = Some (BadLine k)
+refused_text fault.Memory = None
+
+-- good for a report, else what is refused
+abbrev pub calls_status : CallsText → Status
+calls_status (GoodCalls calls) = Good
+calls_status _ = CallsRefused
+
+abbrev pub StatusBy : List ℕ → Verdict → Status → Type 0
+StatusBy text Accepted status = (c : CallsText) × IsCalls text c × (status ≡ calls_status c)
+StatusBy text v status = status ≡ ModuleRefused
+
+-- the status of the answer
+abbrev pub HasStatus : List ℕ → List ℕ → Status → Type 0
+HasStatus bytes text status = (v : Verdict) × IsVerdict bytes v × StatusBy text v status
+
+-- a text with P is written, a beginning of it where a write failed, and nothing for want of memory
+abbrev pub Answers : (List ℕ → Type 0) → Option (List ℕ) → Option (List ℕ) → Result Status AnswerFault → Type 0
+Answers P old new (Ok status) = (out : List ℕ) × P out × Appends old new out
+Answers P old new (Err Write) = (out : List ℕ) × P out × AppendsFront old new out
+Answers P old new (Err Memory) = Keeps old new

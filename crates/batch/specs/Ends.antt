@@ -1,0 +1,76 @@
+-- How the calls of a batch end.
+use Rattle.std.specs.Prelude.{◌≡◌, ◌≢◌, ℕ, ◌+◌, Bool, true, false, IsTrue, List, [], Option, Some, None, slice_get}
+use Rattle.wsyntax.specs.Modules.{ModuleShape, BodyShape, module_shape}
+use Rattle.wsyntax.specs.Types.{FuncType}
+use Rattle.wsyntax.specs.declared.value.Value.{Value}
+use Rattle.wsyntax.specs.Execution.Values.{types}
+use Rattle.wsyntax.specs.Execution.Store.{Module, Store}
+use Rattle.wsyntax.specs.Execution.Ends as meant
+use Rattle.wsyntax.specs.Execution.Ends.{Ends}
+use Rattle.wsyntax.specs.Execution.Start.{InstanceOf, start_refusal, fresh_store}
+use Rattle.wsyntax.specs.Texts.Calls.{Call as Meant}
+use Rattle.wsyntax.specs.Texts.Answer.{Limits, Names, Started, EndsOn, EndOf, EndsOf}
+use Rattle.ends.specs.Outcomes.{outcome_of}
+use Rattle.ends.specs.StartRefusals.{refusal_of}
+use Rattle.ends.specs.declared.outcome.Outcome.{Outcome}
+use Rattle.texts.specs.Calls.{call_of, calls_of}
+use Rattle.texts.specs.Ends.{end_of, ends_of}
+use Rattle.texts.specs.declared.call.Call.{Call}
+use Rattle.texts.specs.declared.line.Line.{Line}
+use Rattle.texts.specs.declared.line.Line.TheVariants.{Ran, NoExport, NotAFunction, BadArguments, NotStarted, NoMemory}
+use Rattle.verdict.specs.declared.accepted.Accepted.{Accepted}
+use Rattle.verdict.specs.Judgement.{shapes_of}
+use Rattle.wstore.specs.declared.settings.Settings.{Settings}
+use Rattle.wstore.specs.Settings.{limits}
+
+-- ---- one call, alone
+
+-- 4.5.4 the start function was run, where there is one: it left store s and so much fuel; or it ended otherwise than in no values
+abbrev pub StartEnds : ModuleShape → Module → Limits → Store → ℕ → Option Outcome → Type 0
+StartEnds m i l s left None = (k : ℕ) × Started m i l s k × (l.fuel ≡ k + left)
+StartEnds m i l s left (Some o) =
+    (g : ℕ) × (k : ℕ) × (m.start ≡ Some g) × Ends i (fresh_store l.pages m) g [] l.fuel l.frames (outcome_of o) k s × (outcome_of o ≢ meant.Values []) × (l.fuel ≡ k + left)
+
+-- 4.5.5 the line says how the call of function f ends on each instance of the module
+abbrev pub RanAlone : ModuleShape → List BodyShape → Limits → ℕ → List Value → Line → Type 0
+RanAlone m bodies l f args (Ran o k) = (i : Module) → InstanceOf m bodies i → EndsOn m i l f args (outcome_of o) k
+RanAlone m bodies l f args _ = ⊥
+
+-- it says why there is no instance; or that memory was wanting, where nothing refuses the instance; or how the call ends
+abbrev pub EndsAlone : ModuleShape → List BodyShape → Limits → ℕ → List Value → Line → Type 0
+EndsAlone m bodies l f args (NotStarted r) = start_refusal l.pages m bodies ≡ Some (refusal_of r)
+EndsAlone m bodies l f args NoMemory = start_refusal l.pages m bodies ≡ None
+EndsAlone m bodies l f args (Ran o k) = (start_refusal l.pages m bodies ≡ None) × RanAlone m bodies l f args (Ran o k)
+EndsAlone m bodies l f args NoExport = ⊥
+EndsAlone m bodies l f args NotAFunction = ⊥
+EndsAlone m bodies l f args BadArguments = ⊥
+
+-- ---- a call
+
+-- the call names function f, and its arguments are of the types of the parameters
+abbrev pub IsCallee : ModuleShape → Meant → ℕ → Type 0
+IsCallee m c f = (sig : FuncType) × Names m c f sig × (types c.args ≡ sig.params)
+
+-- the call met want of memory
+abbrev pub is_short : Option Line → Bool
+is_short (Some NoMemory) = true
+is_short _ = false
+
+-- the line says how the call ends, whatever the limits
+abbrev pub RefusedAs : Accepted → Call → Line → Type 0
+RefusedAs a c line = (l : Limits) → EndOf (module_shape a.«module») (shapes_of a.bodies.items) l (IsTrue (is_short (Some line))) (call_of c) (end_of line)
+
+-- ---- the calls of a batch
+
+-- the line says how the call ends; where it says that memory was wanting, the call met that
+abbrev pub GivesLine : Accepted → Settings → Call → Line → Type 0
+GivesLine a s c line =
+    EndOf (module_shape a.«module») (shapes_of a.bodies.items) (limits s.fuel s.frames s.pages) (IsTrue (is_short (Some line))) (call_of c) (end_of line)
+
+abbrev pub GivesLineAt : Accepted → Settings → List Call → ℕ → Line → Type 0
+GivesLineAt a s calls n line = (c : Call) × (slice_get calls n ≡ Some c) × GivesLine a s c line
+
+-- the lines say how the calls end, one line a call
+abbrev pub AreEnds : Accepted → Settings → List Call → List Line → Type 0
+AreEnds a s calls lines =
+    EndsOf (module_shape a.«module») (shapes_of a.bodies.items) (limits s.fuel s.frames s.pages) (λ n. IsTrue (is_short (slice_get lines n))) 0 (calls_of calls) (ends_of lines)

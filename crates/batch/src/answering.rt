@@ -1,0 +1,118 @@
+//! The answer to a module and a text of calls.
+
+ghost use Rattle.std.specs.Prelude.{◌≡◌, ◌++◌, ℕ, List, IfOk, IsSomeAnd, string_bytes};
+ghost use Rattle.wsyntax.specs.Modules.{module_shape};
+ghost use Rattle.wsyntax.specs.Binary.Shell.{Spells};
+ghost use Rattle.wsyntax.specs.Validation.Verdict.{IsVerdict, Accepted as accepted_verdict};
+ghost use Rattle.wsyntax.specs.Texts.Lines.{verdict_line};
+ghost use Rattle.wsyntax.specs.Texts.Answer.{calls_line as refusal_line};
+ghost use Rattle.verdict.specs.Judgement.{shapes_of};
+ghost use Rattle.wstore.specs.Settings.{limits};
+ghost use Rattle.batch.specs.Answers.{Answers, HasStatus, IsSomeAnswer, StatusBy, refused_text};
+
+use crate::line::line_of;
+use crate::output::write_text;
+use crate::running::run_batch;
+use crate::status::{AnswerFault, Status};
+use pieces::{Plan, Watch};
+use std::alloc::{AllocError, Global};
+use std::io::Write;
+use std::sync::Wait;
+use std::thread::Threads;
+use texts::{CallsFault, read_calls, report};
+use verdict::{Accepted, judge};
+use wstore::Settings;
+
+/// What is written, and what it is.
+#[derive(Drop)]
+struct Written {
+    text: String,
+    status: Status,
+}
+
+/// The answer on calls that are refused.
+fn calls_line(alloc: Global, fault: CallsFault) -> Result<String, AllocError>
+    ensures { IfOk result (λ line. IsSomeAnd (refused_text fault) (λ c. string_bytes line ≡ verdict_line accepted_verdict ++ refusal_line c)) }
+{
+    match fault {
+        CallsFault::TooLarge => String::from_str(alloc, "accepted\ncalls too-large\n"),
+        CallsFault::Line(line) => format!(in alloc; "accepted\ncalls line {line} refused\n"),
+        CallsFault::Memory => Err(AllocError),
+    }
+}
+
+/// The answer on an accepted module.
+fn answer_on<R: Threads + Wait + Sync, W: Watch + Sync>(
+    rt: &R,
+    alloc: Global,
+    accepted: &Accepted<'_>,
+    calls: &[u8],
+    settings: Settings,
+    plan: Plan,
+    watch: &W,
+) -> Result<Written, AllocError>
+    ensures answer { IfOk result (λ a. (bytes : List ℕ) → IsVerdict bytes accepted_verdict → Spells bytes (module_shape accepted.now.module) (shapes_of accepted.now.bodies.items) → IsSomeAnswer bytes calls.now (limits settings.fuel settings.frames settings.pages) (string_bytes a.text)) }
+    ensures status { IfOk result (λ a. StatusBy calls.now accepted_verdict a.status) }
+{
+    let calls = match read_calls(alloc, calls) {
+        Ok(calls) => calls,
+        Err(fault) => {
+            return Ok(Written {
+                text: calls_line(alloc, fault)?,
+                status: Status::CallsRefused,
+            });
+        }
+    };
+    let lines = run_batch(rt, alloc, accepted, &calls, settings, plan, watch)?;
+    Ok(Written {
+        text: report(alloc, &lines)?,
+        status: Status::Good,
+    })
+}
+
+/// The answer to a module and a text of calls, made in memory.
+fn answer_to<R: Threads + Wait + Sync, W: Watch + Sync>(
+    rt: &R,
+    alloc: Global,
+    bytes: &[u8],
+    calls: &[u8],
+    settings: Settings,
+    plan: Plan,
+    watch: &W,
+) -> Result<Written, AllocError>
+    ensures answer { IfOk result (λ a. IsSomeAnswer bytes.now calls.now (limits settings.fuel settings.frames settings.pages) (string_bytes a.text)) }
+    ensures status { IfOk result (λ a. HasStatus bytes.now calls.now a.status) }
+{
+    match judge(rt, alloc, bytes, plan, watch) {
+        Ok(accepted) => answer_on(rt, alloc, &accepted, calls, settings, plan, watch),
+        Err(refusal) => Ok(Written {
+            text: line_of(alloc, Err(refusal))?,
+            status: Status::ModuleRefused,
+        }),
+    }
+}
+
+/// Judges a module, reads the calls, runs each alone, and writes the answer: a refused module's verdict line; else what is
+/// wrong with the calls; else the report. It is made before its first byte is written, so want of memory leaves `out` as it
+/// was. Nothing is flushed.
+pub fn answer<R: Threads + Wait + Sync, W: Watch + Sync, O: Write>(
+    rt: &R,
+    alloc: Global,
+    bytes: &[u8],
+    calls: &[u8],
+    settings: Settings,
+    plan: Plan,
+    watch: &W,
+    out: &mut O,
+) -> Result<Status, AnswerFault>
+    ensures answer { Answers (IsSomeAnswer bytes.now calls.now (limits settings.fuel settings.frames settings.pages)) (O.contents out.old) (O.contents out.new) result }
+    ensures status { IfOk result (HasStatus bytes.now calls.now) }
+{
+    let Ok(answer) = answer_to(rt, alloc, bytes, calls, settings, plan, watch) else {
+        return Err(AnswerFault::Memory);
+    };
+    match write_text(out, answer.text.as_bytes()) {
+        Ok(()) => Ok(answer.status),
+        Err(_) => Err(AnswerFault::Write),
+    }
+}
