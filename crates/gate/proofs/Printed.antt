@@ -1,16 +1,22 @@
 -- What stands behind a status.
-use Rattle.std.proofs.Common.{◌≡◌, ℕ, List, Option, Ok, inl, inr, refl, sym, subst, ◌∙◌}
+use Rattle.std.proofs.Common.{◌≡◌, ℕ, List, [], ◌∷◌, Option, Ok, Bor, inl, inr, refl, sym, subst, ◌∙◌}
+use Rattle.std.specs.Prelude.{Contains}
 use Rattle.std.specs.Io.KnownBytes.{Appends}
 use Rattle.wsyntax.specs.Validation.Verdict.{Verdict, Accepted, TooLarge, Malformed, RuleBroken, BodyRefused}
 use Rattle.wsyntax.specs.Texts.Lines.{verdict_line}
+use Rattle.wstore.specs.Settings.{limits}
+use Rattle.wstore.specs.declared.settings.Settings.{Settings}
 use Rattle.batch.specs.Report.{status_of}
 use Rattle.batch.specs.declared.status.Status.{Status}
 use Rattle.batch.specs.declared.status.Status.TheVariants.{Good, ModuleRefused, CallsRefused}
 use Rattle.gate.specs.declared.words.Request.{Request}
-use Rattle.gate.specs.declared.words.Request.TheVariants.{Check, Help}
-use Rattle.gate.specs.Checks.{Judges, PrintsRefusal, PrintsAcceptance, Does}
+use Rattle.gate.specs.declared.words.Request.TheVariants.{Check, Run, Text}
+use Rattle.gate.specs.Checks.{Judges}
 use Rattle.gate.specs.Endings.{answer_status}
+use Rattle.gate.specs.Prints.{AsksFor, Does, PrintsAnswer, PrintsCallsRefusal, PrintsGood, PrintsRefusal}
+use Rattle.gate.specs.Reads.{ReadsPaths}
 use Rattle.gate.specs.Requests.{IsRequestOf}
+use Rattle.gate.specs.Runs.{RunsOn}
 
 only_good : (s : Status) → answer_status s ≡ 0 → s ≡ Good
 only_good Good e = refl
@@ -22,6 +28,11 @@ only_refused Good e = absurd cc
 only_refused ModuleRefused e = refl
 only_refused CallsRefused e = absurd cc
 
+only_calls_refused : (s : Status) → answer_status s ≡ 3 → s ≡ CallsRefused
+only_calls_refused Good e = absurd cc
+only_calls_refused ModuleRefused e = absurd cc
+only_calls_refused CallsRefused e = refl
+
 only_accepted : (v : Verdict) → status_of v ≡ Good → v ≡ Accepted
 only_accepted Accepted e = refl
 only_accepted TooLarge e = absurd cc
@@ -29,22 +40,61 @@ only_accepted Malformed e = absurd cc
 only_accepted (RuleBroken k) e = absurd cc
 only_accepted (BodyRefused f fault) e = absurd cc
 
+-- a verdict says nothing of calls
+no_verdict : (v : Verdict) → status_of v ≡ CallsRefused → ⊥
+no_verdict Accepted e = absurd cc
+no_verdict TooLarge e = absurd cc
+no_verdict Malformed e = absurd cc
+no_verdict (RuleBroken k) e = absurd cc
+no_verdict (BodyRefused f fault) e = absurd cc
+
 -- what is shown is good
 not_refused : (s : Status) → s ≡ Good → s ≡ ModuleRefused → ⊥
 not_refused s a b = let e : Good ≡ ModuleRefused = sym a ∙ b in absurd cc
 
-pub acceptance : (words : List (List ℕ)) (request : Request) (holds : List ℕ → Option (List ℕ)) (old new : Option (List ℕ)) (s : Status) → IsRequestOf words request → Does request holds old new (Ok s) → answer_status s ≡ 0 → PrintsAcceptance words holds old new
-acceptance words (Check path plan) holds old new s named (v, judged, is, written) e =
+not_calls_refused : (s : Status) → s ≡ Good → s ≡ CallsRefused → ⊥
+not_calls_refused s a b = let e : Good ≡ CallsRefused = sym a ∙ b in absurd cc
+
+-- a run that ends with an answer
+answer : (words : List (List ℕ)) (path calls : Bor (List ℕ)) (settings : Settings) (holds : List ℕ → Option (List ℕ)) (asked asked' : Option (List (List ℕ))) (old new : Option (List ℕ)) (s t : Status)
+    → Contains words path.now × Contains words calls.now → RunsOn (holds path.now) (holds calls.now) (limits settings.fuel settings.frames settings.pages) old new (Ok s) → ReadsPaths asked asked' (path.now ∷ calls.now ∷ []) → s ≡ t → PrintsAnswer words holds asked asked' old new t
+answer words path calls settings holds asked asked' old new s t named done order e = record {
+  path = path.now;
+  calls = calls.now;
+  named = named.0;
+  calls_named = named.1;
+  in_order = order;
+  fuel = settings.fuel;
+  frames = settings.frames;
+  pages = settings.pages;
+  in_range = settings.in_range;
+  answered = subst (λ (x : Status). RunsOn (holds path.now) (holds calls.now) (limits settings.fuel settings.frames settings.pages) old new (Ok x)) e done;
+}
+
+pub good : (words : List (List ℕ)) (request : Request) (holds : List ℕ → Option (List ℕ)) (asked asked' : Option (List (List ℕ))) (old new : Option (List ℕ)) (s : Status) → IsRequestOf words request → Does request holds old new (Ok s) → AsksFor request asked asked' (Ok s) → answer_status s ≡ 0 → PrintsGood words holds asked asked' old new
+good words (Check path plan) holds asked asked' old new s named (v, judged, is, written) order e =
     let same : v ≡ Accepted = only_accepted v (sym is ∙ only_good s e) in
-    inr record {
+    inr (inl record {
       path = path.now;
       named = named;
+      only = order;
       judged = subst (Judges (holds path.now)) same judged;
       written = subst (λ (x : Verdict). Appends old new (verdict_line x)) same written;
-    }
-acceptance words (Help text) holds old new s asked shown e = inl asked
+    })
+good words (Run path calls settings plan) holds asked asked' old new s named done order e =
+    inr (inr (answer words path calls settings holds asked asked' old new s Good named done order (only_good s e)))
+good words (Text text) holds asked asked' old new s asks shown order e = inl asks
 
-pub refusal : (words : List (List ℕ)) (request : Request) (holds : List ℕ → Option (List ℕ)) (old new : Option (List ℕ)) (s : Status) → IsRequestOf words request → Does request holds old new (Ok s) → answer_status s ≡ 2 → PrintsRefusal words holds old new
-refusal words (Check path plan) holds old new s named (v, judged, is, written) e =
-    (v, sym is ∙ only_refused s e, record { path = path.now; named = named; judged = judged; written = written })
-refusal words (Help text) holds old new s asked shown e = absurd (not_refused s shown.0 (only_refused s e))
+pub refusal : (words : List (List ℕ)) (request : Request) (holds : List ℕ → Option (List ℕ)) (asked asked' : Option (List (List ℕ))) (old new : Option (List ℕ)) (s : Status) → IsRequestOf words request → Does request holds old new (Ok s) → AsksFor request asked asked' (Ok s) → answer_status s ≡ 2 → PrintsRefusal words holds asked asked' old new
+refusal words (Check path plan) holds asked asked' old new s named (v, judged, is, written) order e =
+    inl (v, sym is ∙ only_refused s e, record { path = path.now; named = named; only = order; judged = judged; written = written })
+refusal words (Run path calls settings plan) holds asked asked' old new s named done order e =
+    inr (answer words path calls settings holds asked asked' old new s ModuleRefused named done order (only_refused s e))
+refusal words (Text text) holds asked asked' old new s asks shown order e = absurd (not_refused s shown.0 (only_refused s e))
+
+pub calls_refusal : (words : List (List ℕ)) (request : Request) (holds : List ℕ → Option (List ℕ)) (asked asked' : Option (List (List ℕ))) (old new : Option (List ℕ)) (s : Status) → IsRequestOf words request → Does request holds old new (Ok s) → AsksFor request asked asked' (Ok s) → answer_status s ≡ 3 → PrintsCallsRefusal words holds asked asked' old new
+calls_refusal words (Check path plan) holds asked asked' old new s named (v, judged, is, written) order e =
+    absurd (no_verdict v (sym is ∙ only_calls_refused s e))
+calls_refusal words (Run path calls settings plan) holds asked asked' old new s named done order e =
+    answer words path calls settings holds asked asked' old new s CallsRefused named done order (only_calls_refused s e)
+calls_refusal words (Text text) holds asked asked' old new s asks shown order e = absurd (not_calls_refused s shown.0 (only_calls_refused s e))

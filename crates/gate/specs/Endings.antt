@@ -1,5 +1,5 @@
 -- The status that the program ends with.
-use Rattle.std.specs.Prelude.{◌≡◌, ◌⊎◌, ℕ}
+use Rattle.std.specs.Prelude.{◌≡◌, ◌⊎◌, ℕ, Result, Ok, Err}
 use Rattle.batch.specs.declared.status.Status.{Status}
 use Rattle.batch.specs.declared.status.Status.TheVariants.{Good, ModuleRefused, CallsRefused}
 use Rattle.gate.specs.declared.fault.Fault.{Fault}
@@ -18,6 +18,11 @@ fault_status (fault.Unreadable path) = 74
 fault_status fault.Write = 74
 fault_status fault.Memory = 70
 
--- accepted or shown, refused, no command, no memory, no file or no write
+-- of what came of a request
+abbrev pub result_status : Result Status Fault → ℕ
+result_status (Ok status) = answer_status status
+result_status (Err f) = fault_status f
+
+-- accepted, reported or shown; module refused; calls refused; no command; no memory; no file or no write
 abbrev pub IsStatus : ℕ → Type 0
-IsStatus n = (n ≡ 0) ⊎ ((n ≡ 2) ⊎ ((n ≡ 64) ⊎ ((n ≡ 70) ⊎ (n ≡ 74))))
+IsStatus n = (n ≡ 0) ⊎ ((n ≡ 2) ⊎ ((n ≡ 3) ⊎ ((n ≡ 64) ⊎ ((n ≡ 70) ⊎ (n ≡ 74)))))

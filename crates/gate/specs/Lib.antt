@@ -1,3 +1,7 @@
 pub mod Requests
+pub mod Options
 pub mod Endings
+pub mod Reads
 pub mod Checks
+pub mod Runs
+pub mod Prints

@@ -1,13 +1,18 @@
 -- What the words of the command line ask for.
 use Rattle.std.specs.Prelude.{◌⊎◌, ℕ, List, Contains, codes}
 use Rattle.gate.specs.declared.words.Request.{Request}
-use Rattle.gate.specs.declared.words.Request.TheVariants.{Check, Help}
+use Rattle.gate.specs.declared.words.Request.TheVariants.{Check, Run, Text}
 
 -- a word asks for help
 abbrev pub AsksHelp : List (List ℕ) → Type 0
 AsksHelp words = Contains words (codes "help") ⊎ (Contains words (codes "--help") ⊎ Contains words (codes "-h"))
 
--- the path of a check is one of the words, and help is given only where a word asks for it
+-- a word asks for the version
+abbrev pub AsksVersion : List (List ℕ) → Type 0
+AsksVersion words = Contains words (codes "--version") ⊎ Contains words (codes "-V")
+
+-- the paths of a request are among the words, and a text is given only where a word asks for one
 abbrev pub IsRequestOf : List (List ℕ) → Request → Type 0
 IsRequestOf words (Check path plan) = Contains words path.now
-IsRequestOf words (Help text) = AsksHelp words
+IsRequestOf words (Run path calls settings plan) = Contains words path.now × Contains words calls.now
+IsRequestOf words (Text text) = AsksHelp words ⊎ AsksVersion words

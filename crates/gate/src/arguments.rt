@@ -1,7 +1,7 @@
 // The program over its process.
 use crate::disk::Disk;
 use crate::fault::{Fault, end};
-use crate::running::run;
+use crate::program::run;
 use crate::words::usage;
 use std::alloc::{AllocError, Global};
 use std::env;

@@ -1,11 +1,12 @@
-//! The program: judges a module file and prints the verdict line.
+//! The program: judges a module, or runs calls of what it exports.
 #![tactic(auto)]
 
+mod answer;
 mod arguments;
-mod checking;
+mod check;
 mod disk;
 mod fault;
-mod running;
+mod program;
 mod source;
 #[cfg(test)]
 mod tests;

@@ -1,33 +1,47 @@
 // The program over a source and writers in memory.
+mod modules;
 mod plans;
 mod rows;
+mod runs;
 
-use crate::running::run;
+use crate::program::run;
 use crate::source::{ReadFault, Source};
-use std::alloc::Global;
+use std::alloc::{AllocError, Global};
 use std::io;
 use std::io::{ErrorKind, Write};
 use std::sync::Wait;
 use std::test::Fail;
 use std::thread::Threads;
 
-// One file under one path; or want of memory at each read.
+// A module as `x.wasm` and calls as `x.calls`; or want of memory at each read.
 #[derive(Clone, Copy)]
 struct Held<'a> {
-    path: &'a str,
-    bytes: &'a [u8],
+    module: &'a [u8],
+    calls: &'a [u8],
     has_memory: bool,
+}
+
+impl<'a> Held<'a> {
+    fn new(module: &'a [u8], calls: &'a [u8]) -> Held<'a> {
+        Held {
+            module,
+            calls,
+            has_memory: true,
+        }
+    }
 }
 
 impl Source for Held<'_> {
     fn read(&mut self, alloc: Global, path: &str, most: usize) -> Result<Vec<u8>, ReadFault> {
-        if path != self.path {
-            return Err(ReadFault::Unreadable);
-        }
+        let bytes = match path {
+            "x.wasm" => self.module,
+            "x.calls" => self.calls,
+            _ => return Err(ReadFault::Unreadable),
+        };
         if !self.has_memory {
             return Err(ReadFault::Memory);
         }
-        let front = &self.bytes[..self.bytes.len().min(most)];
+        let front = &bytes[..bytes.len().min(most)];
         front.to_vec(alloc).map_err(|_| ReadFault::Memory)
     }
 }
@@ -78,7 +92,14 @@ impl Write for Screen {
 
 const HEADER: [u8; 8] = [0x00, 0x61, 0x73, 0x6D, 0x01, 0x00, 0x00, 0x00];
 
-// The status, and how many bytes standard output got, of words over a source that has the header as `x.wasm`.
+// The header and what follows it.
+fn with_header(alloc: Global, rest: &[u8]) -> Result<Vec<u8>, AllocError> {
+    let mut bytes = HEADER.as_slice().to_vec(alloc)?;
+    bytes.extend_from_slice(rest)?;
+    Ok(bytes)
+}
+
+// The status of words over a source that has the header as its module, and no calls.
 fn status_of<R: Threads + Wait + Sync>(
     rt: &R,
     alloc: Global,
@@ -86,17 +107,22 @@ fn status_of<R: Threads + Wait + Sync>(
     out: &mut Screen,
     err: &mut Screen,
 ) -> u8 {
-    let mut source = Held {
-        path: "x.wasm",
-        bytes: &HEADER,
-        has_memory: true,
-    };
+    let mut source = Held::new(&HEADER, &[]);
     run(rt, alloc, words, &mut source, out, err)
 }
 
 #[test]
 fn help_goes_to_standard_output(rt: HostRuntime) {
-    let asked: [&[&str]; 4] = [&["--help"], &["-h"], &["help"], &["check", "--help"]];
+    let asked: [&[&str]; 8] = [
+        &["--help"],
+        &["-h"],
+        &["help"],
+        &["check", "--help"],
+        &["run", "--help"],
+        &["help", "run"],
+        &["--version"],
+        &["-V"],
+    ];
     for words in asked {
         let (mut out, mut err) = (Screen::wide(rt.alloc()), Screen::wide(rt.alloc()));
         assert_eq!(rt; status_of(&rt, rt.alloc(), words, &mut out, &mut err), 0);
@@ -106,12 +132,20 @@ fn help_goes_to_standard_output(rt: HostRuntime) {
 
 #[test]
 fn words_that_are_no_command(rt: HostRuntime) {
-    let wrong: [&[&str]; 12] = [
+    let wrong: [&[&str]; 20] = [
         &[],
         &["judge"],
         &["check"],
         &["check", "x.wasm", "y.wasm"],
-        &["run", "x.wasm", "calls"],
+        &["run", "x.wasm"],
+        &["run", "x.wasm", "x.calls", "y"],
+        &["run", "x.wasm", "x.calls", "--workers", "65"],
+        &["run", "x.wasm", "x.calls", "--piece", "0"],
+        &["run", "x.wasm", "x.calls", "--fuel", "1000000001"],
+        &["run", "x.wasm", "x.calls", "--fuel", "-1"],
+        &["run", "x.wasm", "x.calls", "--frames", "0"],
+        &["run", "x.wasm", "x.calls", "--frames", "4097"],
+        &["run", "x.wasm", "x.calls", "--pages", "1025"],
         &["check", "x.wasm", "--fuel", "1"],
         &["check", "x.wasm", "--workers", "0"],
         &["check", "x.wasm", "--workers", "65"],
@@ -133,40 +167,55 @@ fn words_that_are_no_command(rt: HostRuntime) {
 }
 
 #[test]
-fn a_file_that_cannot_be_read(rt: HostRuntime) {
-    let words = ["check", "missing.wasm"];
+fn the_version_goes_to_standard_output(rt: HostRuntime) {
     let (mut out, mut err) = (Screen::wide(rt.alloc()), Screen::wide(rt.alloc()));
-    assert_eq!(rt;
-        status_of(&rt, rt.alloc(), words.as_slice(), &mut out, &mut err),
-        74
-    );
-    assert!(rt; out.shown.is_empty());
-    assert_eq!(rt;
-        err.shown.as_slice(),
-        b"gate: cannot read missing.wasm\n".as_slice()
-    );
+    let status = status_of(&rt, rt.alloc(), &["--version"], &mut out, &mut err);
+    assert_eq!(rt; status, 0);
+    assert_eq!(rt; out.shown.as_slice(), b"gate 0.1.0\n".as_slice());
+}
+
+#[test]
+fn a_file_that_cannot_be_read(rt: HostRuntime) {
+    let asked: [(&[&str], &[u8]); 4] = [
+        (&["check", "y.wasm"], b"gate: cannot read y.wasm\n"),
+        (&["run", "y.wasm", "x.calls"], b"gate: cannot read y.wasm\n"),
+        (&["run", "y.wasm", "y.calls"], b"gate: cannot read y.wasm\n"),
+        (
+            &["run", "x.wasm", "y.calls"],
+            b"gate: cannot read y.calls\n",
+        ),
+    ];
+    // The second module would be refused.
+    for module in [&HEADER, &HEADER[..7]] {
+        for (words, told) in asked {
+            let mut source = Held::new(module, &[]);
+            let (mut out, mut err) = (Screen::wide(rt.alloc()), Screen::wide(rt.alloc()));
+            let status = run(&rt, rt.alloc(), words, &mut source, &mut out, &mut err);
+            assert_eq!(rt; status, 74);
+            assert!(rt; out.shown.is_empty());
+            assert_eq!(rt; err.shown.as_slice(), told);
+        }
+    }
 }
 
 #[test]
 fn a_read_that_wants_memory(rt: HostRuntime) {
     let mut source = Held {
-        path: "x.wasm",
-        bytes: &HEADER,
+        module: &HEADER,
+        calls: &[],
         has_memory: false,
     };
-    let words = ["check", "x.wasm", "--workers", "64", "--piece", "65535"];
-    let (mut out, mut err) = (Screen::wide(rt.alloc()), Screen::wide(rt.alloc()));
-    let status = run(
-        &rt,
-        rt.alloc(),
-        words.as_slice(),
-        &mut source,
-        &mut out,
-        &mut err,
-    );
-    assert_eq!(rt; status, 70);
-    assert!(rt; out.shown.is_empty());
-    assert_eq!(rt; err.shown.as_slice(), b"gate: no memory\n".as_slice());
+    let asked: [&[&str]; 2] = [
+        &["check", "x.wasm", "--workers", "64", "--piece", "65535"],
+        &["run", "x.wasm", "x.calls", "--fuel", "0", "--pages", "0"],
+    ];
+    for words in asked {
+        let (mut out, mut err) = (Screen::wide(rt.alloc()), Screen::wide(rt.alloc()));
+        let status = run(&rt, rt.alloc(), words, &mut source, &mut out, &mut err);
+        assert_eq!(rt; status, 70);
+        assert!(rt; out.shown.is_empty());
+        assert_eq!(rt; err.shown.as_slice(), b"gate: no memory\n".as_slice());
+    }
 }
 
 #[test]

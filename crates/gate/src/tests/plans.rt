@@ -1,6 +1,6 @@
 // Two bodies of a thousand are ill typed: the first is named, whatever the words say of workers and pieces.
 use super::{HEADER, Held, Screen};
-use crate::running::run;
+use crate::program::run;
 use std::alloc::{AllocError, Global};
 use std::test::Fail;
 
@@ -24,11 +24,7 @@ fn thousand_bodies(alloc: Global) -> Result<Vec<u8>, AllocError> {
 #[test]
 fn the_first_of_two_is_named(rt: HostRuntime) -> Result<(), Fail> {
     let bytes = thousand_bodies(rt.alloc())?;
-    let mut source = Held {
-        path: "x.wasm",
-        bytes: &bytes,
-        has_memory: true,
-    };
+    let mut source = Held::new(&bytes, b"f\n");
     for workers in ["1", "2", "8", "64"] {
         for piece in ["1", "7", "65535"] {
             let words = ["check", "x.wasm", "--workers", workers, "--piece", piece];

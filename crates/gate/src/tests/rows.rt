@@ -1,7 +1,7 @@
 // Modules and their verdict lines, through the whole program.
-use super::{HEADER, Held, Screen};
-use crate::running::run;
-use std::alloc::{AllocError, Global};
+use super::{HEADER, Held, Screen, with_header};
+use crate::program::run;
+use std::alloc::Global;
 use std::sync::Wait;
 use std::test::Fail;
 use std::thread::Threads;
@@ -40,13 +40,6 @@ const ROWS: [(&[u8], &str, u8); 10] = [
     (&[0x0C], "refused malformed\n", 2),
 ];
 
-// The header and what follows it.
-fn with_header(alloc: Global, rest: &[u8]) -> Result<Vec<u8>, AllocError> {
-    let mut bytes = HEADER.as_slice().to_vec(alloc)?;
-    bytes.extend_from_slice(rest)?;
-    Ok(bytes)
-}
-
 // The status, and what both outputs got, of a check of these bytes.
 fn checked<R: Threads + Wait + Sync>(
     rt: &R,
@@ -55,11 +48,7 @@ fn checked<R: Threads + Wait + Sync>(
     at_once: usize,
     room: usize,
 ) -> (u8, Screen, Screen) {
-    let mut source = Held {
-        path: "x.wasm",
-        bytes,
-        has_memory: true,
-    };
+    let mut source = Held::new(bytes, &[]);
     let mut out = Screen::new(alloc, at_once, room, true);
     let mut err = Screen::wide(alloc);
     let words = ["check", "x.wasm"];

@@ -1,8 +1,10 @@
 // Judging one file.
+ghost use Rattle.std.specs.Prelude.{List, [], ◌∷◌};
 ghost use Rattle.gate.specs.Checks.{Checks};
+ghost use Rattle.gate.specs.Reads.{ReadsPaths};
 
 use crate::fault::Fault;
-use crate::source::{ReadFault, Source};
+use crate::source::{Source, read_file};
 use batch::{AnswerFault, Plan, Quiet, Status, report_verdict};
 use std::alloc::Global;
 use std::io::Write;
@@ -10,10 +12,10 @@ use std::sync::Wait;
 use std::thread::Threads;
 
 /// One byte more than a module may have: what is read of a longer file is too large as well.
-const MOST_READ: usize = 16_777_217;
+pub(crate) const MOST_OF_MODULE: usize = 16_777_217;
 
 /// Reads a module whole, judges it and writes its verdict line.
-pub fn check<'a, R: Threads + Wait + Sync, S: Source, O: Write>(
+pub fn check_file<'a, R: Threads + Wait + Sync, S: Source, O: Write>(
     rt: &R,
     alloc: Global,
     path: &'a str,
@@ -21,13 +23,10 @@ pub fn check<'a, R: Threads + Wait + Sync, S: Source, O: Write>(
     source: &mut S,
     out: &mut O,
 ) -> Result<Status, Fault<'a>>
-    ensures { Checks (S.holds source.old path.entry.now) (O.contents out.old) (O.contents out.new) result }
+    ensures check { Checks (S.holds source.old path.entry.now) (O.contents out.old) (O.contents out.new) result }
+    ensures only { ReadsPaths (S.asked source.old) (S.asked source.new) (path.entry.now ∷ []) }
 {
-    let bytes = match source.read(alloc, path, MOST_READ) {
-        Ok(bytes) => bytes,
-        Err(ReadFault::Unreadable) => return Err(Fault::Unreadable(path)),
-        Err(ReadFault::Memory) => return Err(Fault::Memory),
-    };
+    let bytes = read_file(alloc, path, MOST_OF_MODULE, source)?;
     let status = match report_verdict(rt, alloc, bytes.as_slice(), plan, &Quiet, out) {
         Ok(status) => status,
         Err(AnswerFault::Memory) => return Err(Fault::Memory),

@@ -2,9 +2,10 @@
 ghost use Rattle.std.specs.Prelude.{◌≡◌, ◌⊎◌, map};
 ghost use Rattle.std.specs.Io.KnownBytes.{Keeps};
 ghost use Rattle.gate.specs.Endings.{answer_status, IsStatus};
-ghost use Rattle.gate.specs.Checks.{PrintsAcceptance, PrintsRefusal, Does, Shows};
+ghost use Rattle.gate.specs.Prints.{AsksFor, Does, Obeys, PrintsCallsRefusal, PrintsGood, PrintsRefusal, Shows};
 
-use crate::checking::check;
+use crate::answer::answer_files;
+use crate::check::check_file;
 use crate::fault::{Fault, end};
 use crate::source::Source;
 use crate::words::{Request, read_words};
@@ -25,9 +26,11 @@ pub fn run<R: Threads + Wait + Sync, S: Source, O: Write, E: Write>(
     err: &mut E,
 ) -> u8
     ensures named { IsStatus result }
+    ensures obeyed { Obeys (map (λ w. w.now) words.now) (S.holds source.old) (S.asked source.old) (S.asked source.new) (O.contents out.old) (O.contents out.new) result }
     ensures silent { (result ≡ 64) ⊎ (result ≡ 70) → Keeps (O.contents out.old) (O.contents out.new) }
-    ensures accepted { result ≡ 0 → PrintsAcceptance (map (λ w. w.now) words.now) (S.holds source.old) (O.contents out.old) (O.contents out.new) }
-    ensures refused { result ≡ 2 → PrintsRefusal (map (λ w. w.now) words.now) (S.holds source.old) (O.contents out.old) (O.contents out.new) }
+    ensures accepted { result ≡ 0 → PrintsGood (map (λ w. w.now) words.now) (S.holds source.old) (S.asked source.old) (S.asked source.new) (O.contents out.old) (O.contents out.new) }
+    ensures refused { result ≡ 2 → PrintsRefusal (map (λ w. w.now) words.now) (S.holds source.old) (S.asked source.old) (S.asked source.new) (O.contents out.old) (O.contents out.new) }
+    ensures calls_refused { result ≡ 3 → PrintsCallsRefusal (map (λ w. w.now) words.now) (S.holds source.old) (S.asked source.old) (S.asked source.new) (O.contents out.old) (O.contents out.new) }
 {
     let request = match read_words(alloc, words) {
         Ok(request) => request,
@@ -47,11 +50,18 @@ fn obey<'a, R: Threads + Wait + Sync, S: Source, O: Write>(
     source: &mut S,
     out: &mut O,
 ) -> Result<Status, Fault<'a>>
-    ensures { Does request.entry (S.holds source.old) (O.contents out.old) (O.contents out.new) result }
+    ensures done { Does request.entry (S.holds source.old) (O.contents out.old) (O.contents out.new) result }
+    ensures asked { AsksFor request.entry (S.asked source.old) (S.asked source.new) result }
 {
     match request {
-        Request::Check { path, plan } => check(rt, alloc, path, plan, source, out),
-        Request::Help(text) => show(text.as_bytes(), out),
+        Request::Check { path, plan } => check_file(rt, alloc, path, plan, source, out),
+        Request::Run {
+            path,
+            calls,
+            settings,
+            plan,
+        } => answer_files(rt, alloc, path, calls, settings, plan, source, out),
+        Request::Text(text) => show(text.as_bytes(), out),
     }
 }
 

@@ -1,0 +1,82 @@
+-- What the program leaves of a request.
+use Rattle.std.specs.Prelude.{◌≡◌, ◌⊎◌, ℕ, List, [], ◌∷◌, Option, Result, Ok, Err, Contains, string_bytes}
+use Rattle.std.specs.Io.KnownBytes.{Keeps, Appends}
+use Rattle.wsyntax.specs.Validation.Verdict.{Verdict, Accepted}
+use Rattle.wsyntax.specs.Texts.Lines.{verdict_line}
+use Rattle.wstore.specs.Settings.{AreSettings, limits}
+use Rattle.batch.specs.Output.{AppendsFront}
+use Rattle.batch.specs.Report.{status_of}
+use Rattle.batch.specs.declared.status.Status.{Status}
+use Rattle.batch.specs.declared.status.Status.TheVariants.{Good, ModuleRefused, CallsRefused}
+use Rattle.gate.specs.Checks.{Checks, Judges}
+use Rattle.gate.specs.Reads.{ReadsPaths, ReadsInOrder}
+use Rattle.gate.specs.Endings.{result_status}
+use Rattle.gate.specs.Requests.{AsksHelp, AsksVersion, IsRequestOf}
+use Rattle.gate.specs.Runs.{RunsOn, AnswersRead}
+use Rattle.gate.specs.declared.fault.Fault.{Fault}
+use Rattle.gate.specs.declared.fault.Fault.TheVariants as fault
+use Rattle.gate.specs.declared.words.Request.{Request}
+use Rattle.gate.specs.declared.words.Request.TheVariants.{Check, Run, Text}
+
+-- a text that is asked for is written, or a beginning of it where a write failed
+abbrev pub Shows : List ℕ → Option (List ℕ) → Option (List ℕ) → Result Status Fault → Type 0
+Shows text old new (Ok status) = (status ≡ Good) × Appends old new text
+Shows text old new (Err fault.Write) = AppendsFront old new text
+Shows text old new (Err _) = ⊥
+
+-- ---- by the request
+
+-- what is done for a request, over what paths hold
+abbrev pub Does : Request → (List ℕ → Option (List ℕ)) → Option (List ℕ) → Option (List ℕ) → Result Status Fault → Type 0
+Does (Check path plan) holds old new r = Checks (holds path.now) old new r
+Does (Run path calls s plan) holds old new r = RunsOn (holds path.now) (holds calls.now) (limits s.fuel s.frames s.pages) old new r
+Does (Text text) holds old new r = Shows (string_bytes text) old new r
+
+-- the paths that a request asks for, in their order
+abbrev pub AsksFor : Request → Option (List (List ℕ)) → Option (List (List ℕ)) → Result Status Fault → Type 0
+AsksFor (Check path plan) old new r = ReadsPaths old new (path.now ∷ [])
+AsksFor (Run path calls s plan) old new r = ReadsInOrder path.now calls.now old new r
+AsksFor (Text text) old new r = ReadsPaths old new []
+
+-- a request of the words is done, and the status is that of what came of it; or the words ask for nothing that can be done, and nothing is asked for or written
+abbrev pub Obeys : List (List ℕ) → (List ℕ → Option (List ℕ)) → Option (List (List ℕ)) → Option (List (List ℕ)) → Option (List ℕ) → Option (List ℕ) → ℕ → Type 0
+Obeys words holds asked asked' old new status =
+    ((request : Request) × (r : Result Status Fault) × IsRequestOf words request × Does request holds old new r × AsksFor request asked asked' r × (status ≡ result_status r))
+    ⊎ (((status ≡ 64) ⊎ (status ≡ 70)) × ReadsPaths asked asked' [] × Keeps old new)
+
+-- ---- by the status
+
+-- the verdict line of the module is written whose path stands among the words; it alone was asked for
+pub record PrintsVerdict (words : List (List ℕ)) (holds : List ℕ → Option (List ℕ)) (asked asked' : Option (List (List ℕ))) (old new : Option (List ℕ)) (v : Verdict) : Type 0 where
+  pub path : List ℕ
+  pub named : Contains words path
+  pub only : ReadsPaths asked asked' (path ∷ [])
+  pub judged : Judges (holds path) v
+  pub written : Appends old new (verdict_line v)
+
+-- the answer with this status is written to the module and the calls whose paths stand among the words, within some limits; the module was asked for first, and then the calls
+pub record PrintsAnswer (words : List (List ℕ)) (holds : List ℕ → Option (List ℕ)) (asked asked' : Option (List (List ℕ))) (old new : Option (List ℕ)) (status : Status) : Type 0 where
+  pub path : List ℕ
+  pub calls : List ℕ
+  pub named : Contains words path
+  pub calls_named : Contains words calls
+  pub in_order : ReadsPaths asked asked' (path ∷ calls ∷ [])
+  pub fuel : ℕ
+  pub frames : ℕ
+  pub pages : ℕ
+  pub in_range : AreSettings fuel frames pages
+  pub answered : AnswersRead (holds path) (holds calls) (limits fuel frames pages) old new (Ok status)
+
+-- status 0: a word asks for help or the version, or the module is accepted, or the calls are reported
+abbrev pub PrintsGood : List (List ℕ) → (List ℕ → Option (List ℕ)) → Option (List (List ℕ)) → Option (List (List ℕ)) → Option (List ℕ) → Option (List ℕ) → Type 0
+PrintsGood words holds asked asked' old new =
+    (AsksHelp words ⊎ AsksVersion words) ⊎ (PrintsVerdict words holds asked asked' old new Accepted ⊎ PrintsAnswer words holds asked asked' old new Good)
+
+-- status 2: the module is refused, of a check or of a run
+abbrev pub PrintsRefusal : List (List ℕ) → (List ℕ → Option (List ℕ)) → Option (List (List ℕ)) → Option (List (List ℕ)) → Option (List ℕ) → Option (List ℕ) → Type 0
+PrintsRefusal words holds asked asked' old new =
+    ((v : Verdict) × (status_of v ≡ ModuleRefused) × PrintsVerdict words holds asked asked' old new v) ⊎ PrintsAnswer words holds asked asked' old new ModuleRefused
+
+-- status 3: the calls are refused
+abbrev pub PrintsCallsRefusal : List (List ℕ) → (List ℕ → Option (List ℕ)) → Option (List (List ℕ)) → Option (List (List ℕ)) → Option (List ℕ) → Option (List ℕ) → Type 0
+PrintsCallsRefusal words holds asked asked' old new = PrintsAnswer words holds asked asked' old new CallsRefused

@@ -1,0 +1,43 @@
+// Running calls of one module.
+ghost use Rattle.wstore.specs.Settings.{limits};
+ghost use Rattle.gate.specs.Reads.{ReadsInOrder};
+ghost use Rattle.gate.specs.Runs.{RunsOn};
+
+use crate::check::MOST_OF_MODULE;
+use crate::fault::Fault;
+use crate::source::{Source, read_file};
+use batch::{AnswerFault, Plan, Quiet, Settings, Status, answer};
+use std::alloc::Global;
+use std::io::Write;
+use std::sync::Wait;
+use std::thread::Threads;
+
+/// One byte more than a text of calls may have: what is read of a longer file is too large as well.
+const MOST_OF_CALLS: usize = 4_194_305;
+
+/// Reads a module whole, and then the calls, and writes the answer to both.
+pub fn answer_files<'a, R: Threads + Wait + Sync, S: Source, O: Write>(
+    rt: &R,
+    alloc: Global,
+    path: &'a str,
+    calls: &'a str,
+    settings: Settings,
+    plan: Plan,
+    source: &mut S,
+    out: &mut O,
+) -> Result<Status, Fault<'a>>
+    ensures answer { RunsOn (S.holds source.old path.entry.now) (S.holds source.old calls.entry.now) (limits settings.fuel settings.frames settings.pages) (O.contents out.old) (O.contents out.new) result }
+    ensures order { ReadsInOrder path.entry.now calls.entry.now (S.asked source.old) (S.asked source.new) result }
+{
+    let bytes = read_file(alloc, path, MOST_OF_MODULE, source)?;
+    let text = read_file(alloc, calls, MOST_OF_CALLS, source)?;
+    let status = match answer(rt, alloc, &bytes, &text, settings, plan, &Quiet, out) {
+        Ok(status) => status,
+        Err(AnswerFault::Memory) => return Err(Fault::Memory),
+        Err(AnswerFault::Write) => return Err(Fault::Write),
+    };
+    match out.flush() {
+        Ok(()) => Ok(status),
+        Err(_) => Err(Fault::Write),
+    }
+}
