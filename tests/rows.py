@@ -1,9 +1,12 @@
 #!/usr/bin/env python3
-"""usage: rows.py GATE    runs the program GATE on each row of the table of modules, which the crate `suite` reads too.
+"""usage: rows.py GATE    runs the program GATE on each row of the tables of modules, which the crate `suite` reads too.
 
 check.tsv    name, the module as bytes in hexadecimal, what `gate check` prints, its status; each is run with three plans,
              and once more with stacks of 64 KiB
-Bytes are in hexadecimal; `xNN*K` stands for K bytes NN. Lines that begin with # are comments.
+run.tsv      name, the module, the calls, the options, what `gate run` prints, its status; each is run with twelve plans,
+             and once more with stacks of 64 KiB
+Bytes are in hexadecimal; `xNN*K` stands for K times the bytes NN. In calls and in what is printed \\t is a tab and \\n a
+newline. Lines that begin with # are comments.
 """
 import os
 import resource
@@ -25,6 +28,10 @@ def bytes_of(text):
     return bytes(out)
 
 
+def text_of(escaped):
+    return escaped.replace('\\t', '\t').replace('\\n', '\n').encode()
+
+
 def rows(name):
     for line in open(os.path.join(tables, name)):
         if line.strip() and not line.startswith('#'):
@@ -36,26 +43,44 @@ def small_stack():
     resource.setrlimit(resource.RLIMIT_STACK, (64 * 1024, 64 * 1024))
 
 
+def write(path, contents):
+    with open(path, 'wb') as file:
+        file.write(contents)
+
+
 def main(gate):
     passed, failed = 0, 0
 
     def expect(name, words, text, status, **settings):
         nonlocal passed, failed
         ran = subprocess.run([gate] + words, capture_output=True, timeout=120, **settings)
-        if (ran.stdout, ran.returncode, ran.stderr) == (text.encode() + b'\n', status, b''):
+        if (ran.stdout, ran.returncode, ran.stderr) == (text, status, b''):
             passed += 1
         else:
             failed += 1
-            print(f'{name}: printed {ran.stdout[:200]!r}, status {ran.returncode}, {ran.stderr[:200]!r}; wanted {text!r}, status {status}')
+            print(f'{name}: printed {ran.stdout[:200]!r}, status {ran.returncode}, {ran.stderr[:200]!r}; wanted {text[:200]!r}, status {status}')
+
+    def check(path):
+        for name, module, line, status in rows('check.tsv'):
+            write(path, bytes_of(module))
+            for options in ([], ['--workers', '1', '--piece', '1'], ['--workers', '64', '--piece', '65535']):
+                expect(name, ['check', path] + options, line.encode() + b'\n', int(status))
+            expect(name, ['check', path, '--workers', '4'], line.encode() + b'\n', int(status), preexec_fn=small_stack, env={})
+
+    def run(path, calls_path):
+        for name, module, calls, options, text, status in rows('run.tsv'):
+            write(path, bytes_of(module))
+            write(calls_path, text_of(calls))
+            words = ['run', path, calls_path] + options.split()
+            for workers in ('1', '2', '8', '64'):
+                for piece in ('1', '7', '65535'):
+                    expect(name, words + ['--workers', workers, '--piece', piece], text_of(text), int(status))
+            expect(name, words, text_of(text), int(status), preexec_fn=small_stack, env={})
 
     with tempfile.TemporaryDirectory() as folder:
         path = os.path.join(folder, 'module.wasm')
-        for name, module, text, status in rows('check.tsv'):
-            with open(path, 'wb') as file:
-                file.write(bytes_of(module))
-            for options in ([], ['--workers', '1', '--piece', '1'], ['--workers', '64', '--piece', '65535']):
-                expect(name, ['check', path] + options, text, int(status))
-            expect(name, ['check', path, '--workers', '4'], text, int(status), preexec_fn=small_stack, env={})
+        check(path)
+        run(path, os.path.join(folder, 'calls'))
     print(f'{passed} passed, {failed} failed')
     return 1 if failed or not passed else 0
 

@@ -121,3 +121,27 @@ fn lends_no_other_body(rt: HostRuntime) {
     assert!(rt; accepted.body(0).is_none());
     assert!(rt; accepted.body(3).is_none());
 }
+
+#[test]
+fn lends_the_shapes_of_functions(rt: HostRuntime) -> Result<(), Fail> {
+    let accepted = accepted(&rt, rt.alloc());
+    let [first, second] = accepted.function_shapes() else {
+        return Err("two shapes".into());
+    };
+    assert_eq!(rt;
+        (first.params, first.declared, first.results, first.kind),
+        (1, 2, 1, 1)
+    );
+    assert_eq!(rt;
+        (second.params, second.declared, second.results, second.kind),
+        (1, 0, 0, 2)
+    );
+    assert_eq!(rt; accepted.bodies().len(), 2);
+    assert_eq!(rt; accepted.type_numbers(), [0, 1, 2].as_slice());
+    assert_eq!(rt; accepted.declared_locals(0), None);
+    assert_eq!(rt; accepted.declared_locals(1), Some(2));
+    assert_eq!(rt; accepted.declared_locals(3), None);
+    assert_eq!(rt; accepted.function_type_number(2), Some(2));
+    assert!(rt; !accepted.has_floats());
+    Ok(())
+}
