@@ -1,0 +1,173 @@
+#!/usr/bin/env python3
+"""usage: soak.py GATE [SECONDS] [SEED]    runs generated modules through `check` and `run`, and ends at the first difference.
+
+Modules are generated valid ones (bench/modules.py and small ones with loops, calls, memory, tables, traps), the same with
+bytes changed, cut or doubled, and random bytes behind a header. Each is judged and run on 1, 4 and 64 workers with pieces
+of 1, 7 and 65,535, with stacks of 64 KiB, and with the address space held to 256 MB and to 1 GB: those answers must be
+equal to that of one worker, or be want of memory (status 70, nothing on standard output; a call's line `no-memory`).
+A crash, a hang of a minute or another answer ends the soak. It prints seeds and counts; a seed makes the same run again.
+"""
+import os
+import random
+import re
+import resource
+import subprocess
+import sys
+import tempfile
+import time
+
+here = os.path.dirname(os.path.abspath(__file__))
+sys.path.insert(0, here)
+import modules
+
+PLANS = [('1', '1'), ('4', '16'), ('4', '1'), ('64', '7'), ('64', '65535')]
+HELD = [None, 256 << 20, 1 << 30]
+I32 = [0x6A, 0x6B, 0x6C, 0x6D, 0x6E, 0x6F, 0x70, 0x71, 0x72, 0x73, 0x74, 0x75, 0x76, 0x77, 0x78, 0x46, 0x47, 0x48, 0x4E, 0x4F]
+
+
+def small_body(r, functions):
+    # A body of [i32] -> [i32] with two locals more: statements that may trap, loop or call, and a value.
+    def value(depth):
+        pick = r.random()
+        if depth == 0 or pick < 0.3:
+            return b'\x20' + bytes([r.randrange(3)]) if r.random() < 0.7 else b'\x41' + modules.signed(r.choice([0, 1, -1, 7, 65535, 65536, -2 ** 31, 2 ** 31 - 1]))
+        if pick < 0.7:
+            return value(depth - 1) + value(depth - 1) + bytes([r.choice(I32)])
+        if pick < 0.8:
+            return value(depth - 1) + r.choice([b'\x28\x02\x00', b'\x2D\x00\x00', b'\x2E\x01\x08'])
+        if pick < 0.86:
+            return value(depth - 1) + b'\x10' + modules.unsigned(r.randrange(functions))
+        if pick < 0.92:
+            return value(depth - 1) + value(depth - 1) + b'\x11\x00\x00'
+        if pick < 0.96:
+            return value(depth - 1) + b'\x40\x00'
+        return value(depth - 1) + bytes([r.choice([0x45, 0x67, 0x68, 0x69, 0xC0, 0xC1])])
+
+    def statement(labels):
+        pick = r.random()
+        if pick < 0.4:
+            return value(2) + b'\x21' + bytes([r.randrange(3)])
+        if pick < 0.55:
+            return value(1) + value(1) + r.choice([b'\x36\x02\x00', b'\x3A\x00\x04'])
+        if pick < 0.65 and labels:
+            return value(1) + b'\x0D' + modules.unsigned(r.randrange(labels))
+        if pick < 0.75 and labels < 4:
+            return b'\x02\x40' + b''.join(statement(labels + 1) for _ in range(r.randrange(1, 4))) + b'\x0B'
+        if pick < 0.85 and labels < 4:
+            return b'\x03\x40' + b''.join(statement(labels + 1) for _ in range(r.randrange(1, 3))) + b'\x0B'
+        if pick < 0.95 and labels < 4:
+            return value(1) + b'\x04\x40' + statement(labels + 1) + b'\x05' + statement(labels + 1) + b'\x0B'
+        return value(1) + b'\x1A'
+
+    code = b'\x01\x02\x7F' + b''.join(statement(0) for _ in range(r.randrange(1, 6))) + value(2) + b'\x0B'
+    return modules.unsigned(len(code)) + code
+
+
+def small_module(r):
+    count = r.randrange(1, 6)
+    table = modules.vector([modules.unsigned(r.randrange(count)) for _ in range(r.randrange(4))])
+    exports = modules.vector([b'\x01' + bytes([97 + k]) + b'\x00' + bytes([k]) for k in range(count)])
+    data = b'\x00\x41' + modules.signed(r.choice([0, 65530, 65536, 70000])) + b'\x0B' + modules.vector([bytes([r.randrange(256)]) for _ in range(r.randrange(8))])
+    parts = [modules.section(1, b'\x02\x60\x01\x7F\x01\x7F\x60\x00\x00'),
+             modules.section(3, modules.vector([b'\0'] * count)),
+             modules.section(4, b'\x01\x70\x00' + modules.unsigned(r.choice([0, 3, 8]))),
+             modules.section(5, b'\x01\x01\x01' + modules.unsigned(r.choice([1, 2, 40]))),
+             modules.section(7, exports),
+             modules.section(9, b'\x01\x00\x41\x00\x0B' + table),
+             modules.section(10, modules.vector([small_body(r, count) for _ in range(count)])),
+             modules.section(11, b'\x01' + data)]
+    return b'\0asm\1\0\0\0' + b''.join(parts)
+
+
+def changed(r, module):
+    bytes_of = bytearray(module)
+    for _ in range(r.randrange(1, 4)):
+        at = r.randrange(len(bytes_of))
+        pick = r.random()
+        if pick < 0.6:
+            bytes_of[at] = r.choice([0, 1, 0x0B, 0x7F, 0x80, 0xFF, r.randrange(256)])
+        elif pick < 0.8:
+            del bytes_of[at:at + r.randrange(1, 5)]
+        else:
+            bytes_of[at:at] = bytes_of[at:at + r.randrange(1, 9)]
+        bytes_of = bytes_of or bytearray(b'\0')
+    return bytes(bytes_of)
+
+
+def candidate(r):
+    pick = r.random()
+    if pick < 0.45:
+        return small_module(r)
+    if pick < 0.75:
+        return changed(r, small_module(r))
+    if pick < 0.85:
+        return modules.module(r.choice(['many', 'tiny', 'large', 'one']), r.choice([2_000, 40_000, 300_000]), r.randrange(2 ** 32))
+    if pick < 0.95:
+        return changed(r, modules.module(r.choice(['many', 'tiny', 'one']), r.choice([2_000, 40_000]), r.randrange(2 ** 32)))
+    return b'\0asm\1\0\0\0' + bytes(r.randrange(256) for _ in range(r.randrange(200)))
+
+
+def calls_of(r):
+    lines = [f"{r.choice(['a', 'b', 'c', 'd', 'e', 'f', 'nothing'])}\ti32:{r.choice([0, 1, -1, 5, 1000, -2 ** 31])}" for _ in range(r.randrange(1, 40))]
+    return ''.join(line + '\n' for line in lines).encode() + (b'' if r.random() < 0.95 else b'a\ti32:-0\n')
+
+
+def held_to(bytes_of):
+    def hold():
+        resource.setrlimit(resource.RLIMIT_STACK, (64 * 1024, 64 * 1024))
+        if bytes_of:
+            resource.setrlimit(resource.RLIMIT_AS, (bytes_of, bytes_of))
+    return hold
+
+
+def answer(words, held):
+    ran = subprocess.run(words, capture_output=True, timeout=60, preexec_fn=held_to(held))
+    return ran.returncode, ran.stdout, ran.stderr
+
+
+def agrees(want, got):
+    if got == want or got == (70, b'', b'gate: no memory\n'):
+        return True
+    lines, others = got[1].split(b'\n')[:-2], want[1].split(b'\n')[:-2]
+    return (got[0], got[2]) == (want[0], want[2]) and len(lines) == len(others) and all(
+        line == other or re.fullmatch(rb'\d+ no-memory', line) for line, other in zip(lines, others))
+
+
+def main(gate, seconds, seed):
+    print(f'seed {seed}', flush=True)
+    r, end = random.Random(seed), time.time() + seconds
+    count = {'modules': 0, 'accepted': 0, 'reported': 0, 'answers': 0, 'calls': 0}
+    with tempfile.TemporaryDirectory() as folder:
+        path, calls = os.path.join(folder, 'module.wasm'), os.path.join(folder, 'calls')
+        while time.time() < end:
+            text = calls_of(r)
+            for name, contents in ((path, candidate(r)), (calls, text)):
+                with open(name, 'wb') as file:
+                    file.write(contents)
+            limits = ['--fuel', r.choice(['0', '10', '20000']), '--frames', r.choice(['1', '3', '200']), '--pages', r.choice(['0', '2', '64'])]
+            for words in ([gate, 'check', path], [gate, 'run', path, calls] + limits):
+                want = answer(words + ['--workers', '1'], None)
+                if want[0] not in (0, 2, 3):
+                    sys.exit(f'seed {seed}, module {count["modules"]}: {words[1]} ended with {want}')
+                for workers, piece in PLANS:
+                    got = answer(words + ['--workers', workers, '--piece', piece], r.choice(HELD))
+                    count['answers'] += 1
+                    if not agrees(want, got):
+                        kept = f'soak-{seed}-{count["modules"]}'
+                        os.replace(path, kept + '.wasm')
+                        os.replace(calls, kept + '.calls')
+                        sys.exit(f'seed {seed}: {words[1]} with {workers} workers, piece {piece}: {got}, and not {want}; kept as {kept}')
+            count['modules'] += 1
+            count['accepted'] += want[0] in (0, 3)
+            if want[0] == 0:
+                count['reported'] += 1
+                count['calls'] += text.count(b'\n')
+            if count['modules'] % 500 == 0:
+                print(count, flush=True)
+    print('no difference:', count)
+
+
+if __name__ == '__main__':
+    if len(sys.argv) < 2:
+        sys.exit(__doc__)
+    main(os.path.abspath(sys.argv[1]), float((sys.argv[2:] + ['3600'])[0]), int((sys.argv[3:] + [str(random.randrange(2 ** 32))])[0]))
