@@ -1,0 +1,91 @@
+#!/usr/bin/env python3
+"""usage: wrong_definitions.py [MINUTES]    shows that wrong definitions are refused: of each edit in tests/wrong_definitions.
+
+A must-fail edit reaches its own crate alone, while the definitions stand in `wsyntax` and the theorems in `soundness`. So
+each edit here is applied to a copy of these crates, and the check of `soundness` must fail in a proof: the first error
+stands in a file of `proofs/`, not of `specs/`, where it would only say that the definition is no definition. An edit begins
+with the line `file:`, and has pairs of lines `old:` and `new:`; each old text stands exactly once in the file.
+After so many minutes no further edit is begun; with none given, all are tried.
+"""
+import os
+import re
+import shutil
+import subprocess
+import sys
+import tempfile
+import time
+
+root = os.path.join(os.path.dirname(os.path.abspath(__file__)), '..')
+CRATES = ['wnum', 'wsyntax', 'soundness']
+
+
+def read(path):
+    with open(path) as file:
+        return file.read()
+
+
+def write(path, text):
+    with open(path, 'w') as file:
+        file.write(text)
+
+
+def copy_into(folder):
+    os.makedirs(os.path.join(folder, 'crates'))
+    for crate in CRATES:
+        shutil.copytree(os.path.join(root, 'crates', crate), os.path.join(folder, 'crates', crate), symlinks=True)
+    lines = [line for line in read(os.path.join(root, 'crates.txt')).splitlines() if line.split(' ')[0].rstrip(':') in CRATES]
+    write(os.path.join(folder, 'crates.txt'), '\n'.join(lines) + '\n')
+    shutil.copy(os.path.join(root, 'HANDLES'), folder)
+
+
+def check(folder):
+    ran = subprocess.run(['rt', 'check'], cwd=os.path.join(folder, 'crates', 'soundness'), capture_output=True, text=True)
+    return ran.returncode, ran.stdout + ran.stderr
+
+
+def applied(text, edit):
+    pairs = re.findall(r'^old: (.*)\nnew: (.*)$', edit, re.M)
+    for old, new in pairs:
+        if text.count(old) != 1:
+            sys.exit(f'an old text stands {text.count(old)} times: {old}')
+        text = text.replace(old, new)
+    return text
+
+
+def first_error(output):
+    found = re.search(r'^(\S+\.antt):\d+:\d+: error', output, re.M)
+    return found.group(1) if found else 'nowhere'
+
+
+def main(minutes):
+    end = time.time() + minutes * 60
+    folder_of_edits = os.path.join(root, 'tests', 'wrong_definitions')
+    passed = failed = 0
+    with tempfile.TemporaryDirectory() as top:
+        folder = os.path.join(top, 'copy')
+        copy_into(folder)
+        if check(folder)[0] != 0:
+            sys.exit('soundness is not proved as it stands')
+        for name in sorted(os.listdir(folder_of_edits)):
+            if time.time() > end:
+                print(f'{name}: not tried, for want of time')
+                continue
+            edit = read(os.path.join(folder_of_edits, name))
+            path = os.path.join(folder, re.match(r'file: (.*)', edit).group(1))
+            text = read(path)
+            write(path, applied(text, edit))
+            status, output = check(folder)
+            write(path, text)
+            place = first_error(output)
+            if status != 0 and '/proofs/' in place:
+                passed += 1
+                print(f'{name}: refused in {place}', flush=True)
+            else:
+                failed += 1
+                print(f'{name}: status {status}, the first error in {place}', flush=True)
+    print(f'{passed} wrong definitions refused, {failed} not')
+    return 1 if failed or not passed else 0
+
+
+if __name__ == '__main__':
+    sys.exit(main(float(sys.argv[1]) if len(sys.argv) > 1 else 1e9))
