@@ -40,9 +40,7 @@ pub fn read_up_to<F: Read>(file: &mut F, alloc: Global, most: usize) -> Result<V
     let mut chunk = [0u8; CHUNK];
     'reads: while bytes.len() < most {
         let room = CHUNK.min(most - bytes.len());
-        let count = file
-            .read(&mut chunk[..room])
-            .map_err(|_| ReadFault::Unreadable)?;
+        let count = file.read(&mut chunk[..room]).map_err(fault_of)?;
         if count == 0 {
             break;
         }
