@@ -3,19 +3,20 @@ use Rattle.std.proofs.Common.{◌≡◌, ◌+◌, arith, length-append, List, []
 use Rattle.std.proofs.lemmas.List.{reverse-append, reverse-reverse, length-reverse, take-append-drop}
 use Rattle.std.proofs.Math.Seq.{take-append_seam, drop-append_seam}
 use Rattle.wsyntax.specs.declared.ValType.{ValType}
+use Rattle.wsyntax.specs.Types.{FuncType}
 use Rattle.wcheck.specs.declared.frames.Level.{Level}
 use Rattle.wsyntax.specs.Validation.Algorithm.{Frame}
 use Rattle.wcheck.specs.Views.{cut, frame_of, under_all}
 use Rattle.wcheck.specs.Pass.{height}
 
-frame_with : Level → List (Option ValType) → Frame
-frame_with l k = frame_of l.shape record { known = k; is_dead = l.is_dead }
+frame_with : List FuncType → Level → List (Option ValType) → Frame
+frame_with types l k = frame_of types l.shape record { known = k; is_dead = l.is_dead }
 
-pub opened_frames : (outer : List Level) (l : Level) (below known : List (Option ValType)) → l.base ≡ length below → cut (reverse (outer ++ l ∷ [])) (below ++ reverse known) ≡ frame_of l.shape record { known = known; is_dead = l.is_dead } ∷ cut (reverse outer) below
+pub opened_frames : (types : List FuncType) (outer : List Level) (l : Level) (below known : List (Option ValType)) → l.base ≡ length below → cut types (reverse (outer ++ l ∷ [])) (below ++ reverse known) ≡ frame_of types l.shape record { known = known; is_dead = l.is_dead } ∷ cut types (reverse outer) below
 unfolding frame_with
-opened_frames outer l below known e =
-    ap (λ z. cut z (below ++ reverse known)) (reverse-append outer (l ∷ []))
-    ∙ ap₂ (λ a b. frame_with l a ∷ cut (reverse outer) b)
+opened_frames types outer l below known e =
+    ap (λ z. cut types z (below ++ reverse known)) (reverse-append outer (l ∷ []))
+    ∙ ap₂ (λ a b. frame_with types l a ∷ cut types (reverse outer) b)
     (ap (λ n. reverse (drop n (below ++ reverse known))) e ∙ ap reverse (drop-append_seam below (reverse known)) ∙ reverse-reverse known)
     (ap (λ n. take n (below ++ reverse known)) e ∙ take-append_seam below (reverse known))
 
@@ -26,14 +27,14 @@ opened_under outer l below more e h =
 pub closed_under : (outer : List Level) (l : Level) (below : List (Option ValType)) → under_all (reverse (outer ++ l ∷ [])) below ≡ [] → under_all (reverse outer) (take l.base below) ≡ []
 closed_under outer l below h = ap (λ z. under_all z below) (sym (reverse-append outer (l ∷ []))) ∙ h
 
-cut_height : (ls : List Level) (below : List (Option ValType)) → height (cut ls below) + length (under_all ls below) ≡ length below
-cut_height [] below = omega arith
-cut_height (l ∷ ls) below =
-    let k = cut_height ls (take l.base below) in
+cut_height : (types : List FuncType) (ls : List Level) (below : List (Option ValType)) → height (cut types ls below) + length (under_all ls below) ≡ length below
+cut_height types [] below = omega arith
+cut_height types (l ∷ ls) below =
+    let k = cut_height types ls (take l.base below) in
     let r = length-reverse (drop l.base below) in
     let s = ap length (take-append-drop l.base below) in
     let a = length-append (take l.base below) (drop l.base below) in
     omega (arith, k, r, s, a)
 
-pub tight_height : (ls : List Level) (below : List (Option ValType)) → under_all ls below ≡ [] → height (cut ls below) ≡ length below
-tight_height ls below e = let k = cut_height ls below in let q = ap length e in omega (arith, k, q)
+pub tight_height : (types : List FuncType) (ls : List Level) (below : List (Option ValType)) → under_all ls below ≡ [] → height (cut types ls below) ≡ length below
+tight_height types ls below e = let k = cut_height types ls below in let q = ap length e in omega (arith, k, q)

@@ -28,3 +28,4 @@ pub mod Shortened
 pub mod Topmost
 pub mod Singles
 pub mod Putting
+pub mod Taking

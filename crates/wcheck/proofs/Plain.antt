@@ -12,7 +12,7 @@ use Rattle.wcheck.proofs.Behind.{labels_outside}
 
 -- the context under these labels
 with_labels : Scope → Shape → List (List ValType) → Context
-with_labels s top ls = record (scope_context s) { labels = label_of top ∷ ls }
+with_labels s top ls = record (scope_context s) { labels = label_of s.context.now.context.types top ∷ ls }
 
 -- the step of a token that has a rule
 step_rule : (C : Context) (t : Token) (f : Frame) (fs : List Frame) (r : Rule) → Some r ≡ token_rule (context_in C (f ∷ fs)) t → step C t (f ∷ fs) ≡ on (apply r f.operands) (λ o. Some (record f { operands = o } ∷ fs))
@@ -24,22 +24,22 @@ step_rule C Else f fs r e = absurd cc
 step_rule C End f fs r e = absurd cc
 
 -- what follows from the rule, in the code's terms
-pub plain : (s : Scope) (t : Token) (top : Shape) (outer : List Level) (below : List (Option ValType)) (a o : Operands) (r : Rule) (goes : Bool) → Some r ≡ token_rule (context_at s top outer) t → apply r a ≡ when goes (Some o) → step (scope_context s) t (frame_of top a ∷ cut (reverse outer) below) ≡ when goes (Some (frame_of top o ∷ cut (reverse outer) below))
+pub plain : (s : Scope) (t : Token) (top : Shape) (outer : List Level) (below : List (Option ValType)) (a o : Operands) (r : Rule) (goes : Bool) → Some r ≡ token_rule (context_at s top outer) t → apply r a ≡ when goes (Some o) → step (scope_context s) t (frame_of s.context.now.context.types top a ∷ cut s.context.now.context.types (reverse outer) below) ≡ when goes (Some (frame_of s.context.now.context.types top o ∷ cut s.context.now.context.types (reverse outer) below))
 unfolding with_labels
 plain s t top outer below a o r goes e h =
-    let seen_rule : Some r ≡ token_rule (context_in (scope_context s) (frame_of top a ∷ cut (reverse outer) below)) t = e ∙ ap (λ ls. token_rule (with_labels s top ls) t) (sym (labels_outside outer below)) in
-    step_rule (scope_context s) t (frame_of top a) (cut (reverse outer) below) r seen_rule
-    ∙ ap (λ x. on x (λ u. Some (frame_of top u ∷ cut (reverse outer) below))) h
+    let seen_rule : Some r ≡ token_rule (context_in (scope_context s) (frame_of s.context.now.context.types top a ∷ cut s.context.now.context.types (reverse outer) below)) t = e ∙ ap (λ ls. token_rule (with_labels s top ls) t) (sym (labels_outside s.context.now.context.types outer below)) in
+    step_rule (scope_context s) t (frame_of s.context.now.context.types top a) (cut s.context.now.context.types (reverse outer) below) r seen_rule
+    ∙ ap (λ x. on x (λ u. Some (frame_of s.context.now.context.types top u ∷ cut s.context.now.context.types (reverse outer) below))) h
     ∙ then_some goes o
   where
-    then_some : (v : Bool) (u : Operands) → on (when v (Some u)) (λ w. Some (frame_of top w ∷ cut (reverse outer) below)) ≡ when v (Some (frame_of top u ∷ cut (reverse outer) below))
+    then_some : (v : Bool) (u : Operands) → on (when v (Some u)) (λ w. Some (frame_of s.context.now.context.types top w ∷ cut s.context.now.context.types (reverse outer) below)) ≡ when v (Some (frame_of s.context.now.context.types top u ∷ cut s.context.now.context.types (reverse outer) below))
     then_some true u = refl
     then_some false u = refl
 
 -- an instruction that has no rule
-pub unruled : (s : Scope) (t : Token) (i : Op) (top : Shape) (outer : List Level) (below : List (Option ValType)) (a : Operands) → t ≡ Do i → None ≡ token_rule (context_at s top outer) t → step (scope_context s) t (frame_of top a ∷ cut (reverse outer) below) ≡ None
+pub unruled : (s : Scope) (t : Token) (i : Op) (top : Shape) (outer : List Level) (below : List (Option ValType)) (a : Operands) → t ≡ Do i → None ≡ token_rule (context_at s top outer) t → step (scope_context s) t (frame_of s.context.now.context.types top a ∷ cut s.context.now.context.types (reverse outer) below) ≡ None
 unfolding with_labels
 unruled s t i top outer below a q e =
-    let none : None ≡ rule (context_in (scope_context s) (frame_of top a ∷ cut (reverse outer) below)) i = e ∙ ap (token_rule (context_at s top outer)) q ∙ ap (λ ls. token_rule (with_labels s top ls) (Do i)) (sym (labels_outside outer below)) in
-    ap (λ z. step (scope_context s) z (frame_of top a ∷ cut (reverse outer) below)) q
-    ∙ ap (λ x. on x (λ r. on (apply r a) (λ o. Some (frame_of top o ∷ cut (reverse outer) below)))) (sym none)
+    let none : None ≡ rule (context_in (scope_context s) (frame_of s.context.now.context.types top a ∷ cut s.context.now.context.types (reverse outer) below)) i = e ∙ ap (token_rule (context_at s top outer)) q ∙ ap (λ ls. token_rule (with_labels s top ls) (Do i)) (sym (labels_outside s.context.now.context.types outer below)) in
+    ap (λ z. step (scope_context s) z (frame_of s.context.now.context.types top a ∷ cut s.context.now.context.types (reverse outer) below)) q
+    ∙ ap (λ x. on x (λ r. on (apply r a) (λ o. Some (frame_of s.context.now.context.types top o ∷ cut s.context.now.context.types (reverse outer) below)))) (sym none)

@@ -1,8 +1,12 @@
 -- What is put on a list of operands.
-use Rattle.std.proofs.Common.{◌≡◌, ℕ, ◌+◌, ◌-◌, ◌^◌, ◌<◌, ◌≤◌, Bool, false, List, [], ◌∷◌, ◌++◌, map, length, Option, Some, sym, ap, ◌∙◌, subst}
+use Rattle.std.proofs.Common.{◌≡◌, ℕ, ◌+◌, ◌-◌, ◌^◌, ◌<◌, ◌≤◌, Bool, false, List, [], ◌∷◌, ◌++◌, map, length, take, Option, Some, sym, ap, ◌∙◌, subst}
 use Rattle.std.specs.Prelude.{Result, Ok, Err, is_ok, is_err, if◌then◌else◌}
 use Rattle.std.proofs.lemmas.List.{map-append}
+use Rattle.std.proofs.Math.Seq.{take-length}
 use Rattle.wsyntax.specs.declared.ValType.{ValType}
+use Rattle.wsyntax.specs.Types.{FuncType}
+use Rattle.wcontext.specs.declared.lists.TypeList.{TypeList}
+use Rattle.wcontext.specs.Lists.{list_of}
 use Rattle.wcheck.specs.declared.operand.Operand.{Operand}
 use Rattle.wcheck.specs.declared.operand.Run.{Run}
 use Rattle.wcheck.specs.declared.operand.Operand.TheVariants.{Several}
@@ -22,18 +26,29 @@ pub ok_items : {T E X : Type 0} (r : Result T E) (failed : Bool) (zs a b : X) �
 ok_items (Ok t) failed zs a b h f q = q
 ok_items (Err t) failed zs a b h f q = absurd cc
 
-module _ (xs ys : List Operand) (rs qs : List Run) (run : Run) (e : ys ≡ xs ++ Several ∷ []) (f : qs ≡ rs ++ run ∷ []) where
-  runs_are : map types_of_run qs ≡ map types_of_run rs ++ run.types.now ∷ []
-  runs_are = ap (map types_of_run) f ∙ map-append types_of_run rs (run ∷ [])
+-- so many of the front of a list as there are
+pub whole_list : (types : List FuncType) (list : TypeList) (left : ℕ) → left ≡ length (list_of types list) → types_of_run types record { list = list; left = left } ≡ list_of types list
+whole_list types list left e = take-all_at (list_of types list) left e
+  where
+    take-all_at : (xs : List ValType) (n : ℕ) → n ≡ length xs → take n xs ≡ xs
+    take-all_at xs n h = ap (λ k. take k xs) h ∙ take-length xs
 
-  pub run_pushed : (v : List (Option ValType)) → types_in xs (map types_of_run rs) ≡ v → 0 < length run.types.now → types_in ys (map types_of_run qs) ≡ v ++ map Some run.types.now
+-- the run stands for the types r
+module _ (types : List FuncType) (xs ys : List Operand) (rs qs : List Run) (run : Run) (r : List ValType) (k : types_of_run types run ≡ r) (e : ys ≡ xs ++ Several ∷ []) (f : qs ≡ rs ++ run ∷ []) where
+  runs_are : map (types_of_run types) qs ≡ map (types_of_run types) rs ++ r ∷ []
+  runs_are =
+      ap (map (types_of_run types)) f
+      ∙ map-append (types_of_run types) rs (run ∷ [])
+      ∙ ap (λ z. map (types_of_run types) rs ++ z ∷ []) k
+
+  pub run_pushed : (v : List (Option ValType)) → types_in xs (map (types_of_run types) rs) ≡ v → 0 < length r → types_in ys (map (types_of_run types) qs) ≡ v ++ map Some r
   run_pushed v w lt =
-      ap (λ z. types_in z (map types_of_run qs)) e
+      ap (λ z. types_in z (map (types_of_run types) qs)) e
       ∙ ap (types_in (xs ++ Several ∷ [])) runs_are
-      ∙ several xs (map types_of_run rs) run.types.now
-      ∙ ap (λ z. z ++ of_run run.types.now) w
-      ∙ ap (λ z. v ++ z) (whole_run run.types.now lt)
+      ∙ several xs (map (types_of_run types) rs) r
+      ∙ ap (λ z. z ++ of_run r) w
+      ∙ ap (λ z. v ++ z) (whole_run r lt)
 
-  pub run_pushed_counted : (m more : ℕ) → more ≡ m + (length run.types.now - 1) → more ≤ 2 ^ 63 → IsCounted xs (map types_of_run rs) m → IsCounted ys (map types_of_run qs) more
+  pub run_pushed_counted : (m more : ℕ) → more ≡ m + (length r - 1) → more ≤ 2 ^ 63 → IsCounted xs (map (types_of_run types) rs) m → IsCounted ys (map (types_of_run types) qs) more
   run_pushed_counted m more h le c =
-      subst (λ z. IsCounted z (map types_of_run qs) more) (sym e) (subst (λ z. IsCounted (xs ++ Several ∷ []) z more) (sym runs_are) (counted_run xs (map types_of_run rs) run.types.now m more c h le))
+      subst (λ z. IsCounted z (map (types_of_run types) qs) more) (sym e) (subst (λ z. IsCounted (xs ++ Several ∷ []) z more) (sym runs_are) (counted_run xs (map (types_of_run types) rs) r m more c h le))

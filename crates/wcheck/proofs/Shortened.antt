@@ -1,8 +1,12 @@
 -- A list of operands without its topmost place, or with less of the run there.
-use Rattle.std.proofs.Common.{◌≡◌, ℕ, suc, ◌+◌, ◌-◌, ◌<◌, ◌≤◌, List, [], ◌∷◌, ◌++◌, map, length, take, drop, Option, Some, None, sym, ap, ◌∙◌, subst, arith, length-append, length-take, length-drop}
+use Rattle.std.proofs.Common.{◌≡◌, ℕ, zero, suc, ◌+◌, ◌-◌, ◌<◌, ◌≤◌, List, [], ◌∷◌, ◌++◌, map, length, take, drop, get_or, Option, Some, None, refl, sym, ap, ◌∙◌, subst, arith, length-append, length-take, length-drop}
 use Rattle.std.specs.Prelude.{set}
-use Rattle.std.proofs.lemmas.List.{append_assoc, length-map, map-append, take-append-drop, take-map, map-set}
+use Rattle.std.proofs.Math.Seq.{take-nil}
+use Rattle.std.proofs.lemmas.Option.{get_or_from_slice_get}
+use Rattle.std.proofs.lemmas.List.{get_or-map, append_assoc, length-map, map-append, take-append-drop, take-map, map-set}
 use Rattle.wsyntax.specs.declared.ValType.{ValType}
+use Rattle.wsyntax.specs.Types.{FuncType}
+use Rattle.wcontext.specs.Lists.{list_of}
 use Rattle.wcheck.specs.declared.operand.Operand.{Operand}
 use Rattle.wcheck.specs.declared.operand.Run.{Run}
 use Rattle.wcheck.specs.declared.operand.Operand.TheVariants.{Several}
@@ -86,13 +90,36 @@ module _ (xs : List Operand) (rs : List (List ValType)) (x : Operand) (v : List 
       }
 
 -- the runs with another in the place of the last
-pub last_run_written : (rs : List Run) (count n : ℕ) (run : Run) → count ≡ length rs → n ≡ count - 1 → 0 < length (map types_of_run rs) → map types_of_run (set rs n run) ≡ take (length (map types_of_run rs) - 1) (map types_of_run rs) ++ run.types.now ∷ []
-last_run_written rs count n run c e lt =
-    map-set types_of_run rs n run
-    ∙ set_last (map types_of_run rs) n run.types.now lt (omega (arith, c, e, length-map rs types_of_run))
+pub last_run_written : (types : List FuncType) (rs : List Run) (count n : ℕ) (run : Run) (r : List ValType) → types_of_run types run ≡ r → count ≡ length rs → n ≡ count - 1 → 0 < length (map (types_of_run types) rs) → map (types_of_run types) (set rs n run) ≡ take (length (map (types_of_run types) rs) - 1) (map (types_of_run types) rs) ++ r ∷ []
+last_run_written types rs count n run r k c e lt =
+    map-set (types_of_run types) rs n run
+    ∙ set_last (map (types_of_run types) rs) n (types_of_run types run) lt (omega (arith, c, e, length-map rs (types_of_run types)))
+    ∙ ap (λ z. take (length (map (types_of_run types) rs) - 1) (map (types_of_run types) rs) ++ z ∷ []) k
+
+-- less of the front is less of what there was
+take_less : (xs : List ValType) (n left : ℕ) → left ≤ length (take n xs) → take left xs ≡ take left (take n xs)
+take_less [] n left le = ap (take left) (sym (take-nil n))
+take_less (x ∷ xs) zero left le = (let z : left ≡ 0 = omega (arith, le) in ap (λ k. take k (x ∷ xs)) z ∙ ap (λ k. take k (take zero (x ∷ xs))) (sym z))
+take_less (x ∷ xs) (suc n) zero le = refl
+take_less (x ∷ xs) (suc n) (suc left) le = ap (λ z. x ∷ z) (take_less xs n left (omega (arith, le)))
+
+-- the last run, cut
+pub last_run_cut : (types : List FuncType) (rs : List Run) (count n left : ℕ) (run : Run) (x : Operand) (r : List ValType) → run_at x (map (types_of_run types) rs) ≡ Some r → count ≡ length rs → n ≡ count - 1 → run ≡ get_or rs n run → left ≤ length r → types_of_run types (record run { left = left }) ≡ take left r
+last_run_cut types rs count n left run x r q c e h le =
+    let there = a_run (map (types_of_run types) rs) x r q in
+    let size : length (map (types_of_run types) rs) ≡ length rs = length-map rs (types_of_run types) in
+    let some : 0 < length (map (types_of_run types) rs) =
+    omega (arith, ap length there.1, length-append (take (length (map (types_of_run types) rs) - 1) (map (types_of_run types) rs)) (r ∷ [])) in
+    let at : n ≡ length (map (types_of_run types) rs) - 1 = omega (arith, c, e, size) in
+    let is : types_of_run types run ≡ r =
+    ap (types_of_run types) h
+    ∙ sym (get_or-map (types_of_run types) rs n run (types_of_run types run) (omega (arith, c, e, size, some)))
+    ∙ ap (λ i. get_or (map (types_of_run types) rs) i (types_of_run types run)) at
+    ∙ get_or_from_slice_get (map (types_of_run types) rs) (length (map (types_of_run types) rs) - 1) r (types_of_run types run) (sym (ap (λ z. run_at z (map (types_of_run types) rs)) there.0) ∙ q) in
+    take_less (list_of types run.list) run.left left (subst (λ z. left ≤ length z) (sym is) le) ∙ ap (take left) is
 
 -- the runs without the last
-pub last_run_gone : (rs qs : List Run) (count n : ℕ) → count ≡ length rs → n ≡ count - 1 → qs ≡ take n rs → map types_of_run qs ≡ take (length (map types_of_run rs) - 1) (map types_of_run rs)
-last_run_gone rs qs count n c e h =
-    let k : n ≡ length (map types_of_run rs) - 1 = omega (arith, c, e, length-map rs types_of_run) in
-    ap (map types_of_run) h ∙ sym (take-map types_of_run n rs) ∙ ap (λ z. take z (map types_of_run rs)) k
+pub last_run_gone : (types : List FuncType) (rs qs : List Run) (count n : ℕ) → count ≡ length rs → n ≡ count - 1 → qs ≡ take n rs → map (types_of_run types) qs ≡ take (length (map (types_of_run types) rs) - 1) (map (types_of_run types) rs)
+last_run_gone types rs qs count n c e h =
+    let k : n ≡ length (map (types_of_run types) rs) - 1 = omega (arith, c, e, length-map rs (types_of_run types)) in
+    ap (map (types_of_run types)) h ∙ sym (take-map (types_of_run types) n rs) ∙ ap (λ z. take z (map (types_of_run types) rs)) k

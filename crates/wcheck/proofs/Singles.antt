@@ -1,8 +1,9 @@
 -- A list of operands without a run: each place is an operand.
-use Rattle.std.proofs.Common.{◌≡◌, ℕ, ◌+◌, ◌-◌, ◌≤◌, Bool, true, List, [], ◌∷◌, ◌++◌, map, length, take, Option, Some, refl, sym, ap, ◌∙◌, arith}
+use Rattle.std.proofs.Common.{◌≡◌, ℕ, ◌-◌, ◌≤◌, Bool, true, List, [], ◌∷◌, ◌++◌, map, length, take, Option, Some, refl, sym, ap, ◌∙◌, arith}
 use Rattle.std.specs.Prelude.{set, ◌==◌}
 use Rattle.std.proofs.lemmas.List.{length-map, take-map}
 use Rattle.wsyntax.specs.declared.ValType.{ValType}
+use Rattle.wsyntax.specs.Types.{FuncType}
 use Rattle.wcheck.specs.declared.operand.Operand.{Operand}
 use Rattle.wcheck.specs.declared.operand.Run.{Run}
 use Rattle.wcheck.specs.Heights.{type_of}
@@ -10,9 +11,9 @@ use Rattle.wcheck.specs.Runs.{types_of_run, types_in, IsCounted}
 use Rattle.wcheck.proofs.SeenOperands.{seen_write}
 use Rattle.wcheck.proofs.Stretched.{singles}
 
-pub no_runs : (rs : List Run) (b : Bool) → b ≡ (length rs == 0) → b ≡ true → map types_of_run rs ≡ []
-no_runs [] b e t = refl
-no_runs (r ∷ rs) b e t = absurd (let h : (length (r ∷ rs) == 0) ≡ true = sym e ∙ t in grind (arith, h))
+pub no_runs : (types : List FuncType) (rs : List Run) (b : Bool) → b ≡ (length rs == 0) → b ≡ true → map (types_of_run types) rs ≡ []
+no_runs types [] b e t = refl
+no_runs types (r ∷ rs) b e t = absurd (let h : (length (r ∷ rs) == 0) ≡ true = sym e ∙ t in grind (arith, h))
 
 -- none is left out of the count
 pub counted_any : (xs ys : List Operand) (rs : List (List ValType)) (m : ℕ) → rs ≡ [] → IsCounted xs rs m → IsCounted ys rs m

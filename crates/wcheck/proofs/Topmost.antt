@@ -1,12 +1,17 @@
 -- The topmost operand of a list.
-use Rattle.std.proofs.Common.{◌≡◌, ℕ, suc, ◌+◌, ◌-◌, ◌≤◌, false, List, [], ◌∷◌, ◌++◌, map, length, take, get_or, slice_get, Option, Some, None, refl, sym, ap, ◌∙◌, arith}
-use Rattle.std.proofs.lemmas.List.{append_assoc, map-append}
-use Rattle.std.proofs.lemmas.Option.{slice_get-get_or}
+use Rattle.std.proofs.Common.{◌≡◌, ℕ, suc, ◌-◌, ◌≤◌, ◌<◌, true, false, Bool, List, [], ◌∷◌, ◌++◌, map, length, take, get_or, slice_get, Option, Some, None, refl, sym, ap, ◌∙◌, arith}
+use Rattle.std.proofs.lemmas.List.{append_assoc, map-append, length-map, length-take}
+use Rattle.std.specs.Prelude.{option_map, ◌==◌}
+use Rattle.std.proofs.lemmas.Option.{slice_get-get_or, slice_get-map}
 use Rattle.wsyntax.specs.declared.ValType.{ValType}
+use Rattle.wsyntax.specs.Types.{FuncType}
+use Rattle.wcontext.specs.declared.lists.TypeList.{TypeList}
+use Rattle.wcontext.specs.Lists.{list_of}
+use Rattle.wcheck.specs.declared.operand.Run.{Run}
 use Rattle.wcheck.specs.declared.operand.Operand.{Operand}
 use Rattle.wcheck.specs.declared.operand.Operand.TheVariants.{I32, I64, F32, F64, Unknown, Several}
 use Rattle.wcheck.specs.Heights.{type_of}
-use Rattle.wcheck.specs.Runs.{is_several, run_at, of_run, types_in}
+use Rattle.wcheck.specs.Runs.{is_several, run_at, types_of_run, of_run, types_in}
 use Rattle.wcheck.proofs.Lasts.{last_split, no_last, is_there, last_two}
 use Rattle.wcheck.proofs.Stretched.{none, whole_run, no_run}
 use Rattle.wcheck.proofs.Pushed.{pushed}
@@ -63,3 +68,37 @@ last_in_run xs rs v x r t w e q k =
           ∙ ap (λ z. types_in (take (length xs - 1) xs) (take (length rs - 1) rs) ++ z) l.1
           ∙ sym (append_assoc (types_in (take (length xs - 1) xs) (take (length rs - 1) rs)) l.0 (t ∷ [])),
     )
+
+a_several : (x : Operand) → is_several x ≡ true → x ≡ Several
+a_several I32 e = absurd cc
+a_several I64 e = absurd cc
+a_several F32 e = absurd cc
+a_several F64 e = absurd cc
+a_several Unknown e = absurd cc
+a_several Several e = refl
+
+-- the last operands, where the run on top is the first so many of a list
+pub last_of_list : (types u : List FuncType) (xs : List Operand) (rs : List Run) (v : List (Option ValType)) (x : Operand) (run : Run) (list : TypeList) (count : ℕ) → types_in xs (map (types_of_run types) rs) ≡ v → Some x ≡ slice_get xs (length xs - 1) → is_several x ≡ true → Some run ≡ slice_get rs (length rs - 1) → run.left ≡ count → run.list ≡ list → types ≡ u → 0 < count → count ≤ length (list_of u list) → (rest : List (Option ValType)) × (v ≡ rest ++ map Some (take count (list_of u list)))
+last_of_list types u xs rs v x run list count w e several q l n same lt le =
+    let r : List ValType = take count (list_of u list) in
+    let stands : types_of_run types run ≡ r = ap (λ k. take k (list_of types run.list)) l ∙ ap (λ z. take count (list_of types z)) n ∙ ap (λ z. take count (list_of z list)) same in
+    let size : length (map (types_of_run types) rs) - 1 ≡ length rs - 1 = ap (λ k. k - 1) (length-map rs (types_of_run types)) in
+    let top : run_at Several (map (types_of_run types) rs) ≡ Some r =
+    ap (slice_get (map (types_of_run types) rs)) size
+    ∙ slice_get-map (types_of_run types) rs (length rs - 1)
+    ∙ ap (option_map (types_of_run types)) (sym q)
+    ∙ ap Some stands in
+    let some : 0 < length r = omega (arith, length-take count (list_of u list)) in (
+      types_in (take (length xs - 1) xs) (take (length (map (types_of_run types) rs) - 1) (map (types_of_run types) rs)),
+      split_run xs (map (types_of_run types) rs) Several v (length xs - 1) w (is_there xs Several (sym (ap Some (sym (a_several x several)) ∙ e))) r top
+          ∙ ap (λ z. types_in (take (length xs - 1) xs) (take (length (map (types_of_run types) rs) - 1) (map (types_of_run types) rs)) ++ z) (whole_run r some),
+    )
+
+-- the last operands, where the run on top has some
+pub last_of_run_on_top : (xs : List Operand) (rs : List (List ValType)) (v : List (Option ValType)) (x : Operand) (r : List ValType) → types_in xs rs ≡ v → Some x ≡ slice_get xs (length xs - 1) → run_at x rs ≡ Some r → 0 < length r → (rest : List (Option ValType)) × (v ≡ rest ++ map Some r)
+last_of_run_on_top xs rs v x r w e q some =
+    (types_in (take (length xs - 1) xs) (take (length rs - 1) rs), split_run xs rs x v (length xs - 1) w (is_there xs x (sym e)) r q ∙ ap (λ z. types_in (take (length xs - 1) xs) (take (length rs - 1) rs) ++ z) (whole_run r some))
+
+pub has_some : (xs : List ValType) (b : Bool) → b ≡ (length xs == 0) → b ≡ false → 0 < length xs
+has_some [] b e f = absurd (let h : true ≡ false = sym e ∙ f in cc)
+has_some (x ∷ xs) b e f = omega arith

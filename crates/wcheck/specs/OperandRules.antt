@@ -1,9 +1,11 @@
 -- What an instruction does to the operands, in the code.
-use Rattle.std.specs.Prelude.{[], ◌∷◌, Bool, reverse, cond}
+use Rattle.std.specs.Prelude.{List, [], ◌∷◌, Bool, reverse, cond}
 use Rattle.wsyntax.specs.declared.ValType.TheVariants.{I32}
+use Rattle.wsyntax.specs.Types.{FuncType}
 use Rattle.wsyntax.specs.Validation.Context.{Stack}
 use Rattle.wsyntax.specs.Validation.Algorithm as alg
 use Rattle.wsyntax.specs.Validation.Algorithm.{Rule}
+use Rattle.wcontext.specs.Lists.{list_of}
 use Rattle.wcheck.specs.declared.rule.OperandRule.{OperandRule}
 use Rattle.wcheck.specs.declared.rule.OperandRule.TheVariants.{Nothing, Puts, Takes, Changes, Combines, Stores, Moves, Ends, Drops, Selects}
 
@@ -11,15 +13,15 @@ use Rattle.wcheck.specs.declared.rule.OperandRule.TheVariants.{Nothing, Puts, Ta
 abbrev pub indexed : Bool → Stack → Stack
 indexed has_index ts = cond has_index (I32 ∷ ts) ts
 
--- its rule
-abbrev pub rule_of : OperandRule → Rule
-rule_of Nothing = alg.Takes [] []
-rule_of (Puts t) = alg.Takes [] (t ∷ [])
-rule_of (Takes t) = alg.Takes (t ∷ []) []
-rule_of (Changes t u) = alg.Takes (t ∷ []) (u ∷ [])
-rule_of (Combines t u) = alg.Takes (t ∷ t ∷ []) (u ∷ [])
-rule_of (Stores t) = alg.Takes (t ∷ I32 ∷ []) []
-rule_of (Moves has_index ts us) = alg.Takes (indexed has_index (reverse ts.now)) (reverse us.now)
-rule_of (Ends has_index ts) = alg.Ends (indexed has_index (reverse ts.now))
-rule_of Drops = alg.Drops
-rule_of Selects = alg.Selects
+-- its rule, where these are the function types
+abbrev pub rule_of : List FuncType → OperandRule → Rule
+rule_of types Nothing = alg.Takes [] []
+rule_of types (Puts t) = alg.Takes [] (t ∷ [])
+rule_of types (Takes t) = alg.Takes (t ∷ []) []
+rule_of types (Changes t u) = alg.Takes (t ∷ []) (u ∷ [])
+rule_of types (Combines t u) = alg.Takes (t ∷ t ∷ []) (u ∷ [])
+rule_of types (Stores t) = alg.Takes (t ∷ I32 ∷ []) []
+rule_of types (Moves has_index ts us) = alg.Takes (indexed has_index (reverse (list_of types ts))) (reverse (list_of types us))
+rule_of types (Ends has_index ts) = alg.Ends (indexed has_index (reverse (list_of types ts)))
+rule_of types Drops = alg.Drops
+rule_of types Selects = alg.Selects

@@ -1,6 +1,8 @@
 -- A list of operands in which a long list of types has one place.
-use Rattle.std.specs.Prelude.{◌≡◌, ℕ, ◌+◌, ◌-◌, ◌^◌, ◌≤◌, Bool, true, false, List, [], ◌∷◌, ◌++◌, map, length, reverse, Option, Some, None, slice_get}
+use Rattle.std.specs.Prelude.{◌≡◌, ℕ, ◌+◌, ◌-◌, ◌^◌, ◌≤◌, Bool, true, false, List, [], ◌∷◌, ◌++◌, map, length, take, reverse, Option, Some, None, slice_get}
 use Rattle.wsyntax.specs.declared.ValType.{ValType}
+use Rattle.wsyntax.specs.Types.{FuncType}
+use Rattle.wcontext.specs.Lists.{list_of}
 use Rattle.wcheck.specs.declared.operand.Operand.{Operand}
 use Rattle.wcheck.specs.declared.operand.Operand.TheVariants.{I32, I64, F32, F64, Unknown, Several}
 use Rattle.wcheck.specs.declared.operand.Run.{Run}
@@ -15,8 +17,9 @@ is_several F32 = false
 is_several F64 = false
 is_several Unknown = false
 
-abbrev pub types_of_run : Run → List ValType
-types_of_run r = r.types.now
+-- what is left of the front of its list, where these are the function types
+abbrev pub types_of_run : List FuncType → Run → List ValType
+types_of_run types r = take r.left (list_of types r.list)
 
 -- the run at the topmost place, if one stands there
 abbrev pub run_at : Operand → List (List ValType) → Option (List ValType)
@@ -46,6 +49,11 @@ stretched (Unknown ∷ xs) rs = type_of Unknown ∷ stretched xs rs
 -- the same, each the lowest first
 unfoldable pub types_in : List Operand → List (List ValType) → List (Option ValType)
 types_in xs rs = reverse (stretched (reverse xs) (reverse rs))
+
+-- a list of operands, the lowest first, and the function types that its lists are of
+pub record Listing : Type 0 where
+  pub items : List (Option ValType)
+  pub types : List FuncType
 
 -- so many more operands than places
 pub record IsCounted (xs : List Operand) (rs : List (List ValType)) (more : ℕ) : Type 0 where

@@ -1,35 +1,39 @@
 -- What the code's values stand for.
 use Rattle.std.specs.Prelude.{List, [], ◌∷◌, Option, None, reverse, map, cond, take, drop}
 use Rattle.wsyntax.specs.declared.ValType.{ValType}
+use Rattle.wsyntax.specs.Types.{FuncType}
 use Rattle.wsyntax.specs.Instructions.{Token, Do}
 use Rattle.wsyntax.specs.Validation.Context.{Stack, Context, body_context}
 use Rattle.wsyntax.specs.Validation.Algorithm.{Operands, Frame, Rule, rule}
+use Rattle.wcontext.specs.Lists.{list_of}
 use Rattle.wcheck.specs.declared.frames.Shape.{Shape}
 use Rattle.wcheck.specs.declared.frames.Level.{Level}
 use Rattle.wcheck.specs.declared.scope.Scope.{Scope}
 
 -- what its instructions look up, the labels apart
 abbrev pub scope_context : Scope → Context
-scope_context s = body_context (reverse s.results.now) (record s.context.now.context { locals = s.locals })
+scope_context s = body_context (reverse (list_of s.context.now.context.types s.results)) (record s.context.now.context { locals = s.locals })
 
-abbrev pub label_of : Shape → Stack
-label_of x = cond x.is_loop (reverse x.starts.now) (reverse x.gives.now)
+-- what a branch to a frame takes, where these are the function types
+abbrev pub label_of : List FuncType → Shape → Stack
+label_of types x = cond x.is_loop (reverse (list_of types x.starts)) (reverse (list_of types x.gives))
 
-abbrev pub labels_in : Shape → List Level → List Stack
-labels_in x outer = label_of x ∷ reverse (map (λ y. label_of y.shape) outer)
+abbrev pub labels_in : List FuncType → Shape → List Level → List Stack
+labels_in types x outer = label_of types x ∷ reverse (map (λ y. label_of types y.shape) outer)
 
 -- the context in the innermost frame
 abbrev pub context_at : Scope → Shape → List Level → Context
-context_at s x outer = record (scope_context s) { labels = labels_in x outer }
+context_at s x outer = record (scope_context s) { labels = labels_in s.context.now.context.types x outer }
 
-abbrev pub frame_of : Shape → Operands → Frame
-frame_of x o = record { is_then = x.is_then; label = label_of x; starts = reverse x.starts.now; gives = reverse x.gives.now; operands = o }
+abbrev pub frame_of : List FuncType → Shape → Operands → Frame
+frame_of types x o =
+    record { is_then = x.is_then; label = label_of types x; starts = reverse (list_of types x.starts); gives = reverse (list_of types x.gives); operands = o }
 
 -- the frames outside, the innermost first, whose operands these are, the lowest first
-abbrev pub cut : List Level → List (Option ValType) → List Frame
-cut [] below = []
-cut (l ∷ ls) below =
-    frame_of l.shape record { known = reverse (drop l.base below); is_dead = l.is_dead } ∷ cut ls (take l.base below)
+abbrev pub cut : List FuncType → List Level → List (Option ValType) → List Frame
+cut types [] below = []
+cut types (l ∷ ls) below =
+    frame_of types l.shape record { known = reverse (drop l.base below); is_dead = l.is_dead } ∷ cut types ls (take l.base below)
 
 -- what lies under all frames
 abbrev pub under_all : List Level → List (Option ValType) → List (Option ValType)

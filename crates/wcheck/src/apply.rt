@@ -6,6 +6,7 @@ use crate::operand::is_same;
 use crate::operands::OperandStack;
 use crate::rule::OperandRule;
 use std::alloc::AllocError;
+use wcontext::TypeList;
 use wsyntax::ValType;
 
 /// The type of both, if they may be of one type.
@@ -23,8 +24,9 @@ fn joined(x: Option<ValType>, y: Option<ValType>) -> Option<Option<ValType>>
 /// Takes an i32 and two operands that may be of one type, and puts one of that type.
 #[inline]
 fn selects(operands: &mut OperandStack) -> Result<bool, AllocError>
-    ensures above { IfOk result (λ yes. apply (rule_of OperandRule.Selects) operands.old.above ≡ when yes (Some operands.new.above)) }
+    ensures above { IfOk result (λ yes. apply (rule_of operands.old.types OperandRule.Selects) operands.old.above ≡ when yes (Some operands.new.above)) }
     ensures below { operands.new.below ≡ operands.old.below }
+    ensures types { operands.new.types ≡ operands.old.types }
 {
     if !operands.take_one(ValType::I32) {
         return Ok(false);
@@ -44,14 +46,15 @@ fn selects(operands: &mut OperandStack) -> Result<bool, AllocError>
 
 /// Takes some types, and puts others.
 #[inline]
-fn moves<'a>(
-    operands: &mut OperandStack<'a>,
+fn moves(
+    operands: &mut OperandStack,
     has_index: bool,
-    takes: &[ValType],
-    gives: &'a [ValType],
+    takes: TypeList,
+    gives: TypeList,
 ) -> Result<bool, AllocError>
-    ensures above { IfOk result (λ yes. apply (rule_of (OperandRule.Moves has_index takes.entry gives.entry)) operands.old.above ≡ when yes (Some operands.new.above)) }
+    ensures above { IfOk result (λ yes. apply (rule_of operands.old.types (OperandRule.Moves has_index takes gives)) operands.old.above ≡ when yes (Some operands.new.above)) }
     ensures below { operands.new.below ≡ operands.old.below }
+    ensures types { operands.new.types ≡ operands.old.types }
 {
     if has_index && !operands.take_one(ValType::I32) {
         return Ok(false);
@@ -65,9 +68,10 @@ fn moves<'a>(
 
 /// Takes some types, and what follows is not reached.
 #[inline]
-fn ends(operands: &mut OperandStack, has_index: bool, takes: &[ValType]) -> bool
-    ensures above { apply (rule_of (OperandRule.Ends has_index takes.entry)) operands.old.above ≡ when result (Some operands.new.above) }
+fn ends(operands: &mut OperandStack, has_index: bool, takes: TypeList) -> bool
+    ensures above { apply (rule_of operands.old.types (OperandRule.Ends has_index takes)) operands.old.above ≡ when result (Some operands.new.above) }
     ensures below { operands.new.below ≡ operands.old.below }
+    ensures types { operands.new.types ≡ operands.old.types }
 {
     if has_index && !operands.take_one(ValType::I32) {
         return false;
@@ -81,12 +85,10 @@ fn ends(operands: &mut OperandStack, has_index: bool, takes: &[ValType]) -> bool
 
 /// Does to the operands what the instruction does. After a refusal or an error nothing is said of them.
 #[inline(always)]
-pub(crate) fn apply_rule<'a>(
-    operands: &mut OperandStack<'a>,
-    rule: OperandRule<'a>,
-) -> Result<bool, AllocError>
-    ensures above { IfOk result (λ yes. apply (rule_of rule.entry) operands.old.above ≡ when yes (Some operands.new.above)) }
+pub(crate) fn apply_rule(operands: &mut OperandStack, rule: OperandRule) -> Result<bool, AllocError>
+    ensures above { IfOk result (λ yes. apply (rule_of operands.old.types rule) operands.old.above ≡ when yes (Some operands.new.above)) }
     ensures below { operands.new.below ≡ operands.old.below }
+    ensures types { operands.new.types ≡ operands.old.types }
 {
     match rule {
         OperandRule::Nothing => Ok(true),

@@ -11,7 +11,7 @@ use crate::operands::OperandStack;
 use crate::scope::{Scope, none};
 use std::alloc::{AllocError, Global};
 use std::marker::Model;
-use wcontext::{Context, Signature};
+use wcontext::{Context, ListPair, TypeList};
 use wsyntax::{LocalRun, Token};
 
 /// The check of one body after another, a token at a time (7.3). Its stacks outlive the bodies, so that a worker
@@ -27,12 +27,11 @@ impl<'a> Model for Checker<'a> {
 
     ghost Value = { Checking };
 
-    ghost use Rattle.wcheck.specs.Checked.{checking_of};
-    ghost use Rattle.wcheck.specs.Frames.{IsTight};
+    ghost use Rattle.wcheck.specs.Checked.{checking_of, IsWhole};
 
     ghost view = { checking_of };
 
-    ghost invariant = { λ c. IsTight c.control };
+    ghost invariant = { IsWhole };
 }
 
 impl<'a> Checker<'a> {
@@ -44,16 +43,16 @@ impl<'a> Checker<'a> {
         let scope = Scope {
             context,
             locals: Locals::new(alloc, none()),
-            results: none(),
+            results: TypeList::Nothing,
         };
         let top = Shape {
             is_then: false,
             is_loop: false,
-            starts: none(),
-            gives: none(),
+            starts: TypeList::Nothing,
+            gives: TypeList::Nothing,
         };
         let control = Control {
-            operands: OperandStack::new(alloc),
+            operands: OperandStack::new(alloc, context),
             top,
             outer: Vec::new(alloc),
             is_open: false,
@@ -68,17 +67,18 @@ impl<'a> Checker<'a> {
         ensures begun { IfOk result (λ _. self.new ≡ begun self.old.outside func runs.now) }
         ensures outside { self.new.outside ≡ self.old.outside }
     {
-        let Some(Signature { params, results }) = self.scope.context.function(func) else {
+        let context = self.scope.context;
+        let Some(ListPair { params, results }) = context.function_lists(func) else {
             unreachable!()
         };
         self.scope.results = results;
-        self.scope.locals.set(params, runs)?;
+        self.scope.locals.set(context.list(params), runs)?;
         self.control.operands.clear();
         self.control.outer.clear();
         self.control.top = Shape {
             is_then: false,
             is_loop: false,
-            starts: none(),
+            starts: TypeList::Nothing,
             gives: results,
         };
         self.control.is_open = true;
@@ -134,7 +134,7 @@ impl<'a> Checker<'a> {
         ensures { result ≡ label_size self.now.frames }
     {
         if self.control.is_open {
-            label(self.control.top).len()
+            self.scope.context.list(label(self.control.top)).len()
         } else {
             0
         }

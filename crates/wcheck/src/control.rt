@@ -1,4 +1,5 @@
 ghost use Rattle.std.specs.Prelude.{◌≡◌, ◌≤◌, ◌+◌, List, [], ◌∷◌, ◌++◌, Bool, true, false, cond, Option, MatchOption, IfOk, reverse, map, length};
+ghost use Rattle.wcontext.specs.Lists.{list_of};
 ghost use Rattle.wsyntax.specs.Instructions.{Op, Do};
 ghost use Rattle.wsyntax.specs.Modules.{seen};
 ghost use Rattle.wsyntax.specs.Validation.Algorithm.{on, when, apply, open_frame, ends_with, may_lack_else, pass_on, fresh, step};
@@ -11,31 +12,32 @@ use crate::operands::OperandStack;
 use crate::rule::rule_of_token;
 use crate::scope::{Scope, block_signature};
 use std::alloc::AllocError;
-use wcontext::Signature;
+use wcontext::{ListPair, TypeList};
 use wsyntax::{Token, ValType};
 
 /// The open frames: the innermost one apart, and the others.
 #[derive(Drop)]
 pub(crate) struct Control<'a> {
     pub(crate) operands: OperandStack<'a>,
-    pub(crate) top: Shape<'a>,
-    pub(crate) outer: Vec<Level<'a>>,
+    pub(crate) top: Shape,
+    pub(crate) outer: Vec<Level>,
     /// False once the function is closed.
     pub(crate) is_open: bool,
 }
 
 /// Opens a frame.
 #[tactic(auto, using(crate::proofs::Cuts::opened_frames, crate::proofs::Cuts::opened_under))]
-pub(crate) fn open_level<'a>(
-    control: &mut Control<'a>,
+pub(crate) fn open_level(
+    control: &mut Control,
     is_then: bool,
     is_loop: bool,
-    params: &'a [ValType],
-    results: &'a [ValType],
+    params: TypeList,
+    results: TypeList,
 ) -> Result<bool, AllocError>
-    ensures frames { IfOk result (λ yes. open_frame is_then (cond is_loop (reverse params.now) (reverse results.now)) record { params = params.now; results = results.now } (frame_of control.old.top control.old.operands.above) (cut (reverse control.old.outer.items) control.old.operands.below) control.old.operands.above ≡ when yes (Some (inner_of control.new))) }
+    ensures frames { IfOk result (λ yes. open_frame is_then (cond is_loop (reverse (list_of control.old.operands.types params)) (reverse (list_of control.old.operands.types results))) record { params = list_of control.old.operands.types params; results = list_of control.old.operands.types results } (frame_of control.old.operands.types control.old.top control.old.operands.above) (cut control.old.operands.types (reverse control.old.outer.items) control.old.operands.below) control.old.operands.above ≡ when yes (Some (inner_of control.new))) }
     ensures open { IfOk result (λ yes. control.new.is_open ≡ control.old.is_open) }
     ensures tight { IsTight control.old → IsTight control.new }
+    ensures types { control.new.operands.types ≡ control.old.operands.types }
 {
     if !control.operands.take_all(params) {
         return Ok(false);
@@ -58,10 +60,11 @@ pub(crate) fn open_level<'a>(
 }
 
 /// Goes on from the first branch of an if to the second.
-pub(crate) fn other_branch<'a>(control: &mut Control<'a>) -> Result<bool, AllocError>
-    ensures frames { IfOk result (λ yes. when control.old.top.is_then (when (ends_with (reverse control.old.top.gives.now) control.old.operands.above) (Some (record (frame_of control.old.top control.old.operands.above) { is_then = false; operands = fresh (reverse control.old.top.starts.now) } ∷ cut (reverse control.old.outer.items) control.old.operands.below))) ≡ when yes (Some (inner_of control.new))) }
+pub(crate) fn other_branch(control: &mut Control) -> Result<bool, AllocError>
+    ensures frames { IfOk result (λ yes. when control.old.top.is_then (when (ends_with (reverse (list_of control.old.operands.types control.old.top.gives)) control.old.operands.above) (Some (record (frame_of control.old.operands.types control.old.top control.old.operands.above) { is_then = false; operands = fresh (reverse (list_of control.old.operands.types control.old.top.starts)) } ∷ cut control.old.operands.types (reverse control.old.outer.items) control.old.operands.below))) ≡ when yes (Some (inner_of control.new))) }
     ensures open { IfOk result (λ yes. control.new.is_open ≡ control.old.is_open) }
     ensures tight { IsTight control.old → IsTight control.new }
+    ensures types { control.new.operands.types ≡ control.old.operands.types }
 {
     if !control.top.is_then {
         return Ok(false);
@@ -77,10 +80,11 @@ pub(crate) fn other_branch<'a>(control: &mut Control<'a>) -> Result<bool, AllocE
 
 /// Closes the innermost frame.
 #[tactic(auto, using(crate::proofs::Cuts::closed_under))]
-pub(crate) fn close_level<'a>(control: &mut Control<'a>) -> Result<bool, AllocError>
+pub(crate) fn close_level(control: &mut Control) -> Result<bool, AllocError>
     requires { control.old.is_open ≡ true }
     ensures tight { IsTight control.old → IsTight control.new }
-    ensures frames { IfOk result (λ yes. when (ends_with (reverse control.old.top.gives.now) control.old.operands.above) (when (may_lack_else (frame_of control.old.top control.old.operands.above)) (Some (pass_on (reverse control.old.top.gives.now) (cut (reverse control.old.outer.items) control.old.operands.below)))) ≡ when yes (Some (frames_of control.new))) }
+    ensures types { control.new.operands.types ≡ control.old.operands.types }
+    ensures frames { IfOk result (λ yes. when (ends_with (reverse (list_of control.old.operands.types control.old.top.gives)) control.old.operands.above) (when (may_lack_else (frame_of control.old.operands.types control.old.top control.old.operands.above)) (Some (pass_on (reverse (list_of control.old.operands.types control.old.top.gives)) (cut control.old.operands.types (reverse control.old.outer.items) control.old.operands.below)))) ≡ when yes (Some (frames_of control.new))) }
 {
     if !control.operands.ends_with(control.top.gives) {
         return Ok(false);
@@ -108,15 +112,17 @@ pub(crate) fn close_level<'a>(control: &mut Control<'a>) -> Result<bool, AllocEr
 /// An instruction without a body.
 #[inline(always)]
 #[tactic(auto, using(crate::proofs::Behind::labels_outside, crate::proofs::Plain::plain, crate::proofs::Plain::unruled))]
-fn act<'a>(
-    scope: &Scope<'a>,
+fn act(
+    scope: &Scope,
     targets: &[u32],
-    control: &mut Control<'a>,
+    control: &mut Control,
     token: Token,
 ) -> Result<bool, AllocError>
-    requires { control.old.is_open ≡ true }
+    requires open { control.old.is_open ≡ true }
+    requires types { control.old.operands.types ≡ scope.now.context.now.context.types }
     ensures frames { IfOk result (λ yes. (i : Op) → seen targets.now token ≡ Do i → step (scope_context scope.now) (seen targets.now token) (frames_of control.old) ≡ when yes (Some (frames_of control.new))) }
     ensures tight { IsTight control.old → IsTight control.new }
+    ensures types { control.new.operands.types ≡ control.old.operands.types }
 {
     match rule_of_token(scope, control.top, &control.outer, targets, token) {
         Some(rule) => {
@@ -129,33 +135,33 @@ fn act<'a>(
 
 /// One token.
 #[inline(always)]
-pub(crate) fn step_control<'a>(
-    scope: &Scope<'a>,
+pub(crate) fn step_control(
+    scope: &Scope,
     targets: &[u32],
-    control: &mut Control<'a>,
+    control: &mut Control,
     token: Token,
 ) -> Result<bool, AllocError>
+    requires { control.old.operands.types ≡ scope.now.context.now.context.types }
     ensures frames { IfOk result (λ yes. step (scope_context scope.now) (seen targets.now token) (frames_of control.old) ≡ when yes (Some (frames_of control.new))) }
     ensures tight { IsTight control.old → IsTight control.new }
+    ensures types { control.new.operands.types ≡ control.old.operands.types }
 {
     if !control.is_open {
         return Ok(false);
     }
     match token {
         Token::Block(block) => match block_signature(scope.context, block) {
-            Some(Signature { params, results }) => open_level(
+            Some(ListPair { params, results }) => open_level(
                 control, false, false, params, results,
             ),
             None => Ok(false),
         },
         Token::Loop(block) => match block_signature(scope.context, block) {
-            Some(Signature { params, results }) => open_level(
-                control, false, true, params, results,
-            ),
+            Some(ListPair { params, results }) => open_level(control, false, true, params, results),
             None => Ok(false),
         },
         Token::If(block) => match block_signature(scope.context, block) {
-            Some(Signature { params, results }) => {
+            Some(ListPair { params, results }) => {
                 if control.operands.take_one(ValType::I32) {
                     open_level(control, true, false, params, results)
                 } else {

@@ -1,7 +1,8 @@
-ghost use Rattle.std.specs.Prelude.{◌≡◌, ◌+◌, ◌<◌, min, List, [], ◌++◌, Option, IfOk, slice_get, map, take};
+ghost use Rattle.std.specs.Prelude.{◌≡◌, ◌+◌, ◌<◌, min, List, [], ◌++◌, Option, IfOk, slice_get, map};
 ghost use Rattle.wsyntax.specs.Validation.ModuleContext.{declared};
 ghost use Rattle.wcheck.specs.LocalRuns.{run_of, AreEnds, AreFirst};
 
+use crate::operand::first_of;
 use std::alloc::{AllocError, Global};
 use std::marker::Model;
 use wsyntax::{LocalRun, ValType};
@@ -65,18 +66,6 @@ fn end_runs(ended: &mut Vec<EndedRun>, runs: &[LocalRun]) -> Result<(), AllocErr
         ended.push(EndedRun { run: *run, end })?;
     }
     Ok(())
-}
-
-/// As many of these as there are, up to that count.
-#[inline]
-fn first_of(types: &[ValType], count: usize) -> &[ValType]
-    ensures { result.now ≡ take count types.now }
-{
-    if count < types.len() {
-        &types[..count]
-    } else {
-        types
-    }
 }
 
 /// Writes out the first of the locals.

@@ -1,10 +1,12 @@
-ghost use Rattle.std.specs.Prelude.{◌≡◌, ◌≤◌, ◌<◌, ◌+◌, ◌-◌, ℕ, List, [], ◌∷◌, ◌++◌, Bool, true, false, Option, Some, MatchOption, MatchResult, length, map, take, vec_len};
+ghost use Rattle.std.specs.Prelude.{◌≡◌, ◌≤◌, ◌<◌, ◌+◌, ◌-◌, ℕ, List, [], ◌∷◌, ◌++◌, Bool, true, false, Option, Some, IfSome, MatchOption, MatchResult, length, map, take, drop, vec_len};
 ghost use Rattle.wsyntax.specs.Types.{same_type};
+ghost use Rattle.wcontext.specs.Lists.{list_of};
 ghost use Rattle.wcheck.specs.Heights.{type_of};
 ghost use Rattle.wcheck.specs.Runs.{is_several, run_at, types_of_run};
 
 use std::alloc::{AllocError, Global};
 use std::marker::Model;
+use wcontext::{Context, TypeList};
 use wsyntax::ValType;
 
 /// Whether two value types are the same.
@@ -27,10 +29,11 @@ pub(crate) enum Operand {
     Several,
 }
 
-/// Several operands, the last topmost: a list of types, or what is left of its front.
+/// Several operands, the last topmost: the first so many of a list of types.
 #[derive(Clone, Copy)]
-pub(crate) struct Run<'a> {
-    pub(crate) types: &'a [ValType],
+pub(crate) struct Run {
+    pub(crate) list: TypeList,
+    pub(crate) left: usize,
 }
 
 #[inline]
@@ -68,14 +71,50 @@ fn is_known(x: Operand, t: ValType) -> bool
     x as u8 == t as u8
 }
 
+/// How many of the last types of both lists are the same.
+pub(crate) fn common_end(a: &[ValType], b: &[ValType]) -> usize
+    ensures first { result ≤ length a.now }
+    ensures second { result ≤ length b.now }
+    ensures same { drop (length a.now - result) a.now ≡ drop (length b.now - result) b.now }
+{
+    let mut count = 0;
+    while count < a.len() && count < b.len() {
+        if !is_same(a[a.len() - 1 - count], b[b.len() - 1 - count]) {
+            return count;
+        }
+        count += 1;
+    }
+    count
+}
+
+/// Whether a run stands at the place.
+#[inline]
+fn is_run(place: Operand) -> bool
+    ensures { result ≡ is_several place }
+{
+    matches!(place, Operand::Several)
+}
+
+/// As many of these as there are, up to that count.
+#[inline]
+pub(crate) fn first_of(types: &[ValType], count: usize) -> &[ValType]
+    ensures { result.now ≡ take count types.now }
+{
+    if count < types.len() {
+        &types[..count]
+    } else {
+        types
+    }
+}
+
 /// The types of the run that stands at this topmost place.
 #[inline]
-fn top_run<'a>(place: Operand, runs: &[Run<'a>]) -> Option<&'a [ValType]>
-    ensures { MatchOption result (run_at place (map types_of_run runs.now) ≡ None) (λ r. run_at place (map types_of_run runs.now) ≡ Some r.now) }
+fn top_run<'a>(context: &'a Context, place: Operand, runs: &[Run]) -> Option<&'a [ValType]>
+    ensures { MatchOption result (run_at place (map (types_of_run context.now.context.types) runs.now) ≡ None) (λ r. run_at place (map (types_of_run context.now.context.types) runs.now) ≡ Some r.now) }
 {
     match place {
         Operand::Several => match runs.last() {
-            Some(run) => Some(run.types),
+            Some(run) => Some(first_of(context.list(run.list), run.left)),
             None => None,
         },
         Operand::I32 | Operand::I64 | Operand::F32 | Operand::F64 | Operand::Unknown => None,
@@ -86,22 +125,22 @@ fn top_run<'a>(place: Operand, runs: &[Run<'a>]) -> Option<&'a [ValType]>
 /// same whatever its length.
 #[derive(Drop)]
 pub(crate) struct OperandList<'a> {
+    context: &'a Context,
     places: Vec<Operand>,
-    runs: Vec<Run<'a>>,
+    runs: Vec<Run>,
     /// How many more operands there are than places.
     more: usize,
 }
 
 impl<'a> Model for OperandList<'a> {
-    ghost use Rattle.std.specs.Prelude.{List, Option, map};
-    ghost use Rattle.wsyntax.specs.declared.ValType.{ValType};
-    ghost use Rattle.wcheck.specs.Runs.{types_in, types_of_run, IsCounted};
+    ghost use Rattle.std.specs.Prelude.{map};
+    ghost use Rattle.wcheck.specs.Runs.{types_in, types_of_run, IsCounted, Listing};
 
-    ghost Value = { List (Option ValType) };
+    ghost Value = { Listing };
 
-    ghost view = { λ p. types_in p.places.items (map types_of_run p.runs.items) };
+    ghost view = { λ p. record { items = types_in p.places.items (map (types_of_run p.context.now.context.types) p.runs.items); types = p.context.now.context.types } };
 
-    ghost invariant = { λ p. IsCounted p.places.items (map types_of_run p.runs.items) p.more };
+    ghost invariant = { λ p. IsCounted p.places.items (map (types_of_run p.context.now.context.types) p.runs.items) p.more };
 }
 
 /// The most operands in runs that there can be.
@@ -109,10 +148,11 @@ const MOST: usize = 1 << 63;
 
 impl<'a> OperandList<'a> {
     #[tactic(auto, using(crate::proofs::Stretched::none_counted))]
-    pub(crate) fn new(alloc: Global) -> Self
-        ensures { result ≡ [] }
+    pub(crate) fn new(alloc: Global, context: &'a Context) -> Self
+        ensures { result ≡ record { items = []; types = context.now.context.types } }
     {
         OperandList {
+            context,
             places: Vec::new(alloc),
             runs: Vec::new(alloc),
             more: 0,
@@ -121,27 +161,33 @@ impl<'a> OperandList<'a> {
 
     #[inline]
     pub(crate) fn len(&self) -> usize
-        ensures { result ≡ length self.now }
+        ensures { result ≡ length self.now.items }
     {
         self.places.len() + self.more
+    }
+
+    /// The types of a list.
+    #[inline]
+    pub(crate) fn types_of(&self, list: TypeList) -> &'a [ValType]
+        ensures { result.now ≡ list_of self.now.types list }
+    {
+        self.context.list(list)
     }
 
     /// Takes off the topmost place, or what is too much of its run: some operands, but not more than so many.
     fn shorten(&mut self, by: usize)
         requires some { 0 < by }
-        requires there { by ≤ length self.old }
-        ensures { (k : ℕ) × (0 < k) × (k ≤ by) × (self.new ≡ take (length self.old - k) self.old) }
+        requires there { by ≤ length self.old.items }
+        ensures items { (k : ℕ) × (0 < k) × (k ≤ by) × (self.new.items ≡ take (length self.old.items - k) self.old.items) }
+        ensures types { self.new.types ≡ self.old.types }
     {
         let last = self.places.len() - 1;
-        match top_run(self.places[last], &self.runs) {
+        match top_run(self.context, self.places[last], &self.runs) {
             None => self.places.truncate(last),
             Some(types) => {
                 let top = self.runs.len() - 1;
                 if by < types.len() {
-                    let left = types.len() - by;
-                    self.runs[top] = Run {
-                        types: &types[..left],
-                    };
+                    self.runs[top].left = types.len() - by;
                     self.more -= by;
                 } else {
                     self.places.truncate(last);
@@ -155,7 +201,8 @@ impl<'a> OperandList<'a> {
     /// Only the first so many are left.
     #[inline]
     pub(crate) fn truncate(&mut self, count: usize)
-        ensures { self.new ≡ take count self.old }
+        ensures items { self.new.items ≡ take count self.old.items }
+        ensures types { self.new.types ≡ self.old.types }
     {
         if self.runs.is_empty() {
             self.places.truncate(count);
@@ -166,7 +213,8 @@ impl<'a> OperandList<'a> {
 
     #[inline(never)]
     fn truncate_runs(&mut self, count: usize)
-        ensures { self.new ≡ take count self.old }
+        ensures items { self.new.items ≡ take count self.old.items }
+        ensures types { self.new.types ≡ self.old.types }
     {
         while self.len() > count {
             let over = self.len() - count;
@@ -177,23 +225,26 @@ impl<'a> OperandList<'a> {
     /// After an error the list is as before.
     #[inline]
     pub(crate) fn push(&mut self, x: Option<ValType>) -> Result<(), AllocError>
-        ensures { MatchResult result (λ _. self.new ≡ self.old ++ x ∷ []) (λ _. self.new ≡ self.old) }
+        ensures items { MatchResult result (λ _. self.new.items ≡ self.old.items ++ x ∷ []) (λ _. self.new.items ≡ self.old.items) }
+        ensures types { self.new.types ≡ self.old.types }
     {
         self.places.push(packed(x))?;
         Ok(())
     }
 
     /// Puts a list of types in one place. After an error the list is as before.
-    pub(crate) fn push_run(&mut self, types: &'a [ValType]) -> Result<(), AllocError>
-        requires { 0 < length types.now }
-        ensures { MatchResult result (λ _. self.new ≡ self.old ++ map Some types.now) (λ _. self.new ≡ self.old) }
+    pub(crate) fn push_run(&mut self, list: TypeList) -> Result<(), AllocError>
+        requires { 0 < length (list_of self.old.types list) }
+        ensures items { MatchResult result (λ _. self.new.items ≡ self.old.items ++ map Some (list_of self.old.types list)) (λ _. self.new.items ≡ self.old.items) }
+        ensures types { self.new.types ≡ self.old.types }
     {
-        let more = self.more + (types.len() - 1);
+        let left = self.context.list(list).len();
+        let more = self.more + (left - 1);
         if more > MOST {
             return Err(AllocError);
         }
         self.places.push(Operand::Several)?;
-        if self.runs.push(Run { types }).is_err() {
+        if self.runs.push(Run { list, left }).is_err() {
             self.places.pop();
             return Err(AllocError);
         }
@@ -203,11 +254,11 @@ impl<'a> OperandList<'a> {
 
     /// The topmost operand.
     fn last(&self) -> Option<Option<ValType>>
-        ensures { MatchOption result (self.now ≡ []) (λ x. (rest : List (Option ValType)) × (self.now ≡ rest ++ x ∷ [])) }
+        ensures { MatchOption result (self.now.items ≡ []) (λ x. (rest : List (Option ValType)) × (self.now.items ≡ rest ++ x ∷ [])) }
     {
         match self.places.last() {
             None => None,
-            Some(place) => match top_run(*place, &self.runs) {
+            Some(place) => match top_run(self.context, *place, &self.runs) {
                 None => Some(unpacked(*place)),
                 Some(types) => Some(types.last().copied()),
             },
@@ -216,7 +267,8 @@ impl<'a> OperandList<'a> {
 
     #[inline]
     pub(crate) fn pop(&mut self) -> Option<Option<ValType>>
-        ensures { MatchOption result ((self.old ≡ []) × (self.new ≡ [])) (λ x. self.old ≡ self.new ++ x ∷ []) }
+        ensures items { MatchOption result ((self.old.items ≡ []) × (self.new.items ≡ [])) (λ x. self.old.items ≡ self.new.items ++ x ∷ []) }
+        ensures types { self.new.types ≡ self.old.types }
     {
         match self.last() {
             Some(x) => {
@@ -230,7 +282,7 @@ impl<'a> OperandList<'a> {
     /// Whether the last is known to be of this type.
     #[inline]
     pub(crate) fn ends_in(&self, t: ValType) -> bool
-        ensures { result ≡ true → (rest : List (Option ValType)) × (self.now ≡ rest ++ Some t ∷ []) }
+        ensures { result ≡ true → (rest : List (Option ValType)) × (self.now.items ≡ rest ++ Some t ∷ []) }
     {
         match self.places.last() {
             Some(x) => is_known(*x, t),
@@ -241,7 +293,7 @@ impl<'a> OperandList<'a> {
     /// Whether the last two are known to be of these types, the last of the second.
     #[inline]
     pub(crate) fn ends_in_both(&self, t: ValType, u: ValType) -> bool
-        ensures { result ≡ true → (rest : List (Option ValType)) × (self.now ≡ rest ++ Some t ∷ Some u ∷ []) }
+        ensures { result ≡ true → (rest : List (Option ValType)) × (self.now.items ≡ rest ++ Some t ∷ Some u ∷ []) }
     {
         let count = self.places.len();
         if count < 2 {
@@ -250,11 +302,46 @@ impl<'a> OperandList<'a> {
         is_known(self.places[count - 2], t) && is_known(self.places[count - 1], u)
     }
 
+    /// Whether the last operands are known to be the first so many of a list, since they were put from there.
+    pub(crate) fn ends_in_run(&self, list: TypeList, count: usize) -> bool
+        requires some { 0 < count }
+        requires there { count ≤ length (list_of self.now.types list) }
+        ensures { result ≡ true → (rest : List (Option ValType)) × (self.now.items ≡ rest ++ map Some (take count (list_of self.now.types list))) }
+    {
+        let Some(place) = self.places.last() else {
+            return false;
+        };
+        let Some(run) = self.runs.last() else {
+            return false;
+        };
+        if !is_run(*place) {
+            return false;
+        }
+        run.left == count && run.list.is_at(list)
+    }
+
+    /// The types of the run on top, if one stands there.
+    pub(crate) fn top_types(&self) -> Option<&'a [ValType]>
+        ensures { IfSome result (λ r. (rest : List (Option ValType)) × (self.now.items ≡ rest ++ map Some r.now)) }
+    {
+        let Some(place) = self.places.last() else {
+            return None;
+        };
+        let Some(types) = top_run(self.context, *place, &self.runs) else {
+            return None;
+        };
+        if types.is_empty() {
+            return None;
+        }
+        Some(types)
+    }
+
     /// Writes this type over that of the last, which is gone after an error.
     #[inline]
     pub(crate) fn retype_last(&mut self, t: ValType) -> Result<(), AllocError>
-        requires { 1 ≤ length self.old }
-        ensures { MatchResult result (λ _. self.new ≡ take (length self.old - 1) self.old ++ Some t ∷ []) (λ _. self.new ≡ take (length self.old - 1) self.old) }
+        requires { 1 ≤ length self.old.items }
+        ensures items { MatchResult result (λ _. self.new.items ≡ take (length self.old.items - 1) self.old.items ++ Some t ∷ []) (λ _. self.new.items ≡ take (length self.old.items - 1) self.old.items) }
+        ensures types { self.new.types ≡ self.old.types }
     {
         if !self.runs.is_empty() {
             self.shorten(1);

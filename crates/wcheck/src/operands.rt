@@ -1,15 +1,17 @@
-ghost use Rattle.std.specs.Prelude.{◌≡◌, ◌≤◌, ◌+◌, List, [], ◌∷◌, ◌++◌, Bool, true, false, Option, MatchOption, IfOk, reverse, take, drop, length, vec_len};
+ghost use Rattle.std.specs.Prelude.{◌≡◌, ◌<◌, ◌≤◌, ◌+◌, ◌-◌, List, [], ◌∷◌, ◌++◌, Bool, true, false, Option, MatchOption, IfOk, reverse, take, drop, length, vec_len};
+ghost use Rattle.wcontext.specs.Lists.{list_of};
 ghost use Rattle.wsyntax.specs.Validation.Algorithm.{Takes, when, apply, take_any, take_one, take_all, put, fresh, is_nil, ends_with};
 
-use crate::operand::{OperandList, is_same};
+use crate::operand::{OperandList, common_end, is_same};
 use std::alloc::{AllocError, Global};
 use std::marker::Model;
+use wcontext::{Context, TypeList};
 use wsyntax::ValType;
 
 /// The types of the operands of all open frames, in one list. `None` is a type that is not known.
 #[derive(Drop)]
 pub(crate) struct OperandStack<'a> {
-    types: OperandList<'a>,
+    list: OperandList<'a>,
     base: usize,
     is_dead: bool,
 }
@@ -20,20 +22,20 @@ impl<'a> Model for OperandStack<'a> {
 
     ghost Value = { Stacked };
 
-    ghost view = { λ p. record { below = take p.base p.types; above = record { known = reverse (drop p.base p.types); is_dead = p.is_dead } } };
+    ghost view = { λ p. record { below = take p.base p.list.items; above = record { known = reverse (drop p.base p.list.items); is_dead = p.is_dead }; types = p.list.types } };
 
-    ghost invariant = { λ p. p.base ≤ length p.types };
+    ghost invariant = { λ p. p.base ≤ length p.list.items };
 }
 
 /// A list of more types than this is put as a run.
 const SHORT: usize = 8;
 
 impl<'a> OperandStack<'a> {
-    pub(crate) fn new(alloc: Global) -> Self
-        ensures { result ≡ record { below = []; above = fresh [] } }
+    pub(crate) fn new(alloc: Global, context: &'a Context) -> Self
+        ensures { result ≡ record { below = []; above = fresh []; types = context.now.context.types } }
     {
         OperandStack {
-            types: OperandList::new(alloc),
+            list: OperandList::new(alloc, context),
             base: 0,
             is_dead: false,
         }
@@ -41,9 +43,9 @@ impl<'a> OperandStack<'a> {
 
     /// Forgets all operands and all frames but one.
     pub(crate) fn clear(&mut self)
-        ensures { self.new ≡ record { below = []; above = fresh [] } }
+        ensures { self.new ≡ record { below = []; above = fresh []; types = self.old.types } }
     {
-        self.types.truncate(0);
+        self.list.truncate(0);
         self.base = 0;
         self.is_dead = false;
     }
@@ -53,7 +55,7 @@ impl<'a> OperandStack<'a> {
     pub(crate) fn height(&self) -> usize
         ensures { result ≡ length self.now.below + length self.now.above.known }
     {
-        self.types.len()
+        self.list.len()
     }
 
     /// The operands below the innermost frame.
@@ -69,7 +71,7 @@ impl<'a> OperandStack<'a> {
     pub(crate) fn is_empty(&self) -> bool
         ensures { result ≡ is_nil self.now.above.known }
     {
-        self.types.len() == self.base
+        self.list.len() == self.base
     }
 
     /// Whether what follows in the innermost frame cannot be reached.
@@ -85,9 +87,10 @@ impl<'a> OperandStack<'a> {
     pub(crate) fn take_any(&mut self) -> Option<Option<ValType>>
         ensures above { MatchOption result (take_any self.old.above ≡ None) (λ x. take_any self.old.above ≡ Some (x, self.new.above)) }
         ensures below { self.new.below ≡ self.old.below }
+        ensures types { self.new.types ≡ self.old.types }
     {
-        if self.types.len() > self.base {
-            self.types.pop()
+        if self.list.len() > self.base {
+            self.list.pop()
         } else if self.is_dead {
             Some(None)
         } else {
@@ -100,10 +103,11 @@ impl<'a> OperandStack<'a> {
     pub(crate) fn take_one(&mut self, t: ValType) -> bool
         ensures above { take_one t self.old.above ≡ when result (Some self.new.above) }
         ensures below { self.new.below ≡ self.old.below }
+        ensures types { self.new.types ≡ self.old.types }
     {
-        let count = self.types.len();
-        if count > self.base && self.types.ends_in(t) {
-            self.types.truncate(count - 1);
+        let count = self.list.len();
+        if count > self.base && self.list.ends_in(t) {
+            self.list.truncate(count - 1);
             true
         } else {
             self.take_fitting(t)
@@ -115,6 +119,7 @@ impl<'a> OperandStack<'a> {
     fn take_fitting(&mut self, t: ValType) -> bool
         ensures above { take_one t self.old.above ≡ when result (Some self.new.above) }
         ensures below { self.new.below ≡ self.old.below }
+        ensures types { self.new.types ≡ self.old.types }
     {
         match self.take_any() {
             None => false,
@@ -128,9 +133,10 @@ impl<'a> OperandStack<'a> {
     pub(crate) fn change(&mut self, t: ValType, u: ValType) -> Result<bool, AllocError>
         ensures above { IfOk result (λ yes. apply (Takes (t ∷ []) (u ∷ [])) self.old.above ≡ when yes (Some self.new.above)) }
         ensures below { self.new.below ≡ self.old.below }
+        ensures types { self.new.types ≡ self.old.types }
     {
-        if self.types.len() > self.base && self.types.ends_in(t) {
-            self.types.retype_last(u)?;
+        if self.list.len() > self.base && self.list.ends_in(t) {
+            self.list.retype_last(u)?;
             Ok(true)
         } else {
             self.change_fitting(t, u)
@@ -141,6 +147,7 @@ impl<'a> OperandStack<'a> {
     fn change_fitting(&mut self, t: ValType, u: ValType) -> Result<bool, AllocError>
         ensures above { IfOk result (λ yes. apply (Takes (t ∷ []) (u ∷ [])) self.old.above ≡ when yes (Some self.new.above)) }
         ensures below { self.new.below ≡ self.old.below }
+        ensures types { self.new.types ≡ self.old.types }
     {
         if !self.take_fitting(t) {
             return Ok(false);
@@ -154,11 +161,12 @@ impl<'a> OperandStack<'a> {
     pub(crate) fn combine(&mut self, t: ValType, u: ValType) -> Result<bool, AllocError>
         ensures above { IfOk result (λ yes. apply (Takes (t ∷ t ∷ []) (u ∷ [])) self.old.above ≡ when yes (Some self.new.above)) }
         ensures below { self.new.below ≡ self.old.below }
+        ensures types { self.new.types ≡ self.old.types }
     {
-        let count = self.types.len();
-        if count - self.base >= 2 && self.types.ends_in_both(t, t) {
-            self.types.truncate(count - 1);
-            self.types.retype_last(u)?;
+        let count = self.list.len();
+        if count - self.base >= 2 && self.list.ends_in_both(t, t) {
+            self.list.truncate(count - 1);
+            self.list.retype_last(u)?;
             Ok(true)
         } else {
             self.combine_fitting(t, u)
@@ -169,6 +177,7 @@ impl<'a> OperandStack<'a> {
     fn combine_fitting(&mut self, t: ValType, u: ValType) -> Result<bool, AllocError>
         ensures above { IfOk result (λ yes. apply (Takes (t ∷ t ∷ []) (u ∷ [])) self.old.above ≡ when yes (Some self.new.above)) }
         ensures below { self.new.below ≡ self.old.below }
+        ensures types { self.new.types ≡ self.old.types }
     {
         if !self.take_fitting(t) {
             return Ok(false);
@@ -185,10 +194,11 @@ impl<'a> OperandStack<'a> {
     pub(crate) fn take_two(&mut self, t: ValType, u: ValType) -> bool
         ensures above { apply (Takes (t ∷ u ∷ []) []) self.old.above ≡ when result (Some self.new.above) }
         ensures below { self.new.below ≡ self.old.below }
+        ensures types { self.new.types ≡ self.old.types }
     {
-        let count = self.types.len();
-        if count - self.base >= 2 && self.types.ends_in_both(u, t) {
-            self.types.truncate(count - 2);
+        let count = self.list.len();
+        if count - self.base >= 2 && self.list.ends_in_both(u, t) {
+            self.list.truncate(count - 2);
             true
         } else {
             self.take_two_fitting(t, u)
@@ -199,24 +209,94 @@ impl<'a> OperandStack<'a> {
     fn take_two_fitting(&mut self, t: ValType, u: ValType) -> bool
         ensures above { apply (Takes (t ∷ u ∷ []) []) self.old.above ≡ when result (Some self.new.above) }
         ensures below { self.new.below ≡ self.old.below }
+        ensures types { self.new.types ≡ self.old.types }
     {
         self.take_fitting(t) && self.take_fitting(u)
     }
 
-    /// Takes operands of these types, the last first. Once none is known, nothing more is looked at.
-    #[tactic(auto, using(crate::proofs::ListFacts::taken_empty))]
-    pub(crate) fn take_all(&mut self, ts: &[ValType]) -> bool
-        ensures above { take_all (reverse ts.now) self.old.above ≡ when result (Some self.new.above) }
+    /// Takes operands of the first so many types of a list at once, where they are a run from there.
+    fn take_run(&mut self, list: TypeList, count: usize) -> bool
+        requires some { 0 < count }
+        requires there { count ≤ length (list_of self.old.types list) }
+        ensures taken { result ≡ true → take_all (reverse (take count (list_of self.old.types list))) self.old.above ≡ Some self.new.above }
+        ensures others { result ≡ false → self.new.above ≡ self.old.above }
         ensures below { self.new.below ≡ self.old.below }
+        ensures types { self.new.types ≡ self.old.types }
     {
+        let all = self.list.len();
+        if all - self.base < count {
+            return false;
+        }
+        if !self.list.ends_in_run(list, count) {
+            return false;
+        }
+        self.list.truncate(all - count);
+        true
+    }
+
+    /// Takes operands of the types of a list, the last first.
+    #[inline]
+    pub(crate) fn take_all(&mut self, list: TypeList) -> bool
+        ensures above { take_all (reverse (list_of self.old.types list)) self.old.above ≡ when result (Some self.new.above) }
+        ensures below { self.new.below ≡ self.old.below }
+        ensures types { self.new.types ≡ self.old.types }
+    {
+        match list {
+            TypeList::Nothing => true,
+            TypeList::One(t) => self.take_one(t),
+            TypeList::Params(_) | TypeList::Results(_) => self.take_several(list),
+        }
+    }
+
+    /// Takes operands of the last of these types, as many as stand in the run on top.
+    fn take_part(&mut self, ts: &[ValType]) -> usize
+        ensures count { result ≤ length ts.now }
+        ensures taken { take_all (reverse ts.now) self.old.above ≡ take_all (reverse (take (length ts.now - result) ts.now)) self.new.above }
+        ensures below { self.new.below ≡ self.old.below }
+        ensures types { self.new.types ≡ self.old.types }
+    {
+        let Some(run) = self.list.top_types() else {
+            return 0;
+        };
+        let height = self.list.len();
+        let count = common_end(ts, run);
+        if height - self.base < count {
+            return 0;
+        }
+        self.list.truncate(height - count);
+        count
+    }
+
+    /// Takes operands of the types of a list, the last first. Once none is known, nothing more is looked at, and what was put
+    /// from the same list is taken at once.
+    #[inline(never)]
+    #[tactic(auto, using(crate::proofs::ListFacts::taken_empty))]
+    fn take_several(&mut self, list: TypeList) -> bool
+        ensures above { take_all (reverse (list_of self.old.types list)) self.old.above ≡ when result (Some self.new.above) }
+        ensures below { self.new.below ≡ self.old.below }
+        ensures types { self.new.types ≡ self.old.types }
+    {
+        let ts = self.list.types_of(list);
         let mut i = ts.len();
         while i > 0 {
             if self.is_empty() {
                 return self.is_dead();
             }
-            i -= 1;
-            if !self.take_one(ts[i]) {
-                return false;
+            if i > SHORT && self.take_run(list, i) {
+                return true;
+            }
+            let part = if i > SHORT {
+                self.take_part(&ts[..i])
+            } else {
+                0
+            };
+            if part > 0 {
+                i -= part;
+            } else {
+                i -= 1;
+                if !self.take_one(ts[i]) {
+                    return false;
+                }
             }
         }
         true
@@ -227,18 +307,36 @@ impl<'a> OperandStack<'a> {
     pub(crate) fn put_one(&mut self, x: Option<ValType>) -> Result<(), AllocError>
         ensures above { IfOk result (λ _. self.new.above ≡ record { known = x ∷ self.old.above.known; is_dead = self.old.above.is_dead }) }
         ensures below { self.new.below ≡ self.old.below }
+        ensures types { self.new.types ≡ self.old.types }
     {
-        self.types.push(x)?;
+        self.list.push(x)?;
         Ok(())
     }
 
-    /// Puts operands of these types, the last one topmost.
-    pub(crate) fn put(&mut self, ts: &'a [ValType]) -> Result<(), AllocError>
-        ensures above { IfOk result (λ _. self.new.above ≡ put (reverse ts.now) self.old.above) }
+    /// Puts operands of the types of a list, the last one topmost.
+    #[inline]
+    pub(crate) fn put(&mut self, list: TypeList) -> Result<(), AllocError>
+        ensures above { IfOk result (λ _. self.new.above ≡ put (reverse (list_of self.old.types list)) self.old.above) }
         ensures below { self.new.below ≡ self.old.below }
+        ensures types { self.new.types ≡ self.old.types }
     {
+        match list {
+            TypeList::Nothing => Ok(()),
+            TypeList::One(t) => self.put_one(Some(t)),
+            TypeList::Params(_) | TypeList::Results(_) => self.put_several(list),
+        }
+    }
+
+    /// Puts operands of the types of a list, a long one as a run.
+    #[inline(never)]
+    fn put_several(&mut self, list: TypeList) -> Result<(), AllocError>
+        ensures above { IfOk result (λ _. self.new.above ≡ put (reverse (list_of self.old.types list)) self.old.above) }
+        ensures below { self.new.below ≡ self.old.below }
+        ensures types { self.new.types ≡ self.old.types }
+    {
+        let ts = self.list.types_of(list);
         if ts.len() > SHORT {
-            self.types.push_run(ts)?;
+            self.list.push_run(list)?;
             return Ok(());
         }
         for t in ts {
@@ -252,8 +350,9 @@ impl<'a> OperandStack<'a> {
     pub(crate) fn make_unreachable(&mut self)
         ensures above { self.new.above ≡ record { known = []; is_dead = true } }
         ensures below { self.new.below ≡ self.old.below }
+        ensures types { self.new.types ≡ self.old.types }
     {
-        self.types.truncate(self.base);
+        self.list.truncate(self.base);
         self.is_dead = true;
     }
 
@@ -262,8 +361,9 @@ impl<'a> OperandStack<'a> {
     pub(crate) fn open(&mut self)
         ensures above { self.new.above ≡ fresh [] }
         ensures below { self.new.below ≡ self.old.below ++ reverse self.old.above.known }
+        ensures types { self.new.types ≡ self.old.types }
     {
-        self.base = self.types.len();
+        self.base = self.list.len();
         self.is_dead = false;
     }
 
@@ -272,8 +372,9 @@ impl<'a> OperandStack<'a> {
     pub(crate) fn begin_again(&mut self)
         ensures above { self.new.above ≡ fresh [] }
         ensures below { self.new.below ≡ self.old.below }
+        ensures types { self.new.types ≡ self.old.types }
     {
-        self.types.truncate(self.base);
+        self.list.truncate(self.base);
         self.is_dead = false;
     }
 
@@ -282,21 +383,23 @@ impl<'a> OperandStack<'a> {
     pub(crate) fn close(&mut self, base: usize, is_dead: bool)
         ensures above { self.new.above ≡ record { known = reverse (drop base self.old.below); is_dead = is_dead } }
         ensures below { self.new.below ≡ take base self.old.below }
+        ensures types { self.new.types ≡ self.old.types }
     {
-        self.types.truncate(self.base);
-        self.base = if base <= self.types.len() {
+        self.list.truncate(self.base);
+        self.base = if base <= self.list.len() {
             base
         } else {
-            self.types.len()
+            self.list.len()
         };
         self.is_dead = is_dead;
     }
 
     /// Whether the operands are exactly these, which are taken.
-    pub(crate) fn ends_with(&mut self, ts: &[ValType]) -> bool
-        ensures answer { result ≡ ends_with (reverse ts.now) self.old.above }
+    pub(crate) fn ends_with(&mut self, list: TypeList) -> bool
+        ensures answer { result ≡ ends_with (reverse (list_of self.old.types list)) self.old.above }
         ensures below { self.new.below ≡ self.old.below }
+        ensures types { self.new.types ≡ self.old.types }
     {
-        self.take_all(ts) && self.is_empty()
+        self.take_all(list) && self.is_empty()
     }
 }

@@ -1,4 +1,5 @@
 ghost use Rattle.std.specs.Prelude.{◌≡◌, ◌+◌, ◌^◌, ℕ, nat_le, List, [], ◌∷◌, Option, reverse, slice_range, slice_index_or, option_map};
+ghost use Rattle.wsyntax.specs.Types.{FuncType};
 ghost use Rattle.wsyntax.specs.Table.{num_op, load_access, store_access};
 ghost use Rattle.wsyntax.specs.Instructions.{MemoryLoad, MemoryStore};
 ghost use Rattle.wsyntax.specs.Modules.{seen};
@@ -8,13 +9,13 @@ ghost use Rattle.wcheck.specs.Views.{context_at, token_rule};
 ghost use Rattle.wcheck.specs.OperandRules.{rule_of};
 
 use crate::frames::{Level, Shape, all_labels_take, label_at};
-use crate::scope::{Scope, none};
-use wcontext::{Context, Signature};
+use crate::scope::Scope;
+use wcontext::{Context, ListPair, TypeList};
 use wsyntax::{Load, Operator, Store, Token, ValType};
 
 /// What an instruction without a body takes from the operands and leaves there (3.3). An index is an i32 on top.
 #[derive(Clone, Copy)]
-pub(crate) enum OperandRule<'a> {
+pub(crate) enum OperandRule {
     Nothing,
     Puts(ValType),
     Takes(ValType),
@@ -26,13 +27,13 @@ pub(crate) enum OperandRule<'a> {
     Stores(ValType),
     Moves {
         has_index: bool,
-        takes: &'a [ValType],
-        gives: &'a [ValType],
+        takes: TypeList,
+        gives: TypeList,
     },
     /// Takes these, and what follows is not reached.
     Ends {
         has_index: bool,
-        takes: &'a [ValType],
+        takes: TypeList,
     },
     Drops,
     Selects,
@@ -40,8 +41,8 @@ pub(crate) enum OperandRule<'a> {
 
 /// The rule of a numeric operator (3.3.1).
 #[inline]
-pub(crate) fn numeric_rule(op: Operator) -> OperandRule<'static>
-    ensures { rule_of result ≡ Takes (reverse (operands (num_op op))) (reverse (results (num_op op))) }
+pub(crate) fn numeric_rule(op: Operator) -> OperandRule
+    ensures { (types : List FuncType) → rule_of types result ≡ Takes (reverse (operands (num_op op))) (reverse (results (num_op op))) }
 {
     match op {
         Operator::I32Eqz
@@ -230,8 +231,8 @@ fn is_aligned(align: u32, natural: u32) -> bool
 
 /// A load whose alignment is at most its width, where there is a memory.
 #[inline]
-fn load_rule(context: &Context, load: Load, align: u32) -> Option<OperandRule<'static>>
-    ensures { (offset : ℕ) → option_map rule_of result ≡ rule context.now.context (MemoryLoad (load_access load align offset)) }
+fn load_rule(context: &Context, load: Load, align: u32) -> Option<OperandRule>
+    ensures { (offset : ℕ) → option_map (rule_of context.now.context.types) result ≡ rule context.now.context (MemoryLoad (load_access load align offset)) }
 {
     let (content, natural) = load_row(load);
     if !context.has_memory() {
@@ -245,8 +246,8 @@ fn load_rule(context: &Context, load: Load, align: u32) -> Option<OperandRule<'s
 
 /// A store whose alignment is at most its width, where there is a memory.
 #[inline]
-fn store_rule(context: &Context, store: Store, align: u32) -> Option<OperandRule<'static>>
-    ensures { (offset : ℕ) → option_map rule_of result ≡ rule context.now.context (MemoryStore (store_access store align offset)) }
+fn store_rule(context: &Context, store: Store, align: u32) -> Option<OperandRule>
+    ensures { (offset : ℕ) → option_map (rule_of context.now.context.types) result ≡ rule context.now.context (MemoryStore (store_access store align offset)) }
 {
     let (content, natural) = store_row(store);
     if !context.has_memory() {
@@ -289,20 +290,20 @@ pub(crate) fn table_default(targets: &[u32], first: usize, count: u32) -> u32
 
 /// What an instruction without a body asks for, if what it names is there; `None` at the other tokens.
 #[inline(always)]
-pub(crate) fn rule_of_token<'a>(
-    scope: &Scope<'a>,
-    shape: Shape<'a>,
-    outer: &[Level<'a>],
+pub(crate) fn rule_of_token(
+    scope: &Scope,
+    shape: Shape,
+    outer: &[Level],
     targets: &[u32],
     token: Token,
-) -> Option<OperandRule<'a>>
-    ensures { option_map rule_of result ≡ token_rule (context_at scope.now shape.entry outer.now) (seen targets.now token) }
+) -> Option<OperandRule>
+    ensures { option_map (rule_of scope.now.context.now.context.types) result ≡ token_rule (context_at scope.now shape outer.now) (seen targets.now token) }
 {
     let context = scope.context;
     match token {
         Token::Unreachable => Some(OperandRule::Ends {
             has_index: false,
-            takes: none(),
+            takes: TypeList::Nothing,
         }),
         Token::Nop => Some(OperandRule::Nothing),
         Token::Br(l) => {
@@ -322,7 +323,13 @@ pub(crate) fn rule_of_token<'a>(
         }
         Token::BrTable { count, first } => {
             let takes = label_at(shape, outer, table_default(targets, first, count))?;
-            if !all_labels_take(shape, outer, takes, table_labels(targets, first, count)) {
+            if !all_labels_take(
+                context,
+                shape,
+                outer,
+                takes,
+                table_labels(targets, first, count),
+            ) {
                 return None;
             }
             Some(OperandRule::Ends {
@@ -335,7 +342,7 @@ pub(crate) fn rule_of_token<'a>(
             takes: scope.results,
         }),
         Token::Call(x) => {
-            let Signature { params, results } = context.function(x)?;
+            let ListPair { params, results } = context.function_lists(x)?;
             Some(OperandRule::Moves {
                 has_index: false,
                 takes: params,
@@ -346,7 +353,7 @@ pub(crate) fn rule_of_token<'a>(
             if !context.has_table() {
                 return None;
             }
-            let Signature { params, results } = context.signature(y)?;
+            let ListPair { params, results } = context.lists(y)?;
             Some(OperandRule::Moves {
                 has_index: true,
                 takes: params,

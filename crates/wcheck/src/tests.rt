@@ -591,3 +591,62 @@ fn long_list_in_dead_code(rt: HostRuntime) -> Result<(), Fail> {
     assert_eq!(rt; refused_with_long_lists(rt.alloc(), &known)?, Some(2));
     Ok(())
 }
+
+/// The module with long lists, and functions of three types more: `[t*] -> []` again, `[u*] -> []`, where u* has another
+/// type in the first place, and `[v*] -> []`, where v* is t* without the first.
+fn long_lists_again(alloc: Global) -> Result<Module<'static>, AllocError> {
+    let other = [
+        ValType::F32,
+        ValType::I32,
+        ValType::I32,
+        ValType::I32,
+        ValType::I32,
+        ValType::I64,
+        ValType::I64,
+        ValType::I64,
+        ValType::I64,
+        ValType::I64,
+    ];
+    let mut same = other;
+    same[0] = ValType::I32;
+    let mut module = long_lists(alloc)?;
+    module.types.push(func_type(alloc, &same, &[])?)?;
+    module.types.push(func_type(alloc, &other, &[])?)?;
+    module.types.push(func_type(alloc, &same[1..], &[])?)?;
+    module.functions.push(4)?;
+    module.functions.push(5)?;
+    module.functions.push(6)?;
+    Ok(module)
+}
+
+/// A long list is taken for an equal one of another type, and for no other; a part of it too.
+#[test]
+fn long_list_of_other_type(rt: HostRuntime) -> Result<(), Fail> {
+    let alloc = rt.alloc();
+    let module = long_lists_again(alloc)?;
+    let same = [Token::Call(1), Token::Call(3), Token::End];
+    assert_eq!(rt; refused_in(alloc, &module, &same, &[])?, None);
+    let other = [Token::Call(1), Token::Call(4), Token::End];
+    assert_eq!(rt; refused_in(alloc, &module, &other, &[])?, Some(1));
+    let part = [Token::Call(1), Token::Call(5), EQZ, Token::Drop, Token::End];
+    assert_eq!(rt; refused_in(alloc, &module, &part, &[])?, None);
+    let lacking = [Token::Call(1), Token::Drop, Token::Call(5), Token::End];
+    assert_eq!(rt; refused_in(alloc, &module, &lacking, &[])?, Some(2));
+    Ok(())
+}
+
+/// An if of a long list to the same one may lack its else.
+#[test]
+fn long_list_without_else(rt: HostRuntime) -> Result<(), Fail> {
+    let same = BlockType::Index(3);
+    let tokens = [
+        Token::Call(1),
+        Token::I32Const(0),
+        Token::If(same),
+        Token::End,
+        Token::Call(2),
+        Token::End,
+    ];
+    assert_eq!(rt; refused_with_long_lists(rt.alloc(), &tokens)?, None);
+    Ok(())
+}

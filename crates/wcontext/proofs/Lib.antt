@@ -3,3 +3,4 @@ pub mod Constants
 pub mod Counts
 pub mod Distinct
 pub mod Ranges
+pub mod FirstPlaces

@@ -3,6 +3,7 @@ use Rattle.std.specs.Prelude.{◌<◌, ◌≤◌, List, [], None, length, map, A
 use Rattle.wsyntax.specs.Types.{FuncType}
 use Rattle.wsyntax.specs.Validation.ModuleContext.{IndexedContext, type_at}
 use Rattle.wcontext.specs.Held.{type_in, IsWithin}
+use Rattle.wcontext.specs.Lists.{ArePlaces}
 use Rattle.wcontext.specs.declared.context.Context.TheInside.{Inside}
 
 abbrev pub held_types : Inside → List FuncType
@@ -25,8 +26,9 @@ indexed a = record {
   imported = a.imported;
 }
 
--- each range lies in the list, each function has a type, the imported ones are among them
+-- each range lies in the list, the places are right, each function has a type, the imported ones are among them
 pub record IsHeld (a : Inside) : Type 0 where
   pub ranges : All (IsWithin a.values.items) a.types.items
+  pub places : ArePlaces (held_types a) a.places.items
   pub typed : All (λ y. y < length a.types.items) a.functions.items
   pub imported : a.imported ≤ length a.functions.items

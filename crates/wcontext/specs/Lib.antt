@@ -1,5 +1,6 @@
 pub mod Signatures
 pub mod Held
+pub mod Lists
 pub mod Indexed
 pub mod Constants
 pub mod Spaces

@@ -1,4 +1,6 @@
 use crate::held::{HeldTypes, TypeRange, held_types};
+use crate::lists::{ListPair, TypeList, no_types, one_type};
+use crate::places::first_places;
 use crate::signature::Signature;
 use crate::spaces::Spaces;
 use std::alloc::{AllocError, Global};
@@ -12,6 +14,8 @@ use wsyntax::{GlobalType, Module, ValType};
 pub struct Context {
     values: Vec<ValType>,
     types: Vec<TypeRange>,
+    /// Of each function type the first places of its lists; none where no list is long.
+    places: Vec<ListPair>,
     functions: Vec<u32>,
     imported: usize,
     globals: Vec<GlobalType>,
@@ -36,6 +40,7 @@ impl Context {
     ghost use Rattle.wsyntax.specs.Modules.{module_shape};
     ghost use Rattle.wsyntax.specs.Validation.ModuleContext.{indexed_context};
     ghost use Rattle.wsyntax.specs.Validation.Rules.{ImportsTyped, FunctionsTyped};
+    ghost use Rattle.wcontext.specs.Lists.{list_of, pair_type};
     ghost use Rattle.wcontext.specs.Signatures.{lent_type};
     ghost use Rattle.wcontext.specs.Spaces.{AreSpacesOf};
 
@@ -51,15 +56,18 @@ impl Context {
         ensures { IfOk result (λ c. c ≡ indexed_context (module_shape «module».now)) }
     {
         let HeldTypes { values, ranges } = held_types(alloc, &module.types)?;
-        Ok(Context {
+        let mut context = Context {
             values,
             types: ranges,
+            places: Vec::new(alloc),
             imported: spaces.imported_functions,
             has_table: !spaces.tables.is_empty(),
             has_memory: !spaces.memories.is_empty(),
             functions: spaces.functions,
             globals: spaces.globals,
-        })
+        };
+        context.places = first_places(alloc, &context)?;
+        Ok(context)
     }
 
     /// The function type of that index; `None` where the module has none.
@@ -81,6 +89,52 @@ impl Context {
     {
         let type_index = self.functions.get(func as usize)?;
         self.signature(*type_index)
+    }
+
+    /// The two lists of the function type of that index, each by the first place where it stands if it is long; `None`
+    /// where the module has none.
+    #[inline]
+    pub fn lists(&self, type_index: u32) -> Option<ListPair>
+        ensures { option_map (pair_type self.now.context.types) result ≡ slice_get self.now.context.types type_index }
+    {
+        if let Some(pair) = self.places.get(type_index as usize) {
+            return Some(*pair);
+        }
+        if type_index as usize >= self.types.len() {
+            return None;
+        }
+        Some(ListPair {
+            params: TypeList::Params(type_index),
+            results: TypeList::Results(type_index),
+        })
+    }
+
+    /// The two lists of the type of the function of that index; `None` where the module has none.
+    #[inline]
+    pub fn function_lists(&self, func: u32) -> Option<ListPair>
+        ensures { option_map (pair_type self.now.context.types) result ≡ slice_get self.now.context.functions func }
+    {
+        let type_index = self.functions.get(func as usize)?;
+        self.lists(*type_index)
+    }
+
+    /// The types of a list; none where the module has no such type.
+    #[inline]
+    pub fn list(&self, list: TypeList) -> &[ValType]
+        ensures { result.now ≡ list_of self.now.context.types list }
+    {
+        match list {
+            TypeList::Nothing => no_types(),
+            TypeList::One(t) => one_type(t),
+            TypeList::Params(y) => match self.signature(y) {
+                Some(signature) => signature.params,
+                None => no_types(),
+            },
+            TypeList::Results(y) => match self.signature(y) {
+                Some(signature) => signature.results,
+                None => no_types(),
+            },
+        }
     }
 
     /// The index of the type of that function, by which equal types can be known equal without comparing them;
@@ -115,6 +169,13 @@ impl Context {
         ensures { result ≡ self.now.context.has_memory }
     {
         self.has_memory
+    }
+
+    /// How many function types there are.
+    pub(crate) fn type_count(&self) -> usize
+        ensures { result ≡ length self.now.context.types }
+    {
+        self.types.len()
     }
 
     /// How many functions there are, imported ones counted.

@@ -8,7 +8,9 @@ mod fault;
 mod held;
 mod imports;
 mod limits;
+mod lists;
 mod names;
+mod places;
 mod rules;
 mod segments;
 mod signature;
@@ -18,6 +20,7 @@ mod start;
 pub use check::check_module;
 pub use context::Context;
 pub use fault::ModuleFault;
+pub use lists::{ListPair, TypeList};
 pub use signature::Signature;
 
 #[cfg(test)]

@@ -5,4 +5,4 @@ use Rattle.wcheck.proofs.operand.OperandList.new.Goals as goal
 
 pub returns : goal.returns
 returns c =
-    ap (λ z. types_in z (map types_of_run c.new-2.result.items)) c.new.ensures.items ∙ none (map types_of_run c.new-2.result.items)
+    ap (λ z. record { items = z; types = c.args.context.now.context.types }) (ap (λ z. types_in z (map (types_of_run c.args.context.now.context.types) c.new-2.result.items)) c.new.ensures.items ∙ none (map (types_of_run c.args.context.now.context.types) c.new-2.result.items))

@@ -5,4 +5,4 @@ use Rattle.wcheck.proofs.operands.OperandStack.is_empty.Goals as goal
 
 pub returns : goal.returns
 returns c =
-    nil_length c.self.inside.types c.self.inside.base c.len.result (omega arith) (omega arith) ∙ ap (λ p. is_nil p.above.known) c.self.view_is
+    nil_length c.self.inside.list.items c.self.inside.base c.len.result (omega arith) (omega arith) ∙ ap (λ p. is_nil p.above.known) c.self.view_is
