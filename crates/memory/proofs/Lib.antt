@@ -1,5 +1,6 @@
 pub mod Puts
 pub mod Parts
+pub mod Blocks
 pub mod Memories
 pub mod PoolSteps
 pub mod Tickets

@@ -1,8 +1,8 @@
 -- 4.2.8 A memory instance in the buffer that holds its bytes.
-use Rattle.std.specs.Prelude.{◌≡◌, ℕ, ◌*◌, ◌/◌, ◌≤◌, ◌⊎◌, List, length, take, replicate, Bool, true, false, Option, Some, None}
+use Rattle.std.specs.Prelude.{◌≡◌, ℕ, ◌*◌, ◌/◌, ◌≤◌, ◌⊎◌, List, length, take, replicate, slice_index, slice_index_or, Bool, true, false, Option, Some, None}
 use Rattle.wsyntax.specs.Execution.Store.{Memory, page, may_have, write, grown}
 use Rattle.wsyntax.specs.Execution.Allocation.{overwrite}
-use Rattle.memory.specs.Zeros.{AreZeroOutside}
+use Rattle.memory.specs.Zeros.{AreZeroUnmarked}
 
 -- a memory instance, and the number of bytes of its buffer: those past the memory's end wait for it to grow
 pub record Buffered : Type 0 where
@@ -36,11 +36,14 @@ Grows old more None new = (grown old more ≡ None) × (new ≡ old)
 abbrev pub Overwrites : Buffered → ℕ → List ℕ → Buffered → Type 0
 Overwrites old at bytes new = new ≡ record old { memory = record old.memory { bytes = overwrite at bytes old.memory.bytes } }
 
--- Whole pages stand in the buffer, within the bounds, and outside the range that was written every byte is zero.
-pub record IsBuffered (bytes : List ℕ) (length' from to : ℕ) (most : Option ℕ) (pages : ℕ) : Type 0 where
+-- Whole pages stand in the buffer, within the bounds. Each block of the buffer has a mark. Behind the pages no block is marked
+-- and every byte is zero, and in them every byte is zero that the marks do not tell of.
+pub record IsBuffered (bytes : List ℕ) (marks : List Bool) (length' : ℕ) (most : Option ℕ) (pages : ℕ) : Type 0 where
   pub count : ℕ
   pub whole : length' ≡ count * page
   pub bounded : may_have (zeros 0 most pages) count ≡ true
   pub fits : length' ≤ length bytes
-  pub written : to ≤ length'
-  pub zero : AreZeroOutside bytes from to
+  pub covered : length bytes ≤ length marks * 4096
+  pub unused : (b : ℕ) → length' ≤ b * 4096 → slice_index_or marks b false ≡ false
+  pub behind : (k : ℕ) → length' ≤ k → slice_index bytes k ≡ 0
+  pub zero : AreZeroUnmarked bytes marks

@@ -1,11 +1,21 @@
 -- Bytes that are zero.
-use Rattle.std.specs.Prelude.{◌≡◌, ℕ, ◌<◌, ◌≤◌, List, slice_index}
+use Rattle.std.specs.Prelude.{◌≡◌, ℕ, ◌-◌, ◌*◌, ◌/◌, ◌≤◌, List, length, Bool, false, slice_index, slice_index_or}
 
 -- every byte is zero
 abbrev pub AreZero : List ℕ → Type 0
 AreZero bytes = (k : ℕ) → slice_index bytes k ≡ 0
 
--- every byte is zero that does not lie from the one place up to the other
-pub record AreZeroOutside (bytes : List ℕ) (from to : ℕ) : Type 0 where
-  pub below : (k : ℕ) → k < from → slice_index bytes k ≡ 0
-  pub above : (k : ℕ) → to ≤ k → slice_index bytes k ≡ 0
+-- no block is marked
+abbrev pub AreUnmarked : List Bool → Type 0
+AreUnmarked marks = (b : ℕ) → slice_index_or marks b false ≡ false
+
+-- Each block of 4,096 bytes has a mark. A store marks the block of its first byte, and has at most 7 bytes behind that. So a
+-- byte is zero where neither its own block is marked nor the block of the place 7 before it.
+abbrev pub AreZeroUnmarked : List ℕ → List Bool → Type 0
+AreZeroUnmarked bytes marks = (k : ℕ) → slice_index_or marks (k / 4096) false ≡ false → slice_index_or marks ((k - 7) / 4096) false ≡ false → slice_index bytes k ≡ 0
+
+-- every byte is zero, no block is marked, and each has a mark
+pub record IsClean (bytes : List ℕ) (marks : List Bool) : Type 0 where
+  pub zero : AreZero bytes
+  pub unmarked : AreUnmarked marks
+  pub covered : length bytes ≤ length marks * 4096

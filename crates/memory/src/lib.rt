@@ -6,8 +6,8 @@ mod bytes;
 mod clean;
 mod history;
 mod linear_memory;
+mod marks;
 mod pool;
-mod span;
 
 pub use clean::CleanMem;
 pub use history::{PoolEntry, PoolStep, TicketView};

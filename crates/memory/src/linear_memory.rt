@@ -5,10 +5,10 @@ ghost use Rattle.wsyntax.specs.Execution.Store.{may_have};
 ghost use Rattle.memory.specs.Buffered.{zeros};
 
 use crate::bytes::{
-    are_bytes, number_16, number_32, number_64, provide, put, put_8, put_16, put_32, put_64, zero,
+    are_bytes, number_16, number_32, number_64, provide, put, put_8, put_16, put_32, put_64,
 };
 use crate::clean::CleanMem;
-use crate::span::Span;
+use crate::marks::{clear, mark, mark_all, provide_buffer};
 use std::alloc::AllocError;
 use std::marker::Model;
 
@@ -16,13 +16,13 @@ use std::marker::Model;
 const PAGE: usize = 65_536;
 
 /// A memory instance: whole pages of bytes, its declared maximum, and the greatest number of pages that the
-/// settings allow. Its buffer may have more bytes than it; those are zero. It remembers where it was written,
-/// so that cleaning it costs what was touched.
+/// settings allow. Its buffer may have more bytes than it; those are zero. It marks the blocks that are written, so
+/// that cleaning it costs what was touched.
 #[derive(Drop)]
 pub struct LinearMemory {
     bytes: Vec<u8>,
     length: usize,
-    written: Span,
+    marks: Vec<bool>,
     most: Option<u32>,
     pages: u32,
 }
@@ -35,7 +35,7 @@ impl Model for LinearMemory {
 
     ghost view = { λ m. front_of m.bytes.items m.length m.most m.pages (vec_len m.bytes) };
 
-    ghost invariant = { λ m. IsBuffered m.bytes.items m.length m.written.from m.written.to m.most m.pages };
+    ghost invariant = { λ m. IsBuffered m.bytes.items m.marks.items m.length m.most m.pages };
 }
 
 // Whether a memory may have so many pages: no more than its declared maximum, than 65,536, and than the setting.
@@ -70,15 +70,15 @@ impl LinearMemory {
         ensures room { IfOk result (λ m. m.room ≡ max clean (min * page)) }
         ensures refused { IfErr result (λ back. (back ≡ clean) × (clean < min * page)) }
     {
-        let mut bytes = clean.into_bytes();
+        let (mut bytes, mut marks) = clean.into_parts();
         let length = min as usize * PAGE;
-        if provide(&mut bytes, length).is_err() {
-            return Err(CleanMem::of(bytes));
+        if provide_buffer(&mut bytes, &mut marks, length).is_err() {
+            return Err(CleanMem::of(bytes, marks));
         }
         Ok(LinearMemory {
             bytes,
             length,
-            written: Span::NONE,
+            marks,
             most,
             pages,
         })
@@ -188,7 +188,7 @@ impl LinearMemory {
         if at + 1 > self.length {
             return false;
         }
-        self.written.add(at, at + 1);
+        mark(&mut self.marks, at);
         put_8(&mut self.bytes, at, bits);
         true
     }
@@ -203,7 +203,7 @@ impl LinearMemory {
         if at + 2 > self.length {
             return false;
         }
-        self.written.add(at, at + 2);
+        mark(&mut self.marks, at);
         put_16(&mut self.bytes, at, bits);
         true
     }
@@ -218,7 +218,7 @@ impl LinearMemory {
         if at + 4 > self.length {
             return false;
         }
-        self.written.add(at, at + 4);
+        mark(&mut self.marks, at);
         put_32(&mut self.bytes, at, bits);
         true
     }
@@ -233,7 +233,7 @@ impl LinearMemory {
         if at + 8 > self.length {
             return false;
         }
-        self.written.add(at, at + 8);
+        mark(&mut self.marks, at);
         put_64(&mut self.bytes, at, bits);
         true
     }
@@ -259,7 +259,7 @@ impl LinearMemory {
         ensures { Overwrites self.old at bytes.now self.new }
     {
         let from = at as usize;
-        self.written.add(from, from + bytes.len());
+        mark_all(&mut self.marks, from, from + bytes.len());
         put(&mut self.bytes, from, bytes);
     }
 
@@ -278,24 +278,24 @@ impl LinearMemory {
             return Ok(None);
         }
         let length = count * PAGE;
-        provide(&mut self.bytes, length)?;
+        provide_buffer(&mut self.bytes, &mut self.marks, length)?;
         self.length = length;
         Ok(Some(size as u32))
     }
 
-    /// Cleans it: writes zero where it was written, and nowhere else. The whole buffer is kept, and no memory is
-    /// taken.
+    /// Cleans it: writes zero into the blocks that were written, and nowhere else. The whole buffer is kept, and no
+    /// memory is taken.
     pub fn close(self) -> CleanMem
         ensures { result ≡ self.room }
     {
         let LinearMemory {
             mut bytes,
-            length: _,
-            written,
+            length,
+            mut marks,
             most: _,
             pages: _,
         } = self;
-        zero(&mut bytes, written.from, written.to);
-        CleanMem::of(bytes)
+        clear(&mut bytes, &mut marks, length);
+        CleanMem::of(bytes, marks)
     }
 }

@@ -3,4 +3,4 @@ use Rattle.memory.proofs.Memories.{did_allocate}
 use Rattle.memory.proofs.linear_memory.LinearMemory.allocate.Goals as goal
 
 pub returns-clause-memory : goal.returns-clause-memory
-returns-clause-memory c = did_allocate c.into_bytes-bytes.result.items c.provide.new.bytes.items c.args.min c.args.most c.args.pages c.into_bytes-bytes.ensures.zero c.provide.ensures.same (search rules)
+returns-clause-memory c = did_allocate c.into_parts-bytes.result.0.items c.provide_buffer.new.bytes.items c.args.min c.args.most c.args.pages c.into_parts-bytes.ensures.clean.zero c.provide_buffer.ensures.same (search rules)
