@@ -19,6 +19,14 @@ fn new_memory(clean: CleanMem, min: u32) -> Result<LinearMemory, Fail>
     Ok(memory)
 }
 
+// A memory of 1,024 pages.
+fn large_memory(clean: CleanMem) -> Result<LinearMemory, Fail> {
+    let memory = LinearMemory::allocate(clean, 1_024, None, 1_024)
+        .ok()
+        .ok_or("memory")?;
+    Ok(memory)
+}
+
 fn read_at(memory: &LinearMemory, at: u32, width: u32) -> Option<u64> {
     match width {
         1 | 2 | 4 | 8 => memory.read(u64::from(at), width),
@@ -61,6 +69,20 @@ fn expect_lent<R: Wait + Abort>(rt: &R, pool: &Pool, ticket: &mut Ticket, bytes:
     ensures { IsTicketOf pool.now ticket.new }
 {
     assert_eq!(rt; pool.lend(rt, ticket).len(), bytes);
+}
+
+fn expect_zeros<R: Abort>(rt: &R, memory: &LinearMemory, at: u32) {
+    assert_eq!(rt; read_at(memory, at, 8), Some(0));
+}
+
+fn touch_ends<R: Abort>(rt: &R, clean: CleanMem) -> Result<CleanMem, Fail> {
+    let mut memory = large_memory(clean)?;
+    assert_eq!(rt; read_at(&memory, 0, 1), Some(0));
+    assert_eq!(rt; read_at(&memory, 67_108_863, 1), Some(0));
+    assert!(rt; write_at(&mut memory, 0, 1, 1));
+    assert!(rt; write_at(&mut memory, 67_108_863, 1, 1));
+    assert!(rt; !write_at(&mut memory, 67_108_863, 2, 1));
+    Ok(close_memory(memory))
 }
 
 #[test]
@@ -122,5 +144,48 @@ fn a_lent_memory_is_used_again(rt: HostRuntime) -> Result<(), Fail> {
     assert_eq!(rt; grow_by(&mut memory, 2)?, None);
     assert_eq!(rt; grow_by(&mut memory, 1)?, Some(2));
     assert_eq!(rt; close_memory(memory).len(), 196_608);
+    Ok(())
+}
+
+#[test]
+fn no_other_call_sees_a_store_across_blocks(rt: HostRuntime) -> Result<(), Fail> {
+    let mut memory = new_memory(CleanMem::empty(rt.alloc()), 2)?;
+    assert!(rt; write_at(&mut memory, 4_095, 8, u64::MAX));
+    assert!(rt; write_at(&mut memory, 12_284, 8, u64::MAX));
+    assert!(rt; write_at(&mut memory, 65_529, 8, u64::MAX));
+    assert!(rt; write_at(&mut memory, 131_064, 8, u64::MAX));
+    segment_at(&mut memory, 20_478, b"across");
+    assert_eq!(rt; read_at(&memory, 4_099, 4), Some(0xffff_ffff));
+    assert_eq!(rt; read_at(&memory, 20_480, 4), Some(0x7373_6f72));
+    let memory = new_memory(close_memory(memory), 2)?;
+    expect_zeros(&rt, &memory, 4_088);
+    expect_zeros(&rt, &memory, 4_096);
+    expect_zeros(&rt, &memory, 12_284);
+    expect_zeros(&rt, &memory, 65_529);
+    expect_zeros(&rt, &memory, 131_064);
+    expect_zeros(&rt, &memory, 20_478);
+    Ok(())
+}
+
+#[test]
+fn a_growth_keeps_what_is_marked(rt: HostRuntime) -> Result<(), Fail> {
+    let mut memory = new_memory(CleanMem::empty(rt.alloc()), 1)?;
+    assert!(rt; write_at(&mut memory, 65_528, 8, u64::MAX));
+    assert_eq!(rt; grow_by(&mut memory, 2)?, Some(1));
+    assert!(rt; write_at(&mut memory, 196_607, 1, 7));
+    let memory = new_memory(close_memory(memory), 3)?;
+    expect_zeros(&rt, &memory, 65_528);
+    expect_zeros(&rt, &memory, 65_536);
+    expect_zeros(&rt, &memory, 196_600);
+    Ok(())
+}
+
+#[test]
+fn both_ends_of_many_pages_are_written_again_and_again(rt: HostRuntime) -> Result<(), Fail> {
+    let mut clean = CleanMem::empty(rt.alloc());
+    for _ in 0..1_000 {
+        clean = touch_ends(&rt, clean)?;
+    }
+    assert_eq!(rt; clean.len(), 67_108_864);
     Ok(())
 }
