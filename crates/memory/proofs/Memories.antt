@@ -1,5 +1,5 @@
 -- What the operations on a memory in its buffer leave is what the definitions say.
-use Rattle.std.proofs.Common.{◌≡◌, ◌≢◌, ℕ, zero, suc, ◌+◌, ◌-◌, ◌*◌, ◌/◌, ◌<◌, ◌≤◌, List, Bool, false, ◌++◌, length, take, drop, replicate, set, get_or, true, Option, Some, refl, sym, ap, subst, ◌∙◌, arith, length-set, get_or-set_other}
+use Rattle.std.proofs.Common.{◌≡◌, ◌≢◌, ℕ, zero, suc, ◌+◌, ◌*◌, ◌/◌, ◌<◌, ◌≤◌, List, Bool, false, ◌++◌, length, take, drop, replicate, set, get_or, true, Option, Some, refl, sym, ap, subst, ◌∙◌, arith, length-set, get_or-set_other}
 use Rattle.std.specs.Prelude.{nat_le}
 use Rattle.std.proofs.lemmas.List.{length-take-le, take_all, take-append-le, take-take, ext_get_or, get_or-take}
 use Rattle.std.proofs.lemmas.Bool.{le-leb}
@@ -142,25 +142,6 @@ is_typed old items marks n room most pages view b slice same each =
     let P : Buffered → Type 0 = λ o. MemoryTyped o.memory in
     let ap_bytes : AreBytes (take n items) = rw (← same) (take_bytes n slice each) in
     subst P view (record { count = b.count; whole = length-take-le n items b.fits ∙ b.whole; bounded = b.bounded; bytes = ap_bytes })
-
--- after a growth it is whole pages in its buffer
-pub grown_buffered : (items more : List ℕ) (marks marks' : List Bool) (n count : ℕ) (most : Option ℕ) (pages : ℕ) → IsBuffered items marks n most pages
-    → may_have (zeros 0 most pages) count ≡ true → n / 65536 ≤ count → count * 65536 ≤ length more → length more ≤ length marks' * 4096
-    → ((k : ℕ) → get_or more k 0 ≡ get_or items k 0) → ((b : ℕ) → get_or marks' b false ≡ get_or marks b false)
-    → IsBuffered more marks' (count * 65536) most pages
-grown_buffered items more marks marks' n count most pages b allowed grows fits covered same kept =
-    let whole : n ≡ b.count * 65536 = b.whole in
-    let longer : n ≤ count * 65536 = omega arith in
-    record {
-      count = count;
-      whole = refl;
-      bounded = allowed;
-      fits = fits;
-      covered = covered;
-      unused = λ i h. kept i ∙ b.unused i (omega arith);
-      behind = λ k h. same k ∙ b.behind k (omega arith);
-      zero = λ k own before. same k ∙ b.zero k (sym (kept (k / 4096)) ∙ own) (sym (kept ((k - 7) / 4096)) ∙ before);
-    }
 
 -- the front of a buffer with more zeros
 same_front : (items more : List ℕ) (n : ℕ) → n ≤ length items → n ≤ length more → ((k : ℕ) → get_or more k 0 ≡ get_or items k 0) → take n more ≡ take n items

@@ -17,7 +17,7 @@ const PAGE: usize = 65_536;
 
 /// A memory instance: whole pages of bytes, its declared maximum, and the greatest number of pages that the
 /// settings allow. Its buffer may have more bytes than it; those are zero. It marks the blocks that are written, so
-/// that cleaning it costs what was touched.
+/// that cleaning it costs what was written.
 #[derive(Drop)]
 pub struct LinearMemory {
     bytes: Vec<u8>,
