@@ -6,6 +6,7 @@ use pieces::{Plan, Quiet};
 use std::alloc::Global;
 use std::io;
 use std::io::{ErrorKind, Write};
+use std::process::Abort;
 use std::sync::Wait;
 use std::test::Fail;
 use std::thread::Threads;
@@ -209,4 +210,38 @@ fn refusals_are_answered(rt: HostRuntime) -> Result<(), Fail> {
     assert_eq!(rt; text.as_slice(), "accepted\ncalls too-large\n".as_bytes());
     assert_eq!(rt; status, Status::CallsRefused);
     Ok(())
+}
+
+// The answer to the call of `add` on 1 and 2.
+const SUM: &[u8] = b"0 values i32:3 fuel 1\n\
+    total 1 values 1 traps 0 exhausted 0 refused 0 no-memory 0 fuel 1\n";
+
+fn answer_sum<R: AllocGlobal + Threads + Wait + Abort + Sync>(
+    rt: &R,
+    out: &mut Narrow,
+) -> Result<Status, AnswerFault> {
+    let plan = Plan::new(2, 1).expect(rt, "a plan");
+    let settings = Settings::new(1, 1, 0).expect(rt, "settings");
+    let calls = b"add\ti32:1\ti32:2\n";
+    answer(rt, rt.alloc(), ADD, calls, settings, plan, &Quiet, out)
+}
+
+#[test]
+fn an_answer_is_written_whole(rt: HostRuntime) {
+    for at_once in [1, 7, 1_000] {
+        let mut out = Narrow::new(rt.alloc(), at_once, SUM.len(), true);
+        assert_eq!(rt; answer_sum(&rt, &mut out), Ok(Status::Good));
+        assert_eq!(rt; out.held.as_slice(), SUM);
+    }
+}
+
+#[test]
+fn a_failed_write_leaves_a_beginning_of_the_answer(rt: HostRuntime) {
+    for room in 0..SUM.len() {
+        for fails in [true, false] {
+            let mut out = Narrow::new(rt.alloc(), 4, room, fails);
+            assert_eq!(rt; answer_sum(&rt, &mut out), Err(AnswerFault::Write));
+            assert_eq!(rt; out.held.as_slice(), &SUM[..room]);
+        }
+    }
 }

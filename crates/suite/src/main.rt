@@ -1,22 +1,29 @@
-//! Judges each module of a table in every way that a judge is called, and stops at the first whose answer is
-//! another than its row says: `suite TABLE`. A row is the module's name, its bytes, and the line and the status
-//! of `gate check`, with a tab between each two. Lines that begin with `#` say nothing.
+//! Runs each row of the tables in every way that it is run, and stops at the first that answers other than it says:
+//! `suite VERDICTS RUNS`. A row of VERDICTS is a name, the bytes of a module, and the line and the status of
+//! `gate check`. A row of RUNS is a name, the bytes of a module, the calls, the options, and the text and the status of
+//! `gate run`. Between each two stands a tab. Lines that begin with `#` say nothing, but the last one, `# N rows`, says
+//! how many rows there are.
 #![tactic(auto)]
 
-mod bytes;
 mod judges;
 mod rows;
+mod runs;
+mod spelled;
+mod table;
 #[cfg(test)]
 mod tests;
 
 use anyhow::Result;
 use std::env;
+use table::{Kind, run_table};
 
 fn main(rt: HostRuntime) -> Result<()> {
     let mut args = env::args(&rt)?;
     let _program = args.next();
-    match args.next() {
-        None => Ok(()),
-        Some(path) => rows::judge_table(&rt, path.as_str()),
+    for kind in [Kind::Verdicts, Kind::Runs] {
+        if let Some(path) = args.next() {
+            run_table(&rt, kind, path.as_str())?;
+        }
     }
+    Ok(())
 }

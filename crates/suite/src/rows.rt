@@ -1,43 +1,21 @@
-// The rows of a table.
-use crate::bytes::read_bytes;
+// The rows of a table of verdicts.
 use crate::judges::verdict_line;
+use crate::spelled::read_bytes;
 use anyhow::{Context, Result, anyhow, bail, ensure};
 use batch::{Plan, Status};
-use std::fs;
-use std::rt::Files;
 use std::sync::Wait;
 use std::thread::Threads;
 
 /// The numbers of workers and the sizes of pieces that each row is judged with.
 const PLANS: [(u32, u32); 3] = [(1, 1), (4, 16), (64, 65_535)];
 
-/// A row of a table.
+/// A row of a table of verdicts.
 #[derive(Clone, Copy)]
 struct Row<'a> {
     name: &'a str,
     spelled: &'a str,
     line: &'a str,
     status: &'a str,
-}
-
-/// Judges the rows of the table in that file, one after the other, up to the first that is wrong. There must be one.
-pub fn judge_table<R: Files + Print + AllocGlobal + Threads + Wait + Sync>(
-    rt: &R,
-    path: &str,
-) -> Result<()> {
-    let text = fs::read_to_string(rt, path)?;
-    let mut is_empty = true;
-    for line in text.lines() {
-        if line.is_empty() || line.starts_with('#') {
-            continue;
-        }
-        is_empty = false;
-        let row = read_row(line).ok_or_else(|| anyhow!("no row: {line}"))?;
-        judge_row(rt, &row).context(format_args!("{}", row.name))?;
-    }
-    ensure!(!is_empty, "no row");
-    println!(rt; "every row has its verdict")?;
-    Ok(())
 }
 
 fn read_row(line: &str) -> Option<Row<'_>> {
@@ -52,20 +30,46 @@ fn read_row(line: &str) -> Option<Row<'_>> {
     })
 }
 
-fn judge_row<R: AllocGlobal + Threads + Wait + Sync>(rt: &R, row: &Row<'_>) -> Result<()> {
+/// Judges the module of a row.
+pub fn judge_row<R: AllocGlobal + Threads + Wait + Sync>(rt: &R, line: &str) -> Result<()> {
+    let row = read_row(line).ok_or_else(|| anyhow!("no row: {line}"))?;
     let bytes = read_bytes(rt.alloc(), row.spelled)?;
     for (workers, piece) in PLANS {
         let plan = Plan::new(workers, piece).ok_or_else(|| anyhow!("no plan"))?;
-        let (line, status) = verdict_line(rt, rt.alloc(), &bytes, plan)?;
-        let wanted = format!(in rt.alloc(); "{}\n", row.line)?;
-        if line.as_slice() != wanted.as_bytes() {
-            bail!("with {workers} workers another line than {}", row.line);
-        }
-        ensure!(
-            (status == Status::Good) == (row.status == "0"),
-            "another status than {}",
-            row.status
-        );
+        judge_with(rt, &row, &bytes, plan).context(format_args!("{}", row.name))?;
     }
     Ok(())
+}
+
+fn judge_with<R: AllocGlobal + Threads + Wait + Sync>(
+    rt: &R,
+    row: &Row<'_>,
+    bytes: &[u8],
+    plan: Plan,
+) -> Result<()> {
+    let (line, status) = verdict_line(rt, rt.alloc(), bytes, plan)?;
+    let wanted = format!(in rt.alloc(); "{}\n", row.line)?;
+    if line.as_slice() != wanted.as_bytes() {
+        bail!(
+            "with {} workers another line than {}",
+            plan.workers(),
+            row.line
+        );
+    }
+    ensure!(
+        Some(status) == read_status(row.status),
+        "another status than {}",
+        row.status
+    );
+    Ok(())
+}
+
+/// What a status of the program says.
+pub fn read_status(status: &str) -> Option<Status> {
+    match status {
+        "0" => Some(Status::Good),
+        "2" => Some(Status::ModuleRefused),
+        "3" => Some(Status::CallsRefused),
+        _ => None,
+    }
 }

@@ -1,3 +1,6 @@
 mod accepted;
+mod called;
 mod exports;
+mod meeting;
 mod plans;
+mod told;

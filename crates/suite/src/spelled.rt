@@ -1,6 +1,6 @@
-// Bytes as the table spells them.
+// Bytes and texts as the tables spell them.
 use anyhow::{Result, anyhow};
-use std::alloc::Global;
+use std::alloc::{AllocError, Global};
 
 /// Bytes in hexadecimal, with blanks between words; `xNN*K` stands for K times the bytes NN.
 pub fn read_bytes(alloc: Global, text: &str) -> Result<Vec<u8>> {
@@ -22,4 +22,10 @@ fn add_run(bytes: &mut Vec<u8>, alloc: Global, run: &str) -> Result<()> {
         bytes.extend_from_slice(&part)?;
     }
     Ok(())
+}
+
+/// Text in which `\t` stands for a tab and `\n` for a newline.
+pub fn read_text(alloc: Global, text: &str) -> Result<String, AllocError> {
+    let with_tabs = text.replace(alloc, "\\t", "\t")?;
+    with_tabs.as_str().replace(alloc, "\\n", "\n")
 }

@@ -1,0 +1,208 @@
+// Two bodies and two calls are at work at once. Where one worker does both, or a loop without workers, none sees the
+// other come while it is there itself.
+use batch::{Plan, Settings, Status, Watch, answer};
+use pieces::Stage;
+use std::alloc::Global;
+use std::process::Abort;
+use std::sync::Wait;
+use std::sync::atomic::{AtomicBool, Ordering};
+use std::test::Fail;
+use std::thread;
+use std::thread::Threads;
+use verdict::{Class, Refusal, examine, judge};
+
+// (module (func (export "f")) (func))
+const ACCEPTED: &[u8] = b"\0asm\x01\0\0\0\
+    \x01\x04\x01\x60\0\0\
+    \x03\x03\x02\0\0\
+    \x07\x05\x01\x01f\0\0\
+    \x0a\x07\x02\x02\0\x0b\x02\0\x0b";
+
+// (module (func (export "f")) (func drop))
+const REFUSED: &[u8] = b"\0asm\x01\0\0\0\
+    \x01\x04\x01\x60\0\0\
+    \x03\x03\x02\0\0\
+    \x07\x05\x01\x01f\0\0\
+    \x0a\x08\x02\x02\0\x0b\x03\0\x1a\x0b";
+
+const ACCEPTANCE: Result<(), Refusal> = Ok(());
+
+const REFUSAL: Result<(), Refusal> = Err(Refusal::Body {
+    func: 1,
+    class: Class::IllTyped { at: 0 },
+});
+
+/// How often an index looks for the other before it gives up.
+const TURNS: u32 = 2_000;
+
+/// How often a run is tried before a test gives up.
+const TRIES: u32 = 10_000;
+
+/// Whether an index arrived, and whether it saw that the other one had.
+#[derive(Drop)]
+struct Visitor {
+    arrived: AtomicBool,
+    saw: AtomicBool,
+}
+
+impl Visitor {
+    fn new() -> Visitor {
+        Visitor {
+            arrived: AtomicBool::new(false),
+            saw: AtomicBool::new(false),
+        }
+    }
+
+    fn look_for(&self, other: &Visitor) {
+        self.arrived.store(true, Ordering::SeqCst);
+        for _ in 0..TURNS {
+            if other.arrived.load(Ordering::SeqCst) {
+                self.saw.store(true, Ordering::SeqCst);
+                return;
+            }
+            thread::yield_now();
+        }
+    }
+}
+
+/// The indices 0 and 1 of a stage.
+#[derive(Drop)]
+struct Pair {
+    first: Visitor,
+    second: Visitor,
+}
+
+impl Pair {
+    fn new() -> Pair {
+        Pair {
+            first: Visitor::new(),
+            second: Visitor::new(),
+        }
+    }
+
+    fn visit(&self, index: u32) {
+        match index {
+            0 => self.first.look_for(&self.second),
+            1 => self.second.look_for(&self.first),
+            _ => {}
+        }
+    }
+
+    // Each came before the other had given up, so both were inside at once.
+    fn has_met(&self) -> bool {
+        self.first.saw.load(Ordering::SeqCst) && self.second.saw.load(Ordering::SeqCst)
+    }
+}
+
+/// Sees whether two bodies and two calls meet.
+#[derive(Drop)]
+struct Meeting {
+    bodies: Pair,
+    calls: Pair,
+}
+
+impl Meeting {
+    fn new() -> Meeting {
+        Meeting {
+            bodies: Pair::new(),
+            calls: Pair::new(),
+        }
+    }
+}
+
+impl Watch for Meeting {
+    fn note(&self, stage: Stage, index: u32) {
+        match stage {
+            Stage::Body => self.bodies.visit(index),
+            Stage::Call => self.calls.visit(index),
+        }
+    }
+
+    fn lent(&self, _call: u32, _bytes: usize) {}
+}
+
+// The judge that keeps the bodies.
+fn judged_bodies_meet<R: Threads + Wait + Abort + Sync>(
+    rt: &R,
+    alloc: Global,
+    module: &[u8],
+    verdict: Result<(), Refusal>,
+) -> Result<(), Fail> {
+    let plan = Plan::new(2, 1).ok_or("plan")?;
+    for _ in 0..TRIES {
+        let meeting = Meeting::new();
+        let judged = judge(rt, alloc, module, plan, &meeting).map(|_| ());
+        assert_eq!(rt; judged, verdict);
+        if meeting.bodies.has_met() {
+            return Ok(());
+        }
+    }
+    panic!(rt; "no two bodies were judged at once")
+}
+
+// The judge that keeps nothing.
+fn examined_bodies_meet<R: Threads + Wait + Abort + Sync>(
+    rt: &R,
+    alloc: Global,
+    module: &[u8],
+    verdict: Result<(), Refusal>,
+) -> Result<(), Fail> {
+    let plan = Plan::new(2, 1).ok_or("plan")?;
+    for _ in 0..TRIES {
+        let meeting = Meeting::new();
+        assert_eq!(rt; examine(rt, alloc, module, plan, &meeting), verdict);
+        if meeting.bodies.has_met() {
+            return Ok(());
+        }
+    }
+    panic!(rt; "no two bodies were examined at once")
+}
+
+#[test]
+fn two_bodies_are_judged_at_once(rt: HostRuntime) -> Result<(), Fail> {
+    judged_bodies_meet(&rt, rt.alloc(), ACCEPTED, ACCEPTANCE)?;
+    judged_bodies_meet(&rt, rt.alloc(), REFUSED, REFUSAL)
+}
+
+#[test]
+fn two_bodies_are_examined_at_once(rt: HostRuntime) -> Result<(), Fail> {
+    examined_bodies_meet(&rt, rt.alloc(), ACCEPTED, ACCEPTANCE)?;
+    examined_bodies_meet(&rt, rt.alloc(), REFUSED, REFUSAL)
+}
+
+// Answers two calls of two bodies, and looks whether the text is the one of two calls that run alone.
+fn meeting_of_answer<R: Threads + Wait + Abort + Sync>(
+    rt: &R,
+    alloc: Global,
+) -> Result<Meeting, Fail> {
+    let plan = Plan::new(2, 1).ok_or("plan")?;
+    let settings = Settings::new(10, 1, 0).ok_or("settings")?;
+    let meeting = Meeting::new();
+    let mut text = Vec::new(alloc);
+    let status = answer(
+        rt, alloc, ACCEPTED, b"f\nf\n", settings, plan, &meeting, &mut text,
+    )?;
+    assert_eq!(rt;
+        text.as_slice(),
+        "0 values fuel 1\n\
+        1 values fuel 1\n\
+        total 2 values 2 traps 0 exhausted 0 refused 0 no-memory 0 fuel 2\n"
+            .as_bytes()
+    );
+    assert_eq!(rt; status, Status::Good);
+    Ok(meeting)
+}
+
+#[test]
+fn two_bodies_and_two_calls_of_an_answer_meet(rt: HostRuntime) -> Result<(), Fail> {
+    let (mut bodies_met, mut calls_met) = (false, false);
+    for _ in 0..TRIES {
+        let meeting = meeting_of_answer(&rt, rt.alloc())?;
+        bodies_met = bodies_met || meeting.bodies.has_met();
+        calls_met = calls_met || meeting.calls.has_met();
+        if bodies_met && calls_met {
+            return Ok(());
+        }
+    }
+    panic!(rt; "bodies met: {bodies_met}, calls met: {calls_met}")
+}

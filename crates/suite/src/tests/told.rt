@@ -1,0 +1,185 @@
+// What a watch is told: each index of each stage once, and how much memory a call was lent.
+use batch::{Plan, Settings, Status, Watch, answer};
+use pieces::Stage;
+use std::alloc::{AllocError, Global};
+use std::process::Abort;
+use std::sync::Wait;
+use std::sync::atomic::{AtomicU64, Ordering};
+use std::test::Fail;
+use std::thread::Threads;
+use verdict::{examine, judge};
+
+// A hundred empty functions of type [] -> [], the first of which is exported as "f".
+fn hundred_bodies(alloc: Global) -> Result<Vec<u8>, AllocError> {
+    let mut bytes = b"\0asm\x01\0\0\0\x01\x04\x01\x60\0\0\x03\x65\x64".to_vec(alloc)?;
+    bytes.extend_from_slice(&[0; 100])?;
+    bytes.extend_from_slice(b"\x07\x05\x01\x01f\0\0\x0a\xad\x02\x64")?;
+    for _ in 0..100 {
+        bytes.extend_from_slice(b"\x02\0\x0b")?;
+    }
+    Ok(bytes)
+}
+
+fn hundred_calls(alloc: Global) -> Result<Vec<u8>, AllocError> {
+    let mut calls = Vec::new(alloc);
+    for _ in 0..100 {
+        calls.extend_from_slice(b"f\n")?;
+    }
+    Ok(calls)
+}
+
+// How often each of a hundred indices was told, and how often another one.
+#[derive(Drop)]
+struct Tally {
+    times: Vec<AtomicU64>,
+    strays: AtomicU64,
+}
+
+impl Tally {
+    fn new(alloc: Global) -> Result<Tally, AllocError> {
+        let mut times = Vec::new(alloc);
+        for _ in 0..100 {
+            times.push(AtomicU64::new(0))?;
+        }
+        Ok(Tally {
+            times,
+            strays: AtomicU64::new(0),
+        })
+    }
+
+    fn add(&self, index: u32) {
+        let told = self.times.get(index as usize).unwrap_or(&self.strays);
+        told.fetch_add(1, Ordering::SeqCst);
+    }
+
+    fn is_each(&self, wanted: u64) -> bool {
+        self.strays.load(Ordering::SeqCst) == 0
+            && self
+                .times
+                .iter()
+                .all(|told| told.load(Ordering::SeqCst) == wanted)
+    }
+}
+
+// Counts what it is told.
+#[derive(Drop)]
+struct Counting {
+    bodies: Tally,
+    calls: Tally,
+}
+
+impl Counting {
+    fn new(alloc: Global) -> Result<Counting, AllocError> {
+        Ok(Counting {
+            bodies: Tally::new(alloc)?,
+            calls: Tally::new(alloc)?,
+        })
+    }
+}
+
+impl Watch for Counting {
+    fn note(&self, stage: Stage, index: u32) {
+        match stage {
+            Stage::Body => self.bodies.add(index),
+            Stage::Call => self.calls.add(index),
+        }
+    }
+
+    fn lent(&self, _call: u32, _bytes: usize) {}
+}
+
+// The judges tell each body once, and the answer each body and each call.
+fn tells_each_once<R: Threads + Wait + Abort + Sync>(
+    rt: &R,
+    alloc: Global,
+    plan: Plan,
+) -> Result<(), Fail> {
+    let module = hundred_bodies(alloc)?;
+    let calls = hundred_calls(alloc)?;
+    let counting = Counting::new(alloc)?;
+    assert!(rt; judge(rt, alloc, &module, plan, &counting).is_ok());
+    assert!(rt; counting.bodies.is_each(1) && counting.calls.is_each(0));
+    assert!(rt; examine(rt, alloc, &module, plan, &counting).is_ok());
+    assert!(rt; counting.bodies.is_each(2) && counting.calls.is_each(0));
+    let settings = Settings::new(10, 1, 0).ok_or("settings")?;
+    let mut text = Vec::new(alloc);
+    let status = answer(
+        rt, alloc, &module, &calls, settings, plan, &counting, &mut text,
+    )?;
+    assert_eq!(rt; status, Status::Good);
+    assert!(rt; counting.bodies.is_each(3) && counting.calls.is_each(1));
+    Ok(())
+}
+
+#[test]
+fn each_index_is_told_once(rt: HostRuntime) -> Result<(), Fail> {
+    for workers in [1, 2, 8, 64] {
+        for piece in [1, 7, 65_535] {
+            let plan = Plan::new(workers, piece).ok_or("plan")?;
+            tells_each_once(&rt, rt.alloc(), plan)?;
+        }
+    }
+    Ok(())
+}
+
+// (module (memory 1)
+//   (func (export "s") (i32.store (i32.const 0) (i32.const 7)))
+//   (func (export "l") (result i32) (i32.load (i32.const 0))))
+const STORES: &[u8] = b"\0asm\x01\0\0\0\
+    \x01\x08\x02\x60\0\0\x60\0\x01\x7f\
+    \x03\x03\x02\0\x01\
+    \x05\x03\x01\0\x01\
+    \x07\x09\x02\x01s\0\0\x01l\0\x01\
+    \x0a\x13\x02\x09\0\x41\0\x41\x07\x36\x02\0\x0b\x07\0\x41\0\x28\x02\0\x0b";
+
+// A number of bytes that no call is lent.
+const UNTOLD: u64 = u64::MAX;
+
+// The bytes that the calls 0 and 1 were lent.
+#[derive(Drop)]
+struct Lending {
+    first: AtomicU64,
+    second: AtomicU64,
+}
+
+impl Watch for Lending {
+    fn note(&self, _stage: Stage, _index: u32) {}
+
+    fn lent(&self, call: u32, bytes: usize) {
+        let told = if call == 0 { &self.first } else { &self.second };
+        told.store(bytes as u64, Ordering::SeqCst);
+    }
+}
+
+#[test]
+fn a_worker_lends_on_the_memory_of_a_call(rt: HostRuntime) -> Result<(), Fail> {
+    let plan = Plan::new(1, 1).ok_or("plan")?;
+    let settings = Settings::new(10, 1, 1).ok_or("settings")?;
+    let lending = Lending {
+        first: AtomicU64::new(UNTOLD),
+        second: AtomicU64::new(UNTOLD),
+    };
+    let mut text = Vec::new(rt.alloc());
+    answer(
+        &rt,
+        rt.alloc(),
+        STORES,
+        b"s\nl\n",
+        settings,
+        plan,
+        &lending,
+        &mut text,
+    )?;
+    assert_eq!(rt; lending.first.load(Ordering::SeqCst), 0);
+    let second = lending.second.load(Ordering::SeqCst);
+    assert!(rt; (65_536..UNTOLD).contains(&second));
+    // and the load does not see the store
+    assert_eq!(rt;
+        text.as_slice(),
+        "0 values fuel 1\n\
+        1 values i32:0 fuel 1\n\
+        total 2 values 2 traps 0 exhausted 0 refused 0 no-memory 0 fuel 2\n"
+            .as_bytes()
+    );
+    Ok(())
+}
