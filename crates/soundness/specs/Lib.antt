@@ -13,3 +13,6 @@ pub mod Rules
 pub mod Instances
 pub mod OneAnswer
 pub mod Sole
+pub mod Floats
+pub mod Starts
+pub mod Reports

@@ -2,10 +2,13 @@
 
 ghost use Rattle.soundness.specs.Bodies.{ReachedBodies, UnreachedBodies};
 ghost use Rattle.soundness.specs.Counts.{CountExamples};
+ghost use Rattle.soundness.specs.Floats.{FloatExamples};
 ghost use Rattle.soundness.specs.Growth.{GrowthExamples};
 ghost use Rattle.soundness.specs.Instructions.{BlockExamples, BytesExamples, VariableExamples};
 ghost use Rattle.soundness.specs.Operators.{OperatorExamples};
+ghost use Rattle.soundness.specs.Reports.{EndTexts, ReportExamples, VerdictTexts};
 ghost use Rattle.soundness.specs.Samples.{ControlExamples, DivisionExamples, LimitExamples, MemoryExamples, TableExamples};
+ghost use Rattle.soundness.specs.Starts.{FreshExamples, RefusalExamples};
 
 /// The verdicts of the algorithm on small bodies.
 pub fn bodies()
@@ -42,4 +45,22 @@ pub fn counts()
 /// The integer operators on values.
 pub fn operators()
     ensures { OperatorExamples }
+{}
+
+/// Where a module mentions a float.
+pub fn floats()
+    ensures { FloatExamples }
+{}
+
+/// What refuses an instance, and the store of a fresh one.
+pub fn starts()
+    ensures refusals { RefusalExamples }
+    ensures fresh { FreshExamples }
+{}
+
+/// The report on calls, and the text of each verdict.
+pub fn reports()
+    ensures reports { ReportExamples }
+    ensures ends { EndTexts }
+    ensures verdicts { VerdictTexts }
 {}

@@ -1,0 +1,73 @@
+-- Where a module mentions a float, so that it is not run (`has_floats`).
+use Rattle.std.specs.Prelude.{◌≡◌, ℕ, List, [], ◌∷◌, Bool, true, false, None}
+use Rattle.wsyntax.specs.declared.types.ValType.{ValType}
+use Rattle.wsyntax.specs.declared.types.ValType.TheVariants.{I32, I64, F32, F64}
+use Rattle.wsyntax.specs.declared.instructions.BlockType.TheVariants.{Empty, Value as Gives, Index}
+use Rattle.wsyntax.specs.declared.instructions.Operator.TheVariants.{F32Add, I64TruncF64U}
+use Rattle.wsyntax.specs.Instructions.{Width32, Add, OfTwo, FloatOp, Access, Drop, Const, Numeric, MemoryLoad, MemoryStore, Token, Do, OpenBlock, OpenLoop, OpenIf, Else, End}
+use Rattle.wsyntax.specs.Modules.{ModuleShape}
+use Rattle.wsyntax.specs.Execution.Start.{has_floats}
+
+-- a module of nothing
+abbrev pub empty : ModuleShape
+empty = record { types = []; imports = []; functions = []; tables = []; memories = []; globals = []; exports = []; start = None; elements = []; bodies = []; segments = [] }
+
+-- of one function type
+abbrev pub of_type : List ValType → List ValType → ModuleShape
+of_type params results = record empty { types = (record { params = params; results = results }) ∷ [] }
+
+-- of one global with this first value
+abbrev pub of_global : ValType → Token → ModuleShape
+of_global t first = record empty { globals = (record { content = record { content = t; mutable = false }; init = first ∷ End ∷ [] }) ∷ [] }
+
+-- of one element segment, and of one data segment, at this offset
+abbrev pub of_element : Token → ModuleShape
+of_element offset = record empty { elements = (record { table = 0; offset = offset ∷ End ∷ []; functions = [] }) ∷ [] }
+
+abbrev pub of_data : Token → ModuleShape
+of_data offset = record empty { segments = (record { memory = 0; offset = offset ∷ End ∷ []; bytes = [] }) ∷ [] }
+
+-- whether a body of these tokens mentions a float
+abbrev pub in_code : List Token → Bool
+in_code code = has_floats empty ((record { runs = []; code = code }) ∷ [])
+
+-- whether a body that declares so many locals of this type does
+abbrev pub in_locals : ℕ → ValType → Bool
+in_locals count t = has_floats empty ((record { runs = (record { count = 1; content = I32 }) ∷ (record { count = count; content = t }) ∷ []; code = End ∷ [] }) ∷ [])
+
+-- a load or a store of a value of this type
+abbrev pub access : ValType → Access
+access t = record { of_type = t; width = 4; signed = false; align = 0; offset = 0 }
+
+-- a float counts also where it is never reached
+pub record FloatExamples : Type 0 where
+  pub nothing : has_floats empty [] ≡ false
+  -- in a type, whether or not a function has it
+  pub parameter : has_floats (of_type (I32 ∷ F32 ∷ []) []) [] ≡ true
+  pub result : has_floats (of_type [] (F64 ∷ [])) [] ≡ true
+  pub integer_type : has_floats (of_type (I32 ∷ I64 ∷ []) (I64 ∷ [])) [] ≡ false
+  -- in a global: its type, its first value
+  pub global_type : has_floats (of_global F64 (Do (Const I32 0))) [] ≡ true
+  pub global_value : has_floats (of_global I32 (Do (Const F32 0))) [] ≡ true
+  pub integer_global : has_floats (of_global I64 (Do (Const I64 5))) [] ≡ false
+  -- in the offset of a segment
+  pub element_offset : has_floats (of_element (Do (Const F32 0))) [] ≡ true
+  pub data_offset : has_floats (of_data (Do (Const F64 0))) [] ≡ true
+  pub integer_offset : has_floats (of_data (Do (Const I32 8))) [] ≡ false
+  -- in a declared local; a run of no locals declares none
+  pub declared_local : in_locals 1 F32 ≡ true
+  pub no_local : in_locals 0 F32 ≡ false
+  pub integer_local : in_locals 7 I64 ≡ false
+  -- in the type of a block, of a loop, of an if
+  pub of_block : in_code (OpenBlock (Gives F32) ∷ End ∷ End ∷ []) ≡ true
+  pub of_loop : in_code (OpenLoop (Gives F64) ∷ End ∷ End ∷ []) ≡ true
+  pub of_if : in_code (OpenIf (Gives F32) ∷ Else ∷ End ∷ End ∷ []) ≡ true
+  -- a type that is named by its index is looked at where it stands
+  pub integer_blocks : in_code (OpenBlock Empty ∷ OpenLoop (Gives I32) ∷ OpenIf (Index 0) ∷ End ∷ End ∷ End ∷ End ∷ []) ≡ false
+  -- in an instruction: a constant, an operator, one that only takes a float, a load, a store
+  pub constant : in_code (Do (Const F64 0) ∷ Do Drop ∷ End ∷ []) ≡ true
+  pub operator : in_code (Do (Numeric (FloatOp F32Add)) ∷ End ∷ []) ≡ true
+  pub conversion : in_code (Do (Numeric (FloatOp I64TruncF64U)) ∷ End ∷ []) ≡ true
+  pub load : in_code (Do (MemoryLoad (access F32)) ∷ End ∷ []) ≡ true
+  pub store : in_code (Do (MemoryStore (access F32)) ∷ End ∷ []) ≡ true
+  pub integer_code : in_code (Do (Const I32 0) ∷ Do (MemoryLoad (access I32)) ∷ Do (Numeric (OfTwo Width32 Add)) ∷ Do (MemoryStore (access I64)) ∷ End ∷ []) ≡ false

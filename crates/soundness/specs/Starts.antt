@@ -1,0 +1,95 @@
+-- What refuses an instance (`start_refusal`), and the store of a fresh one (`fresh_store`).
+use Rattle.std.specs.Prelude.{◌≡◌, ℕ, List, [], ◌∷◌, false, Option, Some, None, option_map, take}
+use Rattle.wsyntax.specs.declared.types.ValType.TheVariants.{I32, I64, F32}
+use Rattle.wsyntax.specs.declared.module.ImportKind.TheVariants.{Function}
+use Rattle.wsyntax.specs.declared.value.Value.TheVariants.{I32 as V32, I64 as V64}
+use Rattle.wsyntax.specs.Instructions.{Const, Token, Do, End}
+use Rattle.wsyntax.specs.Modules.{ModuleShape, ElementShape, DataShape}
+use Rattle.wsyntax.specs.Execution.Store.{Store, Unset, SetTo}
+use Rattle.wsyntax.specs.Execution.Start.{StartRefusal, HasImports, HasFloats, TableLimit, MemoryLimit, ElementOutside, DataOutside, start_refusal, fresh_store}
+use Rattle.soundness.specs.Floats.{empty}
+
+-- ---- parts of modules
+
+abbrev pub at : ℕ → List Token
+at n = Do (Const I32 n) ∷ End ∷ []
+
+-- these functions from this entry on
+abbrev pub entries : ℕ → List ℕ → ElementShape
+entries place functions = record { table = 0; offset = at place; functions = functions }
+
+-- these bytes from this place on
+abbrev pub bytes : ℕ → List ℕ → DataShape
+bytes place items = record { memory = 0; offset = at place; bytes = items }
+
+-- a module with a table of so many entries, a memory of so many pages, and segments
+abbrev pub sized : ℕ → ℕ → List ElementShape → List DataShape → ModuleShape
+sized size pages elements segments = record empty {
+  types = (record { params = []; results = [] }) ∷ [];
+  tables = (record { limits = record { min = size; max = None } }) ∷ [];
+  memories = (record { min = pages; max = None }) ∷ [];
+  elements = elements;
+  segments = segments;
+}
+
+-- and with an import, with a float
+abbrev pub importing : ModuleShape → ModuleShape
+importing m = record m { imports = (record { module_name = []; item_name = []; kind = Function 0 }) ∷ [] }
+
+abbrev pub floating : ModuleShape → ModuleShape
+floating m = record m { types = (record { params = F32 ∷ []; results = [] }) ∷ [] }
+
+-- what refuses it, where the setting is 2 pages
+abbrev pub refusal : ModuleShape → Option StartRefusal
+refusal m = start_refusal 2 m []
+
+-- ---- refusals
+
+-- of two, the first in the order of asking; of segments, the least
+pub record RefusalExamples : Type 0 where
+  pub no_refusal : refusal (sized 2 1 (entries 0 (0 ∷ 0 ∷ []) ∷ []) (bytes 0 (7 ∷ []) ∷ [])) ≡ None
+  pub nothing_there : refusal empty ≡ None
+  -- two at once
+  pub imports_first : refusal (importing (floating (sized 2 1 [] []))) ≡ Some HasImports
+  pub floats_next : refusal (floating (sized 65537 1 [] [])) ≡ Some HasFloats
+  pub then_table : refusal (sized 65537 3 [] []) ≡ Some TableLimit
+  pub then_memory : refusal (sized 2 3 (entries 3 [] ∷ []) []) ≡ Some MemoryLimit
+  pub then_elements : refusal (sized 2 1 (entries 3 [] ∷ []) (bytes 65537 [] ∷ [])) ≡ Some (ElementOutside 0)
+  -- the least of two segments; the first is inside
+  pub least_element : refusal (sized 2 1 (entries 1 (0 ∷ []) ∷ entries 2 (0 ∷ []) ∷ entries 3 [] ∷ []) []) ≡ Some (ElementOutside 1)
+  pub least_data : refusal (sized 2 1 [] (bytes 65535 (1 ∷ []) ∷ bytes 65535 (1 ∷ 2 ∷ []) ∷ bytes 65536 (1 ∷ []) ∷ [])) ≡ Some (DataOutside 1)
+  -- a table of the most entries and of one more
+  pub most_entries : refusal (sized 65536 1 [] []) ≡ None
+  pub one_entry_more : refusal (sized 65537 1 [] []) ≡ Some TableLimit
+  -- a memory of the setting's pages and of one more
+  pub most_pages : refusal (sized 2 2 [] []) ≡ None
+  pub one_page_more : refusal (sized 2 3 [] []) ≡ Some MemoryLimit
+  -- an empty segment at the end and past it
+  pub empty_at_end : refusal (sized 2 1 (entries 2 [] ∷ []) (bytes 65536 [] ∷ [])) ≡ None
+  pub empty_elements_past_end : refusal (sized 2 1 (entries 3 [] ∷ []) []) ≡ Some (ElementOutside 0)
+  pub empty_data_past_end : refusal (sized 2 1 [] (bytes 65537 [] ∷ [])) ≡ Some (DataOutside 0)
+  -- the offset is read without sign, and nothing wraps
+  pub far_data : refusal (sized 2 1 [] (bytes 4294967295 (1 ∷ []) ∷ [])) ≡ Some (DataOutside 0)
+
+-- ---- fresh stores
+
+-- the memory's first five bytes
+abbrev pub first_bytes : Store → Option (List ℕ)
+first_bytes s = option_map (λ m. take 5 m.bytes) s.memory
+
+-- a global with this first value
+abbrev pub starting : ModuleShape
+starting = record empty {
+  globals =
+      record { content = record { content = I64; mutable = false }; init = Do (Const I64 18446744073709551615) ∷ End ∷ [] } ∷
+      record { content = record { content = I32; mutable = false }; init = Do (Const I32 3) ∷ End ∷ [] } ∷ [];
+}
+
+-- segments are written in order, so the later of two that overlap is what is left
+pub record FreshExamples : Type 0 where
+  pub later_data : first_bytes (fresh_store 1 (sized 4 1 [] (bytes 0 (1 ∷ 2 ∷ 3 ∷ []) ∷ bytes 1 (8 ∷ 9 ∷ 7 ∷ []) ∷ []))) ≡ Some (1 ∷ 8 ∷ 9 ∷ 7 ∷ 0 ∷ [])
+  pub lower_data : first_bytes (fresh_store 1 (sized 4 1 [] (bytes 1 (8 ∷ 9 ∷ 7 ∷ []) ∷ bytes 0 (1 ∷ 2 ∷ 3 ∷ []) ∷ []))) ≡ Some (1 ∷ 2 ∷ 3 ∷ 7 ∷ 0 ∷ [])
+  pub later_elements : (fresh_store 1 (sized 4 0 (entries 0 (5 ∷ 6 ∷ []) ∷ entries 1 (7 ∷ 8 ∷ []) ∷ []) [])).table ≡ Some (SetTo 5 ∷ SetTo 7 ∷ SetTo 8 ∷ Unset ∷ [])
+  pub first_values : (fresh_store 1 starting).globals ≡ V64 18446744073709551615 ∷ V32 3 ∷ []
+  pub no_memory : (fresh_store 1 empty).memory ≡ None
+  pub no_table : (fresh_store 1 empty).table ≡ None
