@@ -16,3 +16,6 @@ pub mod Sole
 pub mod Floats
 pub mod Starts
 pub mod Reports
+pub mod CallTexts
+pub mod StartFirst
+pub mod Spellings

@@ -1,6 +1,7 @@
 //! The definitions computed on small inputs, the answers given beforehand.
 
 ghost use Rattle.soundness.specs.Bodies.{ReachedBodies, UnreachedBodies};
+ghost use Rattle.soundness.specs.CallTexts.{BadTexts, GoodTexts, LineExamples};
 ghost use Rattle.soundness.specs.Counts.{CountExamples};
 ghost use Rattle.soundness.specs.Floats.{FloatExamples};
 ghost use Rattle.soundness.specs.Growth.{GrowthExamples};
@@ -8,6 +9,8 @@ ghost use Rattle.soundness.specs.Instructions.{BlockExamples, BytesExamples, Var
 ghost use Rattle.soundness.specs.Operators.{OperatorExamples};
 ghost use Rattle.soundness.specs.Reports.{EndTexts, ReportExamples, VerdictTexts};
 ghost use Rattle.soundness.specs.Samples.{ControlExamples, DivisionExamples, LimitExamples, MemoryExamples, TableExamples};
+ghost use Rattle.soundness.specs.Spellings.{BlockTypeReadings, NameSpellings, SignedSpellings, UnsignedSpellings};
+ghost use Rattle.soundness.specs.StartFirst.{StartFirstExamples};
 ghost use Rattle.soundness.specs.Starts.{FreshExamples, RefusalExamples};
 
 /// The verdicts of the algorithm on small bodies.
@@ -63,4 +66,24 @@ pub fn reports()
     ensures reports { ReportExamples }
     ensures ends { EndTexts }
     ensures verdicts { VerdictTexts }
+{}
+
+/// A start function is run first, and its fuel is added.
+pub fn start_functions()
+    ensures { StartFirstExamples }
+{}
+
+/// The lines of a text of calls, and the calls that they say.
+pub fn call_texts()
+    ensures lines { LineExamples }
+    ensures good { GoodTexts }
+    ensures bad { BadTexts }
+{}
+
+/// Which bytes spell a number, a block type and a name.
+pub fn spellings()
+    ensures unsigned { UnsignedSpellings }
+    ensures signed { SignedSpellings }
+    ensures block_types { BlockTypeReadings }
+    ensures names { NameSpellings }
 {}

@@ -17,15 +17,15 @@ use Rattle.wsyntax.specs.Texts.Calls.{Call, IsName, IsCall, call_text}
 
 -- ---- up to the next tab
 
-abbrev NoTab : List ℕ → Type 0
+abbrev pub NoTab : List ℕ → Type 0
 NoTab [] = Unit {0}
 NoTab (b ∷ bs) = (b ≢ 9) × NoTab bs
 
-abbrev AtTab : List ℕ → Type 0
+abbrev pub AtTab : List ℕ → Type 0
 AtTab [] = Unit {0}
 AtTab (b ∷ bs) = b ≡ 9
 
-up_to_tab : (a b xs ys : List ℕ) → NoTab a → NoTab b → AtTab xs → AtTab ys → a ++ xs ≡ b ++ ys → (a ≡ b) × (xs ≡ ys)
+pub up_to_tab : (a b xs ys : List ℕ) → NoTab a → NoTab b → AtTab xs → AtTab ys → a ++ xs ≡ b ++ ys → (a ≡ b) × (xs ≡ ys)
 up_to_tab [] [] xs ys na nb tx ty e = (refl, e)
 up_to_tab [] (b ∷ bs) [] ys na nb tx ty e = absurd cc
 up_to_tab [] (b ∷ bs) (x ∷ xs) ys na nb tx ty e = let h : x ≡ b = cc in absurd (nb.0 (sym h ∙ tx))
@@ -39,7 +39,7 @@ up_to_tab (a ∷ as') (b ∷ bs) xs ys na nb tx ty e =
 
 -- ---- numbers
 
-digits_no_tab : (ds : List ℕ) → AllDigits 10 ds → NoTab ds
+pub digits_no_tab : (ds : List ℕ) → AllDigits 10 ds → NoTab ds
 digits_no_tab [] d = tt
 digits_no_tab (c ∷ cs) d = ((λ e. omega (arith, digit_from_value c d.0)), digits_no_tab cs d.1)
 
@@ -71,7 +71,7 @@ signed_same64 x y hx hy e = signs_apart (2 ^ 64 - 1) x y (nat_lt x (2 ^ 63)) (na
 
 -- ---- values
 
-value_no_tab : (v : Value) → IsWord v → NoTab (value_text v)
+pub value_no_tab : (v : Value) → IsWord v → NoTab (value_text v)
 value_no_tab (V32 n) h = ((λ e. omega arith), ((λ e. omega arith), ((λ e. omega arith), ((λ e. omega arith), signed_no_tab (signed 32 n) (small32 n h)))))
 value_no_tab (V64 n) h = ((λ e. omega arith), ((λ e. omega arith), ((λ e. omega arith), ((λ e. omega arith), signed_no_tab (signed 64 n) (small64 n h)))))
 
@@ -90,10 +90,10 @@ value_same (V64 n) (V64 k) h j e =
 
 -- ---- calls
 
-abbrev args_text : List Value → List ℕ
+abbrev pub args_text : List Value → List ℕ
 args_text vs = flat_map (λ v. tab ++ value_text v) vs
 
-args_at_tab : (vs : List Value) → AtTab (args_text vs)
+pub args_at_tab : (vs : List Value) → AtTab (args_text vs)
 args_at_tab [] = tt
 args_at_tab (v ∷ vs) = refl
 
@@ -107,7 +107,7 @@ args_same (v ∷ vs) (u ∷ us) h k e =
     let one : v ≡ u = value_same v u h.0 k.0 r.0 in
     cc (one, args_same vs us h.1 k.1 r.1)
 
-name_no_tab : (name : List ℕ) → IsName name → NoTab name
+pub name_no_tab : (name : List ℕ) → IsName name → NoTab name
 name_no_tab [] h = tt
 name_no_tab (b ∷ bs) h = ((All-head (λ b. (b ≢ 0x09) × (b ≢ 0x0A)) b bs h).0, name_no_tab bs (All-tail (λ b. (b ≢ 0x09) × (b ≢ 0x0A)) b bs h))
 
