@@ -18,7 +18,7 @@ use Rattle.soundness.specs.CallTexts.{calling, LineExamples, GoodTexts, BadTexts
 use Rattle.soundness.proofs.Joined.Names.{NoTab, up_to_tab, value_no_tab, name_no_tab, args_text, args_at_tab}
 
 pub line_examples : LineExamples
-line_examples = record { no_line = refl; one_line = refl; empty_line = refl; two_lines = refl; no_newline = refl }
+line_examples = record { no_line = refl; one_line = refl; empty_line = refl; several_lines = refl; no_newline = refl }
 
 -- ---- good texts
 

@@ -5,3 +5,4 @@ pub mod Joined
 pub mod StartFirst
 pub mod CallTexts
 pub mod Spellings
+pub mod EndsOfCalls

@@ -11,7 +11,7 @@ use Rattle.soundness.specs.StartFirst.{adds_five, starter, instance_of, with_glo
 use Rattle.soundness.proofs.Chapter4.Running.{computed}
 
 -- what a computed run says of a call without arguments
-abbrev Said : Module → Store → ℕ → ℕ → ℕ → Run → Type 0
+abbrev pub Said : Module → Store → ℕ → ℕ → ℕ → Run → Type 0
 Said m s f fuel frames (Over o left c) = Ends m s f [] fuel frames o (fuel - left) c.store
 Said m s f fuel frames NotOver = Unit {0}
 
@@ -26,10 +26,10 @@ said : (m : Module) (s : Store) (f fuel frames : ℕ) → Said m s f fuel frames
 said m s f fuel frames = said_of m s f fuel frames 20 _ refl
 
 -- the call of the start function, and the one behind it
-first : (code : Code) (n : ℕ) → Said (instance_of code) (fresh_store 1 starter) 0 n 1 (run (instance_of code) 1 20 n (start (fresh_store 1 starter) 0 []))
+pub first : (code : Code) (n : ℕ) → Said (instance_of code) (fresh_store 1 starter) 0 n 1 (run (instance_of code) 1 20 n (start (fresh_store 1 starter) 0 []))
 first code n = said (instance_of code) (fresh_store 1 starter) 0 n 1
 
-behind : (s : Store) (left : ℕ) → Said (instance_of adds_five) s 1 left 1 (run (instance_of adds_five) 1 20 left (start s 1 []))
+pub behind : (s : Store) (left : ℕ) → Said (instance_of adds_five) s 1 left 1 (run (instance_of adds_five) 1 20 left (start s 1 []))
 behind s left = said (instance_of adds_five) s 1 left 1
 
 pub start_first_examples : StartFirstExamples

@@ -41,33 +41,49 @@ access t = record { of_type = t; width = 4; signed = false; align = 0; offset = 
 
 -- a float counts also where it is never reached
 pub record FloatExamples : Type 0 where
+  -- an empty module mentions none
   pub nothing : has_floats empty [] ≡ false
-  -- in a type, whether or not a function has it
+  -- the second parameter of a type, which no function needs to have
   pub parameter : has_floats (of_type (I32 ∷ F32 ∷ []) []) [] ≡ true
+  -- a result of a type
   pub result : has_floats (of_type [] (F64 ∷ [])) [] ≡ true
+  -- a type of integers alone
   pub integer_type : has_floats (of_type (I32 ∷ I64 ∷ []) (I64 ∷ [])) [] ≡ false
-  -- in a global: its type, its first value
+  -- the type of a global
   pub global_type : has_floats (of_global F64 (Do (Const I32 0))) [] ≡ true
+  -- the first value of a global
   pub global_value : has_floats (of_global I32 (Do (Const F32 0))) [] ≡ true
+  -- a global of integers alone
   pub integer_global : has_floats (of_global I64 (Do (Const I64 5))) [] ≡ false
-  -- in the offset of a segment
+  -- the offset of an element segment
   pub element_offset : has_floats (of_element (Do (Const F32 0))) [] ≡ true
+  -- the offset of a data segment
   pub data_offset : has_floats (of_data (Do (Const F64 0))) [] ≡ true
+  -- an offset that is an integer
   pub integer_offset : has_floats (of_data (Do (Const I32 8))) [] ≡ false
-  -- in a declared local; a run of no locals declares none
+  -- a run of one local of type f32
   pub declared_local : in_locals 1 F32 ≡ true
+  -- a run of no locals of type f32 declares none
   pub no_local : in_locals 0 F32 ≡ false
+  -- a run of integers
   pub integer_local : in_locals 7 I64 ≡ false
-  -- in the type of a block, of a loop, of an if
+  -- the type of a block
   pub of_block : in_code (OpenBlock (Gives F32) ∷ End ∷ End ∷ []) ≡ true
+  -- the type of a loop
   pub of_loop : in_code (OpenLoop (Gives F64) ∷ End ∷ End ∷ []) ≡ true
+  -- the type of an if
   pub of_if : in_code (OpenIf (Gives F32) ∷ Else ∷ End ∷ End ∷ []) ≡ true
-  -- a type that is named by its index is looked at where it stands
+  -- blocks without floats; a type that is named by its index is looked at where it stands
   pub integer_blocks : in_code (OpenBlock Empty ∷ OpenLoop (Gives I32) ∷ OpenIf (Index 0) ∷ End ∷ End ∷ End ∷ End ∷ []) ≡ false
-  -- in an instruction: a constant, an operator, one that only takes a float, a load, a store
+  -- a constant, though it is dropped
   pub constant : in_code (Do (Const F64 0) ∷ Do Drop ∷ End ∷ []) ≡ true
+  -- a float operator
   pub operator : in_code (Do (Numeric (FloatOp F32Add)) ∷ End ∷ []) ≡ true
+  -- an operator that takes a float and gives an integer
   pub conversion : in_code (Do (Numeric (FloatOp I64TruncF64U)) ∷ End ∷ []) ≡ true
+  -- a load of a float
   pub load : in_code (Do (MemoryLoad (access F32)) ∷ End ∷ []) ≡ true
+  -- a store of a float
   pub store : in_code (Do (MemoryStore (access F32)) ∷ End ∷ []) ≡ true
+  -- instructions on integers alone
   pub integer_code : in_code (Do (Const I32 0) ∷ Do (MemoryLoad (access I32)) ∷ Do (Numeric (OfTwo Width32 Add)) ∷ Do (MemoryStore (access I64)) ∷ End ∷ []) ≡ false

@@ -19,3 +19,4 @@ pub mod Reports
 pub mod CallTexts
 pub mod StartFirst
 pub mod Spellings
+pub mod EndsOfCalls

@@ -59,12 +59,17 @@ Ending code n o spent = EndsOn starter (instance_of code) (fuel n) 1 [] o spent
 
 -- the call is run on the store that the start function leaves, with the fuel that it leaves, and both are told as its fuel
 pub record StartFirstExamples : Type 0 where
+  -- the instance is the one of these bodies
   pub instance : InstanceOf starter (body_of adds_five ∷ body_of gives_global ∷ []) (instance_of adds_five)
+  -- the start function leaves 2 + 5, at the cost of its entry
   pub leaves_store : Started starter (instance_of adds_five) (fuel 10) (with_global 7) 1
+  -- the call gives what the start function left, and the fuel of both is told
   pub fuel_is_added : Ending adds_five 10 (Values (V32 7 ∷ [])) 2
-  -- just enough fuel for both; one unit less, which the start function takes; none
+  -- just enough fuel for both
   pub enough_fuel : Ending adds_five 2 (Values (V32 7 ∷ [])) 2
+  -- the start function takes the one unit
   pub fuel_is_shared : Ending adds_five 1 OutOfFuel 1
+  -- none is there for the start function
   pub no_fuel : Ending adds_five 0 OutOfFuel 0
   -- a start function that traps ends the call
   pub start_traps : Ending (Plain Unreachable Stop) 10 (Trapped ByUnreachable) 1

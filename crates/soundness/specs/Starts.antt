@@ -47,26 +47,37 @@ refusal m = start_refusal 2 m []
 
 -- of two, the first in the order of asking; of segments, the least
 pub record RefusalExamples : Type 0 where
+  -- segments that fit
   pub no_refusal : refusal (sized 2 1 (entries 0 (0 ∷ 0 ∷ []) ∷ []) (bytes 0 (7 ∷ []) ∷ [])) ≡ None
+  -- a module without table, memory and segments
   pub nothing_there : refusal empty ≡ None
-  -- two at once
+  -- imports and floats
   pub imports_first : refusal (importing (floating (sized 2 1 [] []))) ≡ Some HasImports
+  -- floats, and a table that is too large
   pub floats_next : refusal (floating (sized 65537 1 [] [])) ≡ Some HasFloats
+  -- a table and a memory that are too large
   pub then_table : refusal (sized 65537 3 [] []) ≡ Some TableLimit
+  -- a memory that is too large, and an element segment outside
   pub then_memory : refusal (sized 2 3 (entries 3 [] ∷ []) []) ≡ Some MemoryLimit
+  -- an element segment and a data segment outside
   pub then_elements : refusal (sized 2 1 (entries 3 [] ∷ []) (bytes 65537 [] ∷ [])) ≡ Some (ElementOutside 0)
-  -- the least of two segments; the first is inside
+  -- the first segment ends with the table, the two after it are outside
   pub least_element : refusal (sized 2 1 (entries 1 (0 ∷ []) ∷ entries 2 (0 ∷ []) ∷ entries 3 [] ∷ []) []) ≡ Some (ElementOutside 1)
+  -- the first segment ends with the memory, the two after it are outside
   pub least_data : refusal (sized 2 1 [] (bytes 65535 (1 ∷ []) ∷ bytes 65535 (1 ∷ 2 ∷ []) ∷ bytes 65536 (1 ∷ []) ∷ [])) ≡ Some (DataOutside 1)
-  -- a table of the most entries and of one more
+  -- a table of 65,536 entries
   pub most_entries : refusal (sized 65536 1 [] []) ≡ None
+  -- one entry more
   pub one_entry_more : refusal (sized 65537 1 [] []) ≡ Some TableLimit
-  -- a memory of the setting's pages and of one more
+  -- a memory of the setting's pages
   pub most_pages : refusal (sized 2 2 [] []) ≡ None
+  -- one page more
   pub one_page_more : refusal (sized 2 3 [] []) ≡ Some MemoryLimit
-  -- an empty segment at the end and past it
+  -- empty segments at the end
   pub empty_at_end : refusal (sized 2 1 (entries 2 [] ∷ []) (bytes 65536 [] ∷ [])) ≡ None
+  -- an empty element segment past the end
   pub empty_elements_past_end : refusal (sized 2 1 (entries 3 [] ∷ []) []) ≡ Some (ElementOutside 0)
+  -- an empty data segment past the end
   pub empty_data_past_end : refusal (sized 2 1 [] (bytes 65537 [] ∷ [])) ≡ Some (DataOutside 0)
   -- the offset is read without sign, and nothing wraps
   pub far_data : refusal (sized 2 1 [] (bytes 4294967295 (1 ∷ []) ∷ [])) ≡ Some (DataOutside 0)
@@ -87,9 +98,15 @@ starting = record empty {
 
 -- segments are written in order, so the later of two that overlap is what is left
 pub record FreshExamples : Type 0 where
+  -- two bytes of the first segment are written over
   pub later_data : first_bytes (fresh_store 1 (sized 4 1 [] (bytes 0 (1 ∷ 2 ∷ 3 ∷ []) ∷ bytes 1 (8 ∷ 9 ∷ 7 ∷ []) ∷ []))) ≡ Some (1 ∷ 8 ∷ 9 ∷ 7 ∷ 0 ∷ [])
+  -- the same segments, the other way round
   pub lower_data : first_bytes (fresh_store 1 (sized 4 1 [] (bytes 1 (8 ∷ 9 ∷ 7 ∷ []) ∷ bytes 0 (1 ∷ 2 ∷ 3 ∷ []) ∷ []))) ≡ Some (1 ∷ 2 ∷ 3 ∷ 7 ∷ 0 ∷ [])
+  -- an entry of the first segment is written over, and the last entry stays unset
   pub later_elements : (fresh_store 1 (sized 4 0 (entries 0 (5 ∷ 6 ∷ []) ∷ entries 1 (7 ∷ 8 ∷ []) ∷ []) [])).table ≡ Some (SetTo 5 ∷ SetTo 7 ∷ SetTo 8 ∷ Unset ∷ [])
+  -- the first values of globals, as words of their types
   pub first_values : (fresh_store 1 starting).globals ≡ V64 18446744073709551615 ∷ V32 3 ∷ []
+  -- no memory where none is declared
   pub no_memory : (fresh_store 1 empty).memory ≡ None
+  -- no table where none is declared
   pub no_table : (fresh_store 1 empty).table ≡ None

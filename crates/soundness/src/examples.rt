@@ -3,6 +3,7 @@
 ghost use Rattle.soundness.specs.Bodies.{ReachedBodies, UnreachedBodies};
 ghost use Rattle.soundness.specs.CallTexts.{BadTexts, GoodTexts, LineExamples};
 ghost use Rattle.soundness.specs.Counts.{CountExamples};
+ghost use Rattle.soundness.specs.EndsOfCalls.{EndExamples};
 ghost use Rattle.soundness.specs.Floats.{FloatExamples};
 ghost use Rattle.soundness.specs.Growth.{GrowthExamples};
 ghost use Rattle.soundness.specs.Instructions.{BlockExamples, BytesExamples, VariableExamples};
@@ -86,4 +87,9 @@ pub fn spellings()
     ensures signed { SignedSpellings }
     ensures block_types { BlockTypeReadings }
     ensures names { NameSpellings }
+{}
+
+/// What a call on its own is refused for first, and its run.
+pub fn ends_of_calls()
+    ensures { EndExamples }
 {}
