@@ -28,7 +28,7 @@ plain_name name e k d l =
     let t = ltb-true 10 _ (AllPass-from_list_all (nat_lt 10) name e k d l) in
     ((λ s. omega (arith, s, t)), (λ s. omega (arith, s, t)))
 
-plain_call : (name : List ℕ) (args : List Value) → list_all (nat_lt 10) name ≡ true → AreWords args → IsCall (calling name args)
+pub plain_call : (name : List ℕ) (args : List Value) → list_all (nat_lt 10) name ≡ true → AreWords args → IsCall (calling name args)
 plain_call name args e words = record { name = plain_name name e; words = words }
 
 pub good_texts : GoodTexts
@@ -115,7 +115,7 @@ past_the_greatest = record {
 
 -- ---- the least bad line
 
-first_bad : (text : List ℕ) (line : TextLine) → slice_get (lines_of text) 0 ≡ Some line → (IsGood 1 line → ⊥) → LeastBad text 1
+pub first_bad : (text : List ℕ) (line : TextLine) → slice_get (lines_of text) 0 ≡ Some line → (IsGood 1 line → ⊥) → LeastBad text 1
 first_bad text line e bad = record { place = 0; line = line; number = refl; stands = e; bad = bad; before = λ j other l s. absurd (omega (arith, l)) }
 
 only_first : (text : List ℕ) (first : TextLine) → slice_get (lines_of text) 0 ≡ Some first → IsGood 1 first → (j : ℕ) (other : TextLine) → j < 1 → slice_get (lines_of text) j ≡ Some other → IsGood (suc j) other

@@ -6,3 +6,4 @@ pub mod StartFirst
 pub mod CallTexts
 pub mod Spellings
 pub mod EndsOfCalls
+pub mod WholeAnswers

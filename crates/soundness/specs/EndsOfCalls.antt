@@ -21,7 +21,7 @@ exporter = record starter {
       record { item_name = codes "sum"; kind = Global; index = 0 } ∷ [];
 }
 
--- its bodies, and the same with a float in the first, which is never executed
+-- its bodies, and others with a float in the first
 abbrev pub whole : List BodyShape
 whole = body_of adds_five ∷ body_of gives_global ∷ []
 

@@ -1,39 +1,36 @@
 -- Where a module mentions a float, so that it is not run (`has_floats`).
-use Rattle.std.specs.Prelude.{◌≡◌, ℕ, List, [], ◌∷◌, Bool, true, false, None}
+use Rattle.std.specs.Prelude.{◌≡◌, ℕ, List, [], ◌∷◌, Bool, true, false}
 use Rattle.wsyntax.specs.declared.types.ValType.{ValType}
 use Rattle.wsyntax.specs.declared.types.ValType.TheVariants.{I32, I64, F32, F64}
 use Rattle.wsyntax.specs.declared.instructions.BlockType.TheVariants.{Empty, Value as Gives, Index}
 use Rattle.wsyntax.specs.declared.instructions.Operator.TheVariants.{F32Add, I64TruncF64U}
 use Rattle.wsyntax.specs.Instructions.{Width32, Add, OfTwo, FloatOp, Access, Drop, Const, Numeric, MemoryLoad, MemoryStore, Token, Do, OpenBlock, OpenLoop, OpenIf, Else, End}
 use Rattle.wsyntax.specs.Modules.{ModuleShape}
+use Rattle.wsyntax.specs.Binary.Shell.{empty_module}
 use Rattle.wsyntax.specs.Execution.Start.{has_floats}
-
--- a module of nothing
-abbrev pub empty : ModuleShape
-empty = record { types = []; imports = []; functions = []; tables = []; memories = []; globals = []; exports = []; start = None; elements = []; bodies = []; segments = [] }
 
 -- of one function type
 abbrev pub of_type : List ValType → List ValType → ModuleShape
-of_type params results = record empty { types = (record { params = params; results = results }) ∷ [] }
+of_type params results = record empty_module { types = (record { params = params; results = results }) ∷ [] }
 
 -- of one global with this first value
 abbrev pub of_global : ValType → Token → ModuleShape
-of_global t first = record empty { globals = (record { content = record { content = t; mutable = false }; init = first ∷ End ∷ [] }) ∷ [] }
+of_global t first = record empty_module { globals = (record { content = record { content = t; mutable = false }; init = first ∷ End ∷ [] }) ∷ [] }
 
 -- of one element segment, and of one data segment, at this offset
 abbrev pub of_element : Token → ModuleShape
-of_element offset = record empty { elements = (record { table = 0; offset = offset ∷ End ∷ []; functions = [] }) ∷ [] }
+of_element offset = record empty_module { elements = (record { table = 0; offset = offset ∷ End ∷ []; functions = [] }) ∷ [] }
 
 abbrev pub of_data : Token → ModuleShape
-of_data offset = record empty { segments = (record { memory = 0; offset = offset ∷ End ∷ []; bytes = [] }) ∷ [] }
+of_data offset = record empty_module { segments = (record { memory = 0; offset = offset ∷ End ∷ []; bytes = [] }) ∷ [] }
 
 -- whether a body of these tokens mentions a float
 abbrev pub in_code : List Token → Bool
-in_code code = has_floats empty ((record { runs = []; code = code }) ∷ [])
+in_code code = has_floats empty_module ((record { runs = []; code = code }) ∷ [])
 
 -- whether a body that declares so many locals of this type does
 abbrev pub in_locals : ℕ → ValType → Bool
-in_locals count t = has_floats empty ((record { runs = (record { count = 1; content = I32 }) ∷ (record { count = count; content = t }) ∷ []; code = End ∷ [] }) ∷ [])
+in_locals count t = has_floats empty_module ((record { runs = (record { count = 1; content = I32 }) ∷ (record { count = count; content = t }) ∷ []; code = End ∷ [] }) ∷ [])
 
 -- a load or a store of a value of this type
 abbrev pub access : ValType → Access
@@ -42,7 +39,7 @@ access t = record { of_type = t; width = 4; signed = false; align = 0; offset = 
 -- a float counts also where it is never reached
 pub record FloatExamples : Type 0 where
   -- an empty module mentions none
-  pub nothing : has_floats empty [] ≡ false
+  pub nothing : has_floats empty_module [] ≡ false
   -- the second parameter of a type, which no function needs to have
   pub parameter : has_floats (of_type (I32 ∷ F32 ∷ []) []) [] ≡ true
   -- a result of a type

@@ -20,3 +20,4 @@ pub mod CallTexts
 pub mod StartFirst
 pub mod Spellings
 pub mod EndsOfCalls
+pub mod WholeAnswers

@@ -6,12 +6,12 @@ use Rattle.wsyntax.specs.declared.value.Trap.TheVariants.{Unreachable as ByUnrea
 use Rattle.wsyntax.specs.Types.{FuncType}
 use Rattle.wsyntax.specs.Instructions.{Width32, Add, OfTwo, GlobalGet, GlobalSet, Const, Numeric, Unreachable, Code, Stop, Plain, Do, End, flat_body}
 use Rattle.wsyntax.specs.Modules.{ModuleShape, BodyShape}
+use Rattle.wsyntax.specs.Binary.Shell.{empty_module}
 use Rattle.wsyntax.specs.Execution.Store.{Module, Store}
 use Rattle.wsyntax.specs.Execution.Ends.{Outcome, Values, Trapped, OutOfFuel}
 use Rattle.wsyntax.specs.Execution.Start.{InstanceOf}
 use Rattle.wsyntax.specs.Texts.Answer.{Limits, Started, EndsOn}
 use Rattle.soundness.specs.Samples.{none, const}
-use Rattle.soundness.specs.Floats.{empty}
 
 -- [] -> [i32]
 abbrev pub gives : FuncType
@@ -27,7 +27,7 @@ gives_global = Plain (GlobalGet 0) Stop
 
 -- function 0 is the start function, function 1 gives the global, which begins with 2
 abbrev pub starter : ModuleShape
-starter = record empty {
+starter = record empty_module {
   types = none ∷ gives ∷ [];
   functions = 0 ∷ 1 ∷ [];
   globals = (record { content = record { content = I32; mutable = true }; init = Do (Const I32 2) ∷ End ∷ [] }) ∷ [];

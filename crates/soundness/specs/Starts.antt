@@ -5,9 +5,9 @@ use Rattle.wsyntax.specs.declared.module.ImportKind.TheVariants.{Function}
 use Rattle.wsyntax.specs.declared.value.Value.TheVariants.{I32 as V32, I64 as V64}
 use Rattle.wsyntax.specs.Instructions.{Const, Token, Do, End}
 use Rattle.wsyntax.specs.Modules.{ModuleShape, ElementShape, DataShape}
+use Rattle.wsyntax.specs.Binary.Shell.{empty_module}
 use Rattle.wsyntax.specs.Execution.Store.{Store, Unset, SetTo}
 use Rattle.wsyntax.specs.Execution.Start.{StartRefusal, HasImports, HasFloats, TableLimit, MemoryLimit, ElementOutside, DataOutside, start_refusal, fresh_store}
-use Rattle.soundness.specs.Floats.{empty}
 
 -- ---- parts of modules
 
@@ -24,7 +24,7 @@ bytes place items = record { memory = 0; offset = at place; bytes = items }
 
 -- a module with a table of so many entries, a memory of so many pages, and segments
 abbrev pub sized : ℕ → ℕ → List ElementShape → List DataShape → ModuleShape
-sized size pages elements segments = record empty {
+sized size pages elements segments = record empty_module {
   types = (record { params = []; results = [] }) ∷ [];
   tables = (record { limits = record { min = size; max = None } }) ∷ [];
   memories = (record { min = pages; max = None }) ∷ [];
@@ -50,7 +50,7 @@ pub record RefusalExamples : Type 0 where
   -- segments that fit
   pub no_refusal : refusal (sized 2 1 (entries 0 (0 ∷ 0 ∷ []) ∷ []) (bytes 0 (7 ∷ []) ∷ [])) ≡ None
   -- a module without table, memory and segments
-  pub nothing_there : refusal empty ≡ None
+  pub nothing_there : refusal empty_module ≡ None
   -- imports and floats
   pub imports_first : refusal (importing (floating (sized 2 1 [] []))) ≡ Some HasImports
   -- floats, and a table that is too large
@@ -88,9 +88,9 @@ pub record RefusalExamples : Type 0 where
 abbrev pub first_bytes : Store → Option (List ℕ)
 first_bytes s = option_map (λ m. take 5 m.bytes) s.memory
 
--- a global with this first value
+-- globals with the first values -1 and 3
 abbrev pub starting : ModuleShape
-starting = record empty {
+starting = record empty_module {
   globals =
       record { content = record { content = I64; mutable = false }; init = Do (Const I64 18446744073709551615) ∷ End ∷ [] } ∷
       record { content = record { content = I32; mutable = false }; init = Do (Const I32 3) ∷ End ∷ [] } ∷ [];
@@ -107,6 +107,6 @@ pub record FreshExamples : Type 0 where
   -- the first values of globals, as words of their types
   pub first_values : (fresh_store 1 starting).globals ≡ V64 18446744073709551615 ∷ V32 3 ∷ []
   -- no memory where none is declared
-  pub no_memory : (fresh_store 1 empty).memory ≡ None
+  pub no_memory : (fresh_store 1 empty_module).memory ≡ None
   -- no table where none is declared
-  pub no_table : (fresh_store 1 empty).table ≡ None
+  pub no_table : (fresh_store 1 empty_module).table ≡ None

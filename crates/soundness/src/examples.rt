@@ -13,6 +13,7 @@ ghost use Rattle.soundness.specs.Samples.{ControlExamples, DivisionExamples, Lim
 ghost use Rattle.soundness.specs.Spellings.{BlockTypeReadings, NameSpellings, SignedSpellings, UnsignedSpellings};
 ghost use Rattle.soundness.specs.StartFirst.{StartFirstExamples};
 ghost use Rattle.soundness.specs.Starts.{FreshExamples, RefusalExamples};
+ghost use Rattle.soundness.specs.WholeAnswers.{AnswerExamples};
 
 /// The verdicts of the algorithm on small bodies.
 pub fn bodies()
@@ -92,4 +93,9 @@ pub fn spellings()
 /// What a call on its own is refused for first, and its run.
 pub fn ends_of_calls()
     ensures { EndExamples }
+{}
+
+/// What is answered for the module without sections.
+pub fn answers()
+    ensures { AnswerExamples }
 {}

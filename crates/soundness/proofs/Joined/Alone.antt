@@ -12,7 +12,7 @@ use Rattle.soundness.specs.Instances.{TypedAt}
 use Rattle.soundness.specs.Sole.{sole, sole_body, SoleInstantiated}
 
 -- each of these rules holds
-abbrev Each : List (ModuleShape → Type 0) → ModuleShape → Type 0
+abbrev pub Each : List (ModuleShape → Type 0) → ModuleShape → Type 0
 Each [] m = Unit {0}
 Each (r ∷ rs) m = r m × Each rs m
 
@@ -22,7 +22,7 @@ each_at [] m h (suc i) = tt
 each_at (r ∷ rs) m h zero = h.0
 each_at (r ∷ rs) m h (suc i) = each_at rs m h.1 i
 
-none_broken : (m : ModuleShape) → Each rules m → NoneBroken m
+pub none_broken : (m : ModuleShape) → Each rules m → NoneBroken m
 none_broken m h zero = tt
 none_broken m h (suc i) = each_at rules m h i
 
