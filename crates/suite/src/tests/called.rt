@@ -1,4 +1,6 @@
 // A call from the bytes of a module to the values: judged, looked up, fitted, instantiated and invoked.
+ghost use Rattle.std.specs.Prelude.{◌≡◌};
+
 use batch::{Plan, Quiet, Settings};
 use memory::CleanMem;
 use std::alloc::Global;
