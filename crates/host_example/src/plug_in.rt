@@ -42,8 +42,9 @@ pub fn call(
         Ok(instance) => instance,
         Err(NotStarted { fault, clean: _ }) => return Err(CallFault::NotStarted(fault)),
     };
+    settings.in_range();
     let Some(mut fuel) = Fuel::new(settings.fuel()) else {
-        return Err(CallFault::Memory);
+        unreachable!()
     };
     if let Some(start) = accepted.module().start {
         // Rule 11 says so already; the test hands it to `invoke`.
