@@ -3,6 +3,7 @@ ghost use Rattle.std.specs.Prelude.{◌≡◌, ◌≤◌, IfOk, IfSome, take, ve
 
 use crate::source::{ReadFault, Source};
 use std::alloc::Global;
+use std::fs::OpenFile;
 use std::io::{ErrorKind, Read};
 use std::rt::Files;
 use std::{fs, io};
@@ -16,7 +17,8 @@ pub struct Disk<'a, R> {
 impl<R: Files> Source for Disk<'_, R> {
     fn read(&mut self, alloc: Global, path: &str, most: usize) -> Result<Vec<u8>, ReadFault> {
         let mut file = fs::open(self.rt, path).map_err(fault_of)?;
-        read_up_to(&mut file, alloc, most)
+        let expected = file.metadata().map_or(0, |data| data.len());
+        read_up_to(&mut file, alloc, expected, most)
     }
 }
 
@@ -28,25 +30,22 @@ fn fault_of(error: io::Error) -> ReadFault {
     }
 }
 
-/// How many bytes one read asks for.
-const CHUNK: usize = 16_384;
-
-/// What a reader has left, `most` bytes of it where there is more.
-pub fn read_up_to<F: Read>(file: &mut F, alloc: Global, most: usize) -> Result<Vec<u8>, ReadFault>
+/// What a reader has left, `most` bytes of it where there is more. Where it has as many as expected, or fewer, room is made
+/// once.
+pub fn read_up_to<F: Read>(
+    file: &mut F,
+    alloc: Global,
+    expected: u64,
+    most: usize,
+) -> Result<Vec<u8>, ReadFault>
     ensures most { IfOk result (λ bytes. vec_len bytes ≤ most) }
     ensures known { IfOk result (λ bytes. IfSome (F.remaining file.old) (λ held. bytes.items ≡ take most held)) }
 {
-    let mut bytes = Vec::new(alloc);
-    let mut chunk = [0u8; CHUNK];
-    'reads: while bytes.len() < most {
-        let room = CHUNK.min(most - bytes.len());
-        let count = file.read(&mut chunk[..room]).map_err(fault_of)?;
-        if count == 0 {
-            break;
-        }
-        bytes
-            .extend_from_slice(&chunk[..count])
-            .map_err(|_| ReadFault::Memory)?;
-    }
+    let room = expected.min(most as u64) as usize;
+    let mut bytes = Vec::with_capacity(alloc, room).map_err(|_| ReadFault::Memory)?;
+    file.take(most as u64)
+        .read_to_end(&mut bytes)
+        .map_err(fault_of)?;
+    bytes.truncate(most);
     Ok(bytes)
 }
