@@ -96,14 +96,6 @@ local_limit = 100000
 abbrev pub FewLocals : BodyShape → Type 0
 FewLocals b = locals_of b.runs ≤ local_limit
 
-abbrev pub AllFewLocals : List BodyShape → Type 0
-AllFewLocals [] = Unit {0}
-AllFewLocals (b ∷ bs) = FewLocals b × AllFewLocals bs
-
--- bytes and bodies within both limits
-abbrev pub Within : List ℕ → List BodyShape → Type 0
-Within bytes bodies = (length bytes ≤ module_limit) × AllFewLocals bodies
-
 -- ---- reading
 
 -- sections read one behind the other, at most n of them

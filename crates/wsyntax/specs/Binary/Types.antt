@@ -35,7 +35,7 @@ func_type = do
   results ← vector val_type
   pure (record { params = params; results = results })
 
--- 5.3.4 limits: with no maximum, or with one
+-- 5.3.4 limits: with no maximum, or with one; and 5.3.5 memory types, which are limits
 abbrev pub limits_of : ℕ → Production Limits
 limits_of zero = do
   n ← u32
@@ -48,10 +48,6 @@ limits_of (suc (suc tag)) = given None
 
 unfoldable pub limits : Production Limits
 limits = byte >>= limits_of
-
--- 5.3.5 memory types
-abbrev pub memory_type : Production Limits
-memory_type = limits
 
 -- 5.3.6 table types
 unfoldable pub table_type : Production Table
