@@ -206,8 +206,17 @@ refuses-from C (u ∷ us) rest t gs fs k e none =
     let same : (k + 1) + length us ≡ k + suc (length us) = omega arith in
     ap (λ x. refused_or k x (λ hs. alg_from C (us ++ t ∷ rest) hs (k + 1))) h.1 ∙ (refuses-from C us rest t h.0 fs (k + 1) h.2 none ∙ ap Refused same)
 
+lacks-from : (C : Context) (ts : List Token) (gs : List Frame) (f : Frame) (fs : List Frame) (k : ℕ) → run C ts gs ≡ Some (f ∷ fs) → alg_from C ts gs k ≡ Refused (k + length ts)
+lacks-from C [] [] f fs k e = absurd cc
+lacks-from C [] (g ∷ gs) f fs k e = ap Refused (omega arith)
+lacks-from C (t ∷ ts) gs f fs k e =
+    let h = on_some (step C t gs) (run C ts) (f ∷ fs) e in
+    let same : (k + 1) + length ts ≡ k + suc (length ts) = omega arith in
+    ap (λ x. refused_or k x (λ hs. alg_from C ts hs (k + 1))) h.1 ∙ (lacks-from C ts h.0 f fs (k + 1) h.2 ∙ ap Refused same)
+
 pub runs_decide : RunsDecide
 runs_decide = record {
   accepts = λ C r tokens e. run-accepted (body_context r C) tokens (start r) 0 e;
   refuses = λ C r front rest t fs e none. refuses-from (body_context r C) front rest t (start r) fs 0 e none ∙ ap Refused (omega arith);
+  lacks = λ C r tokens f fs e. lacks-from (body_context r C) tokens (start r) f fs 0 e ∙ ap Refused (omega arith);
 }
