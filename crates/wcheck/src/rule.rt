@@ -11,7 +11,7 @@ ghost use Rattle.wcheck.specs.OperandRules.{rule_of};
 use crate::frames::{Level, Shape, all_labels_take, label_at};
 use crate::scope::Scope;
 use wcontext::{Context, ListPair, TypeList};
-use wsyntax::{Load, Operator, Store, Token, ValType};
+use wsyntax::{AccessRow, Arity, Load, Operator, OperatorRow, Store, Token, ValType};
 
 /// What an instruction without a body takes from the operands and leaves there (3.3). An index is an i32 on top.
 #[derive(Clone, Copy)]
@@ -44,180 +44,14 @@ pub(crate) enum OperandRule {
 pub(crate) fn numeric_rule(op: Operator) -> OperandRule
     ensures { (types : List FuncType) → rule_of types result ≡ Takes (reverse (operands (num_op op))) (reverse (results (num_op op))) }
 {
-    match op {
-        Operator::I32Eqz
-        | Operator::I32Clz
-        | Operator::I32Ctz
-        | Operator::I32Popcnt
-        | Operator::I32Extend8S
-        | Operator::I32Extend16S => OperandRule::Changes(ValType::I32, ValType::I32),
-        Operator::I32Eq
-        | Operator::I32Ne
-        | Operator::I32LtS
-        | Operator::I32LtU
-        | Operator::I32GtS
-        | Operator::I32GtU
-        | Operator::I32LeS
-        | Operator::I32LeU
-        | Operator::I32GeS
-        | Operator::I32GeU
-        | Operator::I32Add
-        | Operator::I32Sub
-        | Operator::I32Mul
-        | Operator::I32DivS
-        | Operator::I32DivU
-        | Operator::I32RemS
-        | Operator::I32RemU
-        | Operator::I32And
-        | Operator::I32Or
-        | Operator::I32Xor
-        | Operator::I32Shl
-        | Operator::I32ShrS
-        | Operator::I32ShrU
-        | Operator::I32Rotl
-        | Operator::I32Rotr => OperandRule::Combines(ValType::I32, ValType::I32),
-        Operator::I64Eqz | Operator::I32WrapI64 => OperandRule::Changes(ValType::I64, ValType::I32),
-        Operator::I64Eq
-        | Operator::I64Ne
-        | Operator::I64LtS
-        | Operator::I64LtU
-        | Operator::I64GtS
-        | Operator::I64GtU
-        | Operator::I64LeS
-        | Operator::I64LeU
-        | Operator::I64GeS
-        | Operator::I64GeU => OperandRule::Combines(ValType::I64, ValType::I32),
-        Operator::F32Eq
-        | Operator::F32Ne
-        | Operator::F32Lt
-        | Operator::F32Gt
-        | Operator::F32Le
-        | Operator::F32Ge => OperandRule::Combines(ValType::F32, ValType::I32),
-        Operator::F64Eq
-        | Operator::F64Ne
-        | Operator::F64Lt
-        | Operator::F64Gt
-        | Operator::F64Le
-        | Operator::F64Ge => OperandRule::Combines(ValType::F64, ValType::I32),
-        Operator::I64Clz
-        | Operator::I64Ctz
-        | Operator::I64Popcnt
-        | Operator::I64Extend8S
-        | Operator::I64Extend16S
-        | Operator::I64Extend32S => OperandRule::Changes(ValType::I64, ValType::I64),
-        Operator::I64Add
-        | Operator::I64Sub
-        | Operator::I64Mul
-        | Operator::I64DivS
-        | Operator::I64DivU
-        | Operator::I64RemS
-        | Operator::I64RemU
-        | Operator::I64And
-        | Operator::I64Or
-        | Operator::I64Xor
-        | Operator::I64Shl
-        | Operator::I64ShrS
-        | Operator::I64ShrU
-        | Operator::I64Rotl
-        | Operator::I64Rotr => OperandRule::Combines(ValType::I64, ValType::I64),
-        Operator::F32Abs
-        | Operator::F32Neg
-        | Operator::F32Ceil
-        | Operator::F32Floor
-        | Operator::F32Trunc
-        | Operator::F32Nearest
-        | Operator::F32Sqrt => OperandRule::Changes(ValType::F32, ValType::F32),
-        Operator::F32Add
-        | Operator::F32Sub
-        | Operator::F32Mul
-        | Operator::F32Div
-        | Operator::F32Min
-        | Operator::F32Max
-        | Operator::F32Copysign => OperandRule::Combines(ValType::F32, ValType::F32),
-        Operator::F64Abs
-        | Operator::F64Neg
-        | Operator::F64Ceil
-        | Operator::F64Floor
-        | Operator::F64Trunc
-        | Operator::F64Nearest
-        | Operator::F64Sqrt => OperandRule::Changes(ValType::F64, ValType::F64),
-        Operator::F64Add
-        | Operator::F64Sub
-        | Operator::F64Mul
-        | Operator::F64Div
-        | Operator::F64Min
-        | Operator::F64Max
-        | Operator::F64Copysign => OperandRule::Combines(ValType::F64, ValType::F64),
-        Operator::I32TruncF32S | Operator::I32TruncF32U | Operator::I32ReinterpretF32 =>
-            OperandRule::Changes(ValType::F32, ValType::I32),
-        Operator::I32TruncF64S | Operator::I32TruncF64U => OperandRule::Changes(
-            ValType::F64,
-            ValType::I32,
-        ),
-        Operator::I64ExtendI32S | Operator::I64ExtendI32U => OperandRule::Changes(
-            ValType::I32,
-            ValType::I64,
-        ),
-        Operator::I64TruncF32S | Operator::I64TruncF32U => OperandRule::Changes(
-            ValType::F32,
-            ValType::I64,
-        ),
-        Operator::I64TruncF64S | Operator::I64TruncF64U | Operator::I64ReinterpretF64 =>
-            OperandRule::Changes(ValType::F64, ValType::I64),
-        Operator::F32ConvertI32S | Operator::F32ConvertI32U | Operator::F32ReinterpretI32 =>
-            OperandRule::Changes(ValType::I32, ValType::F32),
-        Operator::F32ConvertI64S | Operator::F32ConvertI64U => OperandRule::Changes(
-            ValType::I64,
-            ValType::F32,
-        ),
-        Operator::F32DemoteF64 => OperandRule::Changes(ValType::F64, ValType::F32),
-        Operator::F64ConvertI32S | Operator::F64ConvertI32U => OperandRule::Changes(
-            ValType::I32,
-            ValType::F64,
-        ),
-        Operator::F64ConvertI64S | Operator::F64ConvertI64U | Operator::F64ReinterpretI64 =>
-            OperandRule::Changes(ValType::I64, ValType::F64),
-        Operator::F64PromoteF32 => OperandRule::Changes(ValType::F32, ValType::F64),
-    }
-}
-
-/// The type that a load gives, and the exponent of its width (3.3.4).
-#[inline]
-pub(crate) fn load_row(load: Load) -> (ValType, u32)
-    ensures of_type { (align offset : ℕ) → (load_access load align offset).of_type ≡ result.0 }
-    ensures width { (align offset : ℕ) → (load_access load align offset).width ≡ 2 ^ result.1 }
-    ensures aligned { (align offset : ℕ) → (load_access load align offset).align ≡ align }
-{
-    match load {
-        Load::I32Load => (ValType::I32, 2),
-        Load::I64Load => (ValType::I64, 3),
-        Load::F32Load => (ValType::F32, 2),
-        Load::F64Load => (ValType::F64, 3),
-        Load::I32Load8S | Load::I32Load8U => (ValType::I32, 0),
-        Load::I32Load16S | Load::I32Load16U => (ValType::I32, 1),
-        Load::I64Load8S | Load::I64Load8U => (ValType::I64, 0),
-        Load::I64Load16S | Load::I64Load16U => (ValType::I64, 1),
-        Load::I64Load32S | Load::I64Load32U => (ValType::I64, 2),
-    }
-}
-
-/// The type that a store takes, and the exponent of its width (3.3.4).
-#[inline]
-pub(crate) fn store_row(store: Store) -> (ValType, u32)
-    ensures of_type { (align offset : ℕ) → (store_access store align offset).of_type ≡ result.0 }
-    ensures width { (align offset : ℕ) → (store_access store align offset).width ≡ 2 ^ result.1 }
-    ensures aligned { (align offset : ℕ) → (store_access store align offset).align ≡ align }
-{
-    match store {
-        Store::I32Store => (ValType::I32, 2),
-        Store::I64Store => (ValType::I64, 3),
-        Store::F32Store => (ValType::F32, 2),
-        Store::F64Store => (ValType::F64, 3),
-        Store::I32Store8 => (ValType::I32, 0),
-        Store::I32Store16 => (ValType::I32, 1),
-        Store::I64Store8 => (ValType::I64, 0),
-        Store::I64Store16 => (ValType::I64, 1),
-        Store::I64Store32 => (ValType::I64, 2),
+    let OperatorRow {
+        arity,
+        operand,
+        result: leaves,
+    } = op.row();
+    match arity {
+        Arity::One => OperandRule::Changes(operand, leaves),
+        Arity::Two => OperandRule::Combines(operand, leaves),
     }
 }
 
@@ -234,14 +68,14 @@ fn is_aligned(align: u32, natural: u32) -> bool
 fn load_rule(context: &Context, load: Load, align: u32) -> Option<OperandRule>
     ensures { (offset : ℕ) → option_map (rule_of context.now.context.types) result ≡ rule context.now.context (MemoryLoad (load_access load align offset)) }
 {
-    let (content, natural) = load_row(load);
+    let AccessRow { of_type, natural } = load.row();
     if !context.has_memory() {
         return None;
     }
     if !is_aligned(align, natural) {
         return None;
     }
-    Some(OperandRule::Changes(ValType::I32, content))
+    Some(OperandRule::Changes(ValType::I32, of_type))
 }
 
 /// A store whose alignment is at most its width, where there is a memory.
@@ -249,14 +83,14 @@ fn load_rule(context: &Context, load: Load, align: u32) -> Option<OperandRule>
 fn store_rule(context: &Context, store: Store, align: u32) -> Option<OperandRule>
     ensures { (offset : ℕ) → option_map (rule_of context.now.context.types) result ≡ rule context.now.context (MemoryStore (store_access store align offset)) }
 {
-    let (content, natural) = store_row(store);
+    let AccessRow { of_type, natural } = store.row();
     if !context.has_memory() {
         return None;
     }
     if !is_aligned(align, natural) {
         return None;
     }
-    Some(OperandRule::Stores(content))
+    Some(OperandRule::Stores(of_type))
 }
 
 /// The labels of a branch table, the default apart.

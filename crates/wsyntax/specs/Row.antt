@@ -6,8 +6,24 @@ use Rattle.wsyntax.specs.declared.opcode.Opcode.TheVariants as code
 use Rattle.wsyntax.specs.declared.instruction_row.Immediates.{Immediates}
 use Rattle.wsyntax.specs.declared.instruction_row.Immediates.TheVariants as imm
 use Rattle.wsyntax.specs.declared.instruction_row.Row.{Row}
+use Rattle.wsyntax.specs.declared.operator_rows.Arity.{Arity}
+use Rattle.wsyntax.specs.declared.operator_rows.Arity.TheVariants.{One, Two}
+use Rattle.wsyntax.specs.declared.operator_rows.OperatorRow.{OperatorRow}
 use Rattle.wsyntax.specs.Table.{num_op, load_access, store_access, opcode_of}
 use Rattle.wsyntax.specs.Validation.Typing.{operands, results}
+
+-- so many operands of a type
+abbrev pub so_many : Arity → ValType → List ValType
+so_many One t = t ∷ []
+so_many Two t = t ∷ t ∷ []
+
+-- 3.3.1 the operand types that an operator's row says, as they are written
+abbrev pub operands_in : OperatorRow → List ValType
+operands_in r = so_many r.arity r.operand
+
+-- 3.3.1 the result types that it says
+abbrev pub results_in : OperatorRow → List ValType
+results_in r = r.result ∷ []
 
 -- a row
 pub record RowShape : Type 0 where

@@ -2,15 +2,18 @@
 //! promises: the binary grammar, the typing rules, reduction, and the texts that are written.
 #![tactic(auto)]
 
+mod access_rows;
 mod instruction_row;
 mod instructions;
 mod module;
 mod opcode;
+mod operator_rows;
 mod rows;
 mod signature;
 mod types;
 mod value;
 
+pub use access_rows::AccessRow;
 pub use instruction_row::{Immediates, Row};
 pub use instructions::{BlockType, Load, Operator, Store, Token};
 pub use module::{
@@ -18,7 +21,7 @@ pub use module::{
     Module, Table,
 };
 pub use opcode::Opcode;
+pub use operator_rows::{Arity, OperatorRow};
 pub use rows::row;
-pub use signature::Signature;
 pub use types::{FuncType, GlobalType, Limits, ValType};
 pub use value::{Trap, Value};

@@ -1,10 +1,21 @@
-ghost use Rattle.std.specs.Prelude.{◌≡◌, option_map};
+ghost use Rattle.std.specs.Prelude.{◌≡◌, [], ◌∷◌, option_map};
 ghost use Rattle.wsyntax.specs.Row.{immediates_of, row_of, row_view, type_of, width_of};
 
 use crate::instruction_row::{Immediates, Row};
 use crate::opcode::Opcode;
-use crate::signature::Signature;
-use crate::types::ValType::{F32, F64, I32, I64};
+use crate::signature::{Signature, once};
+use crate::types::ValType::{self, F32, F64, I32, I64};
+
+/// The signature of a constant of this type.
+fn constant(of_type: ValType) -> Signature
+    ensures operands { result.operands.now ≡ [] }
+    ensures results { result.results.now ≡ of_type ∷ [] }
+{
+    Signature {
+        operands: &[],
+        results: once(of_type),
+    }
+}
 
 impl Opcode {
     fn immediates(self) -> Immediates
@@ -38,12 +49,15 @@ impl Opcode {
         ensures results { result.results.now ≡ (type_of self).results }
     {
         match self {
-            Opcode::I32Const => Signature::new(&[], &[I32]),
-            Opcode::I64Const => Signature::new(&[], &[I64]),
-            Opcode::F32Const => Signature::new(&[], &[F32]),
-            Opcode::F64Const => Signature::new(&[], &[F64]),
-            Opcode::Numeric(operator) => operator.signature(),
-            _ => Signature::new(&[], &[]),
+            Opcode::I32Const => constant(I32),
+            Opcode::I64Const => constant(I64),
+            Opcode::F32Const => constant(F32),
+            Opcode::F64Const => constant(F64),
+            Opcode::Numeric(operator) => operator.row().signature(),
+            _ => Signature {
+                operands: &[],
+                results: &[],
+            },
         }
     }
 
@@ -76,7 +90,6 @@ pub fn row(opcode: u8) -> Option<Row>
 #[cfg(test)]
 mod tests {
     use super::*;
-    use crate::types::ValType;
 
     #[test]
     fn one_opcode_of_each_kind(rt: HostRuntime) {

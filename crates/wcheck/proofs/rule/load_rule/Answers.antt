@@ -7,4 +7,4 @@ use Rattle.wcheck.proofs.rule.load_rule.Goals as goal
 
 pub returns : goal.returns
 returns c =
-    λ offset. with_memory _ true c.args.align c.load_row-content.result.1 (load_access c.args.load c.args.align offset) c.load_row-content.result.0 (λ t. Takes (I32 ∷ []) (t ∷ [])) (sym c.has_memory.ensures ∙ c.if-not-has_memory.false) (c.load_row-content.ensures.of_type c.args.align offset) (c.load_row-content.ensures.aligned c.args.align offset) (c.load_row-content.ensures.width c.args.align offset) (sym c.if-not-is_aligned.false ∙ c.is_aligned.ensures)
+    λ offset. with_memory _ true c.args.align c.row-of_type.result.natural (load_access c.args.load c.args.align offset) c.row-of_type.result.of_type (λ t. Takes (I32 ∷ []) (t ∷ [])) (sym c.has_memory.ensures ∙ c.if-not-has_memory.false) (c.row-of_type.ensures.of_type c.args.align offset) (c.row-of_type.ensures.aligned c.args.align offset) (c.row-of_type.ensures.width c.args.align offset) (sym c.if-not-is_aligned.false ∙ c.is_aligned.ensures)

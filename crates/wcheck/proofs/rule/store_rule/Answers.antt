@@ -7,4 +7,4 @@ use Rattle.wcheck.proofs.rule.store_rule.Goals as goal
 
 pub returns : goal.returns
 returns c =
-    λ offset. with_memory _ true c.args.align c.store_row-content.result.1 (store_access c.args.store c.args.align offset) c.store_row-content.result.0 (λ t. Takes (t ∷ I32 ∷ []) []) (sym c.has_memory.ensures ∙ c.if-not-has_memory.false) (c.store_row-content.ensures.of_type c.args.align offset) (c.store_row-content.ensures.aligned c.args.align offset) (c.store_row-content.ensures.width c.args.align offset) (sym c.if-not-is_aligned.false ∙ c.is_aligned.ensures)
+    λ offset. with_memory _ true c.args.align c.row-of_type.result.natural (store_access c.args.store c.args.align offset) c.row-of_type.result.of_type (λ t. Takes (t ∷ I32 ∷ []) []) (sym c.has_memory.ensures ∙ c.if-not-has_memory.false) (c.row-of_type.ensures.of_type c.args.align offset) (c.row-of_type.ensures.aligned c.args.align offset) (c.row-of_type.ensures.width c.args.align offset) (sym c.if-not-is_aligned.false ∙ c.is_aligned.ensures)
