@@ -12,7 +12,7 @@ pub mod OneVerdict
 pub mod Judgements
 pub mod Mentions
 pub mod FunctionShapes
-pub mod Partings
-pub mod KeptBodies
+pub mod CheckedBodies
+pub mod Lendings
 pub mod NumberedTexts
 pub mod Numbering

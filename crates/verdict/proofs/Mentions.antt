@@ -1,10 +1,7 @@
 -- One of a list passes a test, in the words of the definition and in those of the code.
 use Rattle.std.proofs.Common.{◌≡◌, Bool, false, ◌||◌, List, [], ◌∷◌, map, refl, sym, ap, ◌∙◌}
 use Rattle.std.specs.List.{list_any}
-use Rattle.wsyntax.specs.Modules.{body_shape}
-use Rattle.wsyntax.specs.Execution.Start.{any, body_has_floats}
-use Rattle.verdict.specs.declared.kept_body.KeptBody.{KeptBody}
-use Rattle.verdict.specs.Judgement.{checked_of, shapes_of}
+use Rattle.wsyntax.specs.Execution.Start.{any}
 
 pub any_is : {A : Type 0} (p : A → Bool) (xs : List A) → list_any p xs ≡ any p xs
 any_is p [] = refl
@@ -14,13 +11,6 @@ any_is p (x ∷ xs) = ap (λ (t : Bool). p x || t) (any_is p xs)
 pub any_shown : {A B : Type 0} (shows : A → B) (p : B → Bool) (xs : List A) → list_any (λ x. p (shows x)) xs ≡ any p (map shows xs)
 any_shown shows p [] = refl
 any_shown shows p (x ∷ xs) = ap (λ (t : Bool). p (shows x) || t) (any_shown shows p xs)
-
--- of each body it is kept whether it has floats
-pub kept_floats : (bs : List KeptBody) → list_any (λ b. b.has_floats) bs ≡ any body_has_floats (shapes_of (checked_of bs))
-kept_floats [] = refl
-kept_floats (b ∷ bs) =
-    ap (λ (t : Bool). t || list_any (λ b. b.has_floats) bs) b.looked
-    ∙ ap (λ (t : Bool). body_has_floats (body_shape b.checked.body) || t) (kept_floats bs)
 
 -- where the first part is false, the whole is the second
 pub second_is : (a b r : Bool) → a ≡ false → r ≡ b → r ≡ (a || b)

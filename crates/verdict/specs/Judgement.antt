@@ -9,7 +9,6 @@ use Rattle.wsyntax.specs.Validation.Rules.{NoneBroken}
 use Rattle.wcheck.specs.declared.checked.CheckedBody.{CheckedBody}
 use Rattle.wcheck.specs.Bodies.{IsTypedAs, FitsAs}
 use Rattle.wcheck.specs.Promise.{IsCodeOf}
-use Rattle.verdict.specs.declared.kept_body.KeptBody.{KeptBody}
 
 -- ---- one body
 
@@ -33,10 +32,6 @@ IsCheckedAt C imported bodies place checked =
 pub record AreChecked (C : Context) (imported : ℕ) (bodies : List (List ℕ)) (n : ℕ) (all : List CheckedBody) : Type 0 where
   pub count : length all ≡ n
   pub each : (k : ℕ) (checked : CheckedBody) → slice_get all k ≡ Some checked → IsCheckedAt C imported bodies k checked
-
--- the checked bodies of those that are kept
-abbrev pub checked_of : List KeptBody → List CheckedBody
-checked_of all = map (λ k. k.checked) all
 
 -- 2.5.3 what they hold
 abbrev pub shapes_of : List CheckedBody → List BodyShape

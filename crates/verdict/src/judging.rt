@@ -3,7 +3,7 @@ ghost use Rattle.wsyntax.specs.Modules.{module_shape};
 ghost use Rattle.wsyntax.specs.Execution.Start.{any, body_has_floats, has_floats};
 ghost use Rattle.wsyntax.specs.Validation.Verdict.{IsVerdict, Accepted as accepted_verdict};
 ghost use Rattle.verdict.specs.Judged.{PassBefore, IsFirstBody};
-ghost use Rattle.verdict.specs.Judgement.{AreChecked, checked_of, shapes_of};
+ghost use Rattle.verdict.specs.Judgement.{AreChecked, shapes_of};
 ghost use Rattle.verdict.specs.Kept.{IsAcceptedFrom};
 ghost use Rattle.verdict.specs.Refusals.{verdict_of};
 
@@ -11,15 +11,15 @@ use crate::accepted::Accepted;
 use crate::exports::numbers_by_name;
 use crate::floats::declarations_have_floats;
 use crate::keeping_jobs::KeptBodies;
-use crate::kept_body::KeptBody;
 use crate::refusal::Refusal;
-use crate::shapes::{checked_bodies, function_shapes};
+use crate::shapes::function_shapes;
 use crate::type_numbers::type_numbers;
 use pieces::{Plan, TryFault, Watch, try_all};
 use soundness::validation::{accepted_is_typed, refused_at_first_fault};
 use std::alloc::Global;
 use std::sync::Wait;
 use std::thread::Threads;
+use wcheck::CheckedBody;
 use wcontext::{Context, check_module};
 use wdecode::{decode_module, grammar_is_read};
 use wsyntax::Module;
@@ -32,13 +32,13 @@ fn judge_bodies<R: Threads + Wait + Sync, W: Watch + Sync>(
     bodies: &[&[u8]],
     plan: Plan,
     watch: &W,
-) -> Result<Vec<KeptBody>, Refusal>
+) -> Result<Vec<CheckedBody>, Refusal>
     requires each_has_type { context.now.imported + length bodies.now ≡ length context.now.context.functions }
     requires few { context.now.imported + length bodies.now < 2 ^ 32 }
     ensures verdict { MatchResult result
         (λ _. PassBefore context.now.context context.now.imported (map (λ b. b.now) bodies.now) (length bodies.now))
         (IsFirstBody context.now.context context.now.imported (map (λ b. b.now) bodies.now)) }
-    ensures bodies { IfOk result (λ v. AreChecked context.now.context context.now.imported (map (λ b. b.now) bodies.now) (length bodies.now) (checked_of v.items)) }
+    ensures bodies { IfOk result (λ v. AreChecked context.now.context context.now.imported (map (λ b. b.now) bodies.now) (length bodies.now) v.items) }
 {
     let Ok(locals) = Vec::from_elem(alloc, (), plan.workers() as usize) else {
         return Err(Refusal::Memory);
@@ -61,15 +61,15 @@ fn judge_bodies<R: Threads + Wait + Sync, W: Watch + Sync>(
     }
 }
 
-fn bodies_have_floats(bodies: &[KeptBody]) -> bool
-    ensures { result ≡ any body_has_floats (shapes_of (checked_of bodies.now)) }
+fn bodies_have_floats(bodies: &[CheckedBody]) -> bool
+    ensures { result ≡ any body_has_floats (shapes_of bodies.now) }
 {
-    bodies.iter().any(|body| body.has_floats)
+    bodies.iter().any(|body| body.has_floats())
 }
 
 /// Whether a module with these bodies mentions a float.
-fn has_floats(module: &Module<'_>, bodies: &[KeptBody]) -> bool
-    ensures { result ≡ has_floats (module_shape «module».now) (shapes_of (checked_of bodies.now)) }
+fn has_floats(module: &Module<'_>, bodies: &[CheckedBody]) -> bool
+    ensures { result ≡ has_floats (module_shape «module».now) (shapes_of bodies.now) }
 {
     declarations_have_floats(module) || bodies_have_floats(bodies)
 }
@@ -90,7 +90,7 @@ pub fn judge<'a, R: Threads + Wait + Sync, W: Watch + Sync>(
     refused_at_first_fault();
     let module = decode_module(alloc, bytes)?;
     let context = check_module(alloc, &module)?;
-    let kept = judge_bodies(rt, alloc, &context, &module.bodies, plan, watch)?;
+    let bodies = judge_bodies(rt, alloc, &context, &module.bodies, plan, watch)?;
     let by_name = numbers_by_name(alloc, &module.exports)?;
     let type_numbers = type_numbers(alloc, &module.types)?;
     let shapes = function_shapes(
@@ -98,10 +98,9 @@ pub fn judge<'a, R: Threads + Wait + Sync, W: Watch + Sync>(
         &module.types,
         &type_numbers,
         &module.functions,
-        &kept,
+        &bodies,
     )?;
-    let mentions_floats = has_floats(&module, &kept);
-    let bodies = checked_bodies(alloc, kept)?;
+    let mentions_floats = has_floats(&module, &bodies);
     Ok(Accepted {
         module,
         context,

@@ -3,25 +3,24 @@ ghost use Rattle.pieces.specs.Faults.{AllowsFault};
 ghost use Rattle.verdict.specs.Judged.{class_of};
 ghost use Rattle.verdict.specs.Judgement.{IsCheckedFrom};
 
-use crate::kept_body::KeptBody;
 use crate::refusal::Class;
 use pieces::JobFault;
 use soundness::validation::{refused_at_first_fault, typed_is_accepted};
 use std::alloc::Global;
-use wcheck::{CheckFault, check_body};
+use wcheck::{CheckFault, CheckedBody, check_body};
 use wcontext::Context;
 use wdecode::{BodyFault, decode_body, grammar_is_read};
 
-/// The body of the function of that index, imported ones counted, decoded and checked, and what is counted of it.
+/// The body of the function of that index, imported ones counted, decoded and checked.
 pub(crate) fn checked_body(
     alloc: Global,
     context: &Context,
     func: u32,
     bytes: &[u8],
-) -> Result<KeptBody, JobFault<Class>>
+) -> Result<CheckedBody, JobFault<Class>>
     requires { func < length context.now.context.functions }
     ensures { MatchResult result
-        (λ kept. (class_of context.now.context func bytes.now ≡ None) × IsCheckedFrom context.now.context func bytes.now kept.checked)
+        (λ checked. (class_of context.now.context func bytes.now ≡ None) × IsCheckedFrom context.now.context func bytes.now checked)
         (AllowsFault (λ class. class_of context.now.context func bytes.now ≡ Some class)) }
 {
     grammar_is_read();
@@ -34,7 +33,7 @@ pub(crate) fn checked_body(
         Err(BodyFault::Memory) => return Err(JobFault::Memory),
     };
     match check_body(alloc, context, func, body) {
-        Ok(checked) => Ok(KeptBody::new(checked)),
+        Ok(checked) => Ok(checked),
         Err(CheckFault::IllTyped { at }) => Err(JobFault::Refused(Class::IllTyped { at })),
         Err(CheckFault::Memory) => Err(JobFault::Memory),
     }

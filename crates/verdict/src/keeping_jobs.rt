@@ -1,11 +1,11 @@
 ghost use Rattle.std.specs.Prelude.{◌≡◌, ◌+◌, ◌<◌, ◌^◌, Some, None, length, map};
 
 use crate::keeping::checked_body;
-use crate::kept_body::KeptBody;
 use crate::refusal::Class;
 use pieces::{Job, JobFault, Stage, Watch};
 use std::alloc::Global;
 use std::sync::Wait;
+use wcheck::CheckedBody;
 use wcontext::Context;
 
 /// The bodies of a module, each to be judged under the module's context and kept.
@@ -24,7 +24,7 @@ pub(crate) struct KeptBodies<'a, W> {
 impl<'a, W: Watch> Job for KeptBodies<'a, W> {
     type Local = ();
 
-    type Out = KeptBody;
+    type Out = CheckedBody;
 
     type Fault = Class;
 
@@ -37,7 +37,7 @@ impl<'a, W: Watch> Job for KeptBodies<'a, W> {
 
     ghost passes = { λ j i. class_at j.context.now.context j.imported (map (λ b. b.now) j.bodies.now) i ≡ None };
 
-    ghost gives = { λ j i out. IsCheckedAt j.context.now.context j.imported (map (λ b. b.now) j.bodies.now) i out.checked };
+    ghost gives = { λ j i out. IsCheckedAt j.context.now.context j.imported (map (λ b. b.now) j.bodies.now) i out };
 
     ghost refuses = { λ j i c. class_at j.context.now.context j.imported (map (λ b. b.now) j.bodies.now) i ≡ Some c };
 
@@ -46,7 +46,7 @@ impl<'a, W: Watch> Job for KeptBodies<'a, W> {
         _rt: &R,
         _local: &mut (),
         index: u32,
-    ) -> Result<KeptBody, JobFault<Class>> {
+    ) -> Result<CheckedBody, JobFault<Class>> {
         self.watch.note(Stage::Body, index);
         let func = self.imported + index;
         checked_body(self.alloc, self.context, func, self.bodies[index as usize])

@@ -10,7 +10,6 @@ mod jobs;
 mod judging;
 mod keeping;
 mod keeping_jobs;
-mod kept_body;
 mod laws;
 mod passing;
 mod refusal;

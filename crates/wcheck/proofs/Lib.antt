@@ -17,6 +17,7 @@ pub mod Declared
 pub mod Access
 pub mod Plain
 pub mod Judging
+pub mod Mentions
 pub mod Verdicts
 pub mod EndedRuns
 pub mod FirstLocals

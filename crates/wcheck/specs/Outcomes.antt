@@ -1,5 +1,7 @@
 -- What the pass over a body comes to, in the code.
 use Rattle.std.specs.Prelude.{◌≡◌, List}
+use Rattle.wsyntax.specs.Modules.{BodyShape}
+use Rattle.wsyntax.specs.Execution.Start.{body_has_floats}
 use Rattle.wsyntax.specs.Instructions.{Token}
 use Rattle.wsyntax.specs.Validation.Context.{Stack, Context}
 use Rattle.wcheck.specs.declared.body.SideTable.{SideTable}
@@ -14,6 +16,11 @@ filled_with tokens t = record { tokens = tokens; table = t.entries.items; cases 
 
 -- the pass comes to this
 abbrev pub Comes : Context → Stack → List Token → Outcome → Type 0
-Comes C r tokens (outcome.Passes t) =
+Comes C r tokens (outcome.Passes t floats) =
     (n : Notes) × (pass_all C r tokens ≡ Through n) × (filled_with tokens t ≡ filled tokens n)
 Comes C r tokens (outcome.Refused k) = pass_all C r tokens ≡ Refused k
+
+-- of a body that passes it is known whether it has floats
+abbrev pub KnowsFloats : BodyShape → Outcome → Type 0
+KnowsFloats b (outcome.Passes t floats) = floats ≡ body_has_floats b
+KnowsFloats b (outcome.Refused k) = Unit {0}

@@ -39,7 +39,11 @@ pub fn check_body(
     accepted_is_typed();
     refused_at_first_fault();
     match pass_body(alloc, context, func, &body) {
-        Ok(Outcome::Passes(table)) => Ok(CheckedBody { body, table }),
+        Ok(Outcome::Passes { table, has_floats }) => Ok(CheckedBody {
+            body,
+            table,
+            has_floats,
+        }),
         Ok(Outcome::Refused(at)) => Err(CheckFault::IllTyped { at }),
         Err(_) => Err(CheckFault::Memory),
     }

@@ -8,6 +8,7 @@ mod check;
 mod checked;
 mod checker;
 mod control;
+mod floats;
 mod frames;
 mod laws;
 mod locals;
@@ -20,6 +21,7 @@ mod table;
 pub use check::{CheckFault, check_body};
 pub use checked::CheckedBody;
 pub use checker::Checker;
+pub use floats::{expression_has_floats, is_float};
 pub use side_table::Destination;
 
 #[cfg(test)]

@@ -9,10 +9,9 @@ use Rattle.verdict.specs.Refusals.{of_decoding, of_rules}
 use Rattle.verdict.proofs.Firsts.{decoded, not_decoded, not_kept, judged, refused_so, indices_fit}
 use Rattle.wsyntax.specs.declared.FuncType.{FuncType}
 use Rattle.verdict.specs.TypeNumbers.{AreTypeNumbers}
-use Rattle.verdict.specs.Judgement.{checked_of}
 use Rattle.std.proofs.Math.Logic.{∥∥₁_map}
 use Rattle.verdict.proofs.Judgements.{is_judged}
-use Rattle.verdict.proofs.Partings.{all_same, shaped_same, looked_same, typed_same, numbered_same, paired_same}
+use Rattle.verdict.proofs.Lendings.{shaped_same, looked_same, typed_same, numbered_same, paired_same, few_same}
 use Rattle.verdict.proofs.SegmentBytes.{segments_are_bytes}
 use Rattle.verdict.proofs.Smallness.{is_small}
 use Rattle.verdict.proofs.judging.judge.Goals as goal
@@ -35,10 +34,10 @@ judge_bodies-requires-clause-few g c κs within =
     c.in_ok-context.ensures.context
     (ap length c.deref.ensures.value ∙ sym (length-map _ _))
 
-pub returns-in_err-kept-clause-verdict : goal.returns-in_err-kept-clause-verdict
-returns-in_err-kept-clause-verdict g c =
-    refused_so _ _ c.in_err-kept.field-0.0 (let h = c.from_residual-in_err-kept.ensures.1 in h)
-    (judged {T = Unit {0}} c.args.bytes.now (module_shape c.in_ok-module.module) c.in_ok-context.context (map (λ b. b.now) c.deref.result.now) (length c.deref.result.now) (Err c.in_err-kept.field-0.0)
+pub returns-in_err-bodies-clause-verdict : goal.returns-in_err-bodies-clause-verdict
+returns-in_err-bodies-clause-verdict g c =
+    refused_so _ _ c.in_err-bodies.field-0.0 (let h = c.from_residual-in_err-bodies.ensures.1 in h)
+    (judged {T = Unit {0}} c.args.bytes.now (module_shape c.in_ok-module.module) c.in_ok-context.context (map (λ b. b.now) c.deref.result.now) (length c.deref.result.now) (Err c.in_err-bodies.field-0.0)
     record {
       whole = decoded _ _ c.in_ok-module.module c.in_ok-module.ensures.found c.in_ok-module.ensures.too_large;
       rules = c.in_ok-context.ensures.valid;
@@ -49,11 +48,11 @@ returns-in_err-kept-clause-verdict g c =
     c.in_ok-context.ensures.context
     (ap (map (λ b. b.now)) c.deref.ensures.value)
     (ap length c.deref.ensures.value ∙ sym (length-map _ _))
-    c.in_err-kept.ensures.verdict)
+    c.in_err-bodies.ensures.verdict)
 
 pub returns-clause-verdict : goal.returns-clause-verdict
 returns-clause-verdict g c =
-    judged c.args.bytes.now (module_shape c.in_ok-module.module) c.in_ok-context.context (map (λ b. b.now) c.deref.result.now) (length c.deref.result.now) (Ok c.in_ok-kept.kept)
+    judged c.args.bytes.now (module_shape c.in_ok-module.module) c.in_ok-context.context (map (λ b. b.now) c.deref.result.now) (length c.deref.result.now) (Ok c.in_ok-bodies.bodies)
     record {
       whole = decoded _ _ c.in_ok-module.module c.in_ok-module.ensures.found c.in_ok-module.ensures.too_large;
       rules = c.in_ok-context.ensures.valid;
@@ -64,7 +63,7 @@ returns-clause-verdict g c =
     c.in_ok-context.ensures.context
     (ap (map (λ b. b.now)) c.deref.ensures.value)
     (ap length c.deref.ensures.value ∙ sym (length-map _ _))
-    c.in_ok-kept.ensures.verdict
+    c.in_ok-bodies.ensures.verdict
 
 pub invariant_of-result-clause-judged : goal.invariant_of-result-clause-judged
 invariant_of-result-clause-judged g c =
@@ -74,12 +73,12 @@ invariant_of-result-clause-judged g c =
     c.in_ok-module.ensures.found.paired
     (ap (map (λ b. b.now)) c.deref.ensures.value)
     (ap length c.deref.ensures.value ∙ sym (length-map _ _))
-    (all_same _ _ _ _ c.in_ok-bodies.bodies.items (checked_of c.in_ok-kept.kept.items) c.in_ok-bodies.ensures c.in_ok-kept.ensures.bodies) ∣₁
+    c.in_ok-bodies.ensures.bodies ∣₁
 
 pub invariant_of-result-clause-shaped : goal.invariant_of-result-clause-shaped
 invariant_of-result-clause-shaped g c =
-    shaped_same _ c.deref-4.result.now c.in_ok-module.module.types.items c.deref-5.result.now c.in_ok-type_numbers.type_numbers.items c.deref-6.result.now c.in_ok-module.module.functions.items c.deref-7.result.now c.in_ok-kept.kept.items c.in_ok-bodies.bodies.items
-    c.deref-4.ensures.value c.deref-5.ensures.value c.deref-6.ensures.value c.deref-7.ensures.value c.in_ok-bodies.ensures c.in_ok-shapes.ensures
+    shaped_same _ c.deref-4.result.now c.in_ok-module.module.types.items c.deref-5.result.now c.in_ok-type_numbers.type_numbers.items c.deref-6.result.now c.in_ok-module.module.functions.items c.deref-7.result.now c.in_ok-bodies.bodies.items
+    c.deref-4.ensures.value c.deref-5.ensures.value c.deref-6.ensures.value c.deref-7.ensures.value c.in_ok-shapes.ensures
 
 pub invariant_of-result-clause-small : goal.invariant_of-result-clause-small
 invariant_of-result-clause-small g c =
@@ -103,7 +102,7 @@ invariant_of-result-clause-ascending g c = subst (λ (es : List Export). AreAsce
 
 pub invariant_of-result-clause-looked : goal.invariant_of-result-clause-looked
 invariant_of-result-clause-looked g c =
-    looked_same c.has_floats-mentions_floats.result (module_shape c.in_ok-module.module) c.deref-8.result.now c.in_ok-kept.kept.items c.in_ok-bodies.bodies.items c.deref-8.ensures.value c.in_ok-bodies.ensures c.has_floats-mentions_floats.ensures
+    looked_same c.has_floats-mentions_floats.result (module_shape c.in_ok-module.module) c.deref-8.result.now c.in_ok-bodies.bodies.items c.deref-8.ensures.value c.has_floats-mentions_floats.ensures
 
 pub invariant_of-result-clause-numbered : goal.invariant_of-result-clause-numbered
 invariant_of-result-clause-numbered g c =
@@ -120,7 +119,11 @@ function_shapes-requires-clause-numbered g c =
 
 pub function_shapes-requires-clause-paired : goal.function_shapes-requires-clause-paired
 function_shapes-requires-clause-paired g c =
-    paired_same _ _ _ _ c.deref-6.result.now c.in_ok-module.module.functions.items c.deref-7.result.now c.in_ok-kept.kept.items (module_shape c.in_ok-module.module) c.deref-6.ensures.value c.deref-7.ensures.value
+    paired_same _ _ _ _ c.deref-6.result.now c.in_ok-module.module.functions.items c.deref-7.result.now c.in_ok-bodies.bodies.items (module_shape c.in_ok-module.module) c.deref-6.ensures.value c.deref-7.ensures.value
     (ap length c.deref.ensures.value ∙ sym (length-map _ _))
     c.in_ok-module.ensures.found.paired
-    c.in_ok-kept.ensures.bodies
+    c.in_ok-bodies.ensures.bodies
+
+pub function_shapes-requires-clause-few : goal.function_shapes-requires-clause-few
+function_shapes-requires-clause-few g c =
+    few_same _ _ _ _ c.deref-7.result.now c.in_ok-bodies.bodies.items c.deref-7.ensures.value c.in_ok-bodies.ensures.bodies

@@ -1,5 +1,5 @@
 use Rattle.verdict.proofs.Firsts.{all_pass}
-use Rattle.verdict.proofs.KeptBodies.{all_checked}
+use Rattle.verdict.proofs.CheckedBodies.{all_checked}
 use Rattle.verdict.proofs.judging.judge_bodies.Goals as goal
 
 pub returns-in-Ok-try_all-clause-verdict : goal.returns-in-Ok-try_all-clause-verdict

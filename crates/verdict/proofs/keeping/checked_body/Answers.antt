@@ -2,8 +2,6 @@ use Rattle.std.proofs.Common.{Err, ap, sym, subst}
 use Rattle.wsyntax.specs.declared.Body.{Body}
 use Rattle.wsyntax.specs.Modules.{body_shape}
 use Rattle.wsyntax.specs.Binary.Shell.{SpellsBody, FewLocals}
-use Rattle.wcheck.specs.declared.checked.CheckedBody.{CheckedBody}
-use Rattle.verdict.specs.Judgement.{IsCheckedFrom}
 use Rattle.verdict.proofs.Bodies.{class_malformed, class_too_many}
 use Rattle.verdict.proofs.Checks.{typed_class, faulty_class, checked_from}
 use Rattle.verdict.proofs.keeping.checked_body.Goals as goal
@@ -22,8 +20,7 @@ returns-in-Ok-check_body c =
     let spelled = subst (λ (b : Body). SpellsBody c.args.bytes.now (body_shape b)) same c.in-Ok.ensures.found.0 in
     let few = subst (λ (b : Body). FewLocals (body_shape b)) same c.in-Ok.ensures.found.1 in (
       typed_class c.grammar_is_read.ensures.body c.typed_is_accepted.ensures c.args.context.now.context c.args.func c.args.bytes.now c.in-Ok-check_body.checked.body spelled few c.in-Ok-check_body.ensures.typed,
-      subst (λ (b : CheckedBody). IsCheckedFrom c.args.context.now.context c.args.func c.args.bytes.now b) (sym c.new.ensures)
-          (checked_from c.args.context.now.context c.args.func c.args.bytes.now c.in-Ok-check_body.checked spelled few c.in-Ok-check_body.ensures.typed c.in-Ok-check_body.ensures.fits),
+      checked_from c.args.context.now.context c.args.func c.args.bytes.now c.in-Ok-check_body.checked spelled few c.in-Ok-check_body.ensures.typed c.in-Ok-check_body.ensures.fits,
     )
 
 pub returns-in-Err-IllTyped : goal.returns-in-Err-IllTyped
