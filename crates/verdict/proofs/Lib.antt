@@ -4,6 +4,7 @@ pub mod Smallness
 pub mod SegmentBytes
 pub mod Bodies
 pub mod Firsts
+pub mod Groups
 pub mod OnePass
 pub mod Checks
 pub mod SearchedNames

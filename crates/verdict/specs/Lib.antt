@@ -1,5 +1,6 @@
 pub mod Refusals
 pub mod Judged
+pub mod Groups
 pub mod OnePass
 pub mod Floats
 pub mod Judgement

@@ -3,7 +3,7 @@ ghost use Rattle.wsyntax.specs.Validation.Verdict.{IsVerdict, Accepted};
 ghost use Rattle.verdict.specs.Judged.{PassBefore, IsFirstBody};
 ghost use Rattle.verdict.specs.Refusals.{verdict_of};
 
-use crate::jobs::Bodies;
+use crate::jobs::{GroupedBodies, count_groups};
 use crate::passing::Scratch;
 use crate::refusal::Refusal;
 use pieces::{Plan, TryFault, Watch, try_all};
@@ -30,7 +30,17 @@ fn new_scratches<'a>(
     Ok(scratches)
 }
 
-/// Judges the bodies of a module, up to the first that is refused.
+/// The plan of as many workers that takes one group at once.
+fn one_group_each(plan: Plan) -> Plan
+    ensures { result.workers ≡ plan.workers }
+{
+    match Plan::new(plan.workers(), 1) {
+        Some(single) => single,
+        None => unreachable!(),
+    }
+}
+
+/// Judges the bodies of a module, in groups of as many as the plan has in a piece, up to the first that is refused.
 fn examine_bodies<R: Threads + Wait + Sync, W: Watch + Sync>(
     rt: &R,
     alloc: Global,
@@ -49,18 +59,21 @@ fn examine_bodies<R: Threads + Wait + Sync, W: Watch + Sync>(
         return Err(Refusal::Memory);
     };
     let imported = context.imported_functions() as u32;
-    let job = Bodies {
+    let size = plan.piece();
+    let job = GroupedBodies {
         alloc,
         context,
         bodies,
         imported,
+        size,
         watch,
     };
-    match try_all(rt, alloc, &job, scratches, bodies.len() as u32, plan) {
+    let groups = count_groups(bodies.len() as u32, size);
+    match try_all(rt, alloc, &job, scratches, groups, one_group_each(plan)) {
         Ok(_) => Ok(()),
-        Err(TryFault::Stopped { index, fault }) => Err(Refusal::Body {
-            func: imported + index,
-            class: fault,
+        Err(TryFault::Stopped { fault, .. }) => Err(Refusal::Body {
+            func: imported + fault.place,
+            class: fault.class,
         }),
         Err(TryFault::Memory) => Err(Refusal::Memory),
     }

@@ -13,6 +13,7 @@ mod keeping_jobs;
 mod laws;
 mod passing;
 mod refusal;
+mod refused_body;
 mod shapes;
 mod type_numbers;
 

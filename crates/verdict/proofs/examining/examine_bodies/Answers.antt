@@ -1,16 +1,17 @@
-use Rattle.std.proofs.Common.{◌<◌, length, map}
+use Rattle.std.proofs.Common.{◌<◌, arith}
 use Rattle.std.proofs.lemmas.List.{length-map}
-use Rattle.verdict.proofs.Firsts.{all_pass, first_stop}
+use Rattle.verdict.proofs.Groups.{groups_pass, first_group_stop}
 use Rattle.verdict.proofs.examining.examine_bodies.Goals as goal
 use Rattle.verdict.proofs.examining.examine_bodies.Goals.{in-Ok-try_all, in-Err-Stopped, in-Err-Memory}
 
 pub returns : goal.returns
 returns g c =
+    let some : 0 < c.piece-size.result = omega (arith, c.piece-size.ensures, c.args.plan.in_range.2) in
     elim c.match-try_all.branch [
-      | in-Ok-try_all w ↦ rw w.result-is (all_pass _ _ _ _ _ _ _ c.imported_functions-imported.ensures.count w.in-Ok-try_all.ensures)
+      | in-Ok-try_all w ↦
+          rw w.result-is (groups_pass _ _ _ _ _ _ _ _ _ c.imported_functions-imported.ensures.count some (length-map _ _) c.count_groups-groups.ensures w.in-Ok-try_all.ensures)
       | in-Err-Stopped w ↦
           let h = rw w.in-Err-Stopped.field-0-is at w.in-Err-Stopped.ensures in
-          let within : w.in-Err-Stopped.index < length (map (λ b. b.now) c.args.bodies.now) = rw length-map h.0 in
-          rw w.result-is (first_stop _ _ _ _ _ _ c.imported_functions-imported.ensures.count within h.1 h.2)
+          rw w.result-is (first_group_stop _ _ _ _ _ _ _ c.imported_functions-imported.ensures.count some h.1 h.2)
       | in-Err-Memory w ↦ rw w.result-is tt
     ]

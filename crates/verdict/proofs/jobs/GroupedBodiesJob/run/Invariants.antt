@@ -1,0 +1,9 @@
+use Rattle.std.proofs.Common.{◌≡◌, ℕ, ◌<◌, ◌≤◌, None, map}
+use Rattle.verdict.specs.Judged.{class_at}
+use Rattle.verdict.proofs.jobs.GroupedBodiesJob.run.Given as goal
+
+abbrev pub invariant-loop-place : goal.invariant-loop-place
+invariant-loop-place g l = record {
+  outside : l.scratch.checker.outside ≡ l.self.context.now.context;
+  passed : (k : ℕ) → l.first ≤ k → k < l.place → class_at l.self.context.now.context l.self.imported (map (λ b. b.now) l.self.bodies.now) k ≡ None;
+}

@@ -1,0 +1,8 @@
+use crate::refusal::Class;
+
+/// A refused body, by its place among those that the module has, and why it is refused.
+#[derive(Clone, Copy, Debug)]
+pub(crate) struct RefusedBody {
+    pub(crate) place: u32,
+    pub(crate) class: Class,
+}
