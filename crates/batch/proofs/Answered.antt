@@ -2,7 +2,6 @@
 use Rattle.std.proofs.Common.{◌≡◌, ℕ, suc, false, List, [], ◌∷◌, ◌++◌, Some, IsSomeAnd, Err, length, refl, sym, ap, subst, ◌∙◌, arith}
 use Rattle.std.specs.Prelude.{slice_get, map, IfSome}
 use Rattle.std.proofs.lemmas.Option.{same_Some}
-use Rattle.std.proofs.Math.Logic.{∥∥₁_map}
 use Rattle.wsyntax.specs.Modules.{BodyShape, module_shape, body_shape}
 use Rattle.wsyntax.specs.Binary.Shell.{SpellsBody, SpellsBodies, Spells}
 use Rattle.wsyntax.specs.Validation.Verdict.{IsVerdict, Accepted, TooLarge, Malformed, RuleBroken, BodyRefused}
@@ -54,25 +53,25 @@ spelled bytes a h = (
 -- on a refused module
 pub refused_module : (bytes text : List ℕ) (l : Limits) (r : Refusal) (out : List ℕ) → IfSome (verdict_of r) (IsVerdict bytes) → IsSomeAnd (verdict_of r) (λ v. out ≡ verdict_line v) → IsSomeAnswer bytes text l out
 unfolding IsAnswer
-refused_module bytes text l refusal.TooLarge out v e = ((λ n. false), ∣ (TooLarge, v, e) ∣₁)
-refused_module bytes text l refusal.Malformed out v e = ((λ n. false), ∣ (Malformed, v, e) ∣₁)
-refused_module bytes text l (refusal.Rule k) out v e = ((λ n. false), ∣ (RuleBroken k, v, e) ∣₁)
-refused_module bytes text l (refusal.Body f c) out v e = ((λ n. false), ∣ (BodyRefused f (fault_of c), v, e) ∣₁)
+refused_module bytes text l refusal.TooLarge out v e = ((λ n. false), (TooLarge, v, e))
+refused_module bytes text l refusal.Malformed out v e = ((λ n. false), (Malformed, v, e))
+refused_module bytes text l (refusal.Rule k) out v e = ((λ n. false), (RuleBroken k, v, e))
+refused_module bytes text l (refusal.Body f c) out v e = ((λ n. false), (BodyRefused f (fault_of c), v, e))
 refused_module bytes text l refusal.Memory out v e = absurd e
 
 -- on calls that are refused
 pub refused_calls : (bytes text : List ℕ) (l : Limits) (f : CallsFault) (out : List ℕ) → IsVerdict bytes Accepted → ReadsCalls text (Err f) → IsSomeAnd (refused_text f) (λ c. out ≡ verdict_line Accepted ++ calls_line c) → IsSomeAnswer bytes text l out
 unfolding IsAnswer
-refused_calls bytes text l fault.TooLarge out v said e = ((λ n. false), ∣ (Accepted, v, (TooLong, said, e)) ∣₁)
-refused_calls bytes text l (fault.Line k) out v said e = ((λ n. false), ∣ (Accepted, v, (BadLine k, said, e)) ∣₁)
+refused_calls bytes text l fault.TooLarge out v said e = ((λ n. false), (Accepted, v, (TooLong, said, e)))
+refused_calls bytes text l (fault.Line k) out v said e = ((λ n. false), (Accepted, v, (BadLine k, said, e)))
 refused_calls bytes text l fault.Memory out v said e = absurd e
 
 -- on calls that were run
 pub report_is : (bytes text : List ℕ) (a : AcceptedModule) (s : Settings) (calls given : List Call) (lines written : List Line) (out : List ℕ)
-    → IsVerdict bytes Accepted → Spells bytes (module_shape a.«module») (shapes_of a.bodies.items) → IsCalls text (Good (calls_of calls)) → given ≡ calls → ∥ AreEnds a s given lines ∥₁
+    → IsVerdict bytes Accepted → Spells bytes (module_shape a.«module») (shapes_of a.bodies.items) → IsCalls text (Good (calls_of calls)) → given ≡ calls → AreEnds a s given lines
     → written ≡ lines → out ≡ report_text (ends_of written) → IsSomeAnswer bytes text (limits s.fuel s.frames s.pages) out
 unfolding IsAnswer
 report_is bytes text a s calls given lines written out v spells said same ends wrote e =
-    let ends' : ∥ AreEnds a s calls lines ∥₁ = subst (λ (x : List Call). ∥ AreEnds a s x lines ∥₁) same ends in
+    let ends' : AreEnds a s calls lines = subst (λ (x : List Call). AreEnds a s x lines) same ends in
     let text' : out ≡ report_text (ends_of lines) = e ∙ ap (λ (x : List Line). report_text (ends_of x)) wrote in
-    ((λ n. is_short (slice_get lines n)), ∥∥₁_map ends' (λ (h : AreEnds a s calls lines). (Accepted, v, (Good (calls_of calls), said, (module_shape a.«module», shapes_of a.bodies.items, ends_of lines, spells, h, text')))))
+    ((λ n. is_short (slice_get lines n)), (Accepted, v, (Good (calls_of calls), said, (module_shape a.«module», shapes_of a.bodies.items, ends_of lines, spells, ends', text'))))

@@ -1,4 +1,6 @@
 pub mod Alone
 pub mod CallEnds
+pub mod Trees
+pub mod Instance
 pub mod Batches
 pub mod Answered

@@ -14,7 +14,7 @@ use Rattle.batch.specs.declared.status.AnswerFault.TheVariants.{Memory, Write}
 
 -- the answer, where some of the calls met want of memory
 abbrev pub IsSomeAnswer : List ℕ → List ℕ → Limits → List ℕ → Type 0
-IsSomeAnswer bytes text l out = (short : ℕ → Bool) × ∥ IsAnswer bytes text l (λ n. IsTrue (short n)) out ∥₁
+IsSomeAnswer bytes text l out = (short : ℕ → Bool) × IsAnswer bytes text l (λ n. IsTrue (short n)) out
 
 -- what a text of calls is that is refused; want of memory says nothing
 abbrev pub refused_text : CallsFault → Option CallsText

@@ -8,7 +8,6 @@ ghost use Rattle.batch.specs.Ends.{IsCallee, RefusedAs};
 use crate::call::run_alone;
 use memory::{Pool, Ticket};
 use pieces::{Job, JobFault, Stage, Watch};
-use soundness::instances::one_instance;
 use std::alloc::Global;
 use std::sync::Wait;
 use texts::{Call, Line};
@@ -63,14 +62,13 @@ impl<'a, W: Watch> Job for Calls<'a, W> {
 
     ghost passes = { λ j i. Unit {0} };
 
-    ghost gives = { λ j i line. ∥ GivesLineAt j.accepted.now j.settings j.calls.now i line ∥₁ };
+    ghost gives = { λ j i line. GivesLineAt j.accepted.now j.settings j.calls.now i line };
 
     ghost refuses = { λ j i f. ⊥ };
 
     fn run<R: Wait>(&self, rt: &R, ticket: &mut Ticket, index: u32) -> Result<Line, JobFault<()>> {
         self.watch.note(Stage::Call, index);
         accepted_is_judged(self.accepted);
-        one_instance();
         let call = &self.calls[index as usize];
         let function = match callee(self.accepted, call) {
             Ok(function) => function,

@@ -24,7 +24,7 @@ pub fn run_batch<R: Threads + Wait + Sync, W: Watch + Sync>(
     plan: Plan,
     watch: &W,
 ) -> Result<Vec<Line>, AllocError>
-    ensures { IfOk result (λ lines. ∥ AreEnds accepted.now settings calls.now lines.items ∥₁) }
+    ensures { IfOk result (λ lines. AreEnds accepted.now settings calls.now lines.items) }
 {
     let Ok(count) = u32::try_from(calls.len()) else {
         return Err(AllocError);
