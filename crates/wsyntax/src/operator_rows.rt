@@ -1,5 +1,7 @@
 ghost use Rattle.std.specs.Prelude.{◌≡◌, [], ◌∷◌};
+ghost use Rattle.wsyntax.specs.declared.operator_rows.Arity.TheVariants.{One, Two};
 ghost use Rattle.wsyntax.specs.Row.{operands_in, results_in};
+ghost use Rattle.wsyntax.specs.Execution.Start.{any, is_float, is_float_operator};
 ghost use Rattle.wsyntax.specs.Table.{num_op};
 ghost use Rattle.wsyntax.specs.Validation.Typing.{operands as operands_of, results as results_of};
 
@@ -23,8 +25,7 @@ pub struct OperatorRow {
 
 #[inline]
 fn one(operand: ValType, leaves: ValType) -> OperatorRow
-    ensures operands { operands_in result ≡ operand ∷ [] }
-    ensures results { results_in result ≡ leaves ∷ [] }
+    ensures { result ≡ record { arity = One; operand = operand; result = leaves } }
 {
     OperatorRow {
         arity: Arity::One,
@@ -35,8 +36,7 @@ fn one(operand: ValType, leaves: ValType) -> OperatorRow
 
 #[inline]
 fn two(operand: ValType, leaves: ValType) -> OperatorRow
-    ensures operands { operands_in result ≡ operand ∷ operand ∷ [] }
-    ensures results { results_in result ≡ leaves ∷ [] }
+    ensures { result ≡ record { arity = Two; operand = operand; result = leaves } }
 {
     OperatorRow {
         arity: Arity::Two,
@@ -51,6 +51,7 @@ impl Operator {
     pub fn row(self) -> OperatorRow
         ensures operands { operands_in result ≡ operands_of (num_op self) }
         ensures results { results_in result ≡ results_of (num_op self) }
+        ensures floats { any is_float (result.operand ∷ result.result ∷ []) ≡ is_float_operator (num_op self) }
     {
         match self {
             Operator::I32Eqz
