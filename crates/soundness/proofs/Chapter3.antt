@@ -7,6 +7,6 @@ pub mod Parse
 pub mod Faults
 pub mod Known
 pub mod Compose
-pub mod Families
+pub mod Inference
 pub mod Unique
 pub mod Back

@@ -1,7 +1,7 @@
 //! What holds of the typing rules and of the algorithm that decides them.
 
 ghost use Rattle.soundness.specs.Rules.{RuleBack, SameRules};
-ghost use Rattle.wsyntax.specs.Validation.Family.{RulesAgree};
+ghost use Rattle.wsyntax.specs.Validation.Inference.{RulesAgree};
 ghost use Rattle.wsyntax.specs.Validation.Laws.{AcceptedIsTyped, Composes, FaultInside, OneFault, ReachedIsKnown, RefusedAtFirstFault, RunsDecide, Splits, TypedIsAccepted, TypedOrFault, TypedWhereNoFault, UniqueTree};
 
 /// A body that the algorithm accepts is typed.
@@ -64,7 +64,7 @@ pub fn unique_tree()
     ensures { UniqueTree }
 {}
 
-/// The rules by recursion are the rules of inference.
+/// What is typed by clauses and by recursion is what the rules of inference type.
 pub fn rules_agree()
     ensures { RulesAgree }
 {}

@@ -1,6 +1,6 @@
 pub mod Context
 pub mod Typing
-pub mod Family
+pub mod Inference
 pub mod Algorithm
 pub mod FirstFault
 pub mod Laws

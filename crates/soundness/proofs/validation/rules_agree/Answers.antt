@@ -1,4 +1,4 @@
-use Rattle.soundness.proofs.Chapter3.Families.{rules_agree}
+use Rattle.soundness.proofs.Chapter3.Inference.{rules_agree}
 use Rattle.soundness.proofs.validation.rules_agree.Goals as goal
 
 pub returns : goal.returns
