@@ -1,8 +1,8 @@
 -- 2.5 Modules, without where they lie in memory; and what the tokens of the code stand for.
-use Rattle.std.specs.Prelude.{ℕ, ◌+◌, List, [], ◌∷◌, map, Option, slice_range, slice_index_or}
+use Rattle.std.specs.Prelude.{ℕ, ◌+◌, List, map, Option, slice_range, slice_index_or}
 use Rattle.wnum.specs.Arithmetic.{unsigned}
-use Rattle.wsyntax.specs.Types.{ValType, I32, I64, F32, F64, FuncType, Limits, GlobalType}
-use Rattle.wsyntax.specs.Instructions.{Op, Token, Do, OpenBlock, OpenLoop, OpenIf, Else, End, Unreachable, Nop, Return, Br, BrIf, Call, CallIndirect, BrTable, Drop, Select, LocalGet, LocalSet, LocalTee, GlobalGet, GlobalSet, MemoryLoad, MemoryStore, MemorySize, MemoryGrow, Const, Numeric}
+use Rattle.wsyntax.specs.Types.{I32, I64, F32, F64, FuncType, Limits, GlobalType}
+use Rattle.wsyntax.specs.Instructions.{Token, Do, OpenBlock, OpenLoop, OpenIf, Else, End, Unreachable, Nop, Return, Br, BrIf, Call, CallIndirect, BrTable, Drop, Select, LocalGet, LocalSet, LocalTee, GlobalGet, GlobalSet, MemoryLoad, MemoryStore, MemorySize, MemoryGrow, Const, Numeric}
 use Rattle.wsyntax.specs.Table.{num_op, load_access, store_access, little_endian}
 use Rattle.wsyntax.specs.declared.instructions.Token.{Token as Flat}
 use Rattle.wsyntax.specs.declared.instructions.Token.TheVariants as flat

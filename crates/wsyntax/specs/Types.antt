@@ -1,5 +1,5 @@
 -- 2.3 Types.
-use Rattle.std.specs.Prelude.{ℕ, List, [], ◌∷◌, Bool, true, false, ◌&&◌, Option}
+use Rattle.std.specs.Prelude.{List, [], ◌∷◌, Bool, true, false, ◌&&◌}
 pub use Rattle.wsyntax.specs.declared.types.ValType.{ValType}
 pub use Rattle.wsyntax.specs.declared.types.ValType.TheVariants.{I32, I64, F32, F64}
 pub use Rattle.wsyntax.specs.declared.types.Limits.{Limits}

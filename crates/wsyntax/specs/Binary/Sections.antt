@@ -1,5 +1,5 @@
 -- 5.5.2 to 5.5.14 What sections hold, and function bodies.
-use Rattle.std.specs.Prelude.{◌≡◌, ℕ, zero, suc, ◌^◌, List, Option, Some, None, ◌==◌, sum_by, nat_lt, if◌then◌else◌}
+use Rattle.std.specs.Prelude.{ℕ, zero, suc, ◌^◌, List, Option, Some, None, ◌==◌, sum_by, nat_lt, if◌then◌else◌}
 use Rattle.wsyntax.specs.Types.{FuncType, Limits}
 use Rattle.wsyntax.specs.Modules.{ImportShape, ExportShape, GlobalShape, ElementShape, DataShape, BodyShape}
 use Rattle.wsyntax.specs.declared.module.Table.{Table}

@@ -1,5 +1,5 @@
 -- 5.3 Types.
-use Rattle.std.specs.Prelude.{ℕ, zero, suc, ℤ, pos, negsuc, List, Bool, true, false, Option, Some, None, ◌==◌, if◌then◌else◌}
+use Rattle.std.specs.Prelude.{ℕ, zero, suc, ℤ, pos, negsuc, Bool, true, false, Option, Some, None, ◌==◌, if◌then◌else◌}
 use Rattle.wnum.specs.Reading as reading
 use Rattle.wsyntax.specs.Types.{ValType, I32, I64, F32, F64, FuncType, Limits, GlobalType}
 use Rattle.wsyntax.specs.Instructions.{BlockType, Empty, Value, Index}

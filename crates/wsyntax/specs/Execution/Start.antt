@@ -1,7 +1,7 @@
 -- 4.5.4 Instantiation of a decoded module without imports: what is refused before a store is made, and the instance that is made.
-use Rattle.std.specs.Prelude.{◌≡◌, ℕ, zero, suc, ◌+◌, ◌*◌, List, [], ◌∷◌, Bool, true, false, ◌&&◌, ◌||◌, Option, Some, None, length, map, option_map, unwrap_or, nat_eq, nat_lt, if◌then◌else◌}
-use Rattle.wsyntax.specs.Types.{ValType, I32, I64, F32, F64, FuncType, Limits, GlobalType}
-use Rattle.wsyntax.specs.Instructions.{Code, flat_body, BlockType, Empty, Value, Index, NumOp, FloatOp, Op, MemoryLoad, MemoryStore, Const, Numeric, Token, Do, OpenBlock, OpenLoop, OpenIf, Else, End}
+use Rattle.std.specs.Prelude.{◌≡◌, ℕ, suc, ◌+◌, ◌*◌, List, [], ◌∷◌, Bool, true, false, ◌&&◌, ◌||◌, Option, Some, None, length, map, option_map, unwrap_or, nat_lt, if◌then◌else◌}
+use Rattle.wsyntax.specs.Types.{ValType, I32, I64, F32, F64, FuncType}
+use Rattle.wsyntax.specs.Instructions.{flat_body, BlockType, Empty, Value, Index, NumOp, FloatOp, Op, MemoryLoad, MemoryStore, Const, Numeric, Token, Do, OpenBlock, OpenLoop, OpenIf, Else, End}
 use Rattle.wsyntax.specs.Modules.{ModuleShape, BodyShape, GlobalShape, ElementShape, DataShape}
 use Rattle.wsyntax.specs.Validation.ModuleContext.{declared, type_at}
 use Rattle.wsyntax.specs.Execution.Values.{Value as Held, V32, value_in}

@@ -1,5 +1,5 @@
 -- What is answered for a module and a text of calls.
-use Rattle.std.specs.Prelude.{◌≡◌, ◌≢◌, ℕ, suc, ◌+◌, ◌<◌, List, [], ◌∷◌, ◌++◌, Option, Some, None, codes, decimal, slice_get, Contains}
+use Rattle.std.specs.Prelude.{◌≡◌, ◌≢◌, ℕ, suc, ◌+◌, List, [], ◌∷◌, ◌++◌, Some, None, codes, decimal, slice_get, Contains}
 use Rattle.wsyntax.specs.Types.{FuncType}
 use Rattle.wsyntax.specs.Modules.{ModuleShape, BodyShape, ExportShape}
 use Rattle.wsyntax.specs.Binary.Shell.{Spells}

@@ -1,8 +1,7 @@
 -- The text of calls: a line a call, each ended by a newline.
-use Rattle.std.specs.Prelude.{◌≡◌, ◌≢◌, ℕ, zero, suc, ◌<◌, ◌≤◌, List, [], ◌∷◌, ◌++◌, length, All, flat_map, slice_get, Some, ◌==◌, if◌then◌else◌}
-use Rattle.wnum.specs.Arithmetic.{signed}
-use Rattle.wsyntax.specs.Execution.Values.{Value, V32, V64, IsWord, AreWords}
-use Rattle.wsyntax.specs.Texts.Words.{newline, tab, value_text}
+use Rattle.std.specs.Prelude.{◌≡◌, ◌≢◌, ℕ, suc, ◌<◌, ◌≤◌, List, [], ◌∷◌, ◌++◌, length, All, flat_map, slice_get, Some, ◌==◌, if◌then◌else◌}
+use Rattle.wsyntax.specs.Execution.Values.{Value, AreWords}
+use Rattle.wsyntax.specs.Texts.Words.{tab, value_text}
 
 -- the name of an export, and arguments
 pub record Call : Type 0 where

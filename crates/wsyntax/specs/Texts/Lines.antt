@@ -1,5 +1,5 @@
 -- The verdict line.
-use Rattle.std.specs.Prelude.{ℕ, List, [], ◌∷◌, ◌++◌, codes, decimal}
+use Rattle.std.specs.Prelude.{ℕ, List, ◌++◌, codes, decimal}
 use Rattle.wsyntax.specs.Texts.Words.{newline}
 use Rattle.wsyntax.specs.Validation.Verdict.{BodyFault, BodyMalformed, TooManyLocals, IllTyped, Verdict, Accepted, TooLarge, Malformed, RuleBroken, BodyRefused}
 

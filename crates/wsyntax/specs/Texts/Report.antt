@@ -1,5 +1,5 @@
 -- The lines of a report: one for each call, and the total.
-use Rattle.std.specs.Prelude.{ℕ, suc, ◌+◌, List, [], ◌∷◌, ◌++◌, codes, decimal, map, sum, length}
+use Rattle.std.specs.Prelude.{ℕ, suc, ◌+◌, List, [], ◌∷◌, ◌++◌, codes, decimal, length}
 use Rattle.wsyntax.specs.Execution.Values.{Value, TrapKind, ByUnreachable, OutOfBounds, UndefinedElement, UninitializedElement, TypeMismatch, ByOperator}
 use Rattle.wnum.specs.declared.trap.NumTrap.TheVariants.{DivideByZero, IntegerOverflow}
 use Rattle.wsyntax.specs.Execution.Ends.{Outcome, Values, Trapped, OutOfFuel, OutOfFrames}

@@ -1,5 +1,5 @@
 -- The words of which lines are made.
-use Rattle.std.specs.Prelude.{ℕ, List, [], ◌∷◌, ◌++◌, codes, decimal}
+use Rattle.std.specs.Prelude.{ℕ, List, [], ◌∷◌, ◌++◌, codes}
 use Rattle.std.specs.Fmt.{signed_decimal}
 use Rattle.wnum.specs.Arithmetic.{signed}
 use Rattle.wsyntax.specs.Execution.Values.{Value, V32, V64}
