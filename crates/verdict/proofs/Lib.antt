@@ -11,6 +11,7 @@ pub mod SearchedNames
 pub mod ExportNumbers
 pub mod OneVerdict
 pub mod Judgements
+pub mod PlainStarts
 pub mod Mentions
 pub mod FunctionShapes
 pub mod CheckedBodies

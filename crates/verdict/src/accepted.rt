@@ -9,10 +9,13 @@ ghost use Rattle.verdict.specs.TypeNumbers.{AreTypeNumbers};
 ghost use Rattle.verdict.specs.Judgement.{IsJudged, shapes_of};
 ghost use Rattle.verdict.specs.FunctionShapes.{function_shapes};
 ghost use Rattle.verdict.specs.Small.{IsSmall};
+ghost use Rattle.layout.specs.Layouts.{IsLayoutOf};
 ghost use Rattle.soundness.specs.Instances.{SegmentsAreBytes};
 
 use crate::exports::number_of;
+use layout::Layout;
 use side_table::FunctionShape;
+use soundness::instances::start_is_plain;
 use wcheck::CheckedBody;
 use wcontext::Context;
 use wsyntax::{ExportKind, Module};
@@ -31,10 +34,13 @@ pub struct Accepted<'a> {
     pub(crate) mentions_floats: bool,
     /// Of each type its number, equal for equal types.
     pub(crate) type_numbers: Vec<u32>,
+    /// What its instances start from.
+    pub(crate) layout: Layout,
     pub(crate) ghost judged: { ∥ IsJudged (module_shape «module») context bodies.items ∥₁ },
     pub(crate) ghost looked: { mentions_floats ≡ has_floats (module_shape «module») (shapes_of bodies.items) },
     pub(crate) ghost numbered: { ∥ AreTypeNumbers (module_shape «module»).types type_numbers.items ∥₁ },
     pub(crate) ghost shaped: { shapes.items ≡ function_shapes (module_shape «module»).types type_numbers.items (module_shape «module»).functions bodies.items },
+    pub(crate) ghost laid: { IsLayoutOf (module_shape «module») layout },
     pub(crate) ghost filled: { SegmentsAreBytes (module_shape «module») },
     pub(crate) ghost small: { ∥ IsSmall (module_shape «module») bodies.items ∥₁ },
     pub(crate) ghost distinct: { ExportsDistinct (module_shape «module») },
@@ -43,7 +49,8 @@ pub struct Accepted<'a> {
 }
 
 impl<'a> Accepted<'a> {
-    ghost use Rattle.std.specs.Prelude.{◌↔◌, ℕ, slice_get, Some, IsNone, option_map};
+    ghost use Rattle.std.specs.Prelude.{◌↔◌, ℕ, slice_get, Some, IfSome, IsNone, option_map};
+    ghost use Rattle.wsyntax.specs.Validation.ModuleContext.{module_context, empty_type};
     ghost use Rattle.wsyntax.specs.declared.module.ExportKind.{ExportKind};
     ghost use Rattle.wsyntax.specs.Texts.Answer.{IsMissing};
     ghost use Rattle.verdict.specs.Exports.{IsExported};
@@ -74,6 +81,19 @@ impl<'a> Accepted<'a> {
     pub fn is_small(&self)
         ensures { ∥ IsSmall (module_shape self.now.module) self.now.bodies.items ∥₁ }
     {}
+
+    /// What its layout is: the first values of its globals, the places of its segments, and of each kind the first segment
+    /// that does not end within its table or memory.
+    pub fn is_laid_out(&self)
+        ensures { IsLayoutOf (module_shape self.now.module) self.now.layout }
+    {}
+
+    /// The law that its start function, where it names one, is there, and has no parameters and no results (3.4.7).
+    pub fn start_is_plain(&self)
+        ensures { IfSome self.now.module.start (λ f. slice_get (module_context (module_shape self.now.module)).functions f ≡ Some empty_type) }
+    {
+        start_is_plain();
+    }
 
     /// The law that what its data segments hold are bytes.
     pub fn segments_are_bytes(&self)
@@ -133,6 +153,14 @@ impl<'a> Accepted<'a> {
         ensures { result.now ≡ self.now.type_numbers.items }
     {
         &self.type_numbers
+    }
+
+    /// What its instances start from, computed once.
+    #[inline]
+    pub fn layout(&self) -> &Layout
+        ensures { result.now ≡ self.now.layout }
+    {
+        &self.layout
     }
 
     /// The number of declared locals of the function of that index, imported ones counted, its parameters aside; `None`

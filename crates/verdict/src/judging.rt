@@ -14,6 +14,7 @@ use crate::keeping_jobs::KeptBodies;
 use crate::refusal::Refusal;
 use crate::shapes::function_shapes;
 use crate::type_numbers::type_numbers;
+use layout::Layout;
 use pieces::{Plan, TryFault, Watch, try_all};
 use soundness::validation::{accepted_is_typed, refused_at_first_fault};
 use std::alloc::Global;
@@ -100,6 +101,7 @@ pub fn judge<'a, R: Threads + Wait + Sync, W: Watch + Sync>(
         &module.functions,
         &bodies,
     )?;
+    let layout = Layout::of(alloc, &module)?;
     let mentions_floats = has_floats(&module, &bodies);
     Ok(Accepted {
         module,
@@ -109,5 +111,6 @@ pub fn judge<'a, R: Threads + Wait + Sync, W: Watch + Sync>(
         by_name,
         mentions_floats,
         type_numbers,
+        layout,
     })
 }

@@ -1,12 +1,11 @@
 -- Each answer of the refusals is the definition's.
-use Rattle.std.proofs.Common.{◌≡◌, ℕ, suc, ◌+◌, ◌*◌, ◌<◌, ◌≤◌, Bool, true, false, List, [], ◌∷◌, length, Option, Some, None, refl, ap, ◌∙◌, cond, arith}
+use Rattle.std.proofs.Common.{◌≡◌, ℕ, ◌*◌, ◌<◌, ◌≤◌, Bool, true, false, List, length, Option, Some, None, refl, ap, ◌∙◌, arith}
 use Rattle.std.specs.Prelude.{nat_lt, option_map}
 use Rattle.std.proofs.lemmas.Bool.{lt-ltb, le-ltb}
 use Rattle.wsyntax.specs.Modules.{ModuleShape, BodyShape}
 use Rattle.wsyntax.specs.Execution.Store.{page}
-use Rattle.wsyntax.specs.Execution.Allocation.{Segment}
 use Rattle.wsyntax.specs.Execution.Start.{StartRefusal, HasImports, HasFloats, TableLimit, MemoryLimit, ElementOutside, DataOutside, has_floats, layout_of, table_limit, first_outside, or_else, refused_if, start_refusal}
-use Rattle.wstore.specs.Refusals.{table_size, memory_pages}
+use Rattle.layout.specs.Sizes.{table_size, memory_pages}
 
 -- ---- one question
 
@@ -87,15 +86,3 @@ pub at_none : (pages : ℕ) (m : ModuleShape) (bodies : List BodyShape) → Pass
     → None ≡ first_outside 0 (memory_pages m * page) (layout_of m).data' → None ≡ start_refusal pages m bodies
 at_none pages m bodies p none e =
     ap (option_map DataOutside) e ∙ not_found ElementOutside (first_outside 0 (table_size m) (layout_of m).elements) _ none ∙ left pages m bodies p
-
--- ---- the number of a segment
-
-below_if : (b : Bool) (j k n : ℕ) (o : Option ℕ) → Some k ≡ cond b (Some j) o → 0 < n → (Some k ≡ o → k < j + n) → k < j + n
-below_if true j k n o e some rest = let same : k ≡ j = cc in omega arith
-below_if false j k n o e some rest = rest e
-
-pub outside_below : (j n k : ℕ) (all : List Segment) → Some k ≡ first_outside j n all → k < j + length all
-outside_below j n k [] e = absurd cc
-outside_below j n k (s ∷ ss) e =
-    below_if (nat_lt n (s.place + length s.items)) j k (suc (length ss)) (first_outside (suc j) n ss) e (omega arith)
-    (λ later. let h : k < suc j + length ss = outside_below (suc j) n k ss later in omega arith)

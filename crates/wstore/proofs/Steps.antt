@@ -1,16 +1,13 @@
--- One step of a loop over segments, and its end.
-use Rattle.std.proofs.Common.{◌≡◌, ℕ, suc, ◌+◌, ◌<◌, ◌≤◌, Bool, true, false, List, [], ◌∷◌, length, drop, map, get_or, Some, sym, ap, ◌∙◌, subst, cond, arith}
-use Rattle.std.specs.Prelude.{nat_lt}
-use lib.Dec.{leb}
-use Rattle.std.proofs.lemmas.Bool.{lt-ltb, le-ltb, leb-true, leb-false}
-use Rattle.std.proofs.lemmas.List.{drop-map, drop_more, drop_all, length-map}
+-- One step of a loop over segments and their places.
+use Rattle.std.proofs.Common.{◌≡◌, ℕ, ◌+◌, ◌<◌, ◌≤◌, List, ◌∷◌, length, drop, map, get_or, sym, ap, ◌∙◌, subst, arith}
+use Rattle.std.proofs.lemmas.List.{drop-map, drop_more, get_or-map, length-map}
 use Rattle.wsyntax.specs.Modules.{element_shape, data_shape}
 use Rattle.wsyntax.specs.declared.module.Element.{Element}
 use Rattle.wsyntax.specs.declared.module.Data.{Data}
 use Rattle.wsyntax.specs.Execution.Allocation.{Segment, AllWithin, overwrite, put_elements, put_data}
 use Rattle.wsyntax.specs.Execution.Store.{Entry, SetTo}
-use Rattle.wsyntax.specs.Execution.Start.{element_segment, data_segment, first_outside}
-use Rattle.wstore.specs.Segments.{element_segments, data_segments}
+use Rattle.wsyntax.specs.Execution.Start.{element_segment, data_segment}
+use Rattle.layout.specs.Segments.{element_segments, data_segments, places_of}
 
 -- ---- the segments from one on
 
@@ -22,22 +19,32 @@ from_here g f xs i x is below =
     ∙ ap (λ y. g (f y) ∷ map g (map f (drop (i + 1) xs))) (sym is)
     ∙ ap (λ l. g (f x) ∷ map g l) (sym (drop-map f (i + 1) xs)) ∙ ap (λ l. g (f x) ∷ l) (sym (drop-map g (i + 1) (map f xs)))
 
-none_left : {X Y Z : Type 0} (g : Y → Z) (f : X → Y) (xs : List X) (n : ℕ) → length xs ≤ n → drop n (map g (map f xs)) ≡ []
-none_left g f xs n all = drop_all n (map g (map f xs)) (omega (arith, length-map (map f xs) g, length-map xs f))
-
 pub elements_from : (es : List Element) (i : ℕ) (e : Element) → e ≡ get_or es i e → i < length es
     → drop i (element_segments es) ≡ element_segment (element_shape e) ∷ drop (i + 1) (element_segments es)
 elements_from es i e is below = from_here element_segment element_shape es i e is below
-
-pub no_elements : (es : List Element) (n : ℕ) → length es ≤ n → drop n (element_segments es) ≡ []
-no_elements es n all = none_left element_segment element_shape es n all
 
 pub data_from : (ds : List Data) (i : ℕ) (d : Data) → d ≡ get_or ds i d → i < length ds
     → drop i (data_segments ds) ≡ data_segment (data_shape d) ∷ drop (i + 1) (data_segments ds)
 data_from ds i d is below = from_here data_segment data_shape ds i d is below
 
-pub no_data : (ds : List Data) (n : ℕ) → length ds ≤ n → drop n (data_segments ds) ≡ []
-no_data ds n all = none_left data_segment data_shape ds n all
+-- ---- the place of one
+
+-- of a list that is mapped twice
+place_at : {X Y : Type 0} (g : Y → Segment) (f : X → Y) (xs : List X) (i : ℕ) (x : X) (places : List ℕ) → places ≡ places_of (map g (map f xs)) → x ≡ get_or xs i x → i < length xs → get_or places i 0 ≡ (g (f x)).place
+place_at g f xs i x places all is below =
+    let within : i < length (map f xs) = omega (arith, length-map xs f) in
+    let inside : i < length (map g (map f xs)) = omega (arith, length-map (map f xs) g) in
+    ap (λ l. get_or l i 0) all
+    ∙ get_or-map (λ (s : Segment). s.place) (map g (map f xs)) i (g (f x)) 0 inside
+    ∙ ap (λ (s : Segment). s.place) (get_or-map g (map f xs) i (f x) (g (f x)) within)
+    ∙ ap (λ y. (g y).place) (get_or-map f xs i x (f x) below)
+    ∙ ap (λ y. (g (f y)).place) (sym is)
+
+pub element_placed : (es : List Element) (i : ℕ) (e : Element) (places : List ℕ) → places ≡ places_of (element_segments es) → e ≡ get_or es i e → i < length es → get_or places i 0 ≡ (element_segment (element_shape e)).place
+element_placed es i e places all is below = place_at element_segment element_shape es i e places all is below
+
+pub data_placed : (ds : List Data) (i : ℕ) (d : Data) (places : List ℕ) → places ≡ places_of (data_segments ds) → d ≡ get_or ds i d → i < length ds → get_or places i 0 ≡ (data_segment (data_shape d)).place
+data_placed ds i d places all is below = place_at data_segment data_shape ds i d places all is below
 
 -- ---- what is within
 
@@ -48,25 +55,6 @@ within_here n place count s all rest is at many within =
 
 pub within_later : (n : ℕ) (s : Segment) (all rest : List Segment) → all ≡ s ∷ rest → AllWithin n all → AllWithin n rest
 within_later n s all rest is within = let h = subst (AllWithin n) is within in h.1
-
--- ---- the first outside
-
-pub outside_here : (n place count i : ℕ) (s : Segment) (all from rest : List Segment) (b : Bool) → from ≡ s ∷ rest → place ≡ s.place → count ≡ length s.items → b ≡ leb (place + count) n → b ≡ false
-    → first_outside 0 n all ≡ first_outside i n from → Some i ≡ first_outside 0 n all
-outside_here n place count i s all from rest b is at many test failed before =
-    let t : leb (place + count) n ≡ false = sym test ∙ failed in
-    let e : place + count ≡ s.place + length s.items = omega arith in
-    let out : nat_lt n (s.place + length s.items) ≡ true = ap (nat_lt n) (sym e) ∙ lt-ltb n (place + count) (leb-false (place + count) n t) in
-    sym (before ∙ ap (first_outside i n) is ∙ ap (λ x. cond x (Some i) (first_outside (suc i) n rest)) out)
-
-pub inside_here : (n place count i : ℕ) (s : Segment) (all from rest : List Segment) (b : Bool) → from ≡ s ∷ rest → place ≡ s.place → count ≡ length s.items → b ≡ leb (place + count) n → b ≡ true
-    → first_outside 0 n all ≡ first_outside i n from → first_outside 0 n all ≡ first_outside (i + 1) n rest
-inside_here n place count i s all from rest b is at many test holds before =
-    let t : leb (place + count) n ≡ true = sym test ∙ holds in
-    let e : place + count ≡ s.place + length s.items = omega arith in
-    let in' : nat_lt n (s.place + length s.items) ≡ false = ap (nat_lt n) (sym e) ∙ le-ltb n (place + count) (leb-true (place + count) n t) in
-    let next : suc i ≡ i + 1 = omega arith in
-    before ∙ ap (first_outside i n) is ∙ ap (λ x. cond x (Some i) (first_outside (suc i) n rest)) in' ∙ ap (λ k. first_outside k n rest) next
 
 -- ---- what is put
 

@@ -3,12 +3,13 @@ ghost use Rattle.wsyntax.specs.Modules.{module_shape};
 ghost use Rattle.wsyntax.specs.Execution.Start.{fresh_store};
 ghost use Rattle.soundness.specs.Slots.{slot_store};
 ghost use Rattle.parts.specs.Seen.{seen};
+ghost use Rattle.layout.specs.Layouts.{IsLayoutOf};
 ghost use Rattle.wstore.specs.Buffers.{room_with};
 ghost use Rattle.wstore.specs.LaidOut.{IsLaidOut};
 
-use crate::global_part::module_globals;
 use crate::memory_part::module_memory;
 use crate::table_part::module_table;
+use layout::Layout;
 use memory::CleanMem;
 use parts::Parts;
 use std::alloc::Global;
@@ -19,21 +20,23 @@ use wsyntax::Module;
 pub(crate) fn fresh_parts(
     alloc: Global,
     module: &Module<'_>,
+    layout: &Layout,
     pages: u32,
     clean: CleanMem,
 ) -> Result<(Parts, CleanMem), CleanMem>
-    requires { IsLaidOut pages (module_shape «module».now) }
+    requires allowed { IsLaidOut pages (module_shape «module».now) }
+    requires laid { IsLayoutOf (module_shape «module».now) layout.now }
     ensures fresh { IfOk result (λ r. seen r.0 ≡ slot_store (fresh_store pages (module_shape «module».now))) }
     ensures room { IfOk result (λ r. clean ≤ room_with r.0.memory r.1) }
     ensures refused { IfErr result (λ back. back ≡ clean) }
 {
-    let Ok(globals) = module_globals(alloc, &module.globals) else {
+    let Ok(globals) = Vec::from_slice(alloc, layout.globals()) else {
         return Err(clean);
     };
-    let Ok(table) = module_table(alloc, module) else {
+    let Ok(table) = module_table(alloc, module, layout) else {
         return Err(clean);
     };
-    let (memory, lent) = module_memory(alloc, module, pages, clean)?;
+    let (memory, lent) = module_memory(alloc, module, layout, pages, clean)?;
     let parts = Parts {
         memory,
         table,

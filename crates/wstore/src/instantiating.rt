@@ -38,18 +38,19 @@ pub fn instantiate<'a>(
 {
     accepted.accepted_holds();
     accepted.segments_are_bytes();
-    accepted.is_small();
+    accepted.is_laid_out();
     starts_typed();
     settings.in_range();
     let module = accepted.module();
+    let layout = accepted.layout();
     let pages = settings.pages();
-    if let Some(refusal) = refusal(module, accepted.has_floats(), pages) {
+    if let Some(refusal) = refusal(module, layout, accepted.has_floats(), pages) {
         return Err(NotStarted {
             fault: StartFault::Refused(refusal),
             clean,
         });
     }
-    match fresh_parts(alloc, module, pages, clean) {
+    match fresh_parts(alloc, module, layout, pages, clean) {
         Ok((parts, lent)) => Ok(Instance {
             accepted,
             parts,

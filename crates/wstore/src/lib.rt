@@ -2,18 +2,15 @@
 //! memory that is lent for it and comes back.
 #![tactic(auto)]
 
-mod constant;
 mod entry;
 mod execution;
 mod fault;
 mod fresh;
-mod global_part;
 mod instance;
 mod instantiating;
 mod judged;
 mod memory_part;
 mod refusal;
-mod segment;
 mod settings;
 mod store;
 mod table_part;

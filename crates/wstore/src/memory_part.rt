@@ -4,26 +4,27 @@ ghost use Rattle.std.specs.Prelude.{◌≡◌, ◌<◌, ◌*◌, ◌^◌, true, 
 ghost use Rattle.wsyntax.specs.Execution.Allocation.{put_data, AllWithin, fresh_memory};
 ghost use Rattle.wsyntax.specs.Execution.Store.{page, may_have};
 ghost use Rattle.memory.specs.Buffered.{zeros};
-ghost use Rattle.wstore.specs.Segments.{data_segments};
 ghost use Rattle.wsyntax.specs.Modules.{module_shape};
 ghost use Rattle.wsyntax.specs.Execution.Start.{layout_of};
 ghost use Rattle.parts.specs.Seen.{memory_of};
+ghost use Rattle.layout.specs.Layouts.{IsLayoutOf};
+ghost use Rattle.layout.specs.Segments.{data_segments, places_of};
 ghost use Rattle.wstore.specs.Buffers.{with_bytes, room_with};
 ghost use Rattle.wstore.specs.LaidOut.{IsLaidOut};
 
-use crate::constant::constant;
+use layout::Layout;
 use memory::{CleanMem, LinearMemory};
 use std::alloc::Global;
 use wsyntax::{Data, Limits, Module};
 
-/// Writes the data segments in order.
-fn put_data(memory: &mut LinearMemory, segments: &[Data<'_>])
-    requires small { length memory.old.memory.bytes < 2 ^ 32 }
+/// Writes the data segments in order, each from its place on.
+fn put_data(memory: &mut LinearMemory, segments: &[Data<'_>], places: &[u32])
     requires within { AllWithin (length memory.old.memory.bytes) (data_segments segments.now) }
+    requires placed { places.now ≡ places_of (data_segments segments.now) }
     ensures { memory.new ≡ with_bytes memory.old (put_data (data_segments segments.now) memory.old.memory.bytes) }
 {
-    for segment in segments {
-        memory.overwrite(constant(&segment.offset) as u32, segment.bytes);
+    for (number, segment) in segments.iter().enumerate() {
+        memory.overwrite(places[number], segment.bytes);
     }
 }
 
@@ -34,16 +35,17 @@ pub(crate) fn fresh_memory(
     limits: &Limits,
     pages: u32,
     segments: &[Data<'_>],
+    places: &[u32],
 ) -> Result<LinearMemory, CleanMem>
-    requires small { limits.now.min * page < 2 ^ 32 }
     requires may_have { may_have (zeros limits.now.min limits.now.max pages) limits.now.min ≡ true }
     requires within { AllWithin (limits.now.min * page) (data_segments segments.now) }
+    requires placed { places.now ≡ places_of (data_segments segments.now) }
     ensures memory { IfOk result (λ m. m.memory ≡ fresh_memory pages (data_segments segments.now) limits.now) }
     ensures room { IfOk result (λ m. m.room ≡ max clean (limits.now.min * page)) }
     ensures refused { IfErr result (λ back. back ≡ clean) }
 {
     let mut memory = LinearMemory::allocate(clean, limits.min, limits.max, pages)?;
-    put_data(&mut memory, segments);
+    put_data(&mut memory, segments, places);
     Ok(memory)
 }
 
@@ -51,10 +53,12 @@ pub(crate) fn fresh_memory(
 pub(crate) fn module_memory(
     alloc: Global,
     module: &Module<'_>,
+    layout: &Layout,
     pages: u32,
     clean: CleanMem,
 ) -> Result<(Option<LinearMemory>, CleanMem), CleanMem>
-    requires { IsLaidOut pages (module_shape «module».now) }
+    requires allowed { IsLaidOut pages (module_shape «module».now) }
+    requires laid { IsLayoutOf (module_shape «module».now) layout.now }
     ensures memory { IfOk result (λ r. memory_of r.0 ≡ option_map (fresh_memory pages (layout_of (module_shape «module».now)).data') (layout_of (module_shape «module».now)).memory) }
     ensures room { IfOk result (λ r. clean ≤ room_with r.0 r.1) }
     ensures refused { IfErr result (λ back. back ≡ clean) }
@@ -62,6 +66,6 @@ pub(crate) fn module_memory(
     let Some(limits) = module.memories.first() else {
         return Ok((None, clean));
     };
-    let memory = fresh_memory(clean, limits, pages, &module.data)?;
+    let memory = fresh_memory(clean, limits, pages, &module.data, layout.data_places())?;
     Ok((Some(memory), CleanMem::empty(alloc)))
 }

@@ -6,10 +6,11 @@ ghost use Rattle.wsyntax.specs.Execution.Store.{SetTo, Unset};
 ghost use Rattle.parts.specs.Seen.{entry_of};
 ghost use Rattle.wsyntax.specs.Modules.{module_shape};
 ghost use Rattle.wsyntax.specs.Execution.Start.{layout_of};
-ghost use Rattle.wstore.specs.Refusals.{table_size};
-ghost use Rattle.wstore.specs.Segments.{element_segments};
+ghost use Rattle.layout.specs.Layouts.{IsLayoutOf};
+ghost use Rattle.layout.specs.Segments.{element_segments, places_of};
+ghost use Rattle.layout.specs.Sizes.{table_size};
 
-use crate::constant::constant;
+use layout::Layout;
 use parts::TableEntry;
 use std::alloc::{AllocError, Global};
 use wsyntax::{Element, Module, Table};
@@ -24,17 +25,14 @@ fn put_functions(entries: &mut [TableEntry], place: usize, functions: &[u32])
     }
 }
 
-/// Writes the element segments in order.
-fn put_elements(entries: &mut [TableEntry], segments: &[Element])
-    requires { AllWithin (length entries.old) (element_segments segments.now) }
+/// Writes the element segments in order, each from its place on.
+fn put_elements(entries: &mut [TableEntry], segments: &[Element], places: &[u32])
+    requires within { AllWithin (length entries.old) (element_segments segments.now) }
+    requires placed { places.now ≡ places_of (element_segments segments.now) }
     ensures { map entry_of entries.new ≡ put_elements (element_segments segments.now) (map entry_of entries.old) }
 {
-    for segment in segments {
-        put_functions(
-            entries,
-            constant(&segment.offset) as usize,
-            &segment.functions,
-        );
+    for (number, segment) in segments.iter().enumerate() {
+        put_functions(entries, places[number] as usize, &segment.functions);
     }
 }
 
@@ -43,12 +41,14 @@ pub(crate) fn fresh_table(
     alloc: Global,
     table: &Table,
     segments: &[Element],
+    places: &[u32],
 ) -> Result<Vec<TableEntry>, AllocError>
-    requires { AllWithin table.now.limits.min (element_segments segments.now) }
+    requires within { AllWithin table.now.limits.min (element_segments segments.now) }
+    requires placed { places.now ≡ places_of (element_segments segments.now) }
     ensures { IfOk result (λ t. map entry_of t.items ≡ put_elements (element_segments segments.now) (replicate table.now.limits.min Unset)) }
 {
     let mut entries = Vec::from_elem(alloc, TableEntry::Unset, table.limits.min as usize)?;
-    put_elements(&mut entries, segments);
+    put_elements(&mut entries, segments, places);
     Ok(entries)
 }
 
@@ -56,12 +56,15 @@ pub(crate) fn fresh_table(
 pub(crate) fn module_table(
     alloc: Global,
     module: &Module<'_>,
+    layout: &Layout,
 ) -> Result<Option<Vec<TableEntry>>, AllocError>
-    requires { AllWithin (table_size (module_shape «module».now)) (layout_of (module_shape «module».now)).elements }
+    requires within { AllWithin (table_size (module_shape «module».now)) (layout_of (module_shape «module».now)).elements }
+    requires laid { IsLayoutOf (module_shape «module».now) layout.now }
     ensures { IfOk result (λ t. option_map (λ v. map entry_of v.items) t ≡ option_map (λ n. put_elements (layout_of (module_shape «module».now)).elements (replicate n Unset)) (layout_of (module_shape «module».now)).table) }
 {
     let Some(table) = module.tables.first() else {
         return Ok(None);
     };
-    Ok(Some(fresh_table(alloc, table, &module.elements)?))
+    let entries = fresh_table(alloc, table, &module.elements, layout.element_places())?;
+    Ok(Some(entries))
 }

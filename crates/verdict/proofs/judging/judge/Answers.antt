@@ -13,6 +13,7 @@ use Rattle.std.proofs.Math.Logic.{∥∥₁_map}
 use Rattle.verdict.proofs.Judgements.{is_judged}
 use Rattle.verdict.proofs.Lendings.{shaped_same, looked_same, typed_same, numbered_same, paired_same, few_same}
 use Rattle.verdict.proofs.SegmentBytes.{segments_are_bytes}
+use Rattle.verdict.proofs.Sizes.{segments_fit}
 use Rattle.verdict.proofs.Smallness.{is_small}
 use Rattle.verdict.proofs.judging.judge.Goals as goal
 
@@ -127,3 +128,16 @@ function_shapes-requires-clause-paired g c =
 pub function_shapes-requires-clause-few : goal.function_shapes-requires-clause-few
 function_shapes-requires-clause-few g c =
     few_same _ _ _ _ c.deref-7.result.now c.in_ok-bodies.bodies.items c.deref-7.ensures.value c.in_ok-bodies.ensures.bodies
+
+pub of-requires-clause-few : goal.of-requires-clause-few
+of-requires-clause-few g c =
+    let few = segments_fit c.args.bytes.now (module_shape c.in_ok-module.module) (decoded _ _ c.in_ok-module.module c.in_ok-module.ensures.found c.in_ok-module.ensures.too_large) in
+    record { elements = omega arith; segments = omega arith }
+
+-- rule 12 is kept
+pub of-requires-clause-elements : goal.of-requires-clause-elements
+of-requires-clause-elements g c = c.in_ok-context.ensures.valid 12
+
+-- rule 13 is kept
+pub of-requires-clause-segments : goal.of-requires-clause-segments
+of-requires-clause-segments g c = c.in_ok-context.ensures.valid 13

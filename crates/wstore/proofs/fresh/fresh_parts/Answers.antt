@@ -1,12 +1,11 @@
-use Rattle.std.proofs.Common.{◌≡◌, ◌∙◌, map, ap}
-use Rattle.wsyntax.specs.Modules.{global_shape}
-use Rattle.wsyntax.specs.Execution.Start.{first_value}
-use Rattle.soundness.specs.Slots.{bits, slots}
-use Rattle.wstore.proofs.Globals.{words_of, joined}
+use Rattle.std.proofs.Common.{◌≡◌, ◌∙◌}
+use Rattle.wsyntax.specs.Modules.{module_shape}
+use Rattle.wsyntax.specs.Execution.Start.{layout_of}
+use Rattle.soundness.specs.Slots.{slots}
+use Rattle.wstore.proofs.Globals.{joined}
 use Rattle.wstore.proofs.fresh.fresh_parts.Goals as goal
 
 pub returns-clause-fresh : goal.returns-clause-fresh
 returns-clause-fresh c =
-    let words : c.in-Ok.globals.items ≡ slots (map first_value (map global_shape c.args.module.now.globals.items)) =
-    c.in-Ok.ensures ∙ ap (map (λ g. bits (first_value (global_shape g)))) c.deref.ensures.value ∙ words_of c.args.module.now.globals.items in
+    let words : c.in-Ok.globals.items ≡ slots (layout_of (module_shape c.args.module.now)).globals = c.in-Ok.ensures.items ∙ c.globals.ensures ∙ c.requires.laid.globals in
     joined c.in_ok-memory.ensures.memory c.in-Ok-module_table.ensures words

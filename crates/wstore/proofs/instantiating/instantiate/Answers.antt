@@ -21,8 +21,11 @@ fresh_parts-requires c =
     let none = none_of c.refusal.result c.in_default.not-Some in
     let allowed : None ≡ start_refusal c.pages-pages.result (module_shape c.args.accepted.now.module) (shapes_of c.args.accepted.now.bodies.items) = search rules in
     let limit : c.pages-pages.result ≤ 1024 = omega (arith, c.pages-pages.ensures, c.in_range.ensures.pages') in
-    subst (λ x. IsLaidOut c.pages-pages.result (module_shape x)) (sym c.module-module.ensures)
-    (laid_out c.pages-pages.result (module_shape c.args.accepted.now.module) (shapes_of c.args.accepted.now.bodies.items) (∥∥₁_map c.accepted_holds.ensures (λ j. j.rules)) allowed limit)
+    record {
+      allowed = subst (λ x. IsLaidOut c.pages-pages.result (module_shape x)) (sym c.module-module.ensures)
+          (laid_out c.pages-pages.result (module_shape c.args.accepted.now.module) (shapes_of c.args.accepted.now.bodies.items) (∥∥₁_map c.accepted_holds.ensures (λ j. j.rules)) allowed limit);
+      laid = search rules;
+    }
 
 pub invariant_of-result : goal.invariant_of-result
 invariant_of-result c =

@@ -1,0 +1,4 @@
+pub mod Constants
+pub mod Segments
+pub mod Sizes
+pub mod Layouts
