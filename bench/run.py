@@ -1,11 +1,19 @@
 #!/usr/bin/env python3
 """usage: run.py GATE    measures `gate run` beside other engines on the kernels of bench/kernels.wat, all in one run.
 
-Needs wabt's wat2wasm. For each kernel: milliseconds of a fresh process of `gate` with one worker, the best of five, less
-those of the same process without a call; and in brackets how many times as long
-  wabt    wasm-interp takes, counted the same way
+Needs wabt's wat2wasm and a C compiler. For each kernel: milliseconds of a fresh process of `gate` with one worker, less those
+of the same process without a call; and in brackets how many times as long
+  switch  bench/machine.c takes, the same design in plain C, by its own clock for the call alone
+  goto    the same program takes where it goes from token to token by computed goto
+  wabt    wasm-interp takes, counted as for gate
+  jsc     JavaScriptCore's shell takes with its interpreter alone (no translation), by its own clock, where it is installed
   node    takes for the call alone, by its own clock, after the module is compiled (it translates to machine code)
-Last, the geometric mean of the ratios. The results of all must be equal.
+They take turns, so that all meet the same load, and the best of five counts (of two for wabt). Then the geometric mean of the
+ratios. The results of all must be equal. Both programs in C are made by clang -O2, the kit's where there is one.
+
+Last, what calls cost, in nanoseconds: a call and its return, which is what `fib` takes by the number of its calls; and a
+small call on a fresh instance (the sum of two numbers), which is what a process with 100,000 lines of it takes less one with
+as many lines whose second argument is of another type, so that nothing is run: reading, judging and writing are in both.
 """
 import math
 import os
@@ -23,6 +31,13 @@ NODE = """const fs=require('fs');const m=new WebAssembly.Module(fs.readFileSync(
 let best=1e9,r;for(let i=0;i<3;i++){const f=new WebAssembly.Instance(m).exports[process.argv[2]];
 const s=process.hrtime.bigint();r=f(+process.argv[3]);const t=Number(process.hrtime.bigint()-s)/1e6;if(t<best)best=t}
 console.log(best,r|0)"""
+JSC = """const m=new WebAssembly.Module(readFile(arguments[0],'binary'));let best=1e9,r;
+for(let i=0;i<3;i++){const f=new WebAssembly.Instance(m).exports[arguments[1]];const s=preciseTime();r=f(+arguments[2]);
+const t=(preciseTime()-s)*1e3;if(t<best)best=t}print(best,r|0)"""
+ADD = '(module (func (export "add") (param i32 i32) (result i32) (i32.add (local.get 0) (local.get 1))))'
+CALLS = 100_000
+# Newer compilers join the jumps that computed goto is there for, unless they are told not to; older ones know no such words.
+APART = ['-mllvm', '-tail-dup-pred-size=1000', '-mllvm', '-tail-dup-succ-size=1000']
 
 
 def best_of(words, times=5):
@@ -32,6 +47,29 @@ def best_of(words, times=5):
         out = subprocess.run(words, capture_output=True, check=True).stdout.decode()
         best = min(best, time.perf_counter() - start)
     return best * 1000, out
+
+
+def compiler():
+    # The kit's clang has no headers of its own, so it is given those of the system's compiler.
+    kit = shutil.which('rt')
+    clang = kit and os.path.join(os.path.dirname(os.path.realpath(kit)), '..', 'toolchain', 'bin', 'clang')
+    if not clang or not os.path.exists(clang):
+        return ['clang']
+    return [clang, '-isystem', subprocess.run(['cc', '-print-file-name=include'], capture_output=True, check=True).stdout.decode().strip()]
+
+
+def compiled(folder, name, source, *words):
+    program = os.path.join(folder, name)
+    subprocess.run(compiler() + ['-O2', *words, '-o', program, os.path.join(here, source)], check=True, stderr=subprocess.DEVNULL)
+    return program
+
+
+def machines(folder):
+    try:
+        threaded = compiled(folder, 'goto', 'machine.c', '-DTHREADED', *APART)
+    except subprocess.CalledProcessError:
+        threaded = compiled(folder, 'goto', 'machine.c', '-DTHREADED')
+    return {'switch': compiled(folder, 'switch', 'machine.c'), 'goto': threaded}
 
 
 def write(path, text):
@@ -54,42 +92,98 @@ def alone(text, name, size):
     return text.rstrip()[:-1] + body + ')'
 
 
+def printed(words):
+    best, value = subprocess.run(words, capture_output=True, check=True).stdout.split()
+    return float(best), int(value)
+
+
+def by_process(words, idle, pattern):
+    spent, out = best_of(words, 1)
+    result = re.search(pattern, out)
+    if not result:
+        sys.exit(f'{words}: {out}')
+    return spent - idle, int(result.group(1))
+
+
+def engines(folder, programs, module, words, wabt_module, name, size, idle, wabt_idle):
+    # Of each engine that is there, what measures one run of a kernel: milliseconds and result.
+    script = os.path.join(folder, 'call.js')
+    write(script, JSC)
+    takes = {'gate': lambda: by_process(words, idle, r'0 values i32:(-?\d+) ')}
+    takes |= {engine: lambda program=program: printed([program, module, '1', name, str(size)]) for engine, program in programs.items()}
+    takes['wabt'] = lambda: by_process(['wasm-interp', wabt_module, '--run-all-exports'], wabt_idle, r'i32:(\d+)')
+    if shutil.which('jsc'):
+        takes['jsc'] = lambda: printed(['jsc', '--useBBQJIT=0', '--useOMGJIT=0', script, '--', module, name, str(size)])
+    if shutil.which('node'):
+        takes['node'] = lambda: printed(['node', '-e', NODE, module, name, str(size)])
+    return takes
+
+
+def in_turn(name, takes):
+    # The best milliseconds of each engine.
+    best, result = {}, None
+    for turn in range(5):
+        for engine, take in takes.items():
+            if engine == 'wabt' and turn > 1:
+                continue
+            spent, value = take()
+            result = value if result is None else result
+            if (value - result) % 2 ** 32:
+                sys.exit(f'{name}: {engine} gives {value}, gate {result}')
+            best[engine] = min(spent, best.get(engine, spent))
+    return best
+
+
 def milliseconds(of_gate, of_other):
     return f'{of_other:9.1f} ({of_other / of_gate:5.2f})'
+
+
+def small_call(gate, folder):
+    # Nanoseconds of a call of `add`, and of a line that is refused before anything is run.
+    module, calls = translated(folder, 'add', ADD), os.path.join(folder, 'calls')
+    spent = {'i32': 1e9, 'i64': 1e9}
+    for _ in range(7):
+        for second in spent:
+            write(calls, f'add\ti32:1\t{second}:2\n' * CALLS)
+            spent[second] = min(spent[second], best_of([gate, 'run', module, calls, '--workers', '1'], 1)[0] * 1e6 / CALLS)
+    return spent['i32'] - spent['i64'], spent['i64']
+
+
+def calls_of_fib(size):
+    # fib of n makes so many calls, itself counted.
+    before, last = 1, 1
+    for _ in range(size - 1):
+        before, last = last, before + last + 1
+    return last
 
 
 def main(gate):
     with open(os.path.join(here, 'kernels.wat')) as file:
         text = file.read()
-    ratios = {'wabt': [], 'node': []}
+    ratios, in_fib = {}, {}
     with tempfile.TemporaryDirectory() as folder:
+        programs = machines(folder)
         module, calls = translated(folder, 'kernels', text), os.path.join(folder, 'calls')
         words = [gate, 'run', module, calls, '--workers', '1', '--fuel', '1000000000', '--pages', '1024']
         write(calls, '')
         idle = best_of(words)[0]
         wabt_idle = best_of(['wasm-interp', translated(folder, 'idle', alone(text, '', 0)), '--run-all-exports'])[0]
-        print(f'{"kernel":10}{"gate, ms":>10}{"wabt":>18}{"node":>18}')
         for name, size in KERNELS:
             write(calls, f'{name}\ti32:{size}\n')
-            spent, out = best_of(words)
-            result = re.match(r'0 values i32:(-?\d+) ', out)
-            if not result:
-                sys.exit(f'{name}: {out}')
-            spent -= idle
-            others = {}
-            other, out = best_of(['wasm-interp', translated(folder, name, alone(text, name, size)), '--run-all-exports'], 2)
-            others['wabt'] = (other - wabt_idle, int(re.search(r'i32:(\d+)', out).group(1)))
-            if shutil.which('node'):
-                best, value = subprocess.run(['node', '-e', NODE, module, name, str(size)], capture_output=True, check=True).stdout.split()
-                others['node'] = (float(best), int(value))
-            for engine, (other, value) in others.items():
-                if (value - int(result.group(1))) % 2 ** 32:
-                    sys.exit(f'{name}: {engine} gives {value}, gate {result.group(1)}')
-                ratios[engine].append(other / spent)
-            print(f'{name:10}{spent:10.1f}' + ''.join(f'{milliseconds(spent, o[0]):>18}' for o in others.values()), flush=True)
-    for engine, all_of in ratios.items():
-        if all_of:
+            wabt_module = translated(folder, name, alone(text, name, size))
+            best = in_turn(name, engines(folder, programs, module, words, wabt_module, name, size, idle, wabt_idle))
+            spent = best.pop('gate')
+            for engine, other in best.items():
+                ratios.setdefault(engine, []).append(other / spent)
+            if name == 'fib':
+                print(f'{"kernel":10}{"gate, ms":>10}' + ''.join(f'{engine:>18}' for engine in best))
+                in_fib = {engine: other * 1e6 / calls_of_fib(size) for engine, other in {'gate': spent, **best}.items()}
+            print(f'{name:10}{spent:10.1f}' + ''.join(f'{milliseconds(spent, other):>18}' for other in best.values()), flush=True)
+        for engine, all_of in ratios.items():
             print(f'geometric mean, {engine}: {math.exp(sum(map(math.log, all_of)) / len(all_of)):.2f}')
+        print('a call and its return (fib), ns: ' + ', '.join(f'{engine} {of:.1f}' for engine, of in in_fib.items()))
+        small, refused = small_call(gate, folder)
+        print(f'a small call on a fresh instance, ns: {small:.0f}, beside {refused:.0f} for a line that is refused')
 
 
 if __name__ == '__main__':
