@@ -1,10 +1,15 @@
 #!/usr/bin/env python3
-"""usage: batch.py GATE    what a call on a fresh instance costs in `gate run`, beside node, all in one run.
+"""usage: batch.py GATE    what a call on a fresh instance costs in `gate run`, beside wabt and node, all in one run.
 
-Needs wabt's wat2wasm. For each kind of module: microseconds a call of 100,000 calls (fewer for the large memories) in one
-process, reading, judging and writing included, with 1, 2 and 4 workers, the best of three; and those of node, which makes
-an instance and calls it as often (its own clock, the module being compiled before). Last, how four workers compare with
-four processes of one worker that run side by side on a quarter of the calls each.
+Needs wabt's wat2wasm. For each kind of module: microseconds a call of 100,000 calls in one process, reading, judging and
+writing included, with 1, 2 and 4 workers; then those of four programs of one worker each that run side by side on a quarter
+of the calls each, and how many times as long one program with four workers takes. These are run in turn, the best of five,
+so that all meet the same load. Beside them, with the module read and validated before the clock starts:
+  wabt    bench/wabt.cc: wabt's interpreter makes an instance and calls it, a tenth as often, where its library is installed.
+          (Its programs cannot be compared: wasm-interp calls each export once on one instance, and spectest-interp reads
+          the module again from a file for each instance.)
+  node    does the same, as often
+Both measure themselves, the best of three.
 """
 import os
 import shutil
@@ -13,14 +18,14 @@ import sys
 import tempfile
 import time
 
+here = os.path.dirname(os.path.abspath(__file__))
 KINDS = [('nothing', '(func (export "f"))', 100_000),
          ('a page, segment, store, load', '(memory 1) (data (i32.const 0) "\\01\\02\\03") (func (export "f") (i32.store (i32.const 8) (i32.load (i32.const 0))))', 100_000),
          ('200 turns of a loop', '(func (export "f") (local i32) (loop (br_if 0 (i32.lt_u (local.tee 0 (i32.add (local.get 0) (i32.const 1))) (i32.const 200)))))', 100_000),
          ('16 pages, three writes', '(memory 16) (func (export "f") (i32.store (i32.const 0) (i32.const 1)) (i32.store (i32.const 524288) (i32.const 1)) (i32.store (i32.const 1048572) (i32.const 1)))', 100_000),
          ('a start function', '(global (mut i32) (i32.const 0)) (func $s (global.set 0 (i32.const 7))) (start $s) (func (export "f"))', 100_000)]
-NODE = """const m=new WebAssembly.Module(require('fs').readFileSync(process.argv[1]));const n=+process.argv[2];let best=1e9;
-for(let i=0;i<3;i++){const s=process.hrtime.bigint();for(let k=0;k<n;k++)new WebAssembly.Instance(m).exports.f();
-const t=Number(process.hrtime.bigint()-s)/1e3/n;if(t<best)best=t}console.log(best)"""
+NODE = """const m=new WebAssembly.Module(require('fs').readFileSync(process.argv[1]));const n=+process.argv[2];const s=process.hrtime.bigint();
+for(let k=0;k<n;k++)new WebAssembly.Instance(m).exports.f();console.log(Number(process.hrtime.bigint()-s)/1e3/n)"""
 
 
 def seconds(commands):
@@ -31,20 +36,42 @@ def seconds(commands):
     return time.perf_counter() - start
 
 
+def in_turn(runs):
+    # The best seconds of each of these lists of commands.
+    best = [1e9] * len(runs)
+    for _ in range(5):
+        best = [min(old, seconds(commands)) for old, commands in zip(best, runs)]
+    return best
+
+
+def wabt_program(folder):
+    # Nothing where wabt's library or its headers are not there.
+    program = os.path.join(folder, 'wabt')
+    words = ['c++', '-O2', '-std=c++17', '-o', program, os.path.join(here, 'wabt.cc'), '-lwabt']
+    return program if subprocess.run(words, stderr=subprocess.DEVNULL).returncode == 0 else ''
+
+
+def microseconds(words):
+    # As the program says itself; the best of three.
+    return min(float(subprocess.run(words, capture_output=True, check=True).stdout) for _ in range(3))
+
+
 def main(gate):
-    print(f'{"us a call":32}{"1 worker":>10}{"2":>8}{"4":>8}{"node":>9}{"4 workers to 4 processes":>26}')
+    print(f'{"us a call":32}{"1 worker":>10}{"2":>8}{"4":>8}{"4 programs":>12}{"4 workers to them":>19}{"wabt":>9}{"node":>9}')
     with tempfile.TemporaryDirectory() as folder:
         wat, wasm, calls, quarter = (os.path.join(folder, name) for name in ('m.wat', 'm.wasm', 'calls', 'quarter'))
+        wabt = wabt_program(folder)
         for name, text, count in KINDS:
             for path, contents in ((wat, f'(module {text})'), (calls, 'f\n' * count), (quarter, 'f\n' * (count // 4))):
                 with open(path, 'w') as file:
                     file.write(contents)
             subprocess.run(['wat2wasm', '-o', wasm, wat], check=True)
-            with_workers = [min(seconds([[gate, 'run', wasm, calls, '--workers', str(n)]]) for _ in range(3)) for n in (1, 2, 4)]
-            side_by_side = min(seconds([[gate, 'run', wasm, quarter, '--workers', '1']] * 4) for _ in range(3))
-            node = float(subprocess.run(['node', '-e', NODE, wasm, str(count // 10)], capture_output=True, check=True).stdout) if shutil.which('node') else 0.0
-            cells = ''.join(f'{spent / count * 1e6:{width}.2f}' for spent, width in zip(with_workers, (10, 8, 8)))
-            print(f'{name:32}{cells}{node:9.2f}{side_by_side / with_workers[2]:26.2f}', flush=True)
+            runs = [[[gate, 'run', wasm, calls, '--workers', str(n)]] for n in (1, 2, 4)]
+            best = in_turn(runs + [[[gate, 'run', wasm, quarter, '--workers', '1']] * 4])
+            cells = ''.join(f'{spent / count * 1e6:{width}.2f}' for spent, width in zip(best, (10, 8, 8, 12)))
+            others = [microseconds([wabt, wasm, str(count // 10)]) if wabt else 0.0,
+                      microseconds(['node', '-e', NODE, wasm, str(count // 10)]) if shutil.which('node') else 0.0]
+            print(f'{name:32}{cells}{best[2] / best[3]:19.2f}' + ''.join(f'{o:9.2f}' if o else f'{"-":>9}' for o in others), flush=True)
 
 
 if __name__ == '__main__':
