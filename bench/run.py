@@ -1,19 +1,21 @@
 #!/usr/bin/env python3
 """usage: run.py GATE    measures `gate run` beside other engines on the kernels of bench/kernels.wat, all in one run.
 
-Needs wabt's wat2wasm and a C compiler. For each kernel: milliseconds of a fresh process of `gate` with one worker, less those
-of the same process without a call; and in brackets how many times as long
-  switch  bench/machine.c takes, the same design in plain C, by its own clock for the call alone
+Needs wabt's wat2wasm and a C compiler. For each kernel: milliseconds of processor time of a fresh process of `gate` with one
+worker, less those of the same process without a call; and in brackets how many times as long
+  switch  bench/machine.c takes, the same design in plain C, by the processor time of the call alone
   goto    the same program takes where it goes from token to token by computed goto
   wabt    wasm-interp takes, counted as for gate
-  jsc     JavaScriptCore's shell takes with its interpreter alone (no translation), by its own clock, where it is installed
+  jsc     JavaScriptCore's shell takes with its interpreter alone (no translation), counted as for gate over three calls,
+          where it is installed
   node    takes for the call alone, by its own clock, after the module is compiled (it translates to machine code)
 They take turns, so that all meet the same load, and the best of five counts (of two for wabt). Then the geometric mean of the
 ratios. The results of all must be equal. Both programs in C are made by clang -O2, the kit's where there is one.
 
 Last, what calls cost, in nanoseconds: a call and its return, which is what `fib` takes by the number of its calls; and a
 small call on a fresh instance (the sum of two numbers), which is what a process with 100,000 lines of it takes less one with
-as many lines whose second argument is of another type, so that nothing is run: reading, judging and writing are in both.
+as many lines whose second argument is of another type, so that nothing is run: reading, judging and writing are in both (but
+a result is longer to write than `bad-arguments`). Of these the best of fifteen counts.
 """
 import math
 import os
@@ -22,7 +24,6 @@ import shutil
 import subprocess
 import sys
 import tempfile
-import time
 
 here = os.path.dirname(os.path.abspath(__file__))
 KERNELS = [('fib', 27), ('sums', 5_000_000), ('sieve', 20), ('words', 150), ('mixing', 2_000_000), ('collatz', 20_000),
@@ -31,9 +32,8 @@ NODE = """const fs=require('fs');const m=new WebAssembly.Module(fs.readFileSync(
 let best=1e9,r;for(let i=0;i<3;i++){const f=new WebAssembly.Instance(m).exports[process.argv[2]];
 const s=process.hrtime.bigint();r=f(+process.argv[3]);const t=Number(process.hrtime.bigint()-s)/1e6;if(t<best)best=t}
 console.log(best,r|0)"""
-JSC = """const m=new WebAssembly.Module(readFile(arguments[0],'binary'));let best=1e9,r;
-for(let i=0;i<3;i++){const f=new WebAssembly.Instance(m).exports[arguments[1]];const s=preciseTime();r=f(+arguments[2]);
-const t=(preciseTime()-s)*1e3;if(t<best)best=t}print(best,r|0)"""
+JSC = """const m=new WebAssembly.Module(readFile(arguments[0],'binary'));let r=0;
+for(let i=0;i<+arguments[3];i++)r=new WebAssembly.Instance(m).exports[arguments[1]](+arguments[2]);print(r|0)"""
 ADD = '(module (func (export "add") (param i32 i32) (result i32) (i32.add (local.get 0) (local.get 1))))'
 CALLS = 100_000
 # Newer compilers join the jumps that computed goto is there for, unless they are told not to; older ones know no such words.
@@ -41,11 +41,16 @@ APART = ['-mllvm', '-tail-dup-pred-size=1000', '-mllvm', '-tail-dup-succ-size=10
 
 
 def best_of(words, times=5):
-    best, out = 1e9, b''
+    # The least processor time of a process, in milliseconds, and what it prints.
+    best, out = 1e9, ''
     for _ in range(times):
-        start = time.perf_counter()
-        out = subprocess.run(words, capture_output=True, check=True).stdout.decode()
-        best = min(best, time.perf_counter() - start)
+        with subprocess.Popen(words, stdout=subprocess.PIPE) as child:
+            out = child.stdout.read().decode()
+            _, status, usage = os.wait4(child.pid, 0)
+            child.returncode = os.waitstatus_to_exitcode(status)
+        if child.returncode != 0:
+            sys.exit(f'{words}: status {child.returncode}')
+        best = min(best, usage.ru_utime + usage.ru_stime)
     return best * 1000, out
 
 
@@ -105,6 +110,12 @@ def by_process(words, idle, pattern):
     return spent - idle, int(result.group(1))
 
 
+def by_jsc(script, module, name, size):
+    words = ['jsc', '--useBBQJIT=0', '--useOMGJIT=0', script, '--', module, name, str(size)]
+    (spent, out), (idle, _) = best_of(words + ['3'], 1), best_of(words + ['0'], 2)
+    return (spent - idle) / 3, int(out)
+
+
 def engines(folder, programs, module, words, wabt_module, name, size, idle, wabt_idle):
     # Of each engine that is there, what measures one run of a kernel: milliseconds and result.
     script = os.path.join(folder, 'call.js')
@@ -113,7 +124,7 @@ def engines(folder, programs, module, words, wabt_module, name, size, idle, wabt
     takes |= {engine: lambda program=program: printed([program, module, '1', name, str(size)]) for engine, program in programs.items()}
     takes['wabt'] = lambda: by_process(['wasm-interp', wabt_module, '--run-all-exports'], wabt_idle, r'i32:(\d+)')
     if shutil.which('jsc'):
-        takes['jsc'] = lambda: printed(['jsc', '--useBBQJIT=0', '--useOMGJIT=0', script, '--', module, name, str(size)])
+        takes['jsc'] = lambda: by_jsc(script, module, name, size)
     if shutil.which('node'):
         takes['node'] = lambda: printed(['node', '-e', NODE, module, name, str(size)])
     return takes
@@ -142,7 +153,7 @@ def small_call(gate, folder):
     # Nanoseconds of a call of `add`, and of a line that is refused before anything is run.
     module, calls = translated(folder, 'add', ADD), os.path.join(folder, 'calls')
     spent = {'i32': 1e9, 'i64': 1e9}
-    for _ in range(7):
+    for _ in range(15):
         for second in spent:
             write(calls, f'add\ti32:1\t{second}:2\n' * CALLS)
             spent[second] = min(spent[second], best_of([gate, 'run', module, calls, '--workers', '1'], 1)[0] * 1e6 / CALLS)
