@@ -91,7 +91,7 @@ static void live(Kind kind, int is_kept, Memory kept, const u64 *first, const u8
 
 static double now(void) {
     struct timespec t;
-    clock_gettime(CLOCK_MONOTONIC, &t);
+    clock_gettime(CLOCK_PROCESS_CPUTIME_ID, &t);
     return t.tv_sec * 1e9 + t.tv_nsec;
 }
 

@@ -1,14 +1,14 @@
 #!/usr/bin/env python3
 """usage: instances.py GATE    what an instance costs in `gate run`, from its making to its end, beside plain C, all in one run.
 
-Needs wabt's wat2wasm and a C compiler. For each kind of module: nanoseconds a call of 100,000 calls of a function that does
-nothing, or that writes one byte, in one process with one worker, the best of five, less those of a process on as many lines
-whose argument is of another type: these are read, looked up and reported as well, in texts of the same length, but no
-instance is made. So the call itself is in it, and a memory's way from the pool and back: the row without a memory says what
-these come to. In brackets, how many times as long bench/instances.c takes
+Needs wabt's wat2wasm and a C compiler. For each kind of module: nanoseconds of processor time a call of 100,000 calls of a
+function that does nothing, or that writes one byte, in one process with one worker, the best of fifteen, less those of a process
+on as many lines whose argument is of another type: these are read, looked up and reported as well, in texts of the same
+length, but no instance is made. So the call itself is in it, and a memory's way from the pool and back: the row without a
+memory says what these come to. In brackets, how many times as long bench/instances.c takes
   kept    with a memory that is kept, in which the blocks of 4,096 bytes that were touched are cleared again
   fresh   with a memory from calloc, which is freed
-Slots, globals and table are had from malloc and freed in both. It measures itself, the best of five.
+Slots, globals and table are had from malloc and freed in both. It measures its own processor time, the best of five.
 """
 import os
 import subprocess
@@ -29,7 +29,7 @@ KINDS = [('no memory', NOTHING, (0, 0, 0, 0, 0)),
 def by_gate(gate, module, calls):
     # Nanoseconds a call, and a line that is refused; each is run in turn, so that both meet the same load.
     spent = {'i32': 1e9, 'i64': 1e9}
-    for _ in range(5):
+    for _ in range(15):
         for kind in spent:
             write(calls, f'f\t{kind}:1\n' * COUNT)
             best, out = best_of([gate, 'run', module, calls, '--workers', '1'], 1)
