@@ -3,8 +3,10 @@
 
 Needs wabt's wat2wasm. For each kind of module: microseconds a call of 100,000 calls in one process, reading, judging and
 writing included, with 1, 2 and 4 workers; then those of four programs of one worker each that run side by side on a quarter
-of the calls each, and how many times as long one program with four workers takes. These are run in turn, the best of five,
-so that all meet the same load. Beside them, with the module read and validated before the clock starts:
+of the calls each, and how many times as long one program with four workers takes than these. These are run in turn, the best
+of five, so that all meet the same load. `4, CPU` is how many times as much processor time four workers take as one does, all
+threads together: what is above 1 is work that only more workers make. Beside them, with the module read and validated before
+the clock starts:
   wabt    bench/wabt.cc: wabt's interpreter makes an instance and calls it, a tenth as often, where its library is installed.
           (Its programs cannot be compared: wasm-interp calls each export once on one instance, and spectest-interp reads
           the module again from a file for each instance.)
@@ -29,18 +31,20 @@ for(let k=0;k<n;k++)new WebAssembly.Instance(m).exports.f();console.log(Number(p
 
 
 def seconds(commands):
+    # Of these programs side by side: the time that passed, and the processor time that they took together.
     start = time.perf_counter()
     running = [subprocess.Popen(words, stdout=subprocess.DEVNULL) for words in commands]
-    if any(child.wait() for child in running):
+    ended = [os.wait4(child.pid, 0) for child in running]
+    if any(status for _, status, _ in ended):
         sys.exit(f'{commands[0]}: another status than 0')
-    return time.perf_counter() - start
+    return time.perf_counter() - start, sum(usage.ru_utime + usage.ru_stime for _, _, usage in ended)
 
 
 def in_turn(runs):
-    # The best seconds of each of these lists of commands.
-    best = [1e9] * len(runs)
+    # Of each of these lists of commands the least of both times.
+    best = [(1e9, 1e9)] * len(runs)
     for _ in range(5):
-        best = [min(old, seconds(commands)) for old, commands in zip(best, runs)]
+        best = [tuple(map(min, old, seconds(commands))) for old, commands in zip(best, runs)]
     return best
 
 
@@ -57,7 +61,7 @@ def microseconds(words):
 
 
 def main(gate):
-    print(f'{"us a call":32}{"1 worker":>10}{"2":>8}{"4":>8}{"4 programs":>12}{"4 workers to them":>19}{"wabt":>9}{"node":>9}')
+    print(f'{"us a call":32}{"1 worker":>10}{"2":>8}{"4":>8}{"4 programs":>12}{"4 to these":>12}{"4, CPU":>9}{"wabt":>9}{"node":>9}')
     with tempfile.TemporaryDirectory() as folder:
         wat, wasm, calls, quarter = (os.path.join(folder, name) for name in ('m.wat', 'm.wasm', 'calls', 'quarter'))
         wabt = wabt_program(folder)
@@ -68,10 +72,11 @@ def main(gate):
             subprocess.run(['wat2wasm', '-o', wasm, wat], check=True)
             runs = [[[gate, 'run', wasm, calls, '--workers', str(n)]] for n in (1, 2, 4)]
             best = in_turn(runs + [[[gate, 'run', wasm, quarter, '--workers', '1']] * 4])
-            cells = ''.join(f'{spent / count * 1e6:{width}.2f}' for spent, width in zip(best, (10, 8, 8, 12)))
+            cells = ''.join(f'{spent / count * 1e6:{width}.2f}' for (spent, _), width in zip(best, (10, 8, 8, 12)))
+            ratios = best[2][0] / best[3][0], best[2][1] / best[0][1]
             others = [microseconds([wabt, wasm, str(count // 10)]) if wabt else 0.0,
                       microseconds(['node', '-e', NODE, wasm, str(count // 10)]) if shutil.which('node') else 0.0]
-            print(f'{name:32}{cells}{best[2] / best[3]:19.2f}' + ''.join(f'{o:9.2f}' if o else f'{"-":>9}' for o in others), flush=True)
+            print(f'{name:32}{cells}{ratios[0]:12.2f}{ratios[1]:9.2f}' + ''.join(f'{o:9.2f}' if o else f'{"-":>9}' for o in others), flush=True)
 
 
 if __name__ == '__main__':
