@@ -15,6 +15,7 @@ import subprocess
 import sys
 import tempfile
 
+sys.dont_write_bytecode = True
 from run import best_of, compiled, translated, write
 
 COUNT = 100_000

@@ -10,7 +10,8 @@ worker, less those of the same process without a call; and in brackets how many 
           where it is installed
   node    takes for the call alone, by its own clock, after the module is compiled (it translates to machine code)
 They take turns, so that all meet the same load, and the best of five counts (of two for wabt). Then the geometric mean of the
-ratios. The results of all must be equal. Both programs in C are made by clang -O2, the kit's where there is one.
+ratios. The results of all must be equal. Both programs in C are made by clang -O2, the kit's where there is one
+(by cc where there is no clang).
 
 Last, what calls cost, in nanoseconds: a call and its return, which is what `fib` takes by the number of its calls; and a
 small call on a fresh instance (the sum of two numbers), which is what a process with 100,000 lines of it takes less one with
@@ -59,7 +60,7 @@ def compiler():
     kit = shutil.which('rt')
     clang = kit and os.path.join(os.path.dirname(os.path.realpath(kit)), '..', 'toolchain', 'bin', 'clang')
     if not clang or not os.path.exists(clang):
-        return ['clang']
+        return ['clang' if shutil.which('clang') else 'cc']
     return [clang, '-isystem', subprocess.run(['cc', '-print-file-name=include'], capture_output=True, check=True).stdout.decode().strip()]
 
 
