@@ -29,9 +29,6 @@ none_broken m h (suc i) = each_at rules m h i
 one : {A : Type 0} (P : A → Type 0) (x : A) → P x → All P (x ∷ [])
 one P x h = All-cons P x [] h (All-nil P)
 
-no_max : (n : ℕ) (P : ℕ → Type 0) → None ≡ Some n → P n
-no_max n P e = absurd cc
-
 starts : (f : ℕ) → Some 0 ≡ Some f → HasType sole empty_type f
 starts f e = subst (HasType sole empty_type) (same_Some 0 f e) (0, refl, refl)
 
