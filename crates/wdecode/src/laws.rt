@@ -9,7 +9,7 @@ ghost use Rattle.wsyntax.specs.Binary.Types.{val_type, block_type, func_type, li
 ghost use Rattle.wsyntax.specs.Binary.Instructions.{plain_instruction};
 ghost use Rattle.wsyntax.specs.Binary.Nesting.{expression};
 ghost use Rattle.wsyntax.specs.Binary.Sections.{an_import, an_export, global, element, data_segment, locals, body, section};
-ghost use Rattle.wsyntax.specs.Binary.Shell.{SpellsBody, Spells};
+ghost use Rattle.wsyntax.specs.Binary.Shell.{Shell, SpellsBody, Spells};
 
 /// What is read is spelled so, and what is spelled so is read, for each production.
 pub fn grammar_is_read()
@@ -42,6 +42,11 @@ pub fn tokens_have_one_tree()
 /// Bytes spell one body at most.
 pub fn bodies_are_determined()
     ensures { (bytes : List ℕ) (b d : BodyShape) → SpellsBody bytes b → SpellsBody bytes d → b ≡ d }
+{}
+
+/// Bytes spell one module at most, its bodies left as bytes, also where these spell none.
+pub fn shells_are_determined()
+    ensures { (bytes : List ℕ) (m n : ModuleShape) → Shell bytes m → Shell bytes n → m ≡ n }
 {}
 
 /// Bytes spell one module at most, and each of its bodies is one.

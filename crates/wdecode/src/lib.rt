@@ -19,6 +19,7 @@ pub use fault::{BodyFault, DecodeFault, Fault};
 pub use frequent::{branch_at, call_at, constant_at, load_at, numeric_at, store_at, variable_at};
 pub use instructions::{enter, expression_at, token_at};
 pub use laws::{
-    bodies_are_determined, grammar_is_read, modules_are_determined, tokens_have_one_tree,
+    bodies_are_determined, grammar_is_read, modules_are_determined, shells_are_determined,
+    tokens_have_one_tree,
 };
 pub use module::decode_module;
