@@ -1,4 +1,4 @@
-ghost use Rattle.std.specs.Prelude.{◌≡◌, ◌<◌, List, None, true, length};
+ghost use Rattle.std.specs.Prelude.{◌≡◌, ◌<◌, List, [], None, true, length};
 ghost use Rattle.wsyntax.specs.Instructions.{Token as Instruction};
 ghost use Rattle.verdict.specs.Judged.{class_of};
 ghost use Rattle.verdict.specs.OnePass.{Passes, PassesAs};
@@ -80,10 +80,27 @@ macro_rules! look_at {
     };
 }
 
+/// Lets the checker look at what was read, where the operands that it takes are known to be there.
+macro_rules! look_known {
+    ($checker:expr, $read:expr) => {
+        match $read {
+            None => Front::Other,
+            Some((token, after)) => {
+                if $checker.step_known(token) {
+                    Front::Taken(after)
+                } else {
+                    Front::Other
+                }
+            }
+        }
+    };
+}
+
 /// Reads and checks the instruction at the front, where it is one of those that bodies are mostly made of. Each way
 /// checks by itself, so that what it read need not be told apart again.
 #[inline(always)]
 fn frequent_passes<'a>(checker: &mut Checker<'_>, bytes: &'a [u8]) -> Front<'a>
+    requires { checker.old.frames ≡ [] → ⊥ }
     ensures outside { checker.new.outside ≡ checker.old.outside }
     ensures passes { Passes bytes.now checker.old checker.new result }
 {
@@ -95,14 +112,15 @@ fn frequent_passes<'a>(checker: &mut Checker<'_>, bytes: &'a [u8]) -> Front<'a>
         0x0D => look_at!(checker, branch_at(rest)),
         0x10 => look_at!(checker, call_at(rest)),
         0x1A => look!(checker, Token::Drop, rest),
-        0x20 => look_at!(checker, variable_at(0x20, rest)),
-        0x21 => look_at!(checker, variable_at(0x21, rest)),
-        0x22 => look_at!(checker, variable_at(0x22, rest)),
-        0x23..=0x24 => look_at!(checker, variable_at(*byte, rest)),
-        0x28..=0x35 => look_at!(checker, load_at(*byte, rest)),
-        0x36..=0x3E => look_at!(checker, store_at(*byte, rest)),
-        0x41 => look_at!(checker, constant_at(rest)),
-        0x45..=0xC4 => look_at!(checker, numeric_at(*byte, rest)),
+        0x20 => look_known!(checker, variable_at(0x20, rest)),
+        0x21 => look_known!(checker, variable_at(0x21, rest)),
+        0x22 => look_known!(checker, variable_at(0x22, rest)),
+        0x41 => look_known!(checker, constant_at(rest)),
+        // The ranges are asked in this order.
+        0x45..=0xC4 => look_known!(checker, numeric_at(*byte, rest)),
+        0x28..=0x35 => look_known!(checker, load_at(*byte, rest)),
+        0x36..=0x3E => look_known!(checker, store_at(*byte, rest)),
+        0x23..=0x24 => look_known!(checker, variable_at(*byte, rest)),
         _ => Front::Other,
     }
 }

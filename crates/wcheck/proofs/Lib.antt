@@ -27,6 +27,8 @@ pub mod Stretched
 pub mod Pushed
 pub mod Shortened
 pub mod Topmost
+pub mod Known
+pub mod KnownSteps
 pub mod Singles
 pub mod Putting
 pub mod Taking

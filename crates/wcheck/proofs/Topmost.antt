@@ -17,7 +17,7 @@ use Rattle.wcheck.proofs.Stretched.{none, whole_run, no_run}
 use Rattle.wcheck.proofs.Pushed.{pushed}
 use Rattle.wcheck.proofs.Shortened.{split_run}
 
-known_single : (x : Operand) (t : ValType) → type_of x ≡ Some t → is_several x ≡ false
+pub known_single : (x : Operand) (t : ValType) → type_of x ≡ Some t → is_several x ≡ false
 known_single I32 t e = refl
 known_single I64 t e = refl
 known_single F32 t e = refl

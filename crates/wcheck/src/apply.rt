@@ -1,4 +1,4 @@
-ghost use Rattle.std.specs.Prelude.{◌≡◌, [], ◌∷◌, Option, IfOk, reverse};
+ghost use Rattle.std.specs.Prelude.{◌≡◌, [], ◌∷◌, true, false, Option, Some, IfOk, reverse};
 ghost use Rattle.wsyntax.specs.Validation.Algorithm.{when, apply, join};
 ghost use Rattle.wcheck.specs.OperandRules.{rule_of};
 
@@ -111,5 +111,28 @@ pub(crate) fn apply_rule(operands: &mut OperandStack, rule: OperandRule) -> Resu
             None => Ok(false),
         },
         OperandRule::Selects => selects(operands),
+    }
+}
+
+/// Does to the operands what the instruction does, where those that it takes are known to be there. `false`: nothing was
+/// done, which says nothing of the instruction.
+#[inline(always)]
+pub(crate) fn apply_known(operands: &mut OperandStack, rule: OperandRule) -> bool
+    ensures above { result ≡ true → apply (rule_of operands.old.types rule) operands.old.above ≡ Some operands.new.above }
+    ensures others { result ≡ false → operands.new.above ≡ operands.old.above }
+    ensures below { operands.new.below ≡ operands.old.below }
+    ensures types { operands.new.types ≡ operands.old.types }
+{
+    match rule {
+        OperandRule::Puts(t) => operands.put_known(t),
+        OperandRule::Takes(t) => operands.take_known(t),
+        OperandRule::Changes(t, u) => operands.change_known(t, u),
+        OperandRule::Combines(t, u) => operands.combine_known(t, u),
+        OperandRule::Stores(t) => operands.take_two_known(t, ValType::I32),
+        OperandRule::Nothing
+        | OperandRule::Moves { .. }
+        | OperandRule::Ends { .. }
+        | OperandRule::Drops
+        | OperandRule::Selects => false,
     }
 }

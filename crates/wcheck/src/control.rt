@@ -6,7 +6,7 @@ ghost use Rattle.wsyntax.specs.Validation.Algorithm.{on, when, apply, open_frame
 ghost use Rattle.wcheck.specs.Views.{scope_context, context_at, token_rule, cut, frame_of};
 ghost use Rattle.wcheck.specs.Frames.{inner_of, frames_of, IsTight};
 
-use crate::apply::apply_rule;
+use crate::apply::{apply_known, apply_rule};
 use crate::frames::{Level, Shape};
 use crate::operands::OperandStack;
 use crate::rule::rule_of_token;
@@ -130,6 +130,23 @@ fn act(
             Ok(yes)
         }
         None => Ok(false),
+    }
+}
+
+/// One token, where the operands that it takes are known to be there. `false`: nothing was done, which says nothing of
+/// the token.
+#[inline(always)]
+pub(crate) fn step_known(scope: &Scope, control: &mut Control, token: Token) -> bool
+    requires open { control.old.is_open ≡ true }
+    requires types { control.old.operands.types ≡ scope.now.context.now.context.types }
+    ensures frames { result ≡ true → step (scope_context scope.now) (seen [] token) (frames_of control.old) ≡ Some (frames_of control.new) }
+    ensures others { result ≡ false → frames_of control.new ≡ frames_of control.old }
+    ensures tight { IsTight control.old → IsTight control.new }
+    ensures types { control.new.operands.types ≡ control.old.operands.types }
+{
+    match rule_of_token(scope, control.top, &control.outer, &[], token) {
+        Some(rule) => apply_known(&mut control.operands, rule),
+        None => false,
     }
 }
 

@@ -279,27 +279,71 @@ impl<'a> OperandList<'a> {
         }
     }
 
-    /// Whether the last is known to be of this type.
-    #[inline]
-    pub(crate) fn ends_in(&self, t: ValType) -> bool
-        ensures { result ≡ true → (rest : List (Option ValType)) × (self.now.items ≡ rest ++ Some t ∷ []) }
-    {
-        match self.places.last() {
-            Some(x) => is_known(*x, t),
-            None => false,
-        }
-    }
-
-    /// Whether the last two are known to be of these types, the last of the second.
-    #[inline]
-    pub(crate) fn ends_in_both(&self, t: ValType, u: ValType) -> bool
-        ensures { result ≡ true → (rest : List (Option ValType)) × (self.now.items ≡ rest ++ Some t ∷ Some u ∷ []) }
+    /// Takes off the last, if it is known to be of this type.
+    #[inline(always)]
+    pub(crate) fn pop_known(&mut self, t: ValType) -> bool
+        ensures taken { result ≡ true → self.old.items ≡ self.new.items ++ Some t ∷ [] }
+        ensures others { result ≡ false → self.new.items ≡ self.old.items }
+        ensures types { self.new.types ≡ self.old.types }
     {
         let count = self.places.len();
-        if count < 2 {
+        if count < 1 || !is_known(self.places[count - 1], t) {
             return false;
         }
-        is_known(self.places[count - 2], t) && is_known(self.places[count - 1], u)
+        self.places.truncate(count - 1);
+        true
+    }
+
+    /// Writes the type `u` over that of the last, if that is known to be `t`.
+    #[inline(always)]
+    pub(crate) fn retype_known(&mut self, t: ValType, u: ValType) -> bool
+        ensures changed { result ≡ true → (rest : List (Option ValType)) × (self.old.items ≡ rest ++ Some t ∷ []) × (self.new.items ≡ rest ++ Some u ∷ []) }
+        ensures others { result ≡ false → self.new.items ≡ self.old.items }
+        ensures types { self.new.types ≡ self.old.types }
+    {
+        let count = self.places.len();
+        if count < 1 || !is_known(self.places[count - 1], t) {
+            return false;
+        }
+        self.places[count - 1] = packed(Some(u));
+        true
+    }
+
+    /// Takes off the last two, if they are known to be of these types, the last of the second.
+    #[inline(always)]
+    pub(crate) fn pop_both_known(&mut self, t: ValType, u: ValType) -> bool
+        ensures taken { result ≡ true → self.old.items ≡ self.new.items ++ Some t ∷ Some u ∷ [] }
+        ensures others { result ≡ false → self.new.items ≡ self.old.items }
+        ensures types { self.new.types ≡ self.old.types }
+    {
+        let count = self.places.len();
+        if count < 2
+            || !is_known(self.places[count - 2], t)
+            || !is_known(self.places[count - 1], u)
+        {
+            return false;
+        }
+        self.places.truncate(count - 2);
+        true
+    }
+
+    /// Puts one of the type `u` in the place of the last two, if both are known to be of the type `t`.
+    #[inline(always)]
+    pub(crate) fn join_known(&mut self, t: ValType, u: ValType) -> bool
+        ensures changed { result ≡ true → (rest : List (Option ValType)) × (self.old.items ≡ rest ++ Some t ∷ Some t ∷ []) × (self.new.items ≡ rest ++ Some u ∷ []) }
+        ensures others { result ≡ false → self.new.items ≡ self.old.items }
+        ensures types { self.new.types ≡ self.old.types }
+    {
+        let count = self.places.len();
+        if count < 2
+            || !is_known(self.places[count - 2], t)
+            || !is_known(self.places[count - 1], t)
+        {
+            return false;
+        }
+        self.places.truncate(count - 1);
+        self.places[count - 2] = packed(Some(u));
+        true
     }
 
     /// Whether the last operands are known to be the first so many of a list, since they were put from there.
@@ -334,21 +378,5 @@ impl<'a> OperandList<'a> {
             return None;
         }
         Some(types)
-    }
-
-    /// Writes this type over that of the last, which is gone after an error.
-    #[inline]
-    pub(crate) fn retype_last(&mut self, t: ValType) -> Result<(), AllocError>
-        requires { 1 ≤ length self.old.items }
-        ensures items { MatchResult result (λ _. self.new.items ≡ take (length self.old.items - 1) self.old.items ++ Some t ∷ []) (λ _. self.new.items ≡ take (length self.old.items - 1) self.old.items) }
-        ensures types { self.new.types ≡ self.old.types }
-    {
-        if !self.runs.is_empty() {
-            self.shorten(1);
-            return self.push(Some(t));
-        }
-        let last = self.places.len() - 1;
-        self.places[last] = packed(Some(t));
-        Ok(())
     }
 }

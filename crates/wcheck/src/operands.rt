@@ -1,4 +1,4 @@
-ghost use Rattle.std.specs.Prelude.{◌≡◌, ◌<◌, ◌≤◌, ◌+◌, ◌-◌, List, [], ◌∷◌, ◌++◌, Bool, true, false, Option, MatchOption, IfOk, reverse, take, drop, length, vec_len};
+ghost use Rattle.std.specs.Prelude.{◌≡◌, ◌<◌, ◌≤◌, ◌+◌, ◌-◌, List, [], ◌∷◌, ◌++◌, Bool, true, false, Option, Some, MatchOption, IfOk, reverse, take, drop, length, vec_len};
 ghost use Rattle.wcontext.specs.Lists.{list_of};
 ghost use Rattle.wsyntax.specs.Validation.Algorithm.{Takes, when, apply, take_any, take_one, take_all, put, fresh, is_nil, ends_with};
 
@@ -98,6 +98,61 @@ impl<'a> OperandStack<'a> {
         }
     }
 
+    /// Takes the topmost operand, if it is known to be of this type.
+    #[inline(always)]
+    pub(crate) fn take_known(&mut self, t: ValType) -> bool
+        ensures above { result ≡ true → take_one t self.old.above ≡ Some self.new.above }
+        ensures others { result ≡ false → self.new.above ≡ self.old.above }
+        ensures below { self.new.below ≡ self.old.below }
+        ensures types { self.new.types ≡ self.old.types }
+    {
+        self.list.len() > self.base && self.list.pop_known(t)
+    }
+
+    /// Puts an operand of the second type in the place of the topmost, if that is known to be of the first.
+    #[inline(always)]
+    pub(crate) fn change_known(&mut self, t: ValType, u: ValType) -> bool
+        ensures above { result ≡ true → apply (Takes (t ∷ []) (u ∷ [])) self.old.above ≡ Some self.new.above }
+        ensures others { result ≡ false → self.new.above ≡ self.old.above }
+        ensures below { self.new.below ≡ self.old.below }
+        ensures types { self.new.types ≡ self.old.types }
+    {
+        self.list.len() > self.base && self.list.retype_known(t, u)
+    }
+
+    /// Puts an operand of the second type in the place of the two topmost, if both are known to be of the first.
+    #[inline(always)]
+    pub(crate) fn combine_known(&mut self, t: ValType, u: ValType) -> bool
+        ensures above { result ≡ true → apply (Takes (t ∷ t ∷ []) (u ∷ [])) self.old.above ≡ Some self.new.above }
+        ensures others { result ≡ false → self.new.above ≡ self.old.above }
+        ensures below { self.new.below ≡ self.old.below }
+        ensures types { self.new.types ≡ self.old.types }
+    {
+        self.list.len() - self.base >= 2 && self.list.join_known(t, u)
+    }
+
+    /// Takes the two topmost operands, if they are known to be of the first type and, below it, of the second.
+    #[inline(always)]
+    pub(crate) fn take_two_known(&mut self, t: ValType, u: ValType) -> bool
+        ensures above { result ≡ true → apply (Takes (t ∷ u ∷ []) []) self.old.above ≡ Some self.new.above }
+        ensures others { result ≡ false → self.new.above ≡ self.old.above }
+        ensures below { self.new.below ≡ self.old.below }
+        ensures types { self.new.types ≡ self.old.types }
+    {
+        self.list.len() - self.base >= 2 && self.list.pop_both_known(u, t)
+    }
+
+    /// Puts an operand of this type on top. `false`: memory was refused.
+    #[inline(always)]
+    pub(crate) fn put_known(&mut self, t: ValType) -> bool
+        ensures above { result ≡ true → apply (Takes [] (t ∷ [])) self.old.above ≡ Some self.new.above }
+        ensures others { result ≡ false → self.new.above ≡ self.old.above }
+        ensures below { self.new.below ≡ self.old.below }
+        ensures types { self.new.types ≡ self.old.types }
+    {
+        self.list.push(Some(t)).is_ok()
+    }
+
     /// Takes the topmost operand, if it may be of this type.
     #[inline]
     pub(crate) fn take_one(&mut self, t: ValType) -> bool
@@ -105,13 +160,7 @@ impl<'a> OperandStack<'a> {
         ensures below { self.new.below ≡ self.old.below }
         ensures types { self.new.types ≡ self.old.types }
     {
-        let count = self.list.len();
-        if count > self.base && self.list.ends_in(t) {
-            self.list.truncate(count - 1);
-            true
-        } else {
-            self.take_fitting(t)
-        }
+        self.take_known(t) || self.take_fitting(t)
     }
 
     /// Takes the topmost operand, if it may be of this type, which is seldom another or unknown.
@@ -135,8 +184,7 @@ impl<'a> OperandStack<'a> {
         ensures below { self.new.below ≡ self.old.below }
         ensures types { self.new.types ≡ self.old.types }
     {
-        if self.list.len() > self.base && self.list.ends_in(t) {
-            self.list.retype_last(u)?;
+        if self.change_known(t, u) {
             Ok(true)
         } else {
             self.change_fitting(t, u)
@@ -163,10 +211,7 @@ impl<'a> OperandStack<'a> {
         ensures below { self.new.below ≡ self.old.below }
         ensures types { self.new.types ≡ self.old.types }
     {
-        let count = self.list.len();
-        if count - self.base >= 2 && self.list.ends_in_both(t, t) {
-            self.list.truncate(count - 1);
-            self.list.retype_last(u)?;
+        if self.combine_known(t, u) {
             Ok(true)
         } else {
             self.combine_fitting(t, u)
@@ -196,13 +241,7 @@ impl<'a> OperandStack<'a> {
         ensures below { self.new.below ≡ self.old.below }
         ensures types { self.new.types ≡ self.old.types }
     {
-        let count = self.list.len();
-        if count - self.base >= 2 && self.list.ends_in_both(u, t) {
-            self.list.truncate(count - 2);
-            true
-        } else {
-            self.take_two_fitting(t, u)
-        }
+        self.take_two_known(t, u) || self.take_two_fitting(t, u)
     }
 
     #[inline(never)]

@@ -40,7 +40,7 @@ pub(crate) enum OperandRule {
 }
 
 /// The rule of a numeric operator (3.3.1).
-#[inline]
+#[inline(always)]
 pub(crate) fn numeric_rule(op: Operator) -> OperandRule
     ensures { (types : List FuncType) → rule_of types result ≡ Takes (reverse (operands (num_op op))) (reverse (results (num_op op))) }
 {
@@ -56,7 +56,7 @@ pub(crate) fn numeric_rule(op: Operator) -> OperandRule
 }
 
 /// Whether an alignment is at most the width, both as exponents of 2.
-#[inline]
+#[inline(always)]
 fn is_aligned(align: u32, natural: u32) -> bool
     ensures { result ≡ nat_le (2 ^ align) (2 ^ natural) }
 {
@@ -64,7 +64,7 @@ fn is_aligned(align: u32, natural: u32) -> bool
 }
 
 /// A load whose alignment is at most its width, where there is a memory.
-#[inline]
+#[inline(always)]
 fn load_rule(context: &Context, load: Load, align: u32) -> Option<OperandRule>
     ensures { (offset : ℕ) → option_map (rule_of context.now.context.types) result ≡ rule context.now.context (MemoryLoad (load_access load align offset)) }
 {
@@ -79,7 +79,7 @@ fn load_rule(context: &Context, load: Load, align: u32) -> Option<OperandRule>
 }
 
 /// A store whose alignment is at most its width, where there is a memory.
-#[inline]
+#[inline(always)]
 fn store_rule(context: &Context, store: Store, align: u32) -> Option<OperandRule>
     ensures { (offset : ℕ) → option_map (rule_of context.now.context.types) result ≡ rule context.now.context (MemoryStore (store_access store align offset)) }
 {

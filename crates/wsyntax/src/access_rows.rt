@@ -13,7 +13,7 @@ pub struct AccessRow {
     pub natural: u32,
 }
 
-#[inline]
+#[inline(always)]
 fn access(of_type: ValType, natural: u32) -> AccessRow
     ensures { result ≡ record { of_type = of_type; natural = natural } }
 {
@@ -30,7 +30,7 @@ fn bytes(natural: u32) -> u32
 
 impl Load {
     /// The load's row in the table of accesses.
-    #[inline]
+    #[inline(always)]
     pub fn row(self) -> AccessRow
         ensures of_type { (align offset : ℕ) → (load_access self align offset).of_type ≡ result.of_type }
         ensures width { (align offset : ℕ) → (load_access self align offset).width ≡ 2 ^ result.natural }
@@ -67,7 +67,7 @@ impl Load {
 
 impl Store {
     /// The store's row in the table of accesses.
-    #[inline]
+    #[inline(always)]
     pub fn row(self) -> AccessRow
         ensures of_type { (align offset : ℕ) → (store_access self align offset).of_type ≡ result.of_type }
         ensures width { (align offset : ℕ) → (store_access self align offset).width ≡ 2 ^ result.natural }

@@ -23,7 +23,7 @@ pub struct OperatorRow {
     pub result: ValType,
 }
 
-#[inline]
+#[inline(always)]
 fn one(operand: ValType, leaves: ValType) -> OperatorRow
     ensures { result ≡ record { arity = One; operand = operand; result = leaves } }
 {
@@ -34,7 +34,7 @@ fn one(operand: ValType, leaves: ValType) -> OperatorRow
     }
 }
 
-#[inline]
+#[inline(always)]
 fn two(operand: ValType, leaves: ValType) -> OperatorRow
     ensures { result ≡ record { arity = Two; operand = operand; result = leaves } }
 {
@@ -47,7 +47,7 @@ fn two(operand: ValType, leaves: ValType) -> OperatorRow
 
 impl Operator {
     /// The operator's row in the table of operators. The one place where the code says what an operator takes and leaves.
-    #[inline]
+    #[inline(always)]
     pub fn row(self) -> OperatorRow
         ensures operands { operands_in result ≡ operands_of (num_op self) }
         ensures results { results_in result ≡ results_of (num_op self) }

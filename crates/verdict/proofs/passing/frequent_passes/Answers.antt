@@ -1,4 +1,4 @@
-use Rattle.std.proofs.Common.{refl, get_or}
+use Rattle.std.proofs.Common.{[], true, refl, get_or}
 use Rattle.wsyntax.specs.Instructions.{Do, Drop, End}
 use Rattle.verdict.proofs.OnePass.{looked, looked_one, end_read, drop_read}
 use Rattle.verdict.proofs.passing.frequent_passes.Goals as goal
@@ -15,26 +15,26 @@ returns-in-Ok-true-step-2-clause-passes c = looked c.args.checker.now c.step-in-
 pub returns-in-Ok-true-step-3-clause-passes : goal.returns-in-Ok-true-step-3-clause-passes
 returns-in-Ok-true-step-3-clause-passes c = looked_one c.args.checker.now c.step-in-26.new.self c.args.bytes.now 26 (Do Drop) c.in-Ok-true-step-3.field-0 c.in-len1-up.len_at_least c.in-26.is drop_read c.in-Ok-true-step-3.ensures.step c.in-Ok-true-step-3.field-0-test c.in-Ok-true-step-3.ensures.same
 
-pub returns-in-Ok-true-step-4-clause-passes : goal.returns-in-Ok-true-step-4-clause-passes
-returns-in-Ok-true-step-4-clause-passes c = looked c.args.checker.now c.step-in-Some-variable_at.new.self c.args.bytes.now c.in-Some-variable_at.after.now _ 32 c.in-Some-variable_at.token c.in-Ok-true-step-4.field-0 c.in-len1-up.len_at_least c.in-32.is c.in-Some-variable_at.ensures c.in-Ok-true-step-4.ensures.step c.in-Ok-true-step-4.field-0-test c.in-Ok-true-step-4.ensures.same
+pub returns-then-step_known-clause-passes : goal.returns-then-step_known-clause-passes
+returns-then-step_known-clause-passes c = looked c.args.checker.now c.step_known.new.self c.args.bytes.now c.in-Some-variable_at.after.now [] 32 c.in-Some-variable_at.token true c.in-len1-up.len_at_least c.in-32.is c.in-Some-variable_at.ensures (c.step_known.ensures.step c.if-step_known.true) refl (c.step_known.ensures.same c.if-step_known.true)
 
-pub returns-in-Ok-true-step-5-clause-passes : goal.returns-in-Ok-true-step-5-clause-passes
-returns-in-Ok-true-step-5-clause-passes c = looked c.args.checker.now c.step-in-Some-variable_at-2.new.self c.args.bytes.now c.in-Some-variable_at-2.after.now _ 33 c.in-Some-variable_at-2.token c.in-Ok-true-step-5.field-0 c.in-len1-up.len_at_least c.in-33.is c.in-Some-variable_at-2.ensures c.in-Ok-true-step-5.ensures.step c.in-Ok-true-step-5.field-0-test c.in-Ok-true-step-5.ensures.same
+pub returns-then-step_known-2-clause-passes : goal.returns-then-step_known-2-clause-passes
+returns-then-step_known-2-clause-passes c = looked c.args.checker.now c.step_known-in-Some-variable_at-2.new.self c.args.bytes.now c.in-Some-variable_at-2.after.now [] 33 c.in-Some-variable_at-2.token true c.in-len1-up.len_at_least c.in-33.is c.in-Some-variable_at-2.ensures (c.step_known-in-Some-variable_at-2.ensures.step c.if-step_known-2.true) refl (c.step_known-in-Some-variable_at-2.ensures.same c.if-step_known-2.true)
 
-pub returns-in-Ok-true-step-6-clause-passes : goal.returns-in-Ok-true-step-6-clause-passes
-returns-in-Ok-true-step-6-clause-passes c = looked c.args.checker.now c.step-in-Some-variable_at-3.new.self c.args.bytes.now c.in-Some-variable_at-3.after.now _ 34 c.in-Some-variable_at-3.token c.in-Ok-true-step-6.field-0 c.in-len1-up.len_at_least c.in-34.is c.in-Some-variable_at-3.ensures c.in-Ok-true-step-6.ensures.step c.in-Ok-true-step-6.field-0-test c.in-Ok-true-step-6.ensures.same
+pub returns-then-step_known-3-clause-passes : goal.returns-then-step_known-3-clause-passes
+returns-then-step_known-3-clause-passes c = looked c.args.checker.now c.step_known-in-Some-variable_at-3.new.self c.args.bytes.now c.in-Some-variable_at-3.after.now [] 34 c.in-Some-variable_at-3.token true c.in-len1-up.len_at_least c.in-34.is c.in-Some-variable_at-3.ensures (c.step_known-in-Some-variable_at-3.ensures.step c.if-step_known-3.true) refl (c.step_known-in-Some-variable_at-3.ensures.same c.if-step_known-3.true)
 
-pub returns-in-Ok-true-step-7-clause-passes : goal.returns-in-Ok-true-step-7-clause-passes
-returns-in-Ok-true-step-7-clause-passes c = looked c.args.checker.now c.step-in-Some-constant_at.new.self c.args.bytes.now c.in-Some-constant_at.after.now _ 65 c.in-Some-constant_at.token c.in-Ok-true-step-7.field-0 c.in-len1-up.len_at_least c.in-65.is c.in-Some-constant_at.ensures c.in-Ok-true-step-7.ensures.step c.in-Ok-true-step-7.field-0-test c.in-Ok-true-step-7.ensures.same
+pub returns-then-step_known-4-clause-passes : goal.returns-then-step_known-4-clause-passes
+returns-then-step_known-4-clause-passes c = looked c.args.checker.now c.step_known-in-Some-constant_at.new.self c.args.bytes.now c.in-Some-constant_at.after.now [] 65 c.in-Some-constant_at.token true c.in-len1-up.len_at_least c.in-65.is c.in-Some-constant_at.ensures (c.step_known-in-Some-constant_at.ensures.step c.if-step_known-4.true) refl (c.step_known-in-Some-constant_at.ensures.same c.if-step_known-4.true)
 
-pub returns-in-Ok-true-step-8-clause-passes : goal.returns-in-Ok-true-step-8-clause-passes
-returns-in-Ok-true-step-8-clause-passes c = looked c.args.checker.now c.step-in-Some-variable_at-4.new.self c.args.bytes.now c.in-Some-variable_at-4.after.now _ (get_or c.args.bytes.now 0 0) c.in-Some-variable_at-4.token c.in-Ok-true-step-8.field-0 c.in-len1-up.len_at_least refl c.in-Some-variable_at-4.ensures c.in-Ok-true-step-8.ensures.step c.in-Ok-true-step-8.field-0-test c.in-Ok-true-step-8.ensures.same
+pub returns-then-step_known-5-clause-passes : goal.returns-then-step_known-5-clause-passes
+returns-then-step_known-5-clause-passes c = looked c.args.checker.now c.step_known-in-Some-variable_at-4.new.self c.args.bytes.now c.in-Some-variable_at-4.after.now [] (get_or c.args.bytes.now 0 0) c.in-Some-variable_at-4.token true c.in-len1-up.len_at_least refl c.in-Some-variable_at-4.ensures (c.step_known-in-Some-variable_at-4.ensures.step c.if-step_known-5.true) refl (c.step_known-in-Some-variable_at-4.ensures.same c.if-step_known-5.true)
 
-pub returns-in-Ok-true-step-9-clause-passes : goal.returns-in-Ok-true-step-9-clause-passes
-returns-in-Ok-true-step-9-clause-passes c = looked c.args.checker.now c.step-in-Some-load_at.new.self c.args.bytes.now c.in-Some-load_at.after.now _ (get_or c.args.bytes.now 0 0) c.in-Some-load_at.token c.in-Ok-true-step-9.field-0 c.in-len1-up.len_at_least refl c.in-Some-load_at.ensures c.in-Ok-true-step-9.ensures.step c.in-Ok-true-step-9.field-0-test c.in-Ok-true-step-9.ensures.same
+pub returns-then-step_known-6-clause-passes : goal.returns-then-step_known-6-clause-passes
+returns-then-step_known-6-clause-passes c = looked c.args.checker.now c.step_known-in-Some-load_at.new.self c.args.bytes.now c.in-Some-load_at.after.now [] (get_or c.args.bytes.now 0 0) c.in-Some-load_at.token true c.in-len1-up.len_at_least refl c.in-Some-load_at.ensures (c.step_known-in-Some-load_at.ensures.step c.if-step_known-6.true) refl (c.step_known-in-Some-load_at.ensures.same c.if-step_known-6.true)
 
-pub returns-in-Ok-true-step-10-clause-passes : goal.returns-in-Ok-true-step-10-clause-passes
-returns-in-Ok-true-step-10-clause-passes c = looked c.args.checker.now c.step-in-Some-store_at.new.self c.args.bytes.now c.in-Some-store_at.after.now _ (get_or c.args.bytes.now 0 0) c.in-Some-store_at.token c.in-Ok-true-step-10.field-0 c.in-len1-up.len_at_least refl c.in-Some-store_at.ensures c.in-Ok-true-step-10.ensures.step c.in-Ok-true-step-10.field-0-test c.in-Ok-true-step-10.ensures.same
+pub returns-then-step_known-7-clause-passes : goal.returns-then-step_known-7-clause-passes
+returns-then-step_known-7-clause-passes c = looked c.args.checker.now c.step_known-in-Some-store_at.new.self c.args.bytes.now c.in-Some-store_at.after.now [] (get_or c.args.bytes.now 0 0) c.in-Some-store_at.token true c.in-len1-up.len_at_least refl c.in-Some-store_at.ensures (c.step_known-in-Some-store_at.ensures.step c.if-step_known-7.true) refl (c.step_known-in-Some-store_at.ensures.same c.if-step_known-7.true)
 
-pub returns-in-Ok-true-step-11-clause-passes : goal.returns-in-Ok-true-step-11-clause-passes
-returns-in-Ok-true-step-11-clause-passes c = looked c.args.checker.now c.step-in-Some-numeric_at.new.self c.args.bytes.now c.in-Some-numeric_at.after.now _ (get_or c.args.bytes.now 0 0) c.in-Some-numeric_at.token c.in-Ok-true-step-11.field-0 c.in-len1-up.len_at_least refl c.in-Some-numeric_at.ensures c.in-Ok-true-step-11.ensures.step c.in-Ok-true-step-11.field-0-test c.in-Ok-true-step-11.ensures.same
+pub returns-then-step_known-8-clause-passes : goal.returns-then-step_known-8-clause-passes
+returns-then-step_known-8-clause-passes c = looked c.args.checker.now c.step_known-in-Some-numeric_at.new.self c.args.bytes.now c.in-Some-numeric_at.after.now [] (get_or c.args.bytes.now 0 0) c.in-Some-numeric_at.token true c.in-len1-up.len_at_least refl c.in-Some-numeric_at.ensures (c.step_known-in-Some-numeric_at.ensures.step c.if-step_known-8.true) refl (c.step_known-in-Some-numeric_at.ensures.same c.if-step_known-8.true)

@@ -1,0 +1,95 @@
+-- Operands on top whose types are known, each in a place of its own.
+use Rattle.std.proofs.Common.{◌≡◌, ℕ, suc, ◌-◌, ◌≤◌, List, [], ◌∷◌, ◌++◌, length, take, get_or, Option, Some, refl, sym, ap, subst, ◌∙◌, arith, length-take}
+use Rattle.std.specs.Prelude.{set}
+use Rattle.std.proofs.lemmas.List.{append_assoc}
+use Rattle.wsyntax.specs.declared.ValType.{ValType}
+use Rattle.wcheck.specs.declared.operand.Operand.{Operand}
+use Rattle.wcheck.specs.Heights.{type_of}
+use Rattle.wcheck.specs.Runs.{types_in, IsCounted}
+use Rattle.wcheck.proofs.Lasts.{front, last_two, set_last, split_at_last}
+use Rattle.wcheck.proofs.Stretched.{single, counted_front, counted_single}
+use Rattle.wcheck.proofs.Topmost.{known_single}
+
+-- the places xs with the runs rs stand for v, and x is the topmost place, of the type t
+module _ (xs : List Operand) (rs : List (List ValType)) (v : List (Option ValType)) (n : ℕ) (x : Operand) (t : ValType) (w : types_in xs rs ≡ v) (c : n ≡ length xs) (le : 1 ≤ n) (e : x ≡ get_or xs (n - 1) x) (k : type_of x ≡ Some t) where
+  split : xs ≡ take (n - 1) xs ++ x ∷ []
+  split = split_at_last xs n (n - 1) x c refl (omega (arith, c, le)) e
+
+  pub one_off : v ≡ types_in (take (n - 1) xs) rs ++ Some t ∷ []
+  one_off =
+      sym w
+      ∙ ap (λ z. types_in z rs) split
+      ∙ single (take (n - 1) xs) rs x (known_single x t k)
+      ∙ ap (λ z. types_in (take (n - 1) xs) rs ++ z ∷ []) k
+
+  pub one_off_counted : (m : ℕ) → IsCounted xs rs m → IsCounted (take (n - 1) xs) rs m
+  one_off_counted m h =
+      counted_front (take (n - 1) xs) rs x (type_of x) m (single (take (n - 1) xs) rs x (known_single x t k)) (subst (λ z. IsCounted z rs m) split h)
+
+  -- the place y of the type u is written over it
+  module _ (y : Operand) (u : ValType) (q : type_of y ≡ Some u) where
+    written : set xs (n - 1) y ≡ take (n - 1) xs ++ y ∷ []
+    written =
+        set_last xs (n - 1) y (omega (arith, c, le)) (omega (arith, c)) ∙ ap (λ i. take (i - 1) xs ++ y ∷ []) (sym c)
+
+    pub one_over : types_in (set xs (n - 1) y) rs ≡ types_in (take (n - 1) xs) rs ++ Some u ∷ []
+    one_over =
+        ap (λ z. types_in z rs) written
+        ∙ single (take (n - 1) xs) rs y (known_single y u q)
+        ∙ ap (λ z. types_in (take (n - 1) xs) rs ++ z ∷ []) q
+
+    pub one_over_counted : (m : ℕ) → IsCounted xs rs m → IsCounted (set xs (n - 1) y) rs m
+    one_over_counted m h =
+        subst (λ z. IsCounted z rs m) (sym written) (counted_single (take (n - 1) xs) rs y m (one_off_counted m h) (known_single y u q))
+
+set_end : {A : Type 0} (front_part : List A) (x z : A) → set (front_part ++ x ∷ []) (length front_part) z ≡ front_part ++ z ∷ []
+set_end [] x z = refl
+set_end (a ∷ rest) x z = ap (λ l. a ∷ l) (set_end rest x z)
+
+-- x and y are the two topmost places, of the types t and u
+module _ (xs : List Operand) (rs : List (List ValType)) (v : List (Option ValType)) (n : ℕ) (x y : Operand) (t u : ValType) (w : types_in xs rs ≡ v) (c : n ≡ length xs) (le : 2 ≤ n) (ex : x ≡ get_or xs (n - 2) x) (ey : y ≡ get_or xs (n - 1) y) (kx : type_of x ≡ Some t) (ky : type_of y ≡ Some u) where
+  split_two : xs ≡ (take (n - 2) xs ++ x ∷ []) ++ y ∷ []
+  split_two =
+      last_two xs (n - 2) x y (omega (arith, c, le))
+      ∙ ap (λ z. take (n - 2) xs ++ z ∷ get_or xs (suc (n - 2)) y ∷ []) (sym ex)
+      ∙ ap (λ z. take (n - 2) xs ++ x ∷ z ∷ []) (ap (λ i. get_or xs i y) (omega (arith, le)) ∙ sym ey)
+      ∙ sym (append_assoc (take (n - 2) xs) (x ∷ []) (y ∷ []))
+
+  at_x : types_in (take (n - 2) xs ++ x ∷ []) rs ≡ types_in (take (n - 2) xs) rs ++ Some t ∷ []
+  at_x =
+      single (take (n - 2) xs) rs x (known_single x t kx) ∙ ap (λ z. types_in (take (n - 2) xs) rs ++ z ∷ []) kx
+
+  pub two_off : v ≡ types_in (take (n - 2) xs) rs ++ Some t ∷ Some u ∷ []
+  two_off =
+      sym w
+      ∙ ap (λ z. types_in z rs) split_two
+      ∙ single (take (n - 2) xs ++ x ∷ []) rs y (known_single y u ky)
+      ∙ ap (λ z. types_in (take (n - 2) xs ++ x ∷ []) rs ++ z ∷ []) ky
+      ∙ ap (λ z. z ++ Some u ∷ []) at_x
+      ∙ append_assoc (types_in (take (n - 2) xs) rs) (Some t ∷ []) (Some u ∷ [])
+
+  pub two_off_counted : (m : ℕ) → IsCounted xs rs m → IsCounted (take (n - 2) xs) rs m
+  two_off_counted m h =
+      let without = counted_front (take (n - 2) xs ++ x ∷ []) rs y (type_of y) m (single (take (n - 2) xs ++ x ∷ []) rs y (known_single y u ky)) (subst (λ z. IsCounted z rs m) split_two h) in
+      counted_front (take (n - 2) xs) rs x (type_of x) m (single (take (n - 2) xs) rs x (known_single x t kx)) without
+
+  -- the place z of the type s is written in their place
+  module _ (ys : List Operand) (z : Operand) (s : ValType) (off : ys ≡ take (n - 1) xs) (q : type_of z ≡ Some s) where
+    in_place : set ys (n - 2) z ≡ take (n - 2) xs ++ z ∷ []
+    in_place =
+        let long : length (take (n - 2) xs) ≡ n - 2 = omega (arith, length-take (n - 2) xs, c) in
+        let rest : ys ≡ take (n - 2) xs ++ x ∷ [] =
+        off ∙ ap (λ i. take (i - 1) xs) c ∙ sym (front xs (take (n - 2) xs ++ x ∷ []) (y ∷ []) split_two) in
+        ap (λ l. set l (n - 2) z) rest
+        ∙ ap (λ i. set (take (n - 2) xs ++ x ∷ []) i z) (sym long)
+        ∙ set_end (take (n - 2) xs) x z
+
+    pub two_over : types_in (set ys (n - 2) z) rs ≡ types_in (take (n - 2) xs) rs ++ Some s ∷ []
+    two_over =
+        ap (λ l. types_in l rs) in_place
+        ∙ single (take (n - 2) xs) rs z (known_single z s q)
+        ∙ ap (λ l. types_in (take (n - 2) xs) rs ++ l ∷ []) q
+
+    pub two_over_counted : (m : ℕ) → IsCounted xs rs m → IsCounted (set ys (n - 2) z) rs m
+    two_over_counted m h =
+        subst (λ l. IsCounted l rs m) (sym in_place) (counted_single (take (n - 2) xs) rs z m (two_off_counted m h) (known_single z s q))
