@@ -6,7 +6,7 @@ ghost use Rattle.texts.specs.Calls.{call_of};
 ghost use Rattle.batch.specs.Ends.{IsCallee, RefusedAs};
 
 use crate::call::run_alone;
-use memory::{Pool, Ticket};
+use memory::{CleanMem, Pool, Ticket};
 use pieces::{Job, JobFault, Stage, Watch};
 use std::alloc::Global;
 use std::sync::Wait;
@@ -34,7 +34,7 @@ fn callee(accepted: &Accepted<'_>, call: &Call<'_>) -> Result<u32, Line>
     Ok(function)
 }
 
-/// The calls of a batch, each to be run on an instance of its own, with a memory from the pool.
+/// The calls of a batch, each to be run on an instance of its own. The pool is asked only where the module has a memory.
 #[derive(Drop)]
 pub(crate) struct Calls<'a, W> {
     pub(crate) alloc: Global,
@@ -74,7 +74,12 @@ impl<'a, W: Watch> Job for Calls<'a, W> {
             Ok(function) => function,
             Err(line) => return Ok(line),
         };
-        let clean = self.pool.lend(rt, ticket);
+        let needs_memory = !self.accepted.module().memories.is_empty();
+        let clean = if needs_memory {
+            self.pool.lend(rt, ticket)
+        } else {
+            CleanMem::empty(self.alloc)
+        };
         self.watch.lent(index, clean.len());
         let (line, clean) = run_alone(
             self.alloc,
@@ -84,7 +89,9 @@ impl<'a, W: Watch> Job for Calls<'a, W> {
             self.settings,
             clean,
         );
-        self.pool.give(rt, ticket, clean);
+        if needs_memory {
+            self.pool.give(rt, ticket, clean);
+        }
         Ok(line)
     }
 

@@ -13,8 +13,8 @@ use texts::{Call, Line};
 use verdict::Accepted;
 use wstore::Settings;
 
-/// Runs each call alone, on an instance of its own, with a memory that is lent from one pool. The lines stand in the
-/// order of the calls.
+/// Runs each call alone, on an instance of its own, with a memory that is lent from one pool, where the module has one. The
+/// lines stand in the order of the calls.
 pub fn run_batch<R: Threads + Wait + Sync, W: Watch + Sync>(
     rt: &R,
     alloc: Global,
