@@ -1,8 +1,9 @@
 -- Bodies in groups of consecutive ones, each of so many; the last group may have fewer.
 use Rattle.std.specs.Prelude.{◌≡◌, ◌<◌, ◌≤◌, ◌+◌, ◌*◌, ℕ, List, Some, None, length}
-use Rattle.std.proofs.Common.{ap, ◌∙◌, arith}
+use Rattle.std.proofs.Common.{ap, ◌∙◌}
+use Rattle.std.proofs.Math.Nat.{le_antisymm, lt_of_not-le}
 use mathlib.Core.Logic.{dite}
-use native.Mathlib.Decide.{dec_lt}
+use native.Mathlib.Decide.{dec_le}
 use Rattle.wsyntax.specs.Validation.Context.{Context}
 use Rattle.verdict.specs.declared.refused_body.RefusedBody.{RefusedBody}
 use Rattle.verdict.specs.Judged.{class_at, none_and_some, one_class}
@@ -33,8 +34,9 @@ not_before C imported bodies size g r s a b lt = none_and_some (class_at C impor
 
 same_place : (C : Context) (imported : ℕ) (bodies : List (List ℕ)) (size g : ℕ) (r s : RefusedBody) → IsFirstOfGroup C imported bodies size g r → IsFirstOfGroup C imported bodies size g s → r.place ≡ s.place
 same_place C imported bodies size g r s a b =
-    dite (dec_lt r.place s.place) (λ y. absurd (not_before C imported bodies size g r s a b y))
-    (λ no. dite (dec_lt s.place r.place) (λ y. absurd (not_before C imported bodies size g s r b a y)) (λ never. omega (arith, no, never)))
+    dite (dec_le r.place s.place)
+    (λ up. dite (dec_le s.place r.place) (λ down. le_antisymm up down) (λ no. absurd (not_before C imported bodies size g r s a b (lt_of_not-le no))))
+    (λ no. absurd (not_before C imported bodies size g s r b a (lt_of_not-le no)))
 
 same_body : (r s : RefusedBody) → r.place ≡ s.place → r.class ≡ s.class → r ≡ s
 same_body r s p q = λ i. record { place = p i; class = q i }
