@@ -28,7 +28,7 @@ def far_locals(size):
     # Runs of one local of types in turn, and then the last of them, over and over, where nothing is reached.
     count = min(99_999, size // 8)
     runs = unsigned(count) + b''.join(b'\x01\x7F' if k % 2 else b'\x01\x7E' for k in range(count))
-    return one_body(b'\x00' + (b'\x41\x00\x21' + unsigned(count - 1 - (count + 1) % 2)) * ((size - len(runs)) // 6), locals_of=runs)
+    return one_body(b'\x00' + (b'\x41\x00\x21' + unsigned(count - 1 - count % 2)) * ((size - len(runs)) // 6), locals_of=runs)
 
 
 def empty_runs(size):
