@@ -2,19 +2,17 @@
 use Rattle.std.proofs.Common.{◌≡◌, ℕ, ◌+◌, ◌-◌, ◌≤◌, List, [], ◌∷◌, Option, Some, None, refl, sym, ap, subst, ◌∙◌, arith}
 use Rattle.std.specs.Prelude.{slice_get}
 use Rattle.std.proofs.lemmas.Option.{same_Some}
-use Rattle.std.proofs.Math.Logic.{∥∥₁_elim, ∥∥₁_map}
 use Rattle.wsyntax.specs.Types.{FuncType}
 use Rattle.wsyntax.specs.declared.value.Value.{Value}
 use Rattle.wsyntax.specs.Modules.{ModuleShape, BodyShape}
 use Rattle.wsyntax.specs.Validation.Context.{Context}
-use Rattle.wsyntax.specs.Validation.ModuleContext.{module_context, empty_type}
+use Rattle.wsyntax.specs.Validation.ModuleContext.{empty_type}
 use Rattle.wsyntax.specs.Execution.Values.{types}
 use Rattle.wsyntax.specs.Execution.Store.{Module, Store}
 use Rattle.wsyntax.specs.Execution.Ends as meant
 use Rattle.wsyntax.specs.Execution.Ends.{Ends, Values}
 use Rattle.wsyntax.specs.Execution.Start.{InstanceOf, fresh_store}
 use Rattle.wsyntax.specs.Texts.Answer.{Limits, Started, plainly, by_start, EndsOn, in_start, in_call}
-use Rattle.soundness.specs.Instances.{Judged, StartIsPlain}
 use Rattle.ends.specs.declared.outcome.Outcome.{Outcome}
 use Rattle.ends.specs.Outcomes.{outcome_of}
 use Rattle.wstore.specs.Runs.{Runs}
@@ -24,36 +22,20 @@ use Rattle.batch.specs.Ends.{StartEnds}
 
 -- ---- the start function
 
--- a list that is known to be empty behind a squash is empty
-empty_list : {A : Type 0} (xs : List A) → ∥ xs ≡ [] ∥₁ → [] ≡ xs
-empty_list [] h = refl
-empty_list {A} (x ∷ xs) h = absurd (∥∥₁_elim h (λ a b. absurd a) (λ (e : (x ∷ xs) ≡ []). cc))
-
--- the start function has the empty type
-pub start_typed : (m : ModuleShape) (bodies : List BodyShape) (g : ℕ) → ∥ Judged m bodies ∥₁ → StartIsPlain → m.start ≡ Some g → ∥ slice_get (module_context m).functions g ≡ Some empty_type ∥₁
-start_typed m bodies g judged plain e = ∥∥₁_map judged (λ (j : Judged m bodies). plain.typed m g j.unbroken e)
-
-params_of : (sig : FuncType) → Some sig ≡ Some empty_type → sig.params ≡ []
-params_of sig e = ap (λ (t : FuncType). t.params) (same_Some sig empty_type e)
-
 results_of : (sig : FuncType) → Some sig ≡ Some empty_type → sig.results ≡ []
 results_of sig e = ap (λ (t : FuncType). t.results) (same_Some sig empty_type e)
 
--- so it takes no arguments
-takes_none : (C : Context) (g : ℕ) (found : Option FuncType) → slice_get C.functions g ≡ found → ∥ found ≡ Some empty_type ∥₁ → HasParams C g []
-takes_none C g None e h = absurd (∥∥₁_elim h (λ a b. absurd a) (λ (x : None ≡ Some empty_type). cc))
-takes_none C g (Some sig) e h = record { sig = sig; function = e; params = empty_list sig.params (∥∥₁_map h (params_of sig)) }
-
-pub takes_no_arguments : (C : Context) (g : ℕ) → ∥ slice_get C.functions g ≡ Some empty_type ∥₁ → HasParams C g []
-takes_no_arguments C g h = takes_none C g (slice_get C.functions g) refl h
+-- it has the empty type, so it takes no arguments
+pub takes_no_arguments : (C : Context) (g : ℕ) → slice_get C.functions g ≡ Some empty_type → HasParams C g []
+takes_no_arguments C g h = record { sig = empty_type; function = h; params = refl }
 
 -- and gives no values
-none_typed : (vs : List Value) → ∥ types vs ≡ [] ∥₁ → vs ≡ []
+none_typed : (vs : List Value) → types vs ≡ [] → vs ≡ []
 none_typed [] h = refl
-none_typed (v ∷ vs) h = absurd (∥∥₁_elim h (λ a b. absurd a) (λ (e : types (v ∷ vs) ≡ []). cc))
+none_typed (v ∷ vs) h = cc
 
-pub gives_no_values : (C : Context) (g : ℕ) (vs : List Value) → ∥ slice_get C.functions g ≡ Some empty_type ∥₁ → GivesTyped C g (Values vs) → vs ≡ []
-gives_no_values C g vs h t = none_typed vs (∥∥₁_map h (λ (e : slice_get C.functions g ≡ Some empty_type). t.2.typed ∙ results_of t.0 (sym t.1 ∙ e)))
+pub gives_no_values : (C : Context) (g : ℕ) (vs : List Value) → slice_get C.functions g ≡ Some empty_type → GivesTyped C g (Values vs) → vs ≡ []
+gives_no_values C g vs h t = none_typed vs (t.2.typed ∙ results_of t.0 (sym t.1 ∙ h))
 
 -- the run of the start function, under the limits
 ran : (m : ModuleShape) (bodies : List BodyShape) (i : Module) (f : ℕ) (args : List Value) (old s : Store) (fuel frames left d fuel' frames' : ℕ) (o : meant.Outcome) (old' : Store)

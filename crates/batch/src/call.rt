@@ -16,12 +16,11 @@ ghost use Rattle.batch.specs.Ends.{StartEnds, RanAlone, EndsAlone};
 
 use ends::Outcome;
 use memory::CleanMem;
-use soundness::instances::start_is_plain;
 use std::alloc::{AllocError, Global};
 use texts::Line;
 use verdict::Accepted;
 use wmachine::{Fuel, invoke};
-use wstore::{Instance, NotStarted, Settings, StartFault, accepted_is_judged, instantiate};
+use wstore::{Instance, NotStarted, Settings, StartFault, instantiate};
 use wsyntax::Value;
 
 /// Runs the start function, where there is one. How it ended, where that is not in values.
@@ -38,8 +37,7 @@ fn run_start(
     ensures of { instance.new.accepted.now ≡ instance.old.accepted.now }
 {
     let accepted = instance.accepted();
-    accepted_is_judged(accepted);
-    start_is_plain();
+    accepted.start_is_plain();
     let Some(start) = accepted.module().start else {
         return Ok(None);
     };

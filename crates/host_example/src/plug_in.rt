@@ -46,11 +46,8 @@ pub fn call(
     let Some(mut fuel) = Fuel::new(settings.fuel()) else {
         unreachable!()
     };
+    accepted.start_is_plain();
     if let Some(start) = accepted.module().start {
-        // Rule 11 says so already; the test hands it to `invoke`.
-        if !fits(accepted, start, &[]) {
-            return Err(CallFault::BadArguments);
-        }
         match invoke(
             alloc,
             &mut instance,

@@ -3,7 +3,7 @@ use Rattle.std.proofs.Common.{◌≡◌, ℕ, zero, suc, ◌+◌, ◌-◌, get_o
 use Rattle.std.proofs.lemmas.Bool.{eqb-true, ltb-false, le-leb}
 use Rattle.std.proofs.lemmas.List.{append-nil, nil_from_length, take_rest}
 use Rattle.wnum.specs.Reading.{◌>>=◌}
-use Rattle.wsyntax.specs.Instructions.{Token, Do, Drop, OpenBlock, OpenLoop, OpenIf, Else, End}
+use Rattle.wsyntax.specs.Instructions.{Token, Do, Drop, Select, Return, Unreachable, Nop, OpenBlock, OpenLoop, OpenIf, Else, End}
 use Rattle.wsyntax.specs.Types.{FuncType}
 use Rattle.wsyntax.specs.declared.ValType.TheVariants.{I32}
 use Rattle.wsyntax.specs.Modules.{seen}
@@ -227,9 +227,29 @@ pub end_read : (rest : List ℕ) → token_at (0x0B ∷ rest) ≡ Some (End, res
 unfolding token_at
 end_read rest = refl
 
+pub else_read : (rest : List ℕ) → token_at (0x05 ∷ rest) ≡ Some (Else, rest)
+unfolding token_at
+else_read rest = refl
+
 pub drop_read : (rest : List ℕ) → token_at (0x1A ∷ rest) ≡ Some (Do Drop, rest)
 unfolding token_at plain_instruction opcode_of
 drop_read rest = refl
+
+pub select_read : (rest : List ℕ) → token_at (0x1B ∷ rest) ≡ Some (Do Select, rest)
+unfolding token_at plain_instruction opcode_of
+select_read rest = refl
+
+pub return_read : (rest : List ℕ) → token_at (0x0F ∷ rest) ≡ Some (Do Return, rest)
+unfolding token_at plain_instruction opcode_of
+return_read rest = refl
+
+pub unreachable_read : (rest : List ℕ) → token_at (0x00 ∷ rest) ≡ Some (Do Unreachable, rest)
+unfolding token_at plain_instruction opcode_of
+unreachable_read rest = refl
+
+pub nop_read : (rest : List ℕ) → token_at (0x01 ∷ rest) ≡ Some (Do Nop, rest)
+unfolding token_at plain_instruction opcode_of
+nop_read rest = refl
 
 -- no frame is open, and no byte is left
 pub finished : (C : Context) (fs : List Frame) (bytes : List ℕ) (All : Type 0) → fs ≡ [] → eqb (length bytes) 0 ≡ true → ((ts : List Token) → PassesAs C fs bytes ts → All) → All

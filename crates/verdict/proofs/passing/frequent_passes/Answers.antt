@@ -1,6 +1,6 @@
 use Rattle.std.proofs.Common.{[], true, refl, get_or}
-use Rattle.wsyntax.specs.Instructions.{Do, Drop, End}
-use Rattle.verdict.proofs.OnePass.{looked, looked_one, end_read, drop_read}
+use Rattle.wsyntax.specs.Instructions.{Do, Drop, Select, Return, Unreachable, Nop, Else, End}
+use Rattle.verdict.proofs.OnePass.{looked, looked_one, end_read, else_read, drop_read, select_read, return_read, unreachable_read, nop_read}
 use Rattle.verdict.proofs.passing.frequent_passes.Goals as goal
 
 pub returns-in-Ok-true-clause-passes : goal.returns-in-Ok-true-clause-passes
@@ -14,6 +14,21 @@ returns-in-Ok-true-step-2-clause-passes c = looked c.args.checker.now c.step-in-
 
 pub returns-in-Ok-true-step-3-clause-passes : goal.returns-in-Ok-true-step-3-clause-passes
 returns-in-Ok-true-step-3-clause-passes c = looked_one c.args.checker.now c.step-in-26.new.self c.args.bytes.now 26 (Do Drop) c.in-Ok-true-step-3.field-0 c.in-len1-up.len_at_least c.in-26.is drop_read c.in-Ok-true-step-3.ensures.step c.in-Ok-true-step-3.field-0-test c.in-Ok-true-step-3.ensures.same
+
+pub returns-in-Ok-true-step-4-clause-passes : goal.returns-in-Ok-true-step-4-clause-passes
+returns-in-Ok-true-step-4-clause-passes c = looked_one c.args.checker.now c.step-in-27.new.self c.args.bytes.now 27 (Do Select) c.in-Ok-true-step-4.field-0 c.in-len1-up.len_at_least c.in-27.is select_read c.in-Ok-true-step-4.ensures.step c.in-Ok-true-step-4.field-0-test c.in-Ok-true-step-4.ensures.same
+
+pub returns-in-Ok-true-step-5-clause-passes : goal.returns-in-Ok-true-step-5-clause-passes
+returns-in-Ok-true-step-5-clause-passes c = looked_one c.args.checker.now c.step-in-5.new.self c.args.bytes.now 5 Else c.in-Ok-true-step-5.field-0 c.in-len1-up.len_at_least c.in-5.is else_read c.in-Ok-true-step-5.ensures.step c.in-Ok-true-step-5.field-0-test c.in-Ok-true-step-5.ensures.same
+
+pub returns-in-Ok-true-step-6-clause-passes : goal.returns-in-Ok-true-step-6-clause-passes
+returns-in-Ok-true-step-6-clause-passes c = looked_one c.args.checker.now c.step-in-15.new.self c.args.bytes.now 15 (Do Return) c.in-Ok-true-step-6.field-0 c.in-len1-up.len_at_least c.in-15.is return_read c.in-Ok-true-step-6.ensures.step c.in-Ok-true-step-6.field-0-test c.in-Ok-true-step-6.ensures.same
+
+pub returns-in-Ok-true-step-7-clause-passes : goal.returns-in-Ok-true-step-7-clause-passes
+returns-in-Ok-true-step-7-clause-passes c = looked_one c.args.checker.now c.step-in-0.new.self c.args.bytes.now 0 (Do Unreachable) c.in-Ok-true-step-7.field-0 c.in-len1-up.len_at_least c.in-0.is unreachable_read c.in-Ok-true-step-7.ensures.step c.in-Ok-true-step-7.field-0-test c.in-Ok-true-step-7.ensures.same
+
+pub returns-in-Ok-true-step-8-clause-passes : goal.returns-in-Ok-true-step-8-clause-passes
+returns-in-Ok-true-step-8-clause-passes c = looked_one c.args.checker.now c.step-in-1.new.self c.args.bytes.now 1 (Do Nop) c.in-Ok-true-step-8.field-0 c.in-len1-up.len_at_least c.in-1.is nop_read c.in-Ok-true-step-8.ensures.step c.in-Ok-true-step-8.field-0-test c.in-Ok-true-step-8.ensures.same
 
 pub returns-then-step_known-clause-passes : goal.returns-then-step_known-clause-passes
 returns-then-step_known-clause-passes c = looked c.args.checker.now c.step_known.new.self c.args.bytes.now c.in-Some-variable_at.after.now [] 32 c.in-Some-variable_at.token true c.in-len1-up.len_at_least c.in-32.is c.in-Some-variable_at.ensures (c.step_known.ensures.step c.if-step_known.true) refl (c.step_known.ensures.same c.if-step_known.true)
