@@ -1,4 +1,4 @@
-ghost use Rattle.std.specs.Prelude.{◌≡◌, ◌≤◌, ◌<◌, ◌+◌, ◌-◌, ℕ, List, [], ◌∷◌, ◌++◌, Bool, true, false, Option, Some, IfSome, MatchOption, MatchResult, length, map, take, drop, vec_len};
+ghost use Rattle.std.specs.Prelude.{◌≡◌, ◌≤◌, ◌<◌, ◌+◌, ◌-◌, ◌^◌, ℕ, List, [], ◌∷◌, ◌++◌, Bool, true, false, Option, Some, IfSome, MatchOption, MatchResult, length, map, take, drop, vec_len};
 ghost use Rattle.wsyntax.specs.Types.{same_type};
 ghost use Rattle.wcontext.specs.Lists.{list_of};
 ghost use Rattle.wcheck.specs.Heights.{type_of};
@@ -33,7 +33,7 @@ pub(crate) enum Operand {
 #[derive(Clone, Copy)]
 pub(crate) struct Run {
     pub(crate) list: TypeList,
-    pub(crate) left: usize,
+    pub(crate) left: u32,
 }
 
 #[inline]
@@ -110,11 +110,12 @@ pub(crate) fn first_of(types: &[ValType], count: usize) -> &[ValType]
 /// The types of the run that stands at this topmost place.
 #[inline]
 fn top_run<'a>(context: &'a Context, place: Operand, runs: &[Run]) -> Option<&'a [ValType]>
-    ensures { MatchOption result (run_at place (map (types_of_run context.now.context.types) runs.now) ≡ None) (λ r. run_at place (map (types_of_run context.now.context.types) runs.now) ≡ Some r.now) }
+    ensures found { MatchOption result (run_at place (map (types_of_run context.now.context.types) runs.now) ≡ None) (λ r. run_at place (map (types_of_run context.now.context.types) runs.now) ≡ Some r.now) }
+    ensures few { IfSome result (λ r. length r.now < 2 ^ 32) }
 {
     match place {
         Operand::Several => match runs.last() {
-            Some(run) => Some(first_of(context.list(run.list), run.left)),
+            Some(run) => Some(first_of(context.list(run.list), run.left as usize)),
             None => None,
         },
         Operand::I32 | Operand::I64 | Operand::F32 | Operand::F64 | Operand::Unknown => None,
@@ -187,7 +188,7 @@ impl<'a> OperandList<'a> {
             Some(types) => {
                 let top = self.runs.len() - 1;
                 if by < types.len() {
-                    self.runs[top].left = types.len() - by;
+                    self.runs[top].left = (types.len() - by) as u32;
                     self.more -= by;
                 } else {
                     self.places.truncate(last);
@@ -239,12 +240,15 @@ impl<'a> OperandList<'a> {
         ensures types { self.new.types ≡ self.old.types }
     {
         let left = self.context.list(list).len();
+        let Ok(count) = u32::try_from(left) else {
+            return Err(AllocError);
+        };
         let more = self.more + (left - 1);
         if more > MOST {
             return Err(AllocError);
         }
         self.places.push(Operand::Several)?;
-        if self.runs.push(Run { list, left }).is_err() {
+        if self.runs.push(Run { list, left: count }).is_err() {
             self.places.pop();
             return Err(AllocError);
         }
@@ -361,7 +365,7 @@ impl<'a> OperandList<'a> {
         if !is_run(*place) {
             return false;
         }
-        run.left == count && run.list.is_at(list)
+        run.left as usize == count && run.list.is_at(list)
     }
 
     /// The types of the run on top, if one stands there.
