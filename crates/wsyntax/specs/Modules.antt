@@ -1,5 +1,5 @@
 -- 2.5 Modules, without where they lie in memory; and what the tokens of the code stand for.
-use Rattle.std.specs.Prelude.{ℕ, ◌+◌, List, map, Option, slice_range, slice_index_or}
+use Rattle.std.specs.Prelude.{ℕ, ◌+◌, List, [], ◌∷◌, map, Option, Some, None, slice_range, slice_index_or}
 use Rattle.wnum.specs.Arithmetic.{unsigned}
 use Rattle.wsyntax.specs.Types.{I32, I64, F32, F64, FuncType, Limits, GlobalType}
 use Rattle.wsyntax.specs.Instructions.{Token, Do, OpenBlock, OpenLoop, OpenIf, Else, End, Unreachable, Nop, Return, Br, BrIf, Call, CallIndirect, BrTable, Drop, Select, LocalGet, LocalSet, LocalTee, GlobalGet, GlobalSet, MemoryLoad, MemoryStore, MemorySize, MemoryGrow, Const, Numeric}
@@ -9,6 +9,10 @@ use Rattle.wsyntax.specs.declared.instructions.Token.TheVariants as flat
 use Rattle.wsyntax.specs.declared.types.FuncType.{FuncType as HeldFuncType}
 use Rattle.wsyntax.specs.declared.module.Module.{Module}
 use Rattle.wsyntax.specs.declared.module.Expression.{Expression}
+use Rattle.wsyntax.specs.declared.module.Initial.{Initial}
+use Rattle.wsyntax.specs.declared.module.Initial.TheVariants as initial
+use Rattle.wsyntax.specs.declared.module.Place.{Place}
+use Rattle.wsyntax.specs.declared.module.Place.TheVariants as place
 use Rattle.wsyntax.specs.declared.module.Table.{Table}
 use Rattle.wsyntax.specs.declared.module.Global.{Global}
 use Rattle.wsyntax.specs.declared.module.Element.{Element}
@@ -58,6 +62,54 @@ seen targets (flat.Numeric f) = Do (Numeric (num_op f))
 abbrev pub tokens_of : Expression → List Token
 tokens_of e = map (seen e.targets.items) e.tokens.items
 
+-- the one instruction of an expression, where it is one and its end
+abbrev pub only : List Flat → Option Flat
+only (t ∷ flat.End ∷ []) = Some t
+only _ = None
+
+-- what the expression of a first value holds: the tokens of the code, the list of targets, and what they stand for
+abbrev pub initial_held : Initial → List Flat
+initial_held initial.Nothing = flat.End ∷ []
+initial_held (initial.I32Const n) = flat.I32Const n ∷ flat.End ∷ []
+initial_held (initial.I64Const n) = flat.I64Const n ∷ flat.End ∷ []
+initial_held (initial.F32Const bytes) = flat.F32Const bytes ∷ flat.End ∷ []
+initial_held (initial.F64Const bytes) = flat.F64Const bytes ∷ flat.End ∷ []
+initial_held (initial.GlobalGet x) = flat.GlobalGet x ∷ flat.End ∷ []
+initial_held (initial.Other e) = e.value.tokens.items
+
+abbrev pub initial_targets : Initial → List ℕ
+initial_targets (initial.Other e) = e.value.targets.items
+initial_targets _ = []
+
+abbrev pub initial_tokens : Initial → List Token
+initial_tokens i = map (seen (initial_targets i)) (initial_held i)
+
+-- the same of the offset of a segment, and the index of its table or memory
+abbrev pub place_index : Place → ℕ
+place_index (place.Nothing x) = x
+place_index (place.I32Const x n) = x
+place_index (place.I64Const x n) = x
+place_index (place.F32Const x bytes) = x
+place_index (place.F64Const x bytes) = x
+place_index (place.GlobalGet x y) = x
+place_index (place.Other x e) = x
+
+abbrev pub place_held : Place → List Flat
+place_held (place.Nothing x) = flat.End ∷ []
+place_held (place.I32Const x n) = flat.I32Const n ∷ flat.End ∷ []
+place_held (place.I64Const x n) = flat.I64Const n ∷ flat.End ∷ []
+place_held (place.F32Const x bytes) = flat.F32Const bytes ∷ flat.End ∷ []
+place_held (place.F64Const x bytes) = flat.F64Const bytes ∷ flat.End ∷ []
+place_held (place.GlobalGet x y) = flat.GlobalGet y ∷ flat.End ∷ []
+place_held (place.Other x e) = e.value.tokens.items
+
+abbrev pub place_targets : Place → List ℕ
+place_targets (place.Other x e) = e.value.targets.items
+place_targets _ = []
+
+abbrev pub place_tokens : Place → List Token
+place_tokens p = map (seen (place_targets p)) (place_held p)
+
 -- ---- 2.5 modules
 
 -- 2.3.3 a function type
@@ -88,7 +140,7 @@ pub record GlobalShape : Type 0 where
   pub init : List Token
 
 abbrev pub global_shape : Global → GlobalShape
-global_shape g = record { content = g.content; init = tokens_of g.init }
+global_shape g = record { content = g.content; init = initial_tokens g.init }
 
 -- 2.5.7 an element segment
 pub record ElementShape : Type 0 where
@@ -97,7 +149,7 @@ pub record ElementShape : Type 0 where
   pub functions : List ℕ
 
 abbrev pub element_shape : Element → ElementShape
-element_shape e = record { table = e.table; offset = tokens_of e.offset; functions = e.functions.items }
+element_shape e = record { table = place_index e.place; offset = place_tokens e.place; functions = e.functions.items }
 
 -- 2.5.8 a data segment
 pub record DataShape : Type 0 where
@@ -106,7 +158,7 @@ pub record DataShape : Type 0 where
   pub bytes : List ℕ
 
 abbrev pub data_shape : Data → DataShape
-data_shape d = record { memory = d.memory; offset = tokens_of d.offset; bytes = d.bytes.now }
+data_shape d = record { memory = place_index d.place; offset = place_tokens d.place; bytes = d.bytes.now }
 
 -- 2.5.3 a body: runs of declared locals, and the tokens of its expression
 pub record BodyShape : Type 0 where

@@ -20,12 +20,14 @@ fn access(of_type: ValType, natural: u32) -> AccessRow
     AccessRow { of_type, natural }
 }
 
-/// The number of bytes whose exponent this is.
-fn bytes(natural: u32) -> u32
-    requires { natural ≤ 3 }
-    ensures { result ≡ 2 ^ natural }
-{
-    1 << natural
+impl AccessRow {
+    /// How many bytes of memory are read or written.
+    pub(crate) fn width(self) -> u32
+        requires { self.natural ≤ 3 }
+        ensures { result ≡ 2 ^ self.natural }
+    {
+        1 << self.natural
+    }
 }
 
 impl Load {
@@ -49,20 +51,6 @@ impl Load {
             Load::I64Load32S | Load::I64Load32U => access(I64, 2),
         }
     }
-
-    /// The type of the value that is loaded (2.4.4).
-    pub fn value_type(self) -> ValType
-        ensures { (align offset : ℕ) → result ≡ (load_access self align offset).of_type }
-    {
-        self.row().of_type
-    }
-
-    /// The bytes in memory (2.4.4).
-    pub fn width(self) -> u32
-        ensures { (align offset : ℕ) → result ≡ (load_access self align offset).width }
-    {
-        bytes(self.row().natural)
-    }
 }
 
 impl Store {
@@ -85,19 +73,5 @@ impl Store {
             Store::I64Store16 => access(I64, 1),
             Store::I64Store32 => access(I64, 2),
         }
-    }
-
-    /// The type of the value that is stored (2.4.4).
-    pub fn value_type(self) -> ValType
-        ensures { (align offset : ℕ) → result ≡ (store_access self align offset).of_type }
-    {
-        self.row().of_type
-    }
-
-    /// The bytes in memory (2.4.4).
-    pub fn width(self) -> u32
-        ensures { (align offset : ℕ) → result ≡ (store_access self align offset).width }
-    {
-        bytes(self.row().natural)
     }
 }

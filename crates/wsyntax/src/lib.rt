@@ -3,6 +3,7 @@
 #![tactic(auto)]
 
 mod access_rows;
+mod bounds;
 mod instruction_row;
 mod instructions;
 mod module;
@@ -14,11 +15,12 @@ mod types;
 mod value;
 
 pub use access_rows::AccessRow;
+pub use bounds::{CALLS_LIMIT, LINE_LIMIT, LOCAL_LIMIT, MODULE_LIMIT, limits_are_defined};
 pub use instruction_row::{Immediates, Row};
 pub use instructions::{BlockType, Load, Operator, Store, Token};
 pub use module::{
-    Body, Data, Element, Export, ExportKind, Expression, Global, Import, ImportKind, LocalRun,
-    Module, Table,
+    Body, Data, Element, Export, ExportKind, Expression, Global, Import, ImportKind, Initial,
+    LocalRun, Module, Place, Table,
 };
 pub use opcode::Opcode;
 pub use operator_rows::{Arity, OperatorRow};
