@@ -49,16 +49,21 @@ fn groups_5(bytes: &[u8]) -> Option<Groups<'_>>
     None
 }
 
-/// A number u32 at the front, and the bytes after it (5.2.2).
+/// A number u32 at the front, and the bytes after it (5.2.2). One of one or two bytes is read in place.
 #[inline(always)]
 #[tactic(auto, unfolding(crate::specs::Reading::unsigned_at))]
 pub fn front_u32(bytes: &[u8]) -> Option<(u32, &[u8])>
     ensures { option_map (λ x. (x.0, x.1.now)) result ≡ unsigned_at 32 bytes.now }
 {
-    if let [a, rest @ ..] = bytes
-        && *a < 128
-    {
-        return Some((u32::from(*a), rest));
+    if let [a, rest @ ..] = bytes {
+        if *a < 128 {
+            return Some((u32::from(*a), rest));
+        }
+        if let [b, rest @ ..] = rest
+            && *b < 128
+        {
+            return Some((u32::from(*a) - 128 + 128 * u32::from(*b), rest));
+        }
     }
     long_u32(bytes)
 }
@@ -77,17 +82,26 @@ fn long_u32(bytes: &[u8]) -> Option<(u32, &[u8])>
     }
 }
 
-/// A number s32 at the front, and the bytes after it (5.2.2).
+/// A number s32 at the front, and the bytes after it (5.2.2). One of one or two bytes is read in place.
 #[inline(always)]
 #[tactic(auto, unfolding(crate::specs::Reading::signed_at))]
 pub fn front_s32(bytes: &[u8]) -> Option<(i32, &[u8])>
     ensures { option_map (λ x. (x.0, x.1.now)) result ≡ signed_at 32 bytes.now }
 {
-    if let [a, rest @ ..] = bytes
-        && *a < 128
-    {
-        let value = i32::from(*a);
-        return Some((if value < 64 { value } else { value - 128 }, rest));
+    if let [a, rest @ ..] = bytes {
+        let low = i32::from(*a);
+        if *a < 128 {
+            return Some((if low < 64 { low } else { low - 128 }, rest));
+        }
+        if let [b, rest @ ..] = rest
+            && *b < 128
+        {
+            let value = low - 128 + 128 * i32::from(*b);
+            if *b < 64 {
+                return Some((value, rest));
+            }
+            return Some((value - 16384, rest));
+        }
     }
     long_s32(bytes)
 }

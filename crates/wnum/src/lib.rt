@@ -13,6 +13,3 @@ pub use laws::{
 };
 pub use leb::{front_s32, front_s33, front_s64, front_u32, read_s32, read_s33, read_s64, read_u32};
 pub use trap::NumTrap;
-
-#[cfg(test)]
-mod tests;
