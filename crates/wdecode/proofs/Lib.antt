@@ -16,3 +16,4 @@ pub mod ClosedTrees
 pub mod OneLoop
 pub mod OnePush
 pub mod OneRead
+pub mod Initials

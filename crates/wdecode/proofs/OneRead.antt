@@ -1,14 +1,17 @@
 -- What is read behind an opcode.
 use Rattle.std.proofs.Common.{◌≡◌, ℕ, List, ◌∷◌, Some, IsTrue, refl, ap, ◌∙◌}
 use Rattle.wsyntax.specs.Brackets.{lies_within}
-use Rattle.wsyntax.specs.Instructions.{Op, Do}
+use Rattle.wsyntax.specs.Instructions.{Op, Token, Do, OpenBlock, OpenLoop, OpenIf}
 use Rattle.wsyntax.specs.Table.{opcode_of}
+use Rattle.wsyntax.specs.declared.instructions.BlockType.{BlockType}
 use Rattle.wsyntax.specs.declared.opcode.Opcode.{Opcode}
 use Rattle.wsyntax.specs.declared.instructions.Token.{Token as Held}
+use Rattle.wsyntax.specs.declared.instructions.Token.TheVariants as held
 use Rattle.wsyntax.specs.Modules.{seen}
 use Rattle.wsyntax.specs.Binary.Instructions.{plain_instruction, immediates}
-use Rattle.wsyntax.specs.Binary.Nesting.{token_at}
-use Rattle.wdecode.specs.Gives.{ReadsPlain}
+use Rattle.wsyntax.specs.Binary.Types.{block_type}
+use Rattle.wsyntax.specs.Binary.Nesting.{seen_as, token_at}
+use Rattle.wdecode.specs.Gives.{ReadsPlain, ReadsBracket}
 use Rattle.wdecode.proofs.FlatLoop.{token_shorter}
 use Rattle.wdecode.proofs.InstructionLaws.{plain_agrees}
 use Rattle.wdecode.proofs.OneToken.{token_reads}
@@ -22,3 +25,24 @@ reads b o i bytes rest t named read within is =
     let s = plain_agrees.sound (b ∷ bytes) i rest plain in
     let whole : token_at (b ∷ bytes) ≡ Some (Do i, rest) = ap token_at s.2 ∙ token_reads.complete s.0 (Do i) rest s.1 in
     (token_shorter (b ∷ bytes) (Do i) rest whole, within, λ targets. (i, is targets, whole))
+
+-- the beginning of a block is read behind its opcode
+pub opens_block : (b : ℕ) (bytes rest : List ℕ) (t : BlockType) → b ≡ 0x02 → block_type.read bytes ≡ Some (t, rest) → ReadsBracket (b ∷ bytes) (held.Block t) rest
+unfolding token_at
+opens_block b bytes rest t is read =
+    let whole : token_at (b ∷ bytes) ≡ Some (OpenBlock t, rest) = ap (λ (n : ℕ). token_at (n ∷ bytes)) is ∙ ap (seen_as OpenBlock) read in
+    (token_shorter (b ∷ bytes) (OpenBlock t) rest whole, λ _. whole)
+
+-- the beginning of a loop is read behind its opcode
+pub opens_loop : (b : ℕ) (bytes rest : List ℕ) (t : BlockType) → b ≡ 0x03 → block_type.read bytes ≡ Some (t, rest) → ReadsBracket (b ∷ bytes) (held.Loop t) rest
+unfolding token_at
+opens_loop b bytes rest t is read =
+    let whole : token_at (b ∷ bytes) ≡ Some (OpenLoop t, rest) = ap (λ (n : ℕ). token_at (n ∷ bytes)) is ∙ ap (seen_as OpenLoop) read in
+    (token_shorter (b ∷ bytes) (OpenLoop t) rest whole, λ _. whole)
+
+-- the beginning of a if is read behind its opcode
+pub opens_if : (b : ℕ) (bytes rest : List ℕ) (t : BlockType) → b ≡ 0x04 → block_type.read bytes ≡ Some (t, rest) → ReadsBracket (b ∷ bytes) (held.If t) rest
+unfolding token_at
+opens_if b bytes rest t is read =
+    let whole : token_at (b ∷ bytes) ≡ Some (OpenIf t, rest) = ap (λ (n : ℕ). token_at (n ∷ bytes)) is ∙ ap (seen_as OpenIf) read in
+    (token_shorter (b ∷ bytes) (OpenIf t) rest whole, λ _. whole)

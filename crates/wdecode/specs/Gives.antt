@@ -28,6 +28,10 @@ ReadsPlain bytes t rest = (length rest < length bytes)
     × ((targets : ℕ) → IsTrue (lies_within targets t))
     × ((targets : List ℕ) → (i : Op) × (seen targets t ≡ Do i) × (token_at bytes ≡ Some (Do i, rest)))
 
+-- A token is read that opens a block.
+abbrev pub ReadsBracket : List ℕ → Held → List ℕ → Type 0
+ReadsBracket bytes t rest = (length rest < length bytes) × ((targets : List ℕ) → token_at bytes ≡ Some (seen targets t, rest))
+
 -- A token goes behind the others that is read, has no labels and is no bracket; or nothing is done.
 abbrev pub Pushes : List Held → List Held → List ℕ → Option (List ℕ) → Type 0
 Pushes old new bytes None = new ≡ old

@@ -9,10 +9,7 @@ use crate::fault::{BodyFault, Fault};
 use crate::instructions::expression_at;
 use crate::values::vector_at;
 use std::alloc::Global as Alloc;
-use wsyntax::{Body, LocalRun};
-
-/// The most declared locals of a body, parameters aside.
-const LOCAL_LIMIT: u32 = 100_000;
+use wsyntax::{Body, LOCAL_LIMIT, LocalRun};
 
 /// How many locals runs declare, where they are fewer than 2^32.
 fn count_locals(runs: &[LocalRun]) -> Option<u32>

@@ -1,10 +1,11 @@
 // Readers of the instructions that bodies are mostly made of. Where one answers None, it saw another instruction or no
 // well-formed one: that says nothing, and the caller goes on with `token_at`, which decides.
 ghost use Rattle.std.specs.Prelude.{◌≡◌, ◌∷◌, Some, IfSome};
-ghost use Rattle.wdecode.specs.Gives.{ReadsPlain};
+ghost use Rattle.wdecode.specs.Gives.{ReadsPlain, ReadsBracket};
 ghost use Rattle.wsyntax.specs.Table.{opcode_of};
+ghost use Rattle.wsyntax.specs.Binary.Types.{block_type};
 
-use wsyntax::{Load, Opcode, Store, Token};
+use wsyntax::{BlockType, Load, Opcode, Store, Token, ValType};
 
 /// The load with that opcode.
 #[inline(always)]
@@ -139,4 +140,53 @@ pub fn constant_at(bytes: &[u8]) -> Option<(Token, &[u8])>
 {
     let (value, rest) = wnum::front_s32(bytes)?;
     Some((Token::I32Const(value), rest))
+}
+
+/// A constant i64 behind its opcode, and the bytes after it.
+#[inline(always)]
+pub fn long_constant_at(bytes: &[u8]) -> Option<(Token, &[u8])>
+    ensures { IfSome result (λ x. ReadsPlain (0x42 ∷ bytes.now) x.0 x.1.now) }
+{
+    let (value, rest) = wnum::front_s64(bytes)?;
+    Some((Token::I64Const(value), rest))
+}
+
+/// A branch behind its opcode, and the bytes after it.
+#[inline(always)]
+pub fn jump_at(bytes: &[u8]) -> Option<(Token, &[u8])>
+    ensures { IfSome result (λ x. ReadsPlain (0x0C ∷ bytes.now) x.0 x.1.now) }
+{
+    let (label, rest) = wnum::front_u32(bytes)?;
+    Some((Token::Br(label), rest))
+}
+
+/// A block type of one byte, and the bytes after it.
+#[inline(always)]
+#[tactic(auto, unfolding(wsyntax::specs::Binary::Types::block_type))]
+fn short_block_at(bytes: &[u8]) -> Option<(BlockType, &[u8])>
+    ensures { IfSome result (λ x. block_type.read bytes.now ≡ Some (x.0, x.1.now)) }
+{
+    match bytes {
+        [0x40, rest @ ..] => Some((BlockType::Empty, rest)),
+        [0x7F, rest @ ..] => Some((BlockType::Value(ValType::I32), rest)),
+        [0x7E, rest @ ..] => Some((BlockType::Value(ValType::I64), rest)),
+        [0x7D, rest @ ..] => Some((BlockType::Value(ValType::F32), rest)),
+        [0x7C, rest @ ..] => Some((BlockType::Value(ValType::F64), rest)),
+        _ => None,
+    }
+}
+
+/// The beginning of a block, a loop or an if with that opcode, where its block type is of one byte, and the bytes after
+/// it.
+#[inline(always)]
+pub fn opening_at(byte: u8, bytes: &[u8]) -> Option<(Token, &[u8])>
+    ensures { IfSome result (λ x. ReadsBracket (byte ∷ bytes.now) x.0 x.1.now) }
+{
+    let (block, rest) = short_block_at(bytes)?;
+    match byte {
+        0x02 => Some((Token::Block(block), rest)),
+        0x03 => Some((Token::Loop(block), rest)),
+        0x04 => Some((Token::If(block), rest)),
+        _ => None,
+    }
 }

@@ -12,6 +12,7 @@ use crate::fault::Fault;
 use crate::pushing::push_frequent;
 use crate::types::block_type_at;
 use crate::values::u32_at;
+use smallvec::SmallVec;
 use std::alloc::Global;
 use wsyntax::{Expression, Opcode, Token};
 
@@ -230,10 +231,13 @@ pub fn token_at<'a>(targets: &mut Vec<u32>, bytes: &'a [u8]) -> Result<(Token, &
     }
 }
 
+/// How many open blocks need no memory of their own.
+const FEW: usize = 16;
+
 /// Moves what is open by a token, the innermost block last: of each, whether an else may still come.
 /// The answer is whether the token closes the expression; Malformed says that it cannot stand there.
 #[inline(always)]
-pub fn enter(opened: &mut Vec<bool>, token: Token) -> Result<bool, Fault>
+pub fn enter(opened: &mut SmallVec<bool, FEW>, token: Token) -> Result<bool, Fault>
     ensures ok { IfOk result (λ closed. (targets : List ℕ) → nest (reverse opened.old.items) (seen targets token)
         ≡ Some (if closed then None else Some (reverse opened.new.items))) }
     ensures err { IfErr result (λ e. (targets : List ℕ) → Fails e (nest (reverse opened.old.items) (seen targets token))) }
@@ -266,7 +270,7 @@ pub fn expression_at(alloc: Global, bytes: &[u8]) -> Result<(Expression, &[u8]),
 {
     let mut tokens = Vec::new(alloc);
     let mut targets = Vec::new(alloc);
-    let mut opened = Vec::new(alloc);
+    let mut opened = SmallVec::new(alloc);
     let mut rest = bytes;
     'each: loop {
         if let Some(after) = push_frequent(&mut tokens, rest)? {

@@ -5,6 +5,7 @@
 mod body;
 mod fault;
 mod frequent;
+mod initial;
 mod instructions;
 mod laws;
 mod module;
@@ -16,7 +17,10 @@ mod values;
 
 pub use body::{decode_body, has_too_many_locals, locals_at};
 pub use fault::{BodyFault, DecodeFault, Fault};
-pub use frequent::{branch_at, call_at, constant_at, load_at, numeric_at, store_at, variable_at};
+pub use frequent::{
+    branch_at, call_at, constant_at, jump_at, load_at, long_constant_at, numeric_at, opening_at,
+    store_at, variable_at,
+};
 pub use instructions::{enter, expression_at, token_at};
 pub use laws::{
     bodies_are_determined, grammar_is_read, modules_are_determined, shells_are_determined,

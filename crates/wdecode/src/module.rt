@@ -7,10 +7,7 @@ ghost use Rattle.wsyntax.specs.Binary.Shell.{rank as rank_of, put as put_section
 use crate::fault::{DecodeFault, Fault};
 use crate::section::{Section, section_at};
 use std::alloc::Global as Alloc;
-use wsyntax::Module;
-
-/// The most bytes of a module.
-const MODULE_LIMIT: usize = 16_777_216;
+use wsyntax::{MODULE_LIMIT, Module};
 
 /// The id of a section (5.5.2).
 fn rank(section: &Section<'_>) -> u8

@@ -5,7 +5,7 @@ ghost use Rattle.wsyntax.specs.declared.module.LocalRun.{LocalRun as LocalRunSha
 ghost use Rattle.wsyntax.specs.Binary.Sections.{import_kind, an_import, an_export, global, element, data_segment, run};
 
 use crate::fault::Fault;
-use crate::instructions::expression_at;
+use crate::initial::initial_at;
 use crate::types::{global_type_at, limits_at, table_type_at, val_type_at};
 use crate::values::{Item, blob_at, name_at, u32_at, vector_at};
 use std::alloc::Global as Alloc;
@@ -54,7 +54,7 @@ fn global_at(alloc: Alloc, bytes: &[u8]) -> Result<(Global, &[u8]), Fault>
     ensures { Gives (λ x. (global_shape x.0, x.1.now)) result (global.read bytes.now) }
 {
     let (content, rest) = global_type_at(bytes)?;
-    let (init, rest) = expression_at(alloc, rest)?;
+    let (init, rest) = initial_at(alloc, rest)?;
     Ok((Global { content, init }, rest))
 }
 
@@ -81,16 +81,10 @@ fn element_at(alloc: Alloc, bytes: &[u8]) -> Result<(Element, &[u8]), Fault>
     ensures { Gives (λ x. (element_shape x.0, x.1.now)) result (element.read bytes.now) }
 {
     let (table, rest) = u32_at(bytes)?;
-    let (offset, rest) = expression_at(alloc, rest)?;
+    let (offset, rest) = initial_at(alloc, rest)?;
     let (functions, rest) = vector_at::<u32>(alloc, rest)?;
-    Ok((
-        Element {
-            table,
-            offset,
-            functions,
-        },
-        rest,
-    ))
+    let place = offset.within(table);
+    Ok((Element { place, functions }, rest))
 }
 
 /// A run of declared locals (5.5.13).
@@ -109,16 +103,10 @@ fn data_at(alloc: Alloc, bytes: &[u8]) -> Result<(Data<'_>, &[u8]), Fault>
     ensures { Gives (λ x. (data_shape x.0, x.1.now)) result (data_segment.read bytes.now) }
 {
     let (memory, rest) = u32_at(bytes)?;
-    let (offset, rest) = expression_at(alloc, rest)?;
+    let (offset, rest) = initial_at(alloc, rest)?;
     let (bytes, rest) = blob_at(rest)?;
-    Ok((
-        Data {
-            memory,
-            offset,
-            bytes,
-        },
-        rest,
-    ))
+    let place = offset.within(memory);
+    Ok((Data { place, bytes }, rest))
 }
 
 impl<'a> Item<'a> for Import<'a> {
@@ -127,6 +115,8 @@ impl<'a> Item<'a> for Import<'a> {
     ghost shape = { import_shape };
 
     ghost at = { an_import.read };
+
+    const LEAST: usize = 4;
 
     fn read(_alloc: Alloc, bytes: &'a [u8]) -> Result<(Import<'a>, &'a [u8]), Fault> {
         import_at(bytes)
@@ -140,6 +130,8 @@ impl<'a> Item<'a> for Global {
 
     ghost at = { global.read };
 
+    const LEAST: usize = 3;
+
     fn read(alloc: Alloc, bytes: &'a [u8]) -> Result<(Global, &'a [u8]), Fault> {
         global_at(alloc, bytes)
     }
@@ -151,6 +143,8 @@ impl<'a> Item<'a> for Export<'a> {
     ghost shape = { export_shape };
 
     ghost at = { an_export.read };
+
+    const LEAST: usize = 3;
 
     fn read(_alloc: Alloc, bytes: &'a [u8]) -> Result<(Export<'a>, &'a [u8]), Fault> {
         export_at(bytes)
@@ -164,6 +158,8 @@ impl<'a> Item<'a> for Element {
 
     ghost at = { element.read };
 
+    const LEAST: usize = 3;
+
     fn read(alloc: Alloc, bytes: &'a [u8]) -> Result<(Element, &'a [u8]), Fault> {
         element_at(alloc, bytes)
     }
@@ -176,6 +172,8 @@ impl<'a> Item<'a> for LocalRun {
 
     ghost at = { run.read };
 
+    const LEAST: usize = 2;
+
     fn read(_alloc: Alloc, bytes: &'a [u8]) -> Result<(LocalRun, &'a [u8]), Fault> {
         run_at(bytes)
     }
@@ -187,6 +185,8 @@ impl<'a> Item<'a> for Data<'a> {
     ghost shape = { data_shape };
 
     ghost at = { data_segment.read };
+
+    const LEAST: usize = 3;
 
     fn read(alloc: Alloc, bytes: &'a [u8]) -> Result<(Data<'a>, &'a [u8]), Fault> {
         data_at(alloc, bytes)

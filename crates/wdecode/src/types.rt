@@ -141,6 +141,8 @@ impl<'a> Item<'a> for ValType {
 
     ghost at = { val_type.read };
 
+    const LEAST: usize = 1;
+
     fn read(_alloc: Global, bytes: &'a [u8]) -> Result<(ValType, &'a [u8]), Fault> {
         val_type_at(bytes)
     }
@@ -152,6 +154,8 @@ impl<'a> Item<'a> for FuncType {
     ghost shape = { func_type_of };
 
     ghost at = { func_type.read };
+
+    const LEAST: usize = 3;
 
     fn read(alloc: Global, bytes: &'a [u8]) -> Result<(FuncType, &'a [u8]), Fault> {
         func_type_at(alloc, bytes)
@@ -165,6 +169,8 @@ impl<'a> Item<'a> for Limits {
 
     ghost at = { limits.read };
 
+    const LEAST: usize = 2;
+
     fn read(_alloc: Global, bytes: &'a [u8]) -> Result<(Limits, &'a [u8]), Fault> {
         limits_at(bytes)
     }
@@ -176,6 +182,8 @@ impl<'a> Item<'a> for Table {
     ghost shape = { λ t. t };
 
     ghost at = { table_type.read };
+
+    const LEAST: usize = 3;
 
     fn read(_alloc: Global, bytes: &'a [u8]) -> Result<(Table, &'a [u8]), Fault> {
         table_type_at(bytes)

@@ -67,11 +67,14 @@ pub trait Item<'a>: Sized + Drop {
     /// What the front of bytes spells, and the bytes after it.
     ghost at: { List ℕ → Option (Shape × List ℕ) };
 
+    /// The fewest bytes of a value.
+    const LEAST: usize;
+
     fn read(alloc: Global, bytes: &'a [u8]) -> Result<(Self, &'a [u8]), Fault>
         ensures { Gives (λ x. (shape x.0, x.1.now)) result (at bytes.now) };
 }
 
-/// So many values, one behind the other.
+/// So many values, one behind the other. Room is made for as many as the bytes can hold, and for no more.
 fn times_at<'a, T: Item<'a>>(
     alloc: Global,
     count: u32,
@@ -79,7 +82,8 @@ fn times_at<'a, T: Item<'a>>(
 ) -> Result<(Vec<T>, &'a [u8]), Fault>
     ensures { Gives (λ x. (map T.shape x.0.items, x.1.now)) result (times_of T.at count bytes.now) }
 {
-    let mut items = Vec::new(alloc);
+    let most = bytes.len() / T::LEAST.max(1);
+    let mut items = Vec::with_capacity(alloc, most.min(count as usize))?;
     let mut rest = bytes;
     for _ in 0..count {
         let (item, after) = T::read(alloc, rest)?;
@@ -107,6 +111,8 @@ impl<'a> Item<'a> for u32 {
 
     ghost at = { u32_production.read };
 
+    const LEAST: usize = 1;
+
     fn read(_alloc: Global, bytes: &'a [u8]) -> Result<(u32, &'a [u8]), Fault> {
         u32_at(bytes)
     }
@@ -118,6 +124,8 @@ impl<'a> Item<'a> for &'a [u8] {
     ghost shape = { λ s. s.now };
 
     ghost at = { blob.read };
+
+    const LEAST: usize = 1;
 
     fn read(_alloc: Global, bytes: &'a [u8]) -> Result<(&'a [u8], &'a [u8]), Fault> {
         blob_at(bytes)
