@@ -1,3 +1,4 @@
 pub mod Offsets
 pub mod Outside
 pub mod Words
+pub mod Numbers

@@ -14,10 +14,10 @@ of_shapes : {X Y : Type 0} (P : Y → Type 0) (f : X → Y) (xs : List X) → Al
 of_shapes P f xs h = λ k d below. subst P (get_or-map f xs k d (f d) below) (h k (f d) (omega (arith, length-map xs f)))
 
 -- of the segments that are lent
-pub element_offsets : (m : ModuleShape) (es lent : List Element) → lent ≡ es → All (ElementValid m) (map element_shape es) → All (λ e. IsOffset e.offset) lent
+pub element_offsets : (m : ModuleShape) (es lent : List Element) → lent ≡ es → All (ElementValid m) (map element_shape es) → All (λ e. IsOffset e.place) lent
 element_offsets m es lent same h =
-    subst (All (λ (e : Element). IsOffset e.offset)) (sym same) (λ k d below. (imported_globals m, (of_shapes (ElementValid m) element_shape es h k d below).constant))
+    subst (All (λ (e : Element). IsOffset e.place)) (sym same) (λ k d below. (imported_globals m, (of_shapes (ElementValid m) element_shape es h k d below).constant))
 
-pub data_offsets : (m : ModuleShape) (ds lent : List Data) → lent ≡ ds → All (DataValid m) (map data_shape ds) → All (λ d. IsOffset d.offset) lent
+pub data_offsets : (m : ModuleShape) (ds lent : List Data) → lent ≡ ds → All (DataValid m) (map data_shape ds) → All (λ d. IsOffset d.place) lent
 data_offsets m ds lent same h =
-    subst (All (λ (d : Data). IsOffset d.offset)) (sym same) (λ k d below. (imported_globals m, (of_shapes (DataValid m) data_shape ds h k d below).constant))
+    subst (All (λ (d : Data). IsOffset d.place)) (sym same) (λ k d below. (imported_globals m, (of_shapes (DataValid m) data_shape ds h k d below).constant))

@@ -1,9 +1,9 @@
 -- The type of a constant expression that is computed is the one that it has.
-use Rattle.std.proofs.Common.{◌≡◌, ℕ, List, [], ◌∷◌, map, Option, Some, None, Bool, true, false, if◌then◌else◌, option_and_then, slice_get, refl, ap}
+use Rattle.std.proofs.Common.{◌≡◌, ◌↔◌, ℕ, List, [], ◌∷◌, map, Option, Some, None, Bool, true, false, IsTrue, if◌then◌else◌, option_and_then, slice_get, refl, sym, ap, ◌∙◌}
 use Rattle.wsyntax.specs.Instructions.{Do, End as Last, Const, GlobalGet as Get}
 use Rattle.wnum.specs.Arithmetic.{unsigned}
 use Rattle.wsyntax.specs.Table.{little_endian}
-use Rattle.wsyntax.specs.Modules.{seen}
+use Rattle.wsyntax.specs.Modules.{seen, only}
 use Rattle.wsyntax.specs.Validation.Rules.{ConstantOf, one_const, one_get}
 use Rattle.wsyntax.specs.declared.GlobalType.{GlobalType}
 use Rattle.wsyntax.specs.declared.ValType.{ValType}
@@ -79,3 +79,11 @@ known_as globals t targets tokens _ (one_get x is) e = get_known globals t x tar
 
 pub constant_known : (globals : List GlobalType) (t : ValType) (targets : List ℕ) (tokens : List Token) → ConstantOf globals t (map (seen targets) tokens) → constant_of globals tokens ≡ Some t
 constant_known globals t targets tokens is = known_as globals t targets tokens _ is refl
+
+-- ---- what the one instruction leaves
+
+pub leaves_constant : (globals : List GlobalType) (t : ValType) (targets : List ℕ) (tokens : List Token) (one : Option Token) (b : Bool) → one ≡ only tokens
+    → (IsTrue b ↔ (option_and_then (constant_type globals) one ≡ Some t)) → IsTrue b ↔ ConstantOf globals t (map (seen targets) tokens)
+leaves_constant globals t targets tokens one b is test =
+    let same : option_and_then (constant_type globals) one ≡ constant_of globals tokens = ap (option_and_then (constant_type globals)) is in
+    (λ h. constant_holds globals t targets tokens (sym same ∙ test.0 h), λ k. test.1 (same ∙ constant_known globals t targets tokens k))

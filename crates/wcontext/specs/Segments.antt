@@ -1,6 +1,6 @@
 -- 3.4.5 and 3.4.6 Segments that are valid, by the numbers of items and the imported globals.
 use Rattle.std.specs.Prelude.{ℕ, ◌<◌, List, All}
-use Rattle.wsyntax.specs.Modules.{tokens_of}
+use Rattle.wsyntax.specs.Modules.{initial_tokens, place_index, place_tokens}
 use Rattle.wsyntax.specs.Validation.Rules.{ConstantOf}
 use Rattle.wsyntax.specs.declared.ValType.TheVariants.{I32}
 use Rattle.wsyntax.specs.declared.GlobalType.{GlobalType}
@@ -10,13 +10,13 @@ use Rattle.wsyntax.specs.declared.Data.{Data}
 
 -- 3.4.4 the global's first value is a constant expression of its type
 abbrev pub IsGlobalConstant : List GlobalType → Global → Type 0
-IsGlobalConstant globals g = ConstantOf globals g.content.content (tokens_of g.init)
+IsGlobalConstant globals g = ConstantOf globals g.content.content (initial_tokens g.init)
 
 -- 3.4.5 where so many tables and functions exist
 abbrev pub IsElementValid : ℕ → ℕ → List GlobalType → Element → Type 0
 IsElementValid tables functions globals s =
-    (s.table < tables) × ConstantOf globals I32 (tokens_of s.offset) × All (λ f. f < functions) s.functions.items
+    (place_index s.place < tables) × ConstantOf globals I32 (place_tokens s.place) × All (λ f. f < functions) s.functions.items
 
 -- 3.4.6 where so many memories exist
 abbrev pub IsDataValid : ℕ → List GlobalType → Data → Type 0
-IsDataValid memories globals s = (s.memory < memories) × ConstantOf globals I32 (tokens_of s.offset)
+IsDataValid memories globals s = (place_index s.place < memories) × ConstantOf globals I32 (place_tokens s.place)

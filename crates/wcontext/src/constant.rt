@@ -1,10 +1,10 @@
-ghost use Rattle.std.specs.Prelude.{◌≡◌, ◌↔◌, IsTrue, All};
-ghost use Rattle.wsyntax.specs.Modules.{tokens_of};
+ghost use Rattle.std.specs.Prelude.{◌≡◌, ◌↔◌, IsTrue, All, Some, option_and_then};
+ghost use Rattle.wsyntax.specs.Modules.{initial_tokens, place_tokens};
 ghost use Rattle.wsyntax.specs.Validation.Rules.{ConstantOf};
 ghost use Rattle.wcontext.specs.Segments.{IsGlobalConstant};
-ghost use Rattle.wcontext.specs.Constants.{constant_type, constant_of};
+ghost use Rattle.wcontext.specs.Constants.{constant_type};
 
-use wsyntax::{Expression, Global, GlobalType, Token, ValType};
+use wsyntax::{Global, GlobalType, Initial, Place, Token, ValType};
 
 /// The type of the value that an instruction of a constant expression leaves (3.3.7.2), under these imported globals.
 fn constant_type(token: &Token, globals: &[GlobalType]) -> Option<ValType>
@@ -23,21 +23,29 @@ fn constant_type(token: &Token, globals: &[GlobalType]) -> Option<ValType>
     }
 }
 
-/// The type of a constant expression (3.3.7.2), under these imported globals; `None` where the expression is none.
-fn type_of_constant(expression: &Expression, globals: &[GlobalType]) -> Option<ValType>
-    ensures { result ≡ constant_of globals.now expression.now.tokens.items }
+/// Whether the one instruction of an expression, where it has one, leaves a value of that type, under these imported
+/// globals.
+fn leaves(only: Option<Token>, of_type: ValType, globals: &[GlobalType]) -> bool
+    ensures { IsTrue result ↔ (option_and_then (constant_type globals.now) only ≡ Some of_type) }
 {
-    match expression.tokens.as_slice() {
-        [token, Token::End] => constant_type(token, globals),
-        _ => None,
+    match only {
+        Some(token) => constant_type(&token, globals) == Some(of_type),
+        None => false,
     }
 }
 
 /// Whether an expression is a constant expression of that type (3.3.7.2), under these imported globals.
-pub fn is_constant(expression: &Expression, of_type: ValType, globals: &[GlobalType]) -> bool
-    ensures { IsTrue result ↔ ConstantOf globals.now of_type (tokens_of expression.now) }
+fn is_constant(initial: &Initial, of_type: ValType, globals: &[GlobalType]) -> bool
+    ensures { IsTrue result ↔ ConstantOf globals.now of_type (initial_tokens initial.now) }
 {
-    type_of_constant(expression, globals) == Some(of_type)
+    leaves(initial.only(), of_type, globals)
+}
+
+/// Whether the offset of a segment is a constant expression of type i32 (3.3.7.2), under these imported globals.
+pub fn is_offset(place: &Place, globals: &[GlobalType]) -> bool
+    ensures { IsTrue result ↔ ConstantOf globals.now ValType.I32 (place_tokens place.now) }
+{
+    leaves(place.only(), ValType::I32, globals)
 }
 
 /// Whether each global's first value is a constant expression of its type (3.4.4), under these imported globals.

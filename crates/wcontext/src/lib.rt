@@ -22,6 +22,3 @@ pub use context::Context;
 pub use fault::ModuleFault;
 pub use lists::{ListPair, TypeList};
 pub use signature::Signature;
-
-#[cfg(test)]
-mod tests;

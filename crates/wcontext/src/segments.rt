@@ -1,8 +1,8 @@
 ghost use Rattle.std.specs.Prelude.{◌↔◌, IsTrue, All};
 ghost use Rattle.wcontext.specs.Segments.{IsElementValid, IsDataValid};
 
-use crate::constant::is_constant;
-use wsyntax::{Data, Element, GlobalType, ValType};
+use crate::constant::is_offset;
+use wsyntax::{Data, Element, GlobalType};
 
 /// Whether an element segment is valid (3.4.5), where so many tables and functions exist.
 fn is_element_valid(
@@ -13,8 +13,8 @@ fn is_element_valid(
 ) -> bool
     ensures { IsTrue result ↔ IsElementValid tables functions globals.now segment.now }
 {
-    (segment.table as usize) < tables
-        && is_constant(&segment.offset, ValType::I32, globals)
+    (segment.place.index() as usize) < tables
+        && is_offset(&segment.place, globals)
         && segment
             .functions
             .iter()
@@ -25,7 +25,7 @@ fn is_element_valid(
 fn is_data_valid(segment: &Data<'_>, memories: usize, globals: &[GlobalType]) -> bool
     ensures { IsTrue result ↔ IsDataValid memories globals.now segment.now }
 {
-    (segment.memory as usize) < memories && is_constant(&segment.offset, ValType::I32, globals)
+    (segment.place.index() as usize) < memories && is_offset(&segment.place, globals)
 }
 
 /// Whether all element segments are valid.

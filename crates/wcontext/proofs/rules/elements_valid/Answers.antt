@@ -1,6 +1,6 @@
 use Rattle.std.proofs.Common.{◌≡◌, ◌<◌, length, subst, sym, ◌∙◌}
 use Rattle.std.specs.List.{All}
-use Rattle.wsyntax.specs.Modules.{module_shape, element_shape, tokens_of}
+use Rattle.wsyntax.specs.Modules.{module_shape, element_shape, place_index, place_tokens}
 use Rattle.wsyntax.specs.Validation.ModuleContext.{tables_of, functions_of}
 use Rattle.wsyntax.specs.Validation.Rules.{ConstantOf, ElementValid}
 use Rattle.wsyntax.specs.declared.ValType.TheVariants.{I32}
@@ -21,9 +21,9 @@ returns c =
     _
     c.deref.ensures.value
     (λ s is. record {
-      in_table = subst (λ n. s.table < n) tables is.0;
-      constant = subst (λ gs. ConstantOf gs I32 (tokens_of s.offset)) known is.1;
+      in_table = subst (λ n. place_index s.place < n) tables is.0;
+      constant = subst (λ gs. ConstantOf gs I32 (place_tokens s.place)) known is.1;
       functions = subst (λ n. All (λ f. f < n) s.functions.items) functions is.2;
     })
-    (λ s is. (subst (λ n. s.table < n) (sym tables) is.in_table, subst (λ gs. ConstantOf gs I32 (tokens_of s.offset)) (sym known) is.constant, subst (λ n. All (λ f. f < n) s.functions.items) (sym functions) is.functions))
+    (λ s is. (subst (λ n. place_index s.place < n) (sym tables) is.in_table, subst (λ gs. ConstantOf gs I32 (place_tokens s.place)) (sym known) is.constant, subst (λ n. All (λ f. f < n) s.functions.items) (sym functions) is.functions))
     c.are_elements_valid.ensures

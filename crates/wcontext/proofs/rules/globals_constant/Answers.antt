@@ -1,5 +1,5 @@
 use Rattle.std.proofs.Common.{subst, sym, ◌∙◌}
-use Rattle.wsyntax.specs.Modules.{module_shape, global_shape, tokens_of}
+use Rattle.wsyntax.specs.Modules.{module_shape, global_shape, initial_tokens}
 use Rattle.wsyntax.specs.Validation.ModuleContext.{imported_globals}
 use Rattle.wsyntax.specs.Validation.Rules.{ConstantOf}
 use Rattle.wcontext.specs.Segments.{IsGlobalConstant}
@@ -16,6 +16,6 @@ returns c =
     _
     _
     c.deref.ensures.value
-    (λ g is. subst (λ gs. ConstantOf gs g.content.content (tokens_of g.init)) known is)
-    (λ g is. subst (λ gs. ConstantOf gs g.content.content (tokens_of g.init)) (sym known) is)
+    (λ g is. subst (λ gs. ConstantOf gs g.content.content (initial_tokens g.init)) known is)
+    (λ g is. subst (λ gs. ConstantOf gs g.content.content (initial_tokens g.init)) (sym known) is)
     c.are_constant.ensures

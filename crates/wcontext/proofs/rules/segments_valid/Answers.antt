@@ -1,5 +1,5 @@
 use Rattle.std.proofs.Common.{◌≡◌, ◌<◌, length, subst, sym, ◌∙◌}
-use Rattle.wsyntax.specs.Modules.{module_shape, data_shape, tokens_of}
+use Rattle.wsyntax.specs.Modules.{module_shape, data_shape, place_index, place_tokens}
 use Rattle.wsyntax.specs.Validation.ModuleContext.{memories_of}
 use Rattle.wsyntax.specs.Validation.Rules.{ConstantOf, DataValid}
 use Rattle.wsyntax.specs.declared.ValType.TheVariants.{I32}
@@ -19,8 +19,8 @@ returns c =
     _
     c.deref.ensures.value
     (λ s is. record {
-      in_memory = subst (λ n. s.memory < n) memories is.0;
-      constant = subst (λ gs. ConstantOf gs I32 (tokens_of s.offset)) known is.1;
+      in_memory = subst (λ n. place_index s.place < n) memories is.0;
+      constant = subst (λ gs. ConstantOf gs I32 (place_tokens s.place)) known is.1;
     })
-    (λ s is. (subst (λ n. s.memory < n) (sym memories) is.in_memory, subst (λ gs. ConstantOf gs I32 (tokens_of s.offset)) (sym known) is.constant))
+    (λ s is. (subst (λ n. place_index s.place < n) (sym memories) is.in_memory, subst (λ gs. ConstantOf gs I32 (place_tokens s.place)) (sym known) is.constant))
     c.are_data_valid.ensures
