@@ -1,11 +1,11 @@
 -- Operands on top whose types are known, each in a place of its own.
-use Rattle.std.proofs.Common.{◌≡◌, ℕ, suc, ◌-◌, ◌≤◌, List, [], ◌∷◌, ◌++◌, length, take, get_or, Option, Some, refl, sym, ap, subst, ◌∙◌, arith, length-take}
+use Rattle.std.proofs.Common.{◌≡◌, ℕ, suc, false, ◌-◌, ◌≤◌, List, [], ◌∷◌, ◌++◌, length, take, get_or, Option, Some, refl, sym, ap, subst, ◌∙◌, arith, length-take}
 use Rattle.std.specs.Prelude.{set}
 use Rattle.std.proofs.lemmas.List.{append_assoc}
 use Rattle.wsyntax.specs.declared.ValType.{ValType}
 use Rattle.wcheck.specs.declared.operand.Operand.{Operand}
 use Rattle.wcheck.specs.Heights.{type_of}
-use Rattle.wcheck.specs.Runs.{types_in, IsCounted}
+use Rattle.wcheck.specs.Runs.{is_several, types_in, IsCounted}
 use Rattle.wcheck.proofs.Lasts.{front, last_two, set_last, split_at_last}
 use Rattle.wcheck.proofs.Stretched.{single, counted_front, counted_single}
 use Rattle.wcheck.proofs.Topmost.{known_single}
@@ -41,6 +41,18 @@ module _ (xs : List Operand) (rs : List (List ValType)) (v : List (Option ValTyp
     pub one_over_counted : (m : ℕ) → IsCounted xs rs m → IsCounted (set xs (n - 1) y) rs m
     one_over_counted m h =
         subst (λ z. IsCounted z rs m) (sym written) (counted_single (take (n - 1) xs) rs y m (one_off_counted m h) (known_single y u q))
+
+-- x is the topmost place, and stands for one operand
+module _ (xs : List Operand) (rs : List (List ValType)) (v : List (Option ValType)) (n : ℕ) (x : Operand) (w : types_in xs rs ≡ v) (c : n ≡ length xs) (le : 1 ≤ n) (e : x ≡ get_or xs (n - 1) x) (k : is_several x ≡ false) where
+  parted : xs ≡ take (n - 1) xs ++ x ∷ []
+  parted = split_at_last xs n (n - 1) x c refl (omega (arith, c, le)) e
+
+  pub lone_off : v ≡ types_in (take (n - 1) xs) rs ++ type_of x ∷ []
+  lone_off = sym w ∙ ap (λ z. types_in z rs) parted ∙ single (take (n - 1) xs) rs x k
+
+  pub lone_off_counted : (m : ℕ) → IsCounted xs rs m → IsCounted (take (n - 1) xs) rs m
+  lone_off_counted m h =
+      counted_front (take (n - 1) xs) rs x (type_of x) m (single (take (n - 1) xs) rs x k) (subst (λ z. IsCounted z rs m) parted h)
 
 set_end : {A : Type 0} (front_part : List A) (x z : A) → set (front_part ++ x ∷ []) (length front_part) z ≡ front_part ++ z ∷ []
 set_end [] x z = refl

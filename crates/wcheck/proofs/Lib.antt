@@ -21,7 +21,6 @@ pub mod Mentions
 pub mod Verdicts
 pub mod EndedRuns
 pub mod FirstLocals
-pub mod SeenOperands
 pub mod Lasts
 pub mod Stretched
 pub mod Pushed

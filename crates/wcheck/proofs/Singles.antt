@@ -1,6 +1,6 @@
 -- A list of operands without a run: each place is an operand.
-use Rattle.std.proofs.Common.{◌≡◌, ℕ, ◌-◌, ◌≤◌, Bool, true, List, [], ◌∷◌, ◌++◌, map, length, take, Option, Some, refl, sym, ap, ◌∙◌, arith}
-use Rattle.std.specs.Prelude.{set, ◌==◌}
+use Rattle.std.proofs.Common.{◌≡◌, ℕ, Bool, true, List, [], ◌∷◌, map, length, take, Option, refl, sym, ap, ◌∙◌, arith}
+use Rattle.std.specs.Prelude.{◌==◌}
 use Rattle.std.proofs.lemmas.List.{length-map, take-map}
 use Rattle.wsyntax.specs.declared.ValType.{ValType}
 use Rattle.wsyntax.specs.Types.{FuncType}
@@ -8,7 +8,6 @@ use Rattle.wcheck.specs.declared.operand.Operand.{Operand}
 use Rattle.wcheck.specs.declared.operand.Run.{Run}
 use Rattle.wcheck.specs.Heights.{type_of}
 use Rattle.wcheck.specs.Runs.{types_of_run, types_in, IsCounted}
-use Rattle.wcheck.proofs.SeenOperands.{seen_write}
 use Rattle.wcheck.proofs.Stretched.{singles}
 
 pub no_runs : (types : List FuncType) (rs : List Run) (b : Bool) → b ≡ (length rs == 0) → b ≡ true → map (types_of_run types) rs ≡ []
@@ -29,10 +28,3 @@ taken_singles xs ys rs v n e w q =
     ∙ singles (take n xs)
     ∙ sym (take-map type_of n xs)
     ∙ ap (take n) (sym (singles xs) ∙ ap (types_in xs) (sym e) ∙ w)
-
--- a type written over the last, where there is no run
-pub retyped : (xs : List Operand) (rs : List (List ValType)) (v : List (Option ValType)) (n : ℕ) (x : Operand) (t : ValType) → types_in xs rs ≡ v → n ≡ length xs → 1 ≤ length v → type_of x ≡ Some t → rs ≡ [] → types_in (set xs (n - 1) x) rs ≡ take (length v - 1) v ++ Some t ∷ []
-retyped xs rs v n x t w e le k r =
-    ap (types_in (set xs (n - 1) x)) r
-    ∙ singles (set xs (n - 1) x)
-    ∙ seen_write xs v n x t (sym (singles xs) ∙ ap (types_in xs) (sym r) ∙ w) e le k

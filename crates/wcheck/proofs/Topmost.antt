@@ -1,5 +1,5 @@
 -- The topmost operand of a list.
-use Rattle.std.proofs.Common.{◌≡◌, ℕ, suc, ◌-◌, ◌≤◌, ◌<◌, true, false, Bool, List, [], ◌∷◌, ◌++◌, map, length, take, get_or, slice_get, Option, Some, None, refl, sym, ap, ◌∙◌, arith}
+use Rattle.std.proofs.Common.{◌≡◌, ℕ, ◌-◌, ◌≤◌, ◌<◌, true, false, Bool, List, [], ◌∷◌, ◌++◌, map, length, take, get_or, slice_get, Option, Some, None, refl, sym, ap, ◌∙◌, arith}
 use Rattle.std.proofs.lemmas.List.{append_assoc, map-append, length-map, length-take}
 use Rattle.std.specs.Prelude.{option_map, ◌==◌}
 use Rattle.std.proofs.lemmas.Option.{slice_get-get_or, slice_get-map}
@@ -12,9 +12,8 @@ use Rattle.wcheck.specs.declared.operand.Operand.{Operand}
 use Rattle.wcheck.specs.declared.operand.Operand.TheVariants.{I32, I64, F32, F64, Unknown, Several}
 use Rattle.wcheck.specs.Heights.{type_of}
 use Rattle.wcheck.specs.Runs.{is_several, run_at, types_of_run, of_run, types_in}
-use Rattle.wcheck.proofs.Lasts.{last_split, no_last, is_there, last_two}
+use Rattle.wcheck.proofs.Lasts.{last_split, no_last, is_there}
 use Rattle.wcheck.proofs.Stretched.{none, whole_run, no_run}
-use Rattle.wcheck.proofs.Pushed.{pushed}
 use Rattle.wcheck.proofs.Shortened.{split_run}
 
 pub known_single : (x : Operand) (t : ValType) → type_of x ≡ Some t → is_several x ≡ false
@@ -24,23 +23,6 @@ known_single F32 t e = refl
 known_single F64 t e = refl
 known_single Unknown t e = absurd cc
 known_single Several t e = absurd cc
-
-pub known_last : (xs : List Operand) (rs : List (List ValType)) (v : List (Option ValType)) (x : Operand) (t : ValType) → types_in xs rs ≡ v → Some x ≡ slice_get xs (length xs - 1) → type_of x ≡ Some t → (rest : List (Option ValType)) × (v ≡ rest ++ Some t ∷ [])
-known_last xs rs v x t w e k =
-    (types_in (take (length xs - 1) xs) rs, sym w ∙ pushed (take (length xs - 1) xs) xs rs _ x (Some t) (is_there xs x (sym e)) refl (known_single x t k) k)
-
-pub known_two : (xs : List Operand) (rs : List (List ValType)) (v : List (Option ValType)) (n : ℕ) (x y : Operand) (t u : ValType) → types_in xs rs ≡ v → n ≡ length xs → 2 ≤ n → x ≡ get_or xs (n - 2) x → y ≡ get_or xs (n - 1) y → type_of x ≡ Some t → type_of y ≡ Some u → (rest : List (Option ValType)) × (v ≡ rest ++ Some t ∷ Some u ∷ [])
-known_two xs rs v n x y t u w c le ex ey kx ky =
-    let next : suc (n - 2) ≡ n - 1 = omega (arith, le) in
-    let two : xs ≡ take (n - 2) xs ++ x ∷ y ∷ [] =
-    last_two xs (n - 2) x y (omega (arith, c, le))
-    ∙ ap (λ z. take (n - 2) xs ++ z ∷ get_or xs (suc (n - 2)) y ∷ []) (sym ex)
-    ∙ ap (λ z. take (n - 2) xs ++ x ∷ z ∷ []) (ap (λ i. get_or xs i y) next ∙ sym ey) in
-    let split : xs ≡ (take (n - 2) xs ++ x ∷ []) ++ y ∷ [] = two ∙ sym (append_assoc (take (n - 2) xs) (x ∷ []) (y ∷ [])) in
-    let below = pushed (take (n - 2) xs) (take (n - 2) xs ++ x ∷ []) rs _ x (Some t) refl refl (known_single x t kx) kx in (
-      types_in (take (n - 2) xs) rs,
-      sym w ∙ pushed (take (n - 2) xs ++ x ∷ []) xs rs _ y (Some u) split below (known_single y u ky) ky ∙ append_assoc (types_in (take (n - 2) xs) rs) (Some t ∷ []) (Some u ∷ []),
-    )
 
 pub nothing_there : (xs : List Operand) (rs : List (List ValType)) (v : List (Option ValType)) → types_in xs rs ≡ v → None ≡ slice_get xs (length xs - 1) → v ≡ []
 nothing_there xs rs v w e = sym w ∙ ap (λ z. types_in z rs) (no_last xs (sym e)) ∙ none rs

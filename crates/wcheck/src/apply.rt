@@ -101,15 +101,17 @@ pub(crate) fn apply_rule(operands: &mut OperandStack, rule: OperandRule) -> Resu
         OperandRule::Combines(t, u) => operands.combine(t, u),
         OperandRule::Stores(t) => Ok(operands.take_two(t, ValType::I32)),
         OperandRule::Moves {
+            has_index: true,
+            takes: TypeList::Nothing,
+            gives: TypeList::Nothing,
+        } => Ok(operands.take_one(ValType::I32)),
+        OperandRule::Moves {
             has_index,
             takes,
             gives,
         } => moves(operands, has_index, takes, gives),
         OperandRule::Ends { has_index, takes } => Ok(ends(operands, has_index, takes)),
-        OperandRule::Drops => match operands.take_any() {
-            Some(_) => Ok(true),
-            None => Ok(false),
-        },
+        OperandRule::Drops => Ok(operands.drop_known() || operands.take_any().is_some()),
         OperandRule::Selects => selects(operands),
     }
 }
@@ -129,10 +131,10 @@ pub(crate) fn apply_known(operands: &mut OperandStack, rule: OperandRule) -> boo
         OperandRule::Changes(t, u) => operands.change_known(t, u),
         OperandRule::Combines(t, u) => operands.combine_known(t, u),
         OperandRule::Stores(t) => operands.take_two_known(t, ValType::I32),
+        OperandRule::Drops => operands.drop_known(),
         OperandRule::Nothing
         | OperandRule::Moves { .. }
         | OperandRule::Ends { .. }
-        | OperandRule::Drops
         | OperandRule::Selects => false,
     }
 }

@@ -26,6 +26,7 @@ pub(crate) struct Control<'a> {
 }
 
 /// Opens a frame.
+#[inline(always)]
 #[tactic(auto, using(crate::proofs::Cuts::opened_frames, crate::proofs::Cuts::opened_under))]
 pub(crate) fn open_level(
     control: &mut Control,
@@ -44,8 +45,8 @@ pub(crate) fn open_level(
     }
     let level = Level {
         shape: control.top,
-        base: control.operands.base(),
         is_dead: control.operands.is_dead(),
+        base: control.operands.base(),
     };
     control.outer.push(level)?;
     control.operands.open();
@@ -79,6 +80,7 @@ pub(crate) fn other_branch(control: &mut Control) -> Result<bool, AllocError>
 }
 
 /// Closes the innermost frame.
+#[inline(always)]
 #[tactic(auto, using(crate::proofs::Cuts::closed_under))]
 pub(crate) fn close_level(control: &mut Control) -> Result<bool, AllocError>
     requires { control.old.is_open ≡ true }

@@ -22,8 +22,8 @@ pub(crate) struct Shape {
 #[derive(Clone, Copy)]
 pub(crate) struct Level {
     pub(crate) shape: Shape,
-    pub(crate) base: usize,
     pub(crate) is_dead: bool,
+    pub(crate) base: usize,
 }
 
 /// What a branch to this frame takes.

@@ -23,6 +23,3 @@ pub use checked::CheckedBody;
 pub use checker::Checker;
 pub use floats::{expression_has_floats, is_float};
 pub use side_table::Destination;
-
-#[cfg(test)]
-mod tests;

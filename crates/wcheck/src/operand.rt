@@ -298,6 +298,21 @@ impl<'a> OperandList<'a> {
         true
     }
 
+    /// Takes off the last, if it stands in a place of its own.
+    #[inline(always)]
+    pub(crate) fn pop_single(&mut self) -> bool
+        ensures taken { result ≡ true → (x : Option ValType) × (self.old.items ≡ self.new.items ++ x ∷ []) }
+        ensures others { result ≡ false → self.new.items ≡ self.old.items }
+        ensures types { self.new.types ≡ self.old.types }
+    {
+        let count = self.places.len();
+        if count < 1 || is_run(self.places[count - 1]) {
+            return false;
+        }
+        self.places.truncate(count - 1);
+        true
+    }
+
     /// Writes the type `u` over that of the last, if that is known to be `t`.
     #[inline(always)]
     pub(crate) fn retype_known(&mut self, t: ValType, u: ValType) -> bool

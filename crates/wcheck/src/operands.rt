@@ -1,6 +1,6 @@
 ghost use Rattle.std.specs.Prelude.{◌≡◌, ◌<◌, ◌≤◌, ◌+◌, ◌-◌, List, [], ◌∷◌, ◌++◌, Bool, true, false, Option, Some, MatchOption, IfOk, reverse, take, drop, length, vec_len};
 ghost use Rattle.wcontext.specs.Lists.{list_of};
-ghost use Rattle.wsyntax.specs.Validation.Algorithm.{Takes, when, apply, take_any, take_one, take_all, put, fresh, is_nil, ends_with};
+ghost use Rattle.wsyntax.specs.Validation.Algorithm.{Takes, Drops, when, apply, take_any, take_one, take_all, put, fresh, is_nil, ends_with};
 
 use crate::operand::{OperandList, common_end, is_same};
 use std::alloc::{AllocError, Global};
@@ -107,6 +107,17 @@ impl<'a> OperandStack<'a> {
         ensures types { self.new.types ≡ self.old.types }
     {
         self.list.len() > self.base && self.list.pop_known(t)
+    }
+
+    /// Takes the topmost operand, whatever its type, if it stands in a place of its own.
+    #[inline(always)]
+    pub(crate) fn drop_known(&mut self) -> bool
+        ensures above { result ≡ true → apply Drops self.old.above ≡ Some self.new.above }
+        ensures others { result ≡ false → self.new.above ≡ self.old.above }
+        ensures below { self.new.below ≡ self.old.below }
+        ensures types { self.new.types ≡ self.old.types }
+    {
+        self.list.len() > self.base && self.list.pop_single()
     }
 
     /// Puts an operand of the second type in the place of the topmost, if that is known to be of the first.
@@ -306,6 +317,23 @@ impl<'a> OperandStack<'a> {
         count
     }
 
+    /// Takes operands of these types, the last first, one by one.
+    #[inline]
+    fn take_each(&mut self, ts: &[ValType]) -> bool
+        ensures above { take_all (reverse ts.now) self.old.above ≡ when result (Some self.new.above) }
+        ensures below { self.new.below ≡ self.old.below }
+        ensures types { self.new.types ≡ self.old.types }
+    {
+        let mut i = ts.len();
+        while i > 0 {
+            i -= 1;
+            if !self.take_one(ts[i]) {
+                return false;
+            }
+        }
+        true
+    }
+
     /// Takes operands of the types of a list, the last first. Once none is known, nothing more is looked at, and what was put
     /// from the same list is taken at once.
     #[inline(never)]
@@ -316,6 +344,9 @@ impl<'a> OperandStack<'a> {
         ensures types { self.new.types ≡ self.old.types }
     {
         let ts = self.list.types_of(list);
+        if ts.len() <= SHORT {
+            return self.take_each(ts);
+        }
         let mut i = ts.len();
         while i > 0 {
             if self.is_empty() {
@@ -418,7 +449,7 @@ impl<'a> OperandStack<'a> {
     }
 
     /// Goes back to the frame that began at this height.
-    #[inline]
+    #[inline(always)]
     pub(crate) fn close(&mut self, base: usize, is_dead: bool)
         ensures above { self.new.above ≡ record { known = reverse (drop base self.old.below); is_dead = is_dead } }
         ensures below { self.new.below ≡ take base self.old.below }
@@ -434,6 +465,7 @@ impl<'a> OperandStack<'a> {
     }
 
     /// Whether the operands are exactly these, which are taken.
+    #[inline(always)]
     pub(crate) fn ends_with(&mut self, list: TypeList) -> bool
         ensures answer { result ≡ ends_with (reverse (list_of self.old.types list)) self.old.above }
         ensures below { self.new.below ≡ self.old.below }
