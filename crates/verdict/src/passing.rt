@@ -1,4 +1,4 @@
-ghost use Rattle.std.specs.Prelude.{◌≡◌, ◌<◌, List, [], None, true, length};
+ghost use Rattle.std.specs.Prelude.{◌≡◌, ◌<◌, List, [], ◌∷◌, None, true, length};
 ghost use Rattle.wsyntax.specs.Instructions.{Token as Instruction};
 ghost use Rattle.verdict.specs.Judged.{class_of};
 ghost use Rattle.verdict.specs.OnePass.{Passes, PassesAs};
@@ -7,8 +7,8 @@ use std::alloc::Global;
 use wcheck::Checker;
 use wcontext::Context;
 use wdecode::{
-    branch_at, call_at, constant_at, has_too_many_locals, load_at, locals_at, numeric_at, store_at,
-    token_at, variable_at,
+    branch_at, call_at, constant_at, has_too_many_locals, jump_at, load_at, locals_at,
+    long_constant_at, numeric_at, opening_at, store_at, token_at, variable_at,
 };
 use wsyntax::Token;
 
@@ -96,6 +96,52 @@ macro_rules! look_known {
     };
 }
 
+/// Reads and checks an instruction behind its opcode that is numeric, or a load or a store. Operators of one type have an
+/// arm, for which the compiler looks that type up.
+#[inline(always)]
+fn number_passes<'a>(checker: &mut Checker<'_>, byte: u8, rest: &'a [u8]) -> Front<'a>
+    requires { checker.old.frames ≡ [] → ⊥ }
+    ensures outside { checker.new.outside ≡ checker.old.outside }
+    ensures passes { Passes (byte ∷ rest.now) checker.old checker.new result }
+{
+    match byte {
+        0x6A..=0x78 => look_known!(checker, numeric_at(byte, rest)),
+        0x46..=0x4F => look_known!(checker, numeric_at(byte, rest)),
+        0x7C..=0x8A => look_known!(checker, numeric_at(byte, rest)),
+        0x51..=0x5A => look_known!(checker, numeric_at(byte, rest)),
+        0x45..=0xC4 => look_known!(checker, numeric_at(byte, rest)),
+        0x28..=0x35 => look_known!(checker, load_at(byte, rest)),
+        0x36..=0x3E => look_known!(checker, store_at(byte, rest)),
+        _ => Front::Other,
+    }
+}
+
+/// Reads and checks an instruction behind its opcode that looks at a global, a frequent load or store, or one of the
+/// others of `number_passes`.
+#[inline(always)]
+fn access_passes<'a>(checker: &mut Checker<'_>, byte: u8, rest: &'a [u8]) -> Front<'a>
+    requires { checker.old.frames ≡ [] → ⊥ }
+    ensures outside { checker.new.outside ≡ checker.old.outside }
+    ensures passes { Passes (byte ∷ rest.now) checker.old checker.new result }
+{
+    match byte {
+        0x28 => look_known!(checker, load_at(byte, rest)),
+        0x29 => look_known!(checker, load_at(byte, rest)),
+        0x2C => look_known!(checker, load_at(byte, rest)),
+        0x2D => look_known!(checker, load_at(byte, rest)),
+        0x2E => look_known!(checker, load_at(byte, rest)),
+        0x2F => look_known!(checker, load_at(byte, rest)),
+        0x36 => look_known!(checker, store_at(byte, rest)),
+        0x37 => look_known!(checker, store_at(byte, rest)),
+        0x3A => look_known!(checker, store_at(byte, rest)),
+        0x3B => look_known!(checker, store_at(byte, rest)),
+        0x23 => look_known!(checker, variable_at(byte, rest)),
+        0x24 => look_known!(checker, variable_at(byte, rest)),
+        0x45 => look_known!(checker, numeric_at(byte, rest)),
+        _ => number_passes(checker, byte, rest),
+    }
+}
+
 /// Reads and checks the instruction at the front, where it is one of those that bodies are mostly made of. Each way
 /// checks by itself, so that what it read need not be told apart again.
 #[inline(always)]
@@ -121,11 +167,12 @@ fn frequent_passes<'a>(checker: &mut Checker<'_>, bytes: &'a [u8]) -> Front<'a>
         0x21 => look_known!(checker, variable_at(0x21, rest)),
         0x22 => look_known!(checker, variable_at(0x22, rest)),
         0x41 => look_known!(checker, constant_at(rest)),
-        0x45..=0xC4 => look_known!(checker, numeric_at(*byte, rest)),
-        0x28..=0x35 => look_known!(checker, load_at(*byte, rest)),
-        0x36..=0x3E => look_known!(checker, store_at(*byte, rest)),
-        0x23..=0x24 => look_known!(checker, variable_at(*byte, rest)),
-        _ => Front::Other,
+        0x42 => look_known!(checker, long_constant_at(rest)),
+        0x02 => look_at!(checker, opening_at(0x02, rest)),
+        0x03 => look_at!(checker, opening_at(0x03, rest)),
+        0x04 => look_at!(checker, opening_at(0x04, rest)),
+        0x0C => look_at!(checker, jump_at(rest)),
+        _ => access_passes(checker, *byte, rest),
     }
 }
 
