@@ -13,6 +13,3 @@ pub use clean::CleanMem;
 pub use history::{PoolEntry, PoolStep, TicketView};
 pub use linear_memory::LinearMemory;
 pub use pool::{Pool, Ticket};
-
-#[cfg(test)]
-mod tests;

@@ -1,6 +1,6 @@
 -- What is written so far, and the next part.
 use Rattle.std.proofs.Common.{◌≡◌, ℕ, zero, suc, ◌+◌, ◌<◌, List, [], ◌∷◌, ◌++◌, length, get_or, take, codes, Result, Ok, Err, OnOk, inl, inr, ◌⊎◌, refl, sym, ap, ◌∙◌, append_assoc, arith, length-take}
-use Rattle.std.proofs.lemmas.List.{take_more, map-append, append-nil, length-map, take_all}
+use Rattle.std.proofs.lemmas.List.{take_more, map-append, append-nil, length-map}
 use Rattle.wsyntax.specs.declared.value.Value.{Value}
 use Rattle.wsyntax.specs.Texts.Words.{newline, value_text}
 use Rattle.wsyntax.specs.Texts.Report.{CallEnd, Tally, values_text, spaced_values, call_line, call_lines, plus, tally_of, total_of, report_text}
@@ -59,12 +59,19 @@ ends_more : (lines : List Line) (i : ℕ) (line : Line) → i < length lines →
 ends_more lines i line l e =
     ap ends_of (take_more lines i line l) ∙ map-append end_of (take i lines) (get_or lines i line ∷ []) ∙ ap (λ x. ends_of (take i lines) ++ end_of x ∷ []) (sym e)
 
--- the lines up to a number and the next one
-pub lines_more : (lines : List Line) (i : ℕ) (line : Line) → i < length lines → line ≡ get_or lines i line
-    → call_lines 0 (ends_of (take i lines)) ++ call_line i (end_of line) ≡ call_lines 0 (ends_of (take (i + 1) lines))
-lines_more lines i line l e =
-    let at : length (ends_of (take i lines)) + 0 ≡ i = simp (length-map, length-take) (omega arith) in
-    sym (ap (call_lines 0) (ends_more lines i line l e) ∙ line_behind 0 (ends_of (take i lines)) (end_of line) ∙ ap (λ n. call_lines 0 (ends_of (take i lines)) ++ call_line n (end_of line)) at)
+-- the lines from a number on, up to a place and the next one
+pub lines_more : (n : ℕ) (lines : List Line) (i : ℕ) (line : Line) → i < length lines → line ≡ get_or lines i line
+    → call_lines n (ends_of (take i lines)) ++ call_line (n + i) (end_of line) ≡ call_lines n (ends_of (take (i + 1) lines))
+lines_more n lines i line l e =
+    let at : length (ends_of (take i lines)) + n ≡ n + i = simp (length-map, length-take) (omega arith) in
+    sym (ap (call_lines n) (ends_more lines i line l e) ∙ line_behind n (ends_of (take i lines)) (end_of line) ∙ ap (λ k. call_lines n (ends_of (take i lines)) ++ call_line k (end_of line)) at)
+
+-- the lines of two lists of calls, one behind the other
+pub lines_append : (n : ℕ) (xs ys : List CallEnd) → call_lines n (xs ++ ys) ≡ call_lines n xs ++ call_lines (n + length xs) ys
+lines_append n [] ys = ap (λ m. call_lines m ys) (omega arith)
+lines_append n (x ∷ xs) ys =
+    let at : suc n + length xs ≡ n + suc (length xs) = omega arith in
+    ap (λ l. call_line n x ++ l) (lines_append (suc n) xs ys ∙ ap (λ m. call_lines (suc n) xs ++ call_lines m ys) at) ∙ sym (append_assoc (call_line n x) (call_lines (suc n) xs) (call_lines (n + suc (length xs)) ys))
 
 -- ---- the total
 
@@ -83,17 +90,20 @@ total_behind (d ∷ es) e = ap (plus (tally_of d)) (total_behind es e) ∙ same_
 pub total_more : (lines : List Line) (i : ℕ) (line : Line) → i < length lines → line ≡ get_or lines i line → plus (total_of (ends_of (take i lines))) (tally_of (end_of line)) ≡ total_of (ends_of (take (i + 1) lines))
 total_more lines i line l e = sym (ap total_of (ends_more lines i line l e) ∙ total_behind (ends_of (take i lines)) (end_of line))
 
+-- the totals of two lists of calls
+pub totals_append : (xs ys : List CallEnd) → total_of (xs ++ ys) ≡ plus (total_of xs) (total_of ys)
+totals_append [] ys = same_tally _ _ (omega arith) (omega arith) (omega arith) (omega arith) (omega arith) (omega arith)
+totals_append (x ∷ xs) ys = ap (plus (tally_of x)) (totals_append xs ys) ∙ same_tally _ _ (omega arith) (omega arith) (omega arith) (omega arith) (omega arith) (omega arith)
+
 -- ---- the report
 
 -- all lines and the total
-pub report_whole : (lines : List Line) (i : ℕ) (total : Total) (text whole : List ℕ) → i ≡ length lines → text ≡ call_lines 0 (ends_of (take i lines)) → tally total ≡ total_of (ends_of (take i lines)) → total.calls ≡ i
-    → whole ≡ text ++ total_text total.calls (tally total) → whole ≡ report_text (ends_of lines)
-report_whole lines i total text whole all e t n w =
-    let every : take i lines ≡ lines = take_all i lines (omega arith) in
-    let count : total.calls ≡ length (ends_of lines) = simp length-map (omega arith) in
-    w ∙ ap (λ l. l ++ total_text total.calls (tally total)) (e ∙ ap (λ x. call_lines 0 (ends_of x)) every)
-    ∙ ap (λ t. call_lines 0 (ends_of lines) ++ total_text total.calls t) (t ∙ ap (λ x. total_of (ends_of x)) every)
-    ∙ ap (λ m. call_lines 0 (ends_of lines) ++ total_text m (total_of (ends_of lines))) count
+pub report_whole : (ends : List CallEnd) (total : Total) (text whole : List ℕ) → text ≡ call_lines 0 ends → tally total ≡ total_of ends → total.calls ≡ length ends
+    → whole ≡ text ++ total_text total.calls (tally total) → whole ≡ report_text ends
+report_whole ends total text whole e t n w =
+    w ∙ ap (λ l. l ++ total_text total.calls (tally total)) e
+    ∙ ap (λ t. call_lines 0 ends ++ total_text total.calls t) t
+    ∙ ap (λ m. call_lines 0 ends ++ total_text m (total_of ends)) n
 
 -- the parts of a line, one behind another
 pub line_written : (old n e written ended whole : List ℕ) → written ≡ old ++ (n ++ codes " ") → ended ≡ written ++ e → whole ≡ ended ++ newline → whole ≡ old ++ (n ++ (codes " " ++ (e ++ newline)))

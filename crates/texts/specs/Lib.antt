@@ -2,3 +2,4 @@ pub mod Calls
 pub mod Ends
 pub mod Reading
 pub mod Totals
+pub mod Parts

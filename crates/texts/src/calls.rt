@@ -5,26 +5,21 @@ use crate::call::{Call, read_call};
 use crate::fault::CallsFault;
 use crate::split::split_before;
 use std::alloc::Global;
-
-// The most bytes of the text.
-const MOST_BYTES: usize = 4_194_304;
-
-// The most lines of the text.
-const MOST_LINES: usize = 100_000;
+use wsyntax::{CALLS_LIMIT, LINE_LIMIT};
 
 /// Reads a text of calls: a line a call, each ended by a newline. The names are slices of the text.
 pub fn read_calls(alloc: Global, text: &[u8]) -> Result<Vec<Call<'_>>, CallsFault>
     ensures said { ReadsCalls text.now result }
-    ensures few { IfOk result (λ calls. vec_len calls ≤ 100000) }
+    ensures few { IfOk result (λ calls. vec_len calls ≤ LINE_LIMIT) }
 {
-    if text.len() > MOST_BYTES {
+    if text.len() > CALLS_LIMIT {
         return Err(CallsFault::TooLarge);
     }
     let mut calls = Vec::new(alloc);
     let mut rest = text;
     'lines: while !rest.is_empty() {
         let bad_line = CallsFault::Line(calls.len() as u32 + 1);
-        if calls.len() == MOST_LINES {
+        if calls.len() == LINE_LIMIT {
             return Err(bad_line);
         }
         let (line, after) = split_before(rest, b'\n');

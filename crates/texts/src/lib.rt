@@ -6,6 +6,7 @@ mod calls;
 mod fault;
 mod line;
 mod number;
+mod part;
 mod reports;
 mod split;
 mod total;
@@ -17,7 +18,5 @@ pub use calls::read_calls;
 pub use ends::{Outcome, StartRefusal};
 pub use fault::CallsFault;
 pub use line::Line;
-pub use reports::report;
-
-#[cfg(test)]
-mod tests;
+pub use part::Part;
+pub use reports::{report, report_of};

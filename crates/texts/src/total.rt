@@ -63,6 +63,23 @@ impl Total {
         }
     }
 
+    // Counts the calls of another total too.
+    pub(crate) fn add(&mut self, other: &Total)
+        requires room { self.old.calls + other.now.calls < 2 ^ 64 }
+        requires within { IsWithin self.old × IsWithin other.now }
+        ensures calls { self.new.calls ≡ self.old.calls + other.now.calls }
+        ensures tally { tally self.new ≡ plus (tally self.old) (tally other.now) }
+        ensures within { IsWithin self.new }
+    {
+        self.calls += other.calls;
+        self.values += other.values;
+        self.traps += other.traps;
+        self.exhausted += other.exhausted;
+        self.refused += other.refused;
+        self.no_memory += other.no_memory;
+        self.fuel += other.fuel;
+    }
+
     // The last line.
     pub(crate) fn push_line(&self, text: &mut String) -> Result<(), AllocError>
         ensures { OnOk result (string_bytes text.new ≡ string_bytes text.old ++ total_text self.now.calls (tally self.now)) }

@@ -7,11 +7,11 @@ use Rattle.texts.specs.Calls.{calls_of, call_of}
 use Rattle.texts.proofs.CallLines.{LinesRead, too_long, too_many, not_ended, line_ended, says_none, line_more, all_read}
 use Rattle.texts.proofs.calls.read_calls.Goals as goal
 
-pub returns-then-text-gt-MOST_BYTES-clause-said : goal.returns-then-text-gt-MOST_BYTES-clause-said
-returns-then-text-gt-MOST_BYTES-clause-said c = too_long c.args.text.now (omega arith)
+pub returns-then-text-gt-CALLS_LIMIT-clause-said : goal.returns-then-text-gt-CALLS_LIMIT-clause-said
+returns-then-text-gt-CALLS_LIMIT-clause-said c = too_long c.args.text.now (omega arith)
 
-pub returns-then-len-eq-MOST_LINES-clause-said : goal.returns-then-len-eq-MOST_LINES-clause-said
-returns-then-len-eq-MOST_LINES-clause-said c =
+pub returns-then-len-eq-LINE_LIMIT-clause-said : goal.returns-then-len-eq-LINE_LIMIT-clause-said
+returns-then-len-eq-LINE_LIMIT-clause-said c =
     let some : 0 < length c.lines.rest.now = search rules in
     let count : c.len.result ≡ length (calls_of c.lines.calls.items) = simp length-map (search rules) in
     let full : c.len-in-lines.result ≡ length (calls_of c.lines.calls.items) = simp length-map (search rules) in

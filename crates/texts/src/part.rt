@@ -1,0 +1,37 @@
+ghost use Rattle.std.specs.Prelude.{◌≡◌, ◌+◌, ◌<◌, ◌^◌, IfOk, length};
+ghost use Rattle.texts.specs.Ends.{ends_of};
+ghost use Rattle.texts.specs.Parts.{IsPart};
+
+use crate::line::Line;
+use crate::total::Total;
+use crate::words::push_end;
+use std::alloc::{AllocError, Global};
+
+/// The bytes of most lines, for which room is made at once.
+const USUAL_LINE: usize = 32;
+
+/// A part of a report: the lines of some consecutive calls, and their counts.
+#[derive(Drop)]
+pub struct Part {
+    pub(crate) text: String,
+    pub(crate) total: Total,
+}
+
+impl Part {
+    /// The part with these lines, of which the first has that number.
+    pub fn of(alloc: Global, first: usize, lines: &[Line]) -> Result<Part, AllocError>
+        requires { first + length lines.now < 2 ^ 64 }
+        ensures { IfOk result (IsPart first (ends_of lines.now)) }
+    {
+        let mut text = String::with_capacity(alloc, lines.len().saturating_mul(USUAL_LINE))?;
+        let mut total = Total::new();
+        for (place, line) in lines.iter().enumerate() {
+            let number = first + place;
+            write!(text, "{number} ")?;
+            push_end(&mut text, line)?;
+            text.push_str("\n")?;
+            total.count(line);
+        }
+        Ok(Part { text, total })
+    }
+}
