@@ -1,18 +1,20 @@
 -- The answer, from what its parts say.
-use Rattle.std.proofs.Common.{◌≡◌, ℕ, suc, false, List, [], ◌∷◌, ◌++◌, Some, IsSomeAnd, Err, length, refl, sym, ap, subst, ◌∙◌, arith}
+use Rattle.std.proofs.Common.{◌≡◌, ℕ, suc, ◌^◌, ◌<◌, false, List, [], ◌∷◌, ◌++◌, Some, IsSomeAnd, Err, length, refl, sym, subst, ◌∙◌, arith}
 use Rattle.std.specs.Prelude.{slice_get, map, IfSome}
+use Rattle.std.proofs.lemmas.List.{length-map}
 use Rattle.std.proofs.lemmas.Option.{same_Some}
 use Rattle.wsyntax.specs.Modules.{BodyShape, module_shape, body_shape}
 use Rattle.wsyntax.specs.Binary.Shell.{SpellsBody, SpellsBodies, Spells}
 use Rattle.wsyntax.specs.Validation.Verdict.{IsVerdict, Accepted, TooLarge, Malformed, RuleBroken, BodyRefused}
 use Rattle.wsyntax.specs.Texts.Calls.{TooLong, BadLine, Good, IsCalls}
 use Rattle.wsyntax.specs.Texts.Lines.{verdict_line}
-use Rattle.wsyntax.specs.Texts.Report.{report_text}
+use Rattle.wsyntax.specs.Texts.Report.{CallEnd, report_text}
 use Rattle.wsyntax.specs.Texts.Answer.{Limits, IsAnswer, calls_line}
 use Rattle.texts.specs.Calls.{ReadsCalls, calls_of}
-use Rattle.texts.specs.Ends.{ends_of}
+use Rattle.texts.specs.Ends.{end_of, ends_of}
+use Rattle.texts.specs.Parts.{AreParts}
 use Rattle.texts.specs.declared.call.Call.{Call}
-use Rattle.texts.specs.declared.line.Line.{Line}
+use Rattle.texts.specs.declared.part.Part.{Part}
 use Rattle.texts.specs.declared.fault.CallsFault.{CallsFault}
 use Rattle.texts.specs.declared.fault.CallsFault.TheVariants as fault
 use Rattle.verdict.specs.Kept.{IsAcceptedFrom}
@@ -24,7 +26,10 @@ use Rattle.verdict.specs.declared.refusal.Refusal.TheVariants as refusal
 use Rattle.wstore.specs.declared.settings.Settings.{Settings}
 use Rattle.wstore.specs.Settings.{limits}
 use Rattle.batch.specs.Ends.{is_short, AreEnds}
+use Rattle.batch.specs.Groups.{GiveParts}
 use Rattle.batch.specs.Answers.{IsSomeAnswer, refused_text}
+use Rattle.batch.proofs.Batches.{ends_given}
+use Rattle.batch.proofs.GroupedLines.{as_many}
 
 -- ---- what the bytes spell
 
@@ -66,12 +71,18 @@ refused_calls bytes text l fault.TooLarge out v said e = ((λ n. false), (Accept
 refused_calls bytes text l (fault.Line k) out v said e = ((λ n. false), (Accepted, v, (BadLine k, said, e)))
 refused_calls bytes text l fault.Memory out v said e = absurd e
 
+-- there is room for a count of the calls
+pub few_ends : (a : AcceptedModule) (s : Settings) (calls : List Call) (parts written : List Part) → length calls < 2 ^ 32 → GiveParts a s calls parts → written ≡ parts → (ends : List CallEnd) × AreParts 0 ends written × (length ends < 2 ^ 64)
+few_ends a s calls parts written few (lines, gives, are) same =
+    let count : length (ends_of lines) ≡ length calls = length-map lines end_of ∙ as_many a s calls lines gives in
+    (ends_of lines, subst (AreParts 0 (ends_of lines)) (sym same) are, omega arith)
+
 -- on calls that were run
-pub report_is : (bytes text : List ℕ) (a : AcceptedModule) (s : Settings) (calls given : List Call) (lines written : List Line) (out : List ℕ)
-    → IsVerdict bytes Accepted → Spells bytes (module_shape a.«module») (shapes_of a.bodies.items) → IsCalls text (Good (calls_of calls)) → given ≡ calls → AreEnds a s given lines
-    → written ≡ lines → out ≡ report_text (ends_of written) → IsSomeAnswer bytes text (limits s.fuel s.frames s.pages) out
+pub report_is : (bytes text : List ℕ) (a : AcceptedModule) (s : Settings) (calls given : List Call) (parts written : List Part) (out : List ℕ)
+    → IsVerdict bytes Accepted → Spells bytes (module_shape a.«module») (shapes_of a.bodies.items) → IsCalls text (Good (calls_of calls)) → given ≡ calls → GiveParts a s given parts
+    → written ≡ parts → ((ends : List CallEnd) → AreParts 0 ends written → out ≡ report_text ends) → IsSomeAnswer bytes text (limits s.fuel s.frames s.pages) out
 unfolding IsAnswer
-report_is bytes text a s calls given lines written out v spells said same ends wrote e =
-    let ends' : AreEnds a s calls lines = subst (λ (x : List Call). AreEnds a s x lines) same ends in
-    let text' : out ≡ report_text (ends_of lines) = e ∙ ap (λ (x : List Line). report_text (ends_of x)) wrote in
+report_is bytes text a s calls given parts written out v spells said same (lines, gives, are) wrote whole =
+    let ends' : AreEnds a s calls lines = subst (λ (x : List Call). AreEnds a s x lines) same (ends_given a s given lines gives) in
+    let text' : out ≡ report_text (ends_of lines) = whole (ends_of lines) (subst (AreParts 0 (ends_of lines)) (sym wrote) are) in
     ((λ n. is_short (slice_get lines n)), (Accepted, v, (Good (calls_of calls), said, (module_shape a.«module», shapes_of a.bodies.items, ends_of lines, spells, ends', text'))))

@@ -2,8 +2,8 @@
 use Rattle.std.proofs.Common.{◌≡◌, ℕ, suc, ◌+◌, IsTrue, List, [], ◌∷◌, Option, Some, length, refl, sym, ap, subst, ◌∙◌, arith}
 use Rattle.std.specs.Prelude.{slice_get}
 use Rattle.std.proofs.lemmas.Option.{same_Some}
-use Rattle.wsyntax.specs.Modules.{ModuleShape, BodyShape, module_shape}
-use Rattle.wsyntax.specs.Texts.Answer.{Limits, EndOf, EndsOf}
+use Rattle.wsyntax.specs.Modules.{module_shape}
+use Rattle.wsyntax.specs.Texts.Answer.{EndOf, EndsOf}
 use Rattle.soundness.specs.Instances.{Judged}
 use Rattle.pieces.specs.TryAll.{AllPass}
 use Rattle.texts.specs.Calls.{call_of, calls_of}
@@ -15,7 +15,8 @@ use Rattle.verdict.specs.Judgement.{shapes_of}
 use Rattle.wstore.specs.declared.settings.Settings.{Settings}
 use Rattle.wstore.specs.Settings.{limits}
 use Rattle.wsyntax.specs.declared.value.Value.{Value}
-use Rattle.batch.specs.Ends.{EndsAlone, IsCallee, is_short, GivesLineAt, AreEnds}
+use Rattle.batch.specs.Ends.{EndsAlone, IsCallee, is_short, GivesLine, GivesLineAt, AreEnds}
+use Rattle.batch.specs.Groups.{GiveLines}
 use Rattle.batch.proofs.CallEnds.{alone_end}
 use Rattle.batch.proofs.Instance.{instance_of}
 
@@ -35,16 +36,20 @@ given_line a s calls n f c args line at judged callee same h =
 
 -- ---- all calls
 
--- the call at that place ends so
-abbrev Gives : ModuleShape → List BodyShape → Limits → List Call → ℕ → Line → Type 0
-Gives m bodies l calls n line = (c : Call) × (slice_get calls n ≡ Some c) × EndOf m bodies l (IsTrue (is_short (Some line))) (call_of c) (end_of line)
-
-first_end : (m : ModuleShape) (bodies : List BodyShape) (l : Limits) (c : Call) (cs : List Call) (line : Line) (found : Option Line) → found ≡ Some line → Gives m bodies l (c ∷ cs) 0 line
-    → EndOf m bodies l (IsTrue (is_short found)) (call_of c) (end_of line)
-first_end m bodies l c cs line found e (d, at, h) =
+first_given : (a : Accepted) (s : Settings) (c : Call) (cs : List Call) (line : Line) → GivesLineAt a s (c ∷ cs) 0 line → GivesLine a s c line
+first_given a s c cs line (d, at, h) =
     let same : d ≡ c = sym (same_Some c d at) in
-    let here : EndOf m bodies l (IsTrue (is_short (Some line))) (call_of c) (end_of line) = subst (λ (x : Call). EndOf m bodies l (IsTrue (is_short (Some line))) (call_of x) (end_of line)) same h in
-    subst (λ (x : Option Line). EndOf m bodies l (IsTrue (is_short x)) (call_of c) (end_of line)) (sym e) here
+    subst (λ (x : Call). GivesLine a s x line) same h
+
+-- a line at each place
+lines_given : (a : Accepted) (s : Settings) (calls : List Call) (lines : List Line) → length lines ≡ length calls
+    → ((i : ℕ) (line : Line) → slice_get lines i ≡ Some line → GivesLineAt a s calls i line) → GiveLines a s calls lines
+lines_given a s [] [] count each = tt
+lines_given a s [] (x ∷ xs) count each = absurd (omega (arith, count))
+lines_given a s (c ∷ cs) [] count each = absurd (omega (arith, count))
+lines_given a s (c ∷ cs) (x ∷ xs) count each =
+    let rest : length xs ≡ length cs = omega (arith, count) in
+    (first_given a s c cs x (each 0 x refl), lines_given a s cs xs rest (λ i line e. each (suc i) line e))
 
 plus_zero : (n : ℕ) → n ≡ n + 0
 plus_zero n = omega arith
@@ -55,18 +60,19 @@ from_zero i = omega arith
 plus_suc : (n i : ℕ) → suc n + i ≡ n + suc i
 plus_suc n i = omega arith
 
-ends_from : (m : ModuleShape) (bodies : List BodyShape) (l : Limits) (all : List Line) (n : ℕ) (calls : List Call) (lines : List Line) → length lines ≡ length calls
-    → ((i : ℕ) (line : Line) → slice_get lines i ≡ Some line → Gives m bodies l calls i line) → ((i : ℕ) → slice_get all (n + i) ≡ slice_get lines i)
-    → EndsOf m bodies l (λ n. IsTrue (is_short (slice_get all n))) n (calls_of calls) (ends_of lines)
-ends_from m bodies l all n [] [] count each at = tt
-ends_from m bodies l all n [] (x ∷ xs) count each at = absurd (omega (arith, count))
-ends_from m bodies l all n (c ∷ cs) [] count each at = absurd (omega (arith, count))
-ends_from m bodies l all n (c ∷ cs) (x ∷ xs) count each at =
-    let here : slice_get all n ≡ Some x = ap (slice_get all) (plus_zero n) ∙ at 0 in
-    let rest : length xs ≡ length cs = omega (arith, count) in
-    let others = ends_from m bodies l all (suc n) cs xs rest (λ i line e. each (suc i) line e) (λ i. ap (slice_get all) (plus_suc n i) ∙ at (suc i)) in
-    (first_end m bodies l c cs x (slice_get all n) here (each 0 x refl), others)
+-- the calls from number n on, of which all have these lines
+ends_from : (a : Accepted) (s : Settings) (all : List Line) (n : ℕ) (calls : List Call) (lines : List Line) → GiveLines a s calls lines → ((i : ℕ) → slice_get all (n + i) ≡ slice_get lines i)
+    → EndsOf (module_shape a.«module») (shapes_of a.bodies.items) (limits s.fuel s.frames s.pages) (λ n. IsTrue (is_short (slice_get all n))) n (calls_of calls) (ends_of lines)
+ends_from a s all n [] [] h at = tt
+ends_from a s all n [] (x ∷ xs) h at = absurd h
+ends_from a s all n (c ∷ cs) [] h at = absurd h
+ends_from a s all n (c ∷ cs) (x ∷ xs) h at =
+    let here : Some x ≡ slice_get all n = sym (ap (slice_get all) (plus_zero n) ∙ at 0) in
+    let others = ends_from a s all (suc n) cs xs h.1 (λ i. ap (slice_get all) (plus_suc n i) ∙ at (suc i)) in
+    (subst (λ (found : Option Line). EndOf (module_shape a.«module») (shapes_of a.bodies.items) (limits s.fuel s.frames s.pages) (IsTrue (is_short found)) (call_of c) (end_of x)) here h.0, others)
+
+pub ends_given : (a : Accepted) (s : Settings) (calls : List Call) (lines : List Line) → GiveLines a s calls lines → AreEnds a s calls lines
+ends_given a s calls lines h = ends_from a s lines 0 calls lines h (λ i. ap (slice_get lines) (from_zero i))
 
 pub all_end : (a : Accepted) (s : Settings) (calls : List Call) (n : ℕ) (lines : List Line) → n ≡ length calls → AllPass n (λ i. Unit {0}) (λ i line. GivesLineAt a s calls i line) lines → AreEnds a s calls lines
-all_end a s calls n lines count h =
-    ends_from (module_shape a.«module») (shapes_of a.bodies.items) (limits s.fuel s.frames s.pages) lines 0 calls lines (h.len ∙ count) (λ i line e. (h.each i line e).1) (λ i. ap (slice_get lines) (from_zero i))
+all_end a s calls n lines count h = ends_given a s calls lines (lines_given a s calls lines (h.len ∙ count) (λ i line e. (h.each i line e).1))

@@ -3,4 +3,5 @@ pub mod CallEnds
 pub mod Trees
 pub mod Instance
 pub mod Batches
+pub mod GroupedLines
 pub mod Answered

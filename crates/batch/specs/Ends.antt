@@ -51,6 +51,10 @@ EndsAlone m bodies l f args BadArguments = ⊥
 abbrev pub IsCallee : ModuleShape → Meant → ℕ → Type 0
 IsCallee m c f = (sig : FuncType) × Names m c f sig × (types c.args ≡ sig.params)
 
+-- the call at that place does
+abbrev pub IsCalleeAt : Accepted → List Call → ℕ → ℕ → Type 0
+IsCalleeAt a calls n f = (c : Call) × (slice_get calls n ≡ Some c) × IsCallee (module_shape a.«module») (call_of c) f
+
 -- the call met want of memory
 abbrev pub is_short : Option Line → Bool
 is_short (Some NoMemory) = true

@@ -1,5 +1,6 @@
 pub mod Output
 pub mod Report
 pub mod Ends
+pub mod Groups
 pub mod Answers
 pub mod Laws

@@ -12,14 +12,14 @@ ghost use Rattle.batch.specs.Answers.{Answers, HasStatus, IsSomeAnswer, StatusBy
 
 use crate::line::line_of;
 use crate::output::write_text;
-use crate::running::run_batch;
+use crate::running::run_groups;
 use crate::status::{AnswerFault, Status};
 use pieces::{Plan, Watch};
 use std::alloc::{AllocError, Global};
 use std::io::Write;
 use std::sync::Wait;
 use std::thread::Threads;
-use texts::{CallsFault, read_calls, report};
+use texts::{CallsFault, read_calls, report_of};
 use verdict::{Accepted, judge};
 use wstore::Settings;
 
@@ -63,9 +63,9 @@ fn answer_on<R: Threads + Wait + Sync, W: Watch + Sync>(
             });
         }
     };
-    let lines = run_batch(rt, alloc, accepted, &calls, settings, plan, watch)?;
+    let parts = run_groups(rt, alloc, accepted, &calls, settings, plan, watch)?;
     Ok(Written {
-        text: report(alloc, &lines)?,
+        text: report_of(alloc, &parts)?,
         status: Status::Good,
     })
 }

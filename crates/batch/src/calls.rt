@@ -7,7 +7,6 @@ ghost use Rattle.batch.specs.Ends.{IsCallee, RefusedAs};
 
 use crate::call::run_alone;
 use memory::{CleanMem, Pool, Ticket};
-use pieces::{Job, JobFault, Stage, Watch};
 use std::alloc::Global;
 use std::sync::Wait;
 use texts::{Call, Line};
@@ -36,66 +35,64 @@ fn callee(accepted: &Accepted<'_>, call: &Call<'_>) -> Result<u32, Line>
 
 /// The calls of a batch, each to be run on an instance of its own. The pool is asked only where the module has a memory.
 #[derive(Drop)]
-pub(crate) struct Calls<'a, W> {
+pub(crate) struct Calls<'a> {
     pub(crate) alloc: Global,
     pub(crate) accepted: &'a Accepted<'a>,
     pub(crate) calls: &'a [Call<'a>],
     pub(crate) settings: Settings,
     pub(crate) pool: &'a Pool,
-    pub(crate) watch: &'a W,
     ghost few: { length calls.now < 2 ^ 32 },
 }
 
-impl<'a, W: Watch> Job for Calls<'a, W> {
-    type Local = Ticket;
-
-    type Out = Line;
-
-    type Fault = ();
-
+impl<'a> Calls<'a> {
     ghost use Rattle.memory.specs.Pools.{IsTicketOf};
-    ghost use Rattle.batch.specs.Ends.{GivesLineAt};
+    ghost use Rattle.batch.specs.Ends.{GivesLineAt, IsCalleeAt};
 
-    ghost limit = { λ j. length j.calls.now };
-
-    ghost belongs = { λ j t. IsTicketOf j.pool.now t };
-
-    ghost passes = { λ j i. Unit {0} };
-
-    ghost gives = { λ j i line. GivesLineAt j.accepted.now j.settings j.calls.now i line };
-
-    ghost refuses = { λ j i f. ⊥ };
-
-    fn run<R: Wait>(&self, rt: &R, ticket: &mut Ticket, index: u32) -> Result<Line, JobFault<()>> {
-        self.watch.note(Stage::Call, index);
-        accepted_is_judged(self.accepted);
+    /// The function of the call at that place, or how the call ends.
+    pub(crate) fn callee(&self, index: u32) -> Result<u32, Line>
+        requires { index < length self.now.calls.now }
+        ensures named { IfOk result (IsCalleeAt self.now.accepted.now self.now.calls.now index) }
+        ensures refused { IfErr result (GivesLineAt self.now.accepted.now self.now.settings self.now.calls.now index) }
+    {
         let call = &self.calls[index as usize];
-        let function = match callee(self.accepted, call) {
-            Ok(function) => function,
-            Err(line) => return Ok(line),
-        };
-        let needs_memory = !self.accepted.module().memories.is_empty();
-        let clean = if needs_memory {
-            self.pool.lend(rt, ticket)
-        } else {
-            CleanMem::empty(self.alloc)
-        };
-        self.watch.lent(index, clean.len());
-        let (line, clean) = run_alone(
+        callee(self.accepted, call)
+    }
+
+    /// A memory for calls, lent where the module has one.
+    pub(crate) fn lend<R: Wait>(&self, rt: &R, ticket: &mut Ticket) -> CleanMem
+        requires { IsTicketOf self.now.pool.now ticket.old }
+        ensures { IsTicketOf self.now.pool.now ticket.new }
+    {
+        if self.accepted.module().memories.is_empty() {
+            return CleanMem::empty(self.alloc);
+        }
+        self.pool.lend(rt, ticket)
+    }
+
+    /// Gives back what was lent.
+    pub(crate) fn give_back<R: Wait>(&self, rt: &R, ticket: &mut Ticket, clean: CleanMem)
+        requires { IsTicketOf self.now.pool.now ticket.old }
+        ensures { IsTicketOf self.now.pool.now ticket.new }
+    {
+        if !self.accepted.module().memories.is_empty() {
+            self.pool.give(rt, ticket, clean);
+        }
+    }
+
+    /// How the call at that place ends, whose function is this one, in the memory that is lent, and that memory, clean again.
+    pub(crate) fn line(&self, index: u32, function: u32, clean: CleanMem) -> (Line, CleanMem)
+        requires { IsCalleeAt self.now.accepted.now self.now.calls.now index function }
+        ensures { GivesLineAt self.now.accepted.now self.now.settings self.now.calls.now index result.0 }
+    {
+        accepted_is_judged(self.accepted);
+        let args = &self.calls[index as usize].args;
+        run_alone(
             self.alloc,
             self.accepted,
             function,
-            &call.args,
+            args,
             self.settings,
             clean,
-        );
-        if needs_memory {
-            self.pool.give(rt, ticket, clean);
-        }
-        Ok(line)
+        )
     }
-
-    ghost never_both = { λ j i f p r. r };
-
-    ghost one_fault = { λ j i f g r s. absurd r };
 }

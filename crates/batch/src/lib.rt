@@ -4,6 +4,8 @@
 mod answering;
 mod call;
 mod calls;
+mod each;
+mod groups;
 mod laws;
 mod line;
 mod output;

@@ -1,15 +1,18 @@
 //! A batch of calls on many workers.
 
-ghost use Rattle.std.specs.Prelude.{◌≡◌, IfOk};
+ghost use Rattle.std.specs.Prelude.{◌<◌, ◌^◌, ◌≡◌, IfOk, length};
 ghost use Rattle.batch.specs.Ends.{AreEnds};
+ghost use Rattle.batch.specs.Groups.{GiveParts};
 
 use crate::calls::Calls;
+use crate::each::EachCall;
+use crate::groups::{GroupedCalls, count_groups};
 use memory::Pool;
 use pieces::{Plan, TryFault, Watch, try_all};
 use std::alloc::{AllocError, Global};
 use std::sync::Wait;
 use std::thread::Threads;
-use texts::{Call, Line};
+use texts::{Call, Line, Part};
 use verdict::Accepted;
 use wstore::Settings;
 
@@ -30,16 +33,57 @@ pub fn run_batch<R: Threads + Wait + Sync, W: Watch + Sync>(
         return Err(AllocError);
     };
     let (pool, tickets) = Pool::new(alloc, plan.workers())?;
-    let job = Calls {
+    let calls = Calls {
         alloc,
         accepted,
         calls,
         settings,
         pool: &pool,
-        watch,
     };
+    let job = EachCall { calls, watch };
     match try_all(rt, alloc, &job, tickets, count, plan) {
         Ok(lines) => Ok(lines),
+        Err(TryFault::Stopped { .. } | TryFault::Memory) => Err(AllocError),
+    }
+}
+
+/// The plan of as many workers that takes one group at once.
+fn one_group_each(plan: Plan) -> Plan
+    ensures { result.workers ≡ plan.workers }
+{
+    match Plan::new(plan.workers(), 1) {
+        Some(single) => single,
+        None => unreachable!(),
+    }
+}
+
+/// Runs each call as `run_batch` does, in groups of as many as the plan has in a piece. Each worker makes the lines of its
+/// groups, and the parts stand in the order of the calls.
+pub(crate) fn run_groups<R: Threads + Wait + Sync, W: Watch + Sync>(
+    rt: &R,
+    alloc: Global,
+    accepted: &Accepted<'_>,
+    calls: &[Call<'_>],
+    settings: Settings,
+    plan: Plan,
+    watch: &W,
+) -> Result<Vec<Part>, AllocError>
+    requires { length calls.now < 2 ^ 32 }
+    ensures { IfOk result (λ parts. GiveParts accepted.now settings calls.now parts.items) }
+{
+    let (pool, tickets) = Pool::new(alloc, plan.workers())?;
+    let size = plan.piece();
+    let groups = count_groups(calls.len() as u32, size);
+    let calls = Calls {
+        alloc,
+        accepted,
+        calls,
+        settings,
+        pool: &pool,
+    };
+    let job = GroupedCalls { calls, size, watch };
+    match try_all(rt, alloc, &job, tickets, groups, one_group_each(plan)) {
+        Ok(parts) => Ok(parts),
         Err(TryFault::Stopped { .. } | TryFault::Memory) => Err(AllocError),
     }
 }

@@ -11,9 +11,10 @@ use std::alloc::Global;
 use std::io::Write;
 use std::sync::Wait;
 use std::thread::Threads;
+use wsyntax::CALLS_LIMIT;
 
 /// One byte more than a text of calls may have: what is read of a longer file is too large as well.
-const MOST_OF_CALLS: usize = 4_194_305;
+const MOST_OF_CALLS: usize = CALLS_LIMIT + 1;
 
 /// Reads a module whole, and then the calls, and writes the answer to both.
 pub fn answer_files<'a, R: Threads + Wait + Sync, S: Source, O: Write>(

@@ -10,9 +10,10 @@ use std::alloc::Global;
 use std::io::Write;
 use std::sync::Wait;
 use std::thread::Threads;
+use wsyntax::MODULE_LIMIT;
 
 /// One byte more than a module may have: what is read of a longer file is too large as well.
-pub(crate) const MOST_OF_MODULE: usize = 16_777_217;
+pub(crate) const MOST_OF_MODULE: usize = MODULE_LIMIT + 1;
 
 /// Reads a module whole, judges it and writes its verdict line.
 pub fn check_file<'a, R: Threads + Wait + Sync, S: Source, O: Write>(
