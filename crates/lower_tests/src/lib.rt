@@ -1,0 +1,20 @@
+//! Tests of the crates below the judge, on numbers, modules, bodies and texts whose outcome is known from outside. They
+//! stand here, since a crate with tests is proved twice.
+#![tactic(auto)]
+
+#[cfg(test)]
+mod bodies;
+#[cfg(test)]
+mod calls;
+#[cfg(test)]
+mod checks;
+#[cfg(test)]
+mod contexts;
+#[cfg(test)]
+mod memories;
+#[cfg(test)]
+mod modules;
+#[cfg(test)]
+mod numbers;
+#[cfg(test)]
+mod rows;
