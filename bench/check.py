@@ -1,13 +1,19 @@
 #!/usr/bin/env python3
-"""usage: check.py GATE [MEGABYTES..]    measures `gate check` beside other validators, all in one run.
+"""usage: check.py GATE [--plot FILE.svg] [MEGABYTES or MODULE.wasm ..]    measures `gate check` beside other validators.
 
-Each row is a generated module (bench/modules.py). Every number is that of a fresh process: the best of five, as MB/s
-of the file, the start of the process included; in brackets the ratio to one worker of `gate`.
-  C       bench/peer.c, a plain decoder and checker of the same design, one pass (its own clock: no process start)
-  node    WebAssembly.validate, held to one thread by taskset; its own clock
-  wabt    wasm-validate, where it is installed
-Peak memory is that of `gate` with one worker, by module size.
+A row is a module of bench/modules.py of each of these sizes (1, 4 and 15 MB where none is given), or a module that is given
+as a file: real programs. All engines take turns, so that all meet the same load, and the best of seven counts, in MB/s of
+the file, by the clock.
+  gate    one worker after the file was read: a fresh process, less the same process on as many zero bytes, which are refused
+          once they are read
+  C       bench/peer.c, a plain decoder and checker of the same design, one pass; its own clock, the file being read
+  node    WebAssembly.validate, held to one thread by taskset; its own clock, the file being read
+  whole   the same process of gate, its start and the reading of the file included; then with 2 and 4 workers
+  wabt    wasm-validate, where it is installed, a fresh process
+In brackets: of C and node the ratio to gate, of the others to the whole process with one worker. Last the peak memory of
+`gate` with one worker, by the module's size. `--plot` draws the rows as bars.
 """
+import math
 import os
 import shutil
 import subprocess
@@ -16,28 +22,31 @@ import tempfile
 import time
 
 here = os.path.dirname(os.path.abspath(__file__))
-NODE = ("const b=require('fs').readFileSync(process.argv[1]);let best=1e9;for(let i=0;i<5;i++){const s=process.hrtime.bigint();"
-        "if(!WebAssembly.validate(b))throw 'refused';const t=Number(process.hrtime.bigint()-s)/1e9;if(t<best)best=t}console.log(best)")
+KINDS = {'many': 'many functions', 'tiny': 'functions of ten bytes', 'large': 'large functions', 'one': 'one function',
+         'lists': 'half a type', 'labels': 'half a branch table'}
+# The peer in C compares lists of types item by item each time, which takes minutes on these, and wabt's validator asks for
+# more memory than the machine has.
+LONG_LISTS = ('lists', 'labels')
+NODE = """const b=require('fs').readFileSync(process.argv[1]);let best=1e9;for(let i=0;i<3;i++){const s=process.hrtime.bigint();
+if(!WebAssembly.validate(b))throw 'refused';const t=Number(process.hrtime.bigint()-s)/1e9;if(t<best)best=t}console.log(best)"""
+COLOURS = {'gate': '#1b6ca8', 'C': '#8a8a8a', 'node': '#d9822b', 'wabt': '#7a9e3b'}
 
 
-def best_of(words, times=5):
-    best, memory = 1e9, 0
-    for _ in range(times):
-        start = time.perf_counter()
-        child = subprocess.Popen(words, stdout=subprocess.PIPE, stderr=subprocess.PIPE)
-        out, _ = child.communicate()
-        if child.returncode != 0 or (out and b'accepted' not in out):
-            sys.exit(f'{words}: {out!r}, status {child.returncode}')
-        best = min(best, time.perf_counter() - start)
-    return best
+def process(words, wanted):
+    # The seconds that a fresh process takes by the clock; nothing where it answers otherwise.
+    start = time.perf_counter()
+    child = subprocess.run(words, capture_output=True)
+    took = time.perf_counter() - start
+    return took if child.stdout == wanted else None
 
 
-def printed(words):
-    # What a program prints; nothing where it refuses the module or takes more than a minute.
+def own_clock(words):
+    # The seconds that a program prints; nothing where it refuses the module or takes more than a minute.
     try:
-        return subprocess.run(words, capture_output=True, timeout=60).stdout
+        child = subprocess.run(words, capture_output=True, timeout=60)
     except subprocess.TimeoutExpired:
-        return b''
+        return None
+    return float(child.stdout.split()[0]) if child.returncode == 0 and child.stdout else None
 
 
 def peak(words):
@@ -46,32 +55,118 @@ def peak(words):
     return int(ran.stderr.split()[-1]) * 1024
 
 
-def main(gate, sizes):
+def engines(gate, peer, path, zeros, has_long_lists):
+    # Of each engine that is there, what measures one run.
+    def check(n):
+        return lambda: process([gate, 'check', path, '--workers', str(n)], b'accepted\n')
+
+    takes = {f'{n} workers': check(n) for n in (1, 2, 4)}
+    takes['reading'] = lambda: process([gate, 'check', zeros, '--workers', '1'], b'refused malformed\n')
+    if not has_long_lists:
+        takes['C'] = lambda: own_clock([peer, 'check', path, '1'])
+    if shutil.which('node'):
+        takes['node'] = lambda: own_clock(['taskset', '-c', '0', 'node', '-e', NODE, path])
+    if shutil.which('wasm-validate') and not has_long_lists:
+        takes['wabt'] = lambda: process(['wasm-validate', path], b'')
+    return takes
+
+
+def best_times(takes, rounds=7):
+    best = {}
+    for turn in range(rounds):
+        for name, take in takes.items():
+            # wabt is slower by ten times, so two of its runs have to do.
+            if name == 'wabt' and turn >= 2 or turn and name not in best:
+                continue
+            took = take()
+            if took is not None:
+                best[name] = min(took, best.get(name, took))
+    return best
+
+
+def measure(gate, peer, folder, path, has_long_lists=False):
+    # The MB/s of each engine.
+    length = os.path.getsize(path)
+    zeros = os.path.join(folder, 'zeros')
+    with open(zeros, 'wb') as file:
+        file.write(bytes(length))
+    best = best_times(engines(gate, peer, path, zeros, has_long_lists))
+    if '1 workers' not in best:
+        sys.exit(f'{path}: not accepted')
+    best['gate'] = best['1 workers'] - best.pop('reading')
+    return {name: length / took / 1e6 for name, took in best.items()}
+
+
+def cell(speeds, name, base):
+    return f'{speeds[name]:.1f} ({speeds[name] / speeds[base]:.2f})' if name in speeds else '-'
+
+
+def report(gate, label, path, speeds):
+    cells = [f'{speeds["gate"]:.1f}', cell(speeds, 'C', 'gate'), cell(speeds, 'node', 'gate'), f'{speeds["1 workers"]:.1f}']
+    cells += [cell(speeds, name, '1 workers') for name in ('2 workers', '4 workers', 'wabt')]
+    timed = os.path.exists('/usr/bin/time')
+    cells.append(f'{peak([gate, "check", path, "--workers", "1"]) / os.path.getsize(path):.1f}' if timed else '-')
+    print('| ' + ' | '.join([label] + cells) + ' |', flush=True)
+
+
+def mean(rows, name):
+    ratios = [math.log(speeds['gate'] / speeds[name]) for _, speeds in rows if name in speeds]
+    return f'{math.exp(sum(ratios) / len(ratios)):.2f} times {name} (in {len(ratios)} rows)' if ratios else f'no {name}'
+
+
+def bars(rows):
+    # The rows as bars, a group for each module, in MB/s; the text is drawn in the reader's own colour.
+    most = max(speed for _, speeds in rows for name, speed in speeds.items() if name in COLOURS)
+    left, width, high, gap = 230, 560, 11, 12
+    parts, y = [], 34
+    for x, name in enumerate(COLOURS):
+        parts.append(f'<rect x="{left + 110 * x}" y="8" width="12" height="12" fill="{COLOURS[name]}"/>')
+        parts.append(f'<text x="{left + 110 * x + 17}" y="18">{name}</text>')
+    for label, speeds in rows:
+        shown = [name for name in COLOURS if name in speeds]
+        parts.append(f'<text x="{left - 8}" y="{y + high * len(shown) / 2 + 4:.0f}" text-anchor="end">{label}</text>')
+        for name in shown:
+            long = width * speeds[name] / most
+            parts.append(f'<rect x="{left}" y="{y}" width="{long:.1f}" height="{high - 1}" fill="{COLOURS[name]}"/>')
+            parts.append(f'<text x="{left + long + 4:.1f}" y="{y + high - 2}" font-size="10">{speeds[name]:.0f}</text>')
+            y += high
+        y += gap
+    head = f'<svg xmlns="http://www.w3.org/2000/svg" viewBox="0 0 {left + width + 50} {y}" font-family="sans-serif" font-size="12">'
+    return '\n'.join([head, f'<rect width="{left + width + 50}" height="{y}" fill="#ffffff"/>'] + parts + ['</svg>', ''])
+
+
+def modules(folder, words):
+    # Each row's label, file, and whether it has lists that some peers cannot take.
+    for path in (word for word in words if word.endswith('.wasm')):
+        yield f'{os.path.basename(path)[:-5]}, {os.path.getsize(path) / 1e6:.1f} MB', path, False
+    sizes = [float(word) for word in words if not word.endswith('.wasm')] or ([] if words else [1.0, 4.0, 15.0])
+    for kind, label in KINDS.items():
+        for size in sizes:
+            path = os.path.join(folder, f'{kind}.wasm')
+            with open(path, 'wb') as file:
+                subprocess.run([sys.executable, os.path.join(here, 'modules.py'), kind, str(int(size * 1e6)), '7'], stdout=file, check=True)
+            yield f'{label}, {size:g} MB', path, kind in LONG_LISTS
+
+
+def main(gate, words):
+    plot = words.pop(words.index('--plot') + 1) if '--plot' in words else None
+    words = [word for word in words if word != '--plot']
+    rows = []
     with tempfile.TemporaryDirectory() as folder:
         peer = os.path.join(folder, 'peer')
         subprocess.run(['gcc', '-O2', '-o', peer, os.path.join(here, 'peer.c')], check=True)
-        print(f'{"module":14}{"1 worker":>10}{"2":>14}{"4":>14}{"C":>14}{"node":>14}{"wabt":>14}{"memory":>9}')
-        for kind in ('many', 'tiny', 'large', 'one', 'lists', 'labels'):
-            for size in sizes:
-                path = os.path.join(folder, f'{kind}.wasm')
-                with open(path, 'wb') as file:
-                    subprocess.run([sys.executable, os.path.join(here, 'modules.py'), kind, str(int(size * 1e6)), '7'], stdout=file, check=True)
-                length = os.path.getsize(path)
-                speed = [length / best_of([gate, 'check', path, '--workers', str(n)]) / 1e6 for n in (1, 2, 4)]
-                # The peer in C compares lists of types item by item each time, which takes minutes on these.
-                others = [0.0] if kind in ('lists', 'labels') else [float(printed([peer, 'check', path, '5']).split()[2])]
-                if shutil.which('node'):
-                    seconds = printed(['taskset', '-c', '0', 'node', '-e', NODE, path])
-                    others.append(length / float(seconds) / 1e6 if seconds else 0.0)
-                # wabt's validator asks for more memory than the machine has on those.
-                if shutil.which('wasm-validate') and kind not in ('lists', 'labels'):
-                    others.append(length / best_of(['wasm-validate', path]) / 1e6)
-                cells = [f'{speed[0]:10.1f}'] + [f'{s:7.1f} ({s / speed[0]:4.2f})' if s else '-' for s in speed[1:] + others]
-                memory = f'{peak([gate, "check", path, "--workers", "1"]) / length:4.1f} x' if os.path.exists('/usr/bin/time') else '-'
-                print(f'{kind + " " + format(length / 1e6, ".1f"):14}' + ''.join(f'{c:>14}' for c in cells) + f'   {memory}', flush=True)
+        print('| module | gate | C | node | whole | 2 workers | 4 workers | wabt | memory |\n|' + '---|' * 9)
+        for label, path, has_long_lists in modules(folder, words):
+            speeds = measure(gate, peer, folder, path, has_long_lists)
+            report(gate, label, path, speeds)
+            rows.append((label, speeds))
+    print(f'In the geometric mean gate is {mean(rows, "node")}, {mean(rows, "C")}, {mean(rows, "wabt")}.')
+    if plot:
+        with open(plot, 'w') as file:
+            file.write(bars(rows))
 
 
 if __name__ == '__main__':
     if len(sys.argv) < 2:
         sys.exit(__doc__)
-    main(os.path.abspath(sys.argv[1]), [float(s) for s in sys.argv[2:]] or [1.0, 4.0, 15.0])
+    main(os.path.abspath(sys.argv[1]), sys.argv[2:])
