@@ -1,4 +1,6 @@
 // Reports and texts of calls, word by word.
+ghost use Rattle.std.specs.Prelude.{◌+◌, ◌<◌, ◌^◌, length};
+
 use std::alloc::{AllocError, Global};
 use std::process::Abort;
 use std::test::Fail;
@@ -252,14 +254,24 @@ fn limits_are_met(rt: HostRuntime) -> Result<(), Fail> {
     Ok(())
 }
 
+/// The report of calls that end in two parts.
+fn report_of_two(alloc: Global, front: &[Line], back: &[Line]) -> Result<String, AllocError>
+    requires { length front.now + length back.now < 2 ^ 64 }
+{
+    let parts = vec![in alloc;
+        Part::of(alloc, 0, front)?,
+        Part::of(alloc, front.len(), back)?,
+    ]?;
+    report_of(alloc, &parts)
+}
+
 #[test]
 fn parts_make_one_report(rt: HostRuntime) -> Result<(), Fail> {
     let alloc = rt.alloc();
     let front = vec![in alloc; Line::NoExport, trap(Trap::OutOfBounds, 3)]?;
     let back = vec![in alloc; Line::NoMemory, trap(Trap::Unreachable, 4)]?;
-    let parts = vec![in alloc; Part::of(alloc, 0, &front)?, Part::of(alloc, 2, &back)?]?;
     assert_eq!(rt;
-        report_of(alloc, &parts)?.as_str(),
+        report_of_two(alloc, &front, &back)?.as_str(),
         "0 no-export\n\
         1 trap out-of-bounds fuel 3\n\
         2 no-memory\n\

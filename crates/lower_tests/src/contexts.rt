@@ -1,10 +1,7 @@
 use std::alloc::{AllocError, Global};
 use std::test::Fail;
 use wcontext::*;
-use wsyntax::{
-    Export, ExportKind, Expression, FuncType, GlobalType, Import, ImportKind, Module, Token,
-    ValType,
-};
+use wsyntax::{Export, ExportKind, FuncType, GlobalType, Import, ImportKind, Module, ValType};
 
 /// A module with nothing in it.
 fn empty<'a>(alloc: Global) -> Module<'a> {
