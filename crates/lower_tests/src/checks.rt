@@ -6,21 +6,9 @@ use wsyntax::{BlockType, Body, Expression, FuncType, LocalRun, Module, Operator,
 
 /// A module with functions whose types have these indices, and with no type yet.
 fn some_functions(alloc: Global, type_indices: &[u32]) -> Result<Module<'static>, AllocError> {
-    let types = Vec::new(alloc);
-    let functions = type_indices.to_vec(alloc)?;
-    Ok(Module {
-        types,
-        imports: Vec::new(alloc),
-        functions,
-        tables: Vec::new(alloc),
-        memories: Vec::new(alloc),
-        globals: Vec::new(alloc),
-        exports: Vec::new(alloc),
-        start: None,
-        elements: Vec::new(alloc),
-        bodies: Vec::new(alloc),
-        data: Vec::new(alloc),
-    })
+    let mut module = Module::empty(alloc);
+    module.functions = type_indices.to_vec(alloc)?;
+    Ok(module)
 }
 
 /// A function type.

@@ -3,26 +3,9 @@ use std::test::Fail;
 use wcontext::*;
 use wsyntax::{Export, ExportKind, FuncType, GlobalType, Import, ImportKind, Module, ValType};
 
-/// A module with nothing in it.
-fn empty<'a>(alloc: Global) -> Module<'a> {
-    Module {
-        types: Vec::new(alloc),
-        imports: Vec::new(alloc),
-        functions: Vec::new(alloc),
-        tables: Vec::new(alloc),
-        memories: Vec::new(alloc),
-        globals: Vec::new(alloc),
-        exports: Vec::new(alloc),
-        start: None,
-        elements: Vec::new(alloc),
-        bodies: Vec::new(alloc),
-        data: Vec::new(alloc),
-    }
-}
-
 /// A module that imports one function of type `[i32 i64] -> [f32 i32]`.
 fn one_import<'a>(alloc: Global) -> Result<Module<'a>, AllocError> {
-    let mut module = empty(alloc);
+    let mut module = Module::empty(alloc);
     let params = vec![in alloc; ValType::I32, ValType::I64]?;
     let results = vec![in alloc; ValType::F32, ValType::I32]?;
     module.types.push(FuncType { params, results })?;

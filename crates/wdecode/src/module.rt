@@ -52,30 +52,11 @@ fn put<'a>(whole: Module<'a>, section: Section<'a>) -> Module<'a>
     }
 }
 
-/// A module of no sections.
-fn empty<'a>(alloc: Alloc) -> Module<'a>
-    ensures { module_shape result ≡ empty_shape }
-{
-    Module {
-        types: Vec::new(alloc),
-        imports: Vec::new(alloc),
-        functions: Vec::new(alloc),
-        tables: Vec::new(alloc),
-        memories: Vec::new(alloc),
-        globals: Vec::new(alloc),
-        exports: Vec::new(alloc),
-        start: None,
-        elements: Vec::new(alloc),
-        bodies: Vec::new(alloc),
-        data: Vec::new(alloc),
-    }
-}
-
 /// Sections up to the end of the bytes, in order.
 fn sections_at(alloc: Alloc, bytes: &[u8]) -> Result<Module<'_>, Fault>
     ensures { Gives module_shape result (sections_of (length bytes.now) 0 empty_shape bytes.now) }
 {
-    let mut module = empty(alloc);
+    let mut module = Module::empty(alloc);
     let mut last = 0;
     let mut rest = bytes;
     'each: while !rest.is_empty() {

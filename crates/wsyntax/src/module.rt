@@ -4,6 +4,7 @@ ghost use Rattle.wsyntax.specs.Brackets.{closes, lies_within};
 
 use crate::instructions::Token;
 use crate::types::{FuncType, GlobalType, Limits, ValType};
+use std::alloc::Global as Alloc;
 use std::mem::size_of;
 
 /// An expression (2.4.6), flat: its tokens, the last `end` included, and the targets of its branch tables.
@@ -223,4 +224,29 @@ pub struct Module<'a> {
     pub elements: Vec<Element>,
     pub bodies: Vec<&'a [u8]>,
     pub data: Vec<Data<'a>>,
+}
+
+impl<'a> Module<'a> {
+    ghost use Rattle.std.specs.Prelude.{◌≡◌};
+    ghost use Rattle.wsyntax.specs.Modules.{module_shape};
+    ghost use Rattle.wsyntax.specs.Binary.Shell.{empty_module};
+
+    /// A module of no sections, to put some into.
+    pub fn empty(alloc: Alloc) -> Module<'a>
+        ensures { module_shape result ≡ empty_module }
+    {
+        Module {
+            types: Vec::new(alloc),
+            imports: Vec::new(alloc),
+            functions: Vec::new(alloc),
+            tables: Vec::new(alloc),
+            memories: Vec::new(alloc),
+            globals: Vec::new(alloc),
+            exports: Vec::new(alloc),
+            start: None,
+            elements: Vec::new(alloc),
+            bodies: Vec::new(alloc),
+            data: Vec::new(alloc),
+        }
+    }
 }
