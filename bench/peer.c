@@ -1,7 +1,8 @@
 // A plain decoder and body checker in C, of the same design as ours, to measure against in one run.
 // It takes the instructions and types that ours takes, several results, block types by index and sign extension among them.
 // Of the module it reads what bodies need, and asks none of the rules on segments, exports, the start and first values.
-// usage: peer sections|bodies|check MODULE TIMES    prints the best of TIMES as seconds, and MB/s of the file
+// usage: peer sections|bodies|check|judge MODULE TIMES    prints the best of TIMES as seconds, and MB/s of the file
+//   bodies keeps the tokens of each body, check checks and keeps nothing, as `gate check` does, judge does both
 #include <stdint.h>
 #include <stdio.h>
 #include <stdlib.h>
@@ -208,7 +209,7 @@ static void make_rows(void) {
 #define GROW(list, room, need) if (__builtin_expect((need) >= (room), 0)) { room = room ? 2 * room + (need) : 64 + (need); list = realloc(list, room * sizeof *list); }
 #define PUSH(t) do { GROW(s->operands, s->operand_room, height) s->operands[height++] = (t); } while (0)
 #define POP(t) do { if (height == frame.base) { if (!frame.dead) return 0; } else { u8 got = s->operands[--height]; if (got != (t) && got != UNKNOWN) return 0; } } while (0)
-#define KEEP(T, S, F, N, L) do { GROW(s->tokens, s->room, s->count) s->tokens[s->count++] = (Token){T, S, F, N, L}; } while (0)
+#define KEEP(T, S, F, N, L) do { if (keeps) { GROW(s->tokens, s->room, s->count) s->tokens[s->count++] = (Token){T, S, F, N, L}; } } while (0)
 #define PUSH_ALL(list, n) do { for (u32 i_ = 0; i_ < (n); i_++) PUSH((list)[i_]); } while (0)
 #define POP_ALL(list, n) do { for (u32 i_ = (n); i_-- > 0;) POP((list)[i_]); } while (0)
 #define ENTER(K, Y) do { GROW(s->frames, s->frame_room, depth) s->frames[depth++] = frame; frame = (Frame){Y, height, K, 0}; } while (0)
@@ -231,7 +232,7 @@ __attribute__((noinline)) static const Type *type_by_index(const Module *m, Byte
     return *p && n < m->type_count ? &m->types[n] : 0;
 }
 
-__attribute__((noinline)) static int one_body(const Module *m, u32 func, Scratch *s, int checks) {
+__attribute__((always_inline)) static inline int one_body(const Module *m, u32 func, Scratch *s, int checks, int keeps) {
     Bytes p = m->bodies[func].at, end = p + m->bodies[func].size;
     const Type *type = &m->types[m->functions[m->imported + func]];
     u64 locals = type->count;
@@ -367,23 +368,28 @@ __attribute__((noinline)) static int one_body(const Module *m, u32 func, Scratch
     }
 }
 
+__attribute__((noinline)) static int decode_body(const Module *m, u32 func, Scratch *s) { return one_body(m, func, s, 0, 1); }
+__attribute__((noinline)) static int check_body(const Module *m, u32 func, Scratch *s) { return one_body(m, func, s, 1, 0); }
+__attribute__((noinline)) static int judge_body(const Module *m, u32 func, Scratch *s) { return one_body(m, func, s, 1, 1); }
+
 static double now(void) { struct timespec t; clock_gettime(CLOCK_MONOTONIC, &t); return t.tv_sec + t.tv_nsec * 1e-9; }
 
 int main(int argc, char **argv) {
-    if (argc != 4) { fprintf(stderr, "usage: peer sections|bodies|check MODULE TIMES\n"); return 64; }
+    if (argc != 4) { fprintf(stderr, "usage: peer sections|bodies|check|judge MODULE TIMES\n"); return 64; }
     FILE *f = fopen(argv[2], "rb");
     if (!f) { perror(argv[2]); return 74; }
     fseek(f, 0, SEEK_END); long size = ftell(f); rewind(f);
     u8 *bytes = malloc(size);
     if (fread(bytes, 1, size, f) != (size_t)size) return 74;
     make_rows();
-    int bodies = strcmp(argv[1], "sections"), checks = !strcmp(argv[1], "check");
+    int bodies = strcmp(argv[1], "sections");
+    int (*body)(const Module *, u32, Scratch *) = !strcmp(argv[1], "check") ? check_body : !strcmp(argv[1], "judge") ? judge_body : decode_body;
     double best = 1e9;
     for (int i = 0; i < atoi(argv[3]); i++) {
         double start = now();
         Module m; Scratch s = {0};
         if (!read_module(&m, bytes, bytes + size)) refuse("malformed");
-        for (u32 k = 0; bodies && k < m.body_count; k++) if (!one_body(&m, k, &s, checks)) refuse("body");
+        for (u32 k = 0; bodies && k < m.body_count; k++) if (!body(&m, k, &s)) refuse("body");
         free_module(&m); free(s.tokens); free(s.operands); free(s.frames); free(s.locals);
         double took = now() - start;
         if (took < best) best = took;
