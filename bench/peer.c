@@ -162,9 +162,12 @@ static int read_module(Module *m, Bytes p, Bytes end) {
     memset(m, 0, sizeof *m);
     if (end - p < 8 || memcmp(p, "\0asm\1\0\0\0", 8)) return 0;
     p += 8;
+    u8 last = 0;
     while (p < end) {
         BYTE(id); U32(size);
         if ((u64)(end - p) < size) return 0;
+        if (id > 11 || (id && id <= last)) return 0;
+        if (id) last = id;
         Bytes stop = p + size, q = stop;
         switch (id) {
         case 1: q = read_types(m, p, stop); break;
