@@ -1,7 +1,7 @@
 -- Operands on top whose types are known, each in a place of its own.
-use Rattle.std.proofs.Common.{◌≡◌, ℕ, suc, false, ◌-◌, ◌≤◌, List, [], ◌∷◌, ◌++◌, length, take, get_or, Option, Some, refl, sym, ap, subst, ◌∙◌, arith, length-take}
+use Rattle.std.proofs.Common.{◌≡◌, ℕ, suc, false, ◌-◌, ◌+◌, ◌<◌, ◌≤◌, List, [], ◌∷◌, ◌++◌, map, length, take, get_or, Option, Some, refl, sym, ap, subst, ◌∙◌, arith, length-take}
 use Rattle.std.specs.Prelude.{set}
-use Rattle.std.proofs.lemmas.List.{append_assoc}
+use Rattle.std.proofs.lemmas.List.{append_assoc, append-nil, map-append, take_more, take_all}
 use Rattle.wsyntax.specs.declared.ValType.{ValType}
 use Rattle.wcheck.specs.declared.operand.Operand.{Operand}
 use Rattle.wcheck.specs.Heights.{type_of}
@@ -105,3 +105,30 @@ module _ (xs : List Operand) (rs : List (List ValType)) (v : List (Option ValTyp
     pub two_over_counted : (m : ℕ) → IsCounted xs rs m → IsCounted (set ys (n - 2) z) rs m
     two_over_counted m h =
         subst (λ l. IsCounted l rs m) (sym in_place) (counted_single (take (n - 2) xs) rs z m (two_off_counted m h) (known_single z s q))
+
+-- one more place from s + i on, of the next of the types ts
+pub known_more : (xs : List Operand) (rs : List (List ValType)) (ts : List ValType) (s i : ℕ) (x : Operand) (t : ValType) → s + i < length xs → i < length ts → type_of (get_or xs (s + i) x) ≡ Some (get_or ts i t) → types_in (take (s + i) xs) rs ≡ types_in (take s xs) rs ++ map Some (take i ts) → types_in (take (s + (i + 1)) xs) rs ≡ types_in (take s xs) rs ++ map Some (take (i + 1) ts)
+known_more xs rs ts s i x t lx lt k h =
+    let at : s + (i + 1) ≡ s + i + 1 = omega arith in
+    let y : Operand = get_or xs (s + i) x in
+    let u : ValType = get_or ts i t in
+    ap (λ n. types_in (take n xs) rs) at
+    ∙ ap (λ z. types_in z rs) (take_more xs (s + i) x lx)
+    ∙ single (take (s + i) xs) rs y (known_single y u k)
+    ∙ ap (λ z. types_in (take (s + i) xs) rs ++ z ∷ []) k
+    ∙ ap (λ z. z ++ Some u ∷ []) h
+    ∙ append_assoc (types_in (take s xs) rs) (map Some (take i ts)) (Some u ∷ [])
+    ∙ ap (λ z. types_in (take s xs) rs ++ z) (sym (ap (map Some) (take_more ts i t lt) ∙ map-append Some (take i ts) (u ∷ [])))
+
+-- none of them
+pub known_none : (xs : List Operand) (rs : List (List ValType)) (ts : List ValType) (s : ℕ) → types_in (take (s + 0) xs) rs ≡ types_in (take s xs) rs ++ map Some (take 0 ts)
+known_none xs rs ts s =
+    let at : s + 0 ≡ s = omega arith in
+    ap (λ n. types_in (take n xs) rs) at ∙ sym (append-nil (types_in (take s xs) rs))
+
+-- all of the types ts
+pub known_all : (xs : List Operand) (rs : List (List ValType)) (ts : List ValType) (i : ℕ) → length ts ≤ length xs → i ≡ length ts → types_in (take (length xs - length ts + i) xs) rs ≡ types_in (take (length xs - length ts) xs) rs ++ map Some (take i ts) → types_in xs rs ≡ types_in (take (length xs - length ts) xs) rs ++ map Some ts
+known_all xs rs ts i le e h =
+    ap (λ z. types_in z rs) (sym (take_all (length xs - length ts + i) xs (omega (arith, le, e))))
+    ∙ h
+    ∙ ap (λ z. types_in (take (length xs - length ts) xs) rs ++ map Some z) (take_all i ts (omega (arith, e)))

@@ -135,6 +135,18 @@ fn act(
     }
 }
 
+/// Whether the token looks at a local that is not written out.
+#[inline(always)]
+fn is_far(scope: &Scope, token: Token) -> bool {
+    match token {
+        Token::LocalGet(x) | Token::LocalSet(x) | Token::LocalTee(x) => scope
+            .locals
+            .near(x)
+            .is_none(),
+        _ => false,
+    }
+}
+
 /// One token, where the operands that it takes are known to be there. `false`: nothing was done, which says nothing of
 /// the token.
 #[inline(always)]
@@ -146,6 +158,9 @@ pub(crate) fn step_known(scope: &Scope, control: &mut Control, token: Token) -> 
     ensures tight { IsTight control.old → IsTight control.new }
     ensures types { control.new.operands.types ≡ control.old.operands.types }
 {
+    if is_far(scope, token) {
+        return false;
+    }
     match rule_of_token(scope, control.top, &control.outer, &[], token) {
         Some(rule) => apply_known(&mut control.operands, rule),
         None => false,

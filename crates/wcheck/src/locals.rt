@@ -1,4 +1,4 @@
-ghost use Rattle.std.specs.Prelude.{◌≡◌, ◌+◌, ◌<◌, min, List, [], ◌++◌, Option, IfOk, slice_get, map};
+ghost use Rattle.std.specs.Prelude.{◌≡◌, ◌+◌, ◌<◌, min, List, [], ◌++◌, Option, Some, IfOk, IfSome, slice_get, map};
 ghost use Rattle.wsyntax.specs.Validation.ModuleContext.{declared};
 ghost use Rattle.wcheck.specs.LocalRuns.{run_of, AreEnds, AreFirst};
 
@@ -155,6 +155,17 @@ impl<'a> Locals<'a> {
         self.runs.clear();
         end_runs(&mut self.runs, runs)?;
         write_first(&mut self.near, params, runs)
+    }
+
+    /// The type of a local that is written out.
+    #[inline(always)]
+    pub(crate) fn near(&self, x: u32) -> Option<ValType>
+        ensures { IfSome result (λ t. slice_get self.now x ≡ Some t) }
+    {
+        match self.near.get(x as usize) {
+            Some(content) => Some(*content),
+            None => None,
+        }
     }
 
     /// The type of a local; `None` past the last.

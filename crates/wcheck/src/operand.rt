@@ -2,7 +2,7 @@ ghost use Rattle.std.specs.Prelude.{◌≡◌, ◌≤◌, ◌<◌, ◌+◌, ◌-
 ghost use Rattle.wsyntax.specs.Types.{same_type};
 ghost use Rattle.wcontext.specs.Lists.{list_of};
 ghost use Rattle.wcheck.specs.Heights.{type_of};
-ghost use Rattle.wcheck.specs.Runs.{is_several, run_at, types_of_run};
+ghost use Rattle.wcheck.specs.Runs.{is_several, run_at, types_of_run, types_in};
 
 use std::alloc::{AllocError, Global};
 use std::marker::Model;
@@ -85,6 +85,23 @@ pub(crate) fn common_end(a: &[ValType], b: &[ValType]) -> usize
         count += 1;
     }
     count
+}
+
+/// Whether the last places are known to be of these types.
+#[inline]
+fn end_in_singles(places: &[Operand], ts: &[ValType]) -> bool
+    ensures { result ≡ true → (runs : List (List ValType)) → types_in places.now runs ≡ types_in (take (length places.now - length ts.now) places.now) runs ++ map Some ts.now }
+{
+    if places.len() < ts.len() {
+        return false;
+    }
+    let first = places.len() - ts.len();
+    for (i, t) in ts.iter().enumerate() {
+        if !is_known(places[first + i], *t) {
+            return false;
+        }
+    }
+    true
 }
 
 /// Whether a run stands at the place.
@@ -363,6 +380,14 @@ impl<'a> OperandList<'a> {
         self.places.truncate(count - 1);
         self.places[count - 2] = packed(Some(u));
         true
+    }
+
+    /// Whether the last operands are known to be of these types, each in a place of its own.
+    #[inline]
+    pub(crate) fn ends_in_singles(&self, ts: &[ValType]) -> bool
+        ensures { result ≡ true → (rest : List (Option ValType)) × (self.now.items ≡ rest ++ map Some ts.now) }
+    {
+        end_in_singles(&self.places, ts)
     }
 
     /// Whether the last operands are known to be the first so many of a list, since they were put from there.

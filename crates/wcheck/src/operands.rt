@@ -317,6 +317,25 @@ impl<'a> OperandStack<'a> {
         count
     }
 
+    /// Takes operands of these types at once, where each is known.
+    #[inline]
+    fn take_all_known(&mut self, ts: &[ValType]) -> bool
+        ensures taken { result ≡ true → take_all (reverse ts.now) self.old.above ≡ Some self.new.above }
+        ensures others { result ≡ false → self.new.above ≡ self.old.above }
+        ensures below { self.new.below ≡ self.old.below }
+        ensures types { self.new.types ≡ self.old.types }
+    {
+        let all = self.list.len();
+        if all - self.base < ts.len() {
+            return false;
+        }
+        if !self.list.ends_in_singles(ts) {
+            return false;
+        }
+        self.list.truncate(all - ts.len());
+        true
+    }
+
     /// Takes operands of these types, the last first, one by one.
     #[inline]
     fn take_each(&mut self, ts: &[ValType]) -> bool
@@ -345,7 +364,7 @@ impl<'a> OperandStack<'a> {
     {
         let ts = self.list.types_of(list);
         if ts.len() <= SHORT {
-            return self.take_each(ts);
+            return self.take_all_known(ts) || self.take_each(ts);
         }
         let mut i = ts.len();
         while i > 0 {
@@ -384,8 +403,21 @@ impl<'a> OperandStack<'a> {
     }
 
     /// Puts operands of the types of a list, the last one topmost.
-    #[inline]
+    #[inline(always)]
     pub(crate) fn put(&mut self, list: TypeList) -> Result<(), AllocError>
+        ensures above { IfOk result (λ _. self.new.above ≡ put (reverse (list_of self.old.types list)) self.old.above) }
+        ensures below { self.new.below ≡ self.old.below }
+        ensures types { self.new.types ≡ self.old.types }
+    {
+        match list {
+            TypeList::Nothing => Ok(()),
+            TypeList::One(_) | TypeList::Params(_) | TypeList::Results(_) => self.put_some(list),
+        }
+    }
+
+    /// Puts operands of the types of a list that has some.
+    #[inline(never)]
+    fn put_some(&mut self, list: TypeList) -> Result<(), AllocError>
         ensures above { IfOk result (λ _. self.new.above ≡ put (reverse (list_of self.old.types list)) self.old.above) }
         ensures below { self.new.below ≡ self.old.below }
         ensures types { self.new.types ≡ self.old.types }
