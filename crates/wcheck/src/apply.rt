@@ -104,7 +104,7 @@ pub(crate) fn apply_rule(operands: &mut OperandStack, rule: OperandRule) -> Resu
             has_index: true,
             takes: TypeList::Nothing,
             gives: TypeList::Nothing,
-        } => Ok(operands.take_one(ValType::I32)),
+        } => Ok(operands.take_known(ValType::I32) || operands.take_one(ValType::I32)),
         OperandRule::Moves {
             has_index,
             takes,

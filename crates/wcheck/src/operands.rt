@@ -337,7 +337,7 @@ impl<'a> OperandStack<'a> {
     }
 
     /// Takes operands of these types, the last first, one by one.
-    #[inline]
+    #[inline(never)]
     fn take_each(&mut self, ts: &[ValType]) -> bool
         ensures above { take_all (reverse ts.now) self.old.above ≡ when result (Some self.new.above) }
         ensures below { self.new.below ≡ self.old.below }
@@ -353,10 +353,8 @@ impl<'a> OperandStack<'a> {
         true
     }
 
-    /// Takes operands of the types of a list, the last first. Once none is known, nothing more is looked at, and what was put
-    /// from the same list is taken at once.
+    /// Takes operands of the types of a list, the last first.
     #[inline(never)]
-    #[tactic(auto, using(crate::proofs::ListFacts::taken_empty))]
     fn take_several(&mut self, list: TypeList) -> bool
         ensures above { take_all (reverse (list_of self.old.types list)) self.old.above ≡ when result (Some self.new.above) }
         ensures below { self.new.below ≡ self.old.below }
@@ -366,6 +364,19 @@ impl<'a> OperandStack<'a> {
         if ts.len() <= SHORT {
             return self.take_all_known(ts) || self.take_each(ts);
         }
+        self.take_many(list)
+    }
+
+    /// Takes operands of the types of a list, the last first. Once none is known, nothing more is looked at, and what was put
+    /// from the same list is taken at once.
+    #[inline(never)]
+    #[tactic(auto, using(crate::proofs::ListFacts::taken_empty))]
+    fn take_many(&mut self, list: TypeList) -> bool
+        ensures above { take_all (reverse (list_of self.old.types list)) self.old.above ≡ when result (Some self.new.above) }
+        ensures below { self.new.below ≡ self.old.below }
+        ensures types { self.new.types ≡ self.old.types }
+    {
+        let ts = self.list.types_of(list);
         let mut i = ts.len();
         while i > 0 {
             if self.is_empty() {

@@ -1,6 +1,6 @@
 use Rattle.std.proofs.Common.{◌≡◌, ◌≤◌, length, reverse, take}
 use Rattle.wsyntax.specs.Validation.Algorithm.{take_all}
-use Rattle.wcheck.proofs.operands.OperandStack.take_several.Given as goal
+use Rattle.wcheck.proofs.operands.OperandStack.take_many.Given as goal
 
 abbrev pub invariant-loop-i : goal.invariant-loop-i
 invariant-loop-i l =
