@@ -1,4 +1,4 @@
-ghost use Rattle.std.specs.Prelude.{◌≡◌, ◌≤◌, ◌+◌, List, [], ◌∷◌, ◌++◌, Bool, true, false, cond, Option, MatchOption, IfOk, reverse, map, length};
+ghost use Rattle.std.specs.Prelude.{◌≡◌, ◌≤◌, ◌+◌, List, [], ◌∷◌, ◌++◌, Bool, true, false, cond, Option, MatchOption, IfOk, IfErr, reverse, map, length};
 ghost use Rattle.wcontext.specs.Lists.{list_of};
 ghost use Rattle.wsyntax.specs.Instructions.{Op, Do};
 ghost use Rattle.wsyntax.specs.Modules.{seen};
@@ -25,6 +25,25 @@ pub(crate) struct Control<'a> {
     pub(crate) is_open: bool,
 }
 
+/// Lays the innermost frame down on the others. After an error these are as before.
+#[inline(never)]
+fn push_level(
+    outer: &mut Vec<Level>,
+    top: &Shape,
+    operands: &OperandStack,
+) -> Result<(), AllocError>
+    ensures laid { IfOk result (λ _. outer.new.items ≡ outer.old.items ++ record { shape = top.now; is_dead = operands.now.above.is_dead; base = length operands.now.below } ∷ []) }
+    ensures refused { IfErr result (λ _. outer.new.items ≡ outer.old.items) }
+{
+    let level = Level {
+        shape: *top,
+        is_dead: operands.is_dead(),
+        base: operands.base(),
+    };
+    outer.push(level)?;
+    Ok(())
+}
+
 /// Opens a frame.
 #[inline(always)]
 #[tactic(auto, using(crate::proofs::Cuts::opened_frames, crate::proofs::Cuts::opened_under))]
@@ -43,12 +62,7 @@ pub(crate) fn open_level(
     if !control.operands.take_all(params) {
         return Ok(false);
     }
-    let level = Level {
-        shape: control.top,
-        is_dead: control.operands.is_dead(),
-        base: control.operands.base(),
-    };
-    control.outer.push(level)?;
+    push_level(&mut control.outer, &control.top, &control.operands)?;
     control.operands.open();
     control.operands.put(params)?;
     control.top = Shape {
