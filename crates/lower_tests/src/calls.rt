@@ -4,10 +4,7 @@ ghost use Rattle.std.specs.Prelude.{◌+◌, ◌<◌, ◌^◌, length};
 use std::alloc::{AllocError, Global};
 use std::process::Abort;
 use std::test::Fail;
-use texts::{
-    Call, CallsFault, Line, Outcome, Part, StartRefusal, cut_lines, join_calls, read_calls, report,
-    report_of,
-};
+use texts::{Call, CallsFault, Line, Outcome, Part, StartRefusal, read_calls, report, report_of};
 use wnum::NumTrap;
 use wsyntax::{Trap, Value};
 
@@ -281,82 +278,5 @@ fn parts_make_one_report(rt: HostRuntime) -> Result<(), Fail> {
         3 trap unreachable fuel 4\n\
         total 4 values 0 traps 2 exhausted 0 refused 1 no-memory 1 fuel 7\n"
     );
-    Ok(())
-}
-
-#[test]
-fn a_text_is_cut_behind_newlines(rt: HostRuntime) -> Result<(), Fail> {
-    let alloc = rt.alloc();
-    let text = b"add\ti32:1\n\nsub\ti64:-2\n\ti32:7\nlast";
-    let lines = [
-        b"add\ti32:1\n".as_slice(),
-        b"\n",
-        b"sub\ti64:-2\n",
-        b"\ti32:7\n",
-        b"last",
-    ];
-    let cut = cut_lines(alloc, text, 0)?;
-    assert_eq!(rt; cut.as_slice(), lines.as_slice());
-    let longer = [
-        b"add\ti32:1\n\n".as_slice(),
-        b"sub\ti64:-2\n",
-        b"\ti32:7\nlast",
-    ];
-    let cut = cut_lines(alloc, text, 10)?;
-    assert_eq!(rt; cut.as_slice(), longer.as_slice());
-    let ended = [b"f\n".as_slice(), b""];
-    let cut = cut_lines(alloc, b"f\n", 1)?;
-    assert_eq!(rt; cut.as_slice(), ended.as_slice());
-    let cut = cut_lines(alloc, b"", 0)?;
-    assert_eq!(rt; cut.len(), 1);
-    Ok(())
-}
-
-#[test]
-fn the_calls_of_slices_are_those_of_the_text(rt: HostRuntime) -> Result<(), Fail> {
-    let alloc = rt.alloc();
-    let text = b"add\ti32:1\n\nsub\ti64:-2\n\ti32:7\nlast\n";
-    let names = [b"add".as_slice(), b"", b"sub", b"", b"last"];
-    let args = [
-        [Value::I32(1)].as_slice(),
-        &[],
-        &[Value::I64(u64::MAX - 1)],
-        &[Value::I32(7)],
-        &[],
-    ];
-    for size in 0..40 {
-        let mut read = Vec::new(alloc);
-        for slice in &cut_lines(alloc, text, size)? {
-            read.push(read_calls(alloc, slice)?)?;
-        }
-        let calls = join_calls(alloc, read)?.unwrap_or(Vec::new(alloc));
-        assert_eq!(rt; calls.len(), 5);
-        for (place, call) in calls.iter().enumerate() {
-            assert!(rt; place < 5);
-            assert_eq!(rt; call.name, names[place]);
-            assert_eq!(rt; call.args.as_slice(), args[place]);
-        }
-    }
-    Ok(())
-}
-
-// The number of calls that the slices of so many bytes have together.
-fn count_joined(alloc: Global, text: &[u8], size: usize) -> Result<Option<usize>, CallsFault> {
-    let mut read = Vec::new(alloc);
-    for slice in &cut_lines(alloc, text, size)? {
-        read.push(read_calls(alloc, slice)?)?;
-    }
-    Ok(join_calls(alloc, read)?.map(|calls| calls.len()))
-}
-
-#[test]
-fn slices_have_too_many_lines_together(rt: HostRuntime) -> Result<(), Fail> {
-    let alloc = rt.alloc();
-    let mut text = vec![in alloc; b'\n'; 100_000]?;
-    assert_eq!(rt; count_joined(alloc, &text, 40_000)?, Some(100_000));
-    assert_eq!(rt; count_joined(alloc, &text, 99_998)?, Some(100_000));
-    text.push(b'\n')?;
-    assert_eq!(rt; count_joined(alloc, &text, 40_000)?, None);
-    assert_eq!(rt; count_joined(alloc, &text, 99_999)?, None);
     Ok(())
 }
