@@ -5,4 +5,3 @@ pub mod Instance
 pub mod Batches
 pub mod GroupedLines
 pub mod Answered
-pub mod SlicedCalls

@@ -12,7 +12,6 @@ ghost use Rattle.batch.specs.Answers.{Answers, HasStatus, IsSomeAnswer, StatusBy
 
 use crate::line::line_of;
 use crate::output::write_text;
-use crate::reading::read_by_workers;
 use crate::running::run_groups;
 use crate::status::{AnswerFault, Status};
 use pieces::{Plan, Watch};
@@ -20,7 +19,7 @@ use std::alloc::{AllocError, Global};
 use std::io::Write;
 use std::sync::Wait;
 use std::thread::Threads;
-use texts::{CallsFault, report_of};
+use texts::{CallsFault, read_calls, report_of};
 use verdict::{Accepted, judge};
 use wstore::Settings;
 
@@ -55,7 +54,7 @@ fn answer_on<R: Threads + Wait + Sync, W: Watch + Sync>(
     ensures answer { IfOk result (λ a. (bytes : List ℕ) → IsVerdict bytes accepted_verdict → Spells bytes (module_shape accepted.now.module) (shapes_of accepted.now.bodies.items) → IsSomeAnswer bytes calls.now (limits settings.fuel settings.frames settings.pages) (string_bytes a.text)) }
     ensures status { IfOk result (λ a. StatusBy calls.now accepted_verdict a.status) }
 {
-    let calls = match read_by_workers(rt, alloc, calls, plan) {
+    let calls = match read_calls(alloc, calls) {
         Ok(calls) => calls,
         Err(fault) => {
             return Ok(Written {

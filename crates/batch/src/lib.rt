@@ -9,10 +9,8 @@ mod groups;
 mod laws;
 mod line;
 mod output;
-mod reading;
 mod report;
 mod running;
-mod slices;
 mod status;
 
 pub use answering::answer;

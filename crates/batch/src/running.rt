@@ -47,8 +47,8 @@ pub fn run_batch<R: Threads + Wait + Sync, W: Watch + Sync>(
     }
 }
 
-/// The plan of as many workers that takes one index at once.
-pub(crate) fn one_index_each(plan: Plan) -> Plan
+/// The plan of as many workers that takes one group at once.
+fn one_group_each(plan: Plan) -> Plan
     ensures { result.workers ≡ plan.workers }
 {
     match Plan::new(plan.workers(), 1) {
@@ -82,7 +82,7 @@ pub(crate) fn run_groups<R: Threads + Wait + Sync, W: Watch + Sync>(
         pool: &pool,
     };
     let job = GroupedCalls { calls, size, watch };
-    match try_all(rt, alloc, &job, tickets, groups, one_index_each(plan)) {
+    match try_all(rt, alloc, &job, tickets, groups, one_group_each(plan)) {
         Ok(parts) => Ok(parts),
         Err(TryFault::Stopped { .. } | TryFault::Memory) => Err(AllocError),
     }
