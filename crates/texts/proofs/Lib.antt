@@ -6,4 +6,3 @@ mod JoinedParts
 mod Marks
 mod SignedWords
 mod Signs
-mod SlicedTexts

@@ -1,4 +1,4 @@
-use Rattle.std.proofs.Common.{◌≤◌, ◌++◌, length, string_bytes, ap, ◌∙◌, arith}
+use Rattle.std.proofs.Common.{◌<◌, ◌≤◌, ◌++◌, length, string_bytes, ap, ◌∙◌, arith}
 use Rattle.texts.proofs.JoinedParts.{joined_none, joined_more, joined_room, joined_whole}
 use Rattle.texts.proofs.reports.report_of.Goals as goal
 
