@@ -1,10 +1,10 @@
-use Rattle.std.proofs.Common.{◌<◌, ◌≤◌, ◌++◌, length, string_bytes, ap, ◌∙◌, arith}
+use Rattle.std.proofs.Common.{◌≤◌, ◌++◌, length, string_bytes, ap, ◌∙◌, arith}
 use Rattle.texts.proofs.JoinedParts.{joined_none, joined_more, joined_room, joined_whole}
 use Rattle.texts.proofs.reports.report_of.Goals as goal
 
 pub loop-part-init : goal.loop-part-init
 loop-part-init c = record {
-  joined = λ ends are. joined_none c.args.parts.now _ c.new-total.result ends c.new-text.ensures.bytes c.new-total.ensures.tally c.new-total.ensures.calls are;
+  joined = λ ends are. joined_none c.args.parts.now _ c.new-total.result ends c.in_ok-text.ensures.bytes c.new-total.ensures.tally c.new-total.ensures.calls are;
   within = c.new-total.ensures.within;
 }
 
