@@ -1,11 +1,15 @@
 -- An expression of one instruction, and one of none, as they are read.
-use Rattle.std.proofs.Common.{◌≡◌, ℕ, suc, ◌-◌, List, [], ◌∷◌, ◌++◌, length, Some, refl, sym, ap, ◌∙◌, arith}
+use Rattle.std.proofs.Common.{◌≡◌, ℕ, ℤ, suc, ◌-◌, List, [], ◌∷◌, ◌++◌, length, Some, refl, sym, ap, ◌∙◌, arith}
 use Rattle.wsyntax.specs.declared.instructions.Token.{Token as Held}
+use Rattle.wsyntax.specs.declared.instructions.Token.TheVariants.{I32Const}
 use Rattle.wsyntax.specs.declared.module.Initial.{Initial}
-use Rattle.wsyntax.specs.Instructions.{Op, Token, Do, End}
+use Rattle.wsyntax.specs.declared.module.Initial.TheVariants as initial
+use Rattle.wnum.specs.Arithmetic.{unsigned}
+use Rattle.wsyntax.specs.declared.ValType.TheVariants.{I32}
+use Rattle.wsyntax.specs.Instructions.{Op, Token, Do, End, Const}
 use Rattle.wsyntax.specs.Modules.{seen, initial_tokens}
 use Rattle.wsyntax.specs.Binary.Nesting.{token_at, tokens_at, expression}
-use Rattle.wdecode.specs.Gives.{GivesToken}
+use Rattle.wdecode.specs.Gives.{GivesToken, ReadsPlain}
 use Rattle.wdecode.proofs.FlatLoop.{token_shorter}
 
 end_read : (rest : List ℕ) → token_at (0x0B ∷ rest) ≡ Some (End, rest)
@@ -35,3 +39,10 @@ one_given bytes rest after old new t x g is alone =
 pub none_alone : (bytes after : List ℕ) → bytes ≡ 0x0B ∷ after → expression.read bytes ≡ Some (End ∷ [], after)
 unfolding expression
 none_alone bytes after is = rw (is, end_read after) refl
+
+-- a constant i32 and an end
+pub number_given : (bytes front rest after : List ℕ) (b : ℕ) (n : ℤ) → bytes ≡ b ∷ front → ReadsPlain (b ∷ front) (I32Const n) rest → rest ≡ 0x0B ∷ after
+    → expression.read bytes ≡ Some (initial_tokens (initial.I32Const n), after)
+number_given bytes front rest after b n whole reads is =
+    let j = reads.2 [] in
+    one_alone bytes rest after (Const I32 (unsigned 32 n)) (ap token_at whole ∙ j.2 ∙ ap (λ (u : Token). let y : Token × List ℕ = (u, rest) in Some y) (sym j.1)) is

@@ -1,15 +1,15 @@
-ghost use Rattle.std.specs.Prelude.{◌≡◌, ℕ, List, Option, map};
+ghost use Rattle.std.specs.Prelude.{◌≡◌, ℕ, List, Option, Some, IfSome, map};
 ghost use Rattle.wdecode.specs.Gives.{Gives};
 ghost use Rattle.wsyntax.specs.Modules.{ImportShape, ExportShape, GlobalShape, ElementShape, DataShape, import_shape, export_shape, global_shape, element_shape, data_shape};
 ghost use Rattle.wsyntax.specs.declared.module.LocalRun.{LocalRun as LocalRunShape};
 ghost use Rattle.wsyntax.specs.Binary.Sections.{import_kind, an_import, an_export, global, element, data_segment, run};
 
 use crate::fault::Fault;
-use crate::initial::initial_at;
+use crate::initial::{initial_at, number_at, place_at};
 use crate::types::{global_type_at, limits_at, table_type_at, val_type_at};
 use crate::values::{Item, blob_at, name_at, u32_at, vector_at};
 use std::alloc::Global as Alloc;
-use wsyntax::{Data, Element, Export, ExportKind, Global, Import, ImportKind, LocalRun};
+use wsyntax::{Data, Element, Export, ExportKind, Global, Import, ImportKind, LocalRun, Place};
 
 /// What an import asks for (5.5.5).
 #[tactic(auto, unfolding(wsyntax::specs::Binary::Sections::import_kind))]
@@ -81,9 +81,8 @@ fn element_at(alloc: Alloc, bytes: &[u8]) -> Result<(Element, &[u8]), Fault>
     ensures { Gives (λ x. (element_shape x.0, x.1.now)) result (element.read bytes.now) }
 {
     let (table, rest) = u32_at(bytes)?;
-    let (offset, rest) = initial_at(alloc, rest)?;
+    let (place, rest) = place_at(alloc, table, rest)?;
     let (functions, rest) = vector_at::<u32>(alloc, rest)?;
-    let place = offset.within(table);
     Ok((Element { place, functions }, rest))
 }
 
@@ -97,9 +96,25 @@ fn run_at(bytes: &[u8]) -> Result<(LocalRun, &[u8]), Fault>
     Ok((LocalRun { count, content }, rest))
 }
 
-/// A data segment (5.5.14).
+/// A data segment at the front whose offset is a constant i32, as nearly each is; `None` says nothing.
+#[inline(always)]
 #[tactic(auto, unfolding(wsyntax::specs::Binary::Sections::data_segment))]
-fn data_at(alloc: Alloc, bytes: &[u8]) -> Result<(Data<'_>, &[u8]), Fault>
+fn frequent_data_at(bytes: &[u8]) -> Option<(Data<'_>, &[u8])>
+    ensures { IfSome result (λ x. data_segment.read bytes.now ≡ Some (data_shape x.0, x.1.now)) }
+{
+    let (index, rest) = wnum::front_u32(bytes)?;
+    let (number, rest) = number_at(rest)?;
+    let Ok((bytes, rest)) = blob_at(rest) else {
+        return None;
+    };
+    let place = Place::I32Const { index, number };
+    Some((Data { place, bytes }, rest))
+}
+
+/// A data segment at the front, whatever its offset is.
+#[inline(never)]
+#[tactic(auto, unfolding(wsyntax::specs::Binary::Sections::data_segment))]
+fn seldom_data_at(alloc: Alloc, bytes: &[u8]) -> Result<(Data<'_>, &[u8]), Fault>
     ensures { Gives (λ x. (data_shape x.0, x.1.now)) result (data_segment.read bytes.now) }
 {
     let (memory, rest) = u32_at(bytes)?;
@@ -107,6 +122,17 @@ fn data_at(alloc: Alloc, bytes: &[u8]) -> Result<(Data<'_>, &[u8]), Fault>
     let (bytes, rest) = blob_at(rest)?;
     let place = offset.within(memory);
     Ok((Data { place, bytes }, rest))
+}
+
+/// A data segment (5.5.14).
+#[inline(always)]
+fn data_at(alloc: Alloc, bytes: &[u8]) -> Result<(Data<'_>, &[u8]), Fault>
+    ensures { Gives (λ x. (data_shape x.0, x.1.now)) result (data_segment.read bytes.now) }
+{
+    match frequent_data_at(bytes) {
+        Some((data, rest)) => Ok((data, rest)),
+        None => seldom_data_at(alloc, bytes),
+    }
 }
 
 impl<'a> Item<'a> for Import<'a> {

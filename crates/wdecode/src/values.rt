@@ -19,6 +19,7 @@ pub fn u32_at(bytes: &[u8]) -> Result<(u32, &[u8]), Fault>
 }
 
 /// A vector of bytes, as it lies in the input (5.1.3).
+#[inline(always)]
 pub fn blob_at(bytes: &[u8]) -> Result<(&[u8], &[u8]), Fault>
     ensures { Gives (λ x. (x.0.now, x.1.now)) result (blob.read bytes.now) }
 {
