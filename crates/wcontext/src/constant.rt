@@ -42,10 +42,15 @@ fn is_constant(initial: &Initial, of_type: ValType, globals: &[GlobalType]) -> b
 }
 
 /// Whether the offset of a segment is a constant expression of type i32 (3.3.7.2), under these imported globals.
+/// A constant i32, as nearly each offset is, is one in place.
+#[inline(always)]
 pub fn is_offset(place: &Place, globals: &[GlobalType]) -> bool
     ensures { IsTrue result ↔ ConstantOf globals.now ValType.I32 (place_tokens place.now) }
 {
-    leaves(place.only(), ValType::I32, globals)
+    match place {
+        Place::I32Const { .. } => true,
+        _ => leaves(place.only(), ValType::I32, globals),
+    }
 }
 
 /// Whether each global's first value is a constant expression of its type (3.4.4), under these imported globals.

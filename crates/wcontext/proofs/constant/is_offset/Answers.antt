@@ -1,7 +1,12 @@
+use Rattle.std.proofs.Common.{rules}
 use Rattle.wsyntax.specs.Modules.{place_targets, place_held}
+use Rattle.wsyntax.specs.Validation.Rules.{one_const}
 use Rattle.wsyntax.specs.declared.ValType.TheVariants.{I32}
 use Rattle.wcontext.proofs.Constants.{leaves_constant}
 use Rattle.wcontext.proofs.constant.is_offset.Goals as goal
 
-pub returns : goal.returns
-returns c = leaves_constant c.args.globals.now I32 (place_targets c.args.place.now) (place_held c.args.place.now) c.only.result c.leaves.result c.only.ensures c.leaves.ensures
+pub returns-in-I32Const : goal.returns-in-I32Const
+returns-in-I32Const c = rw c.in-I32Const.is (λ _. one_const _, λ _. search rules)
+
+pub returns-in_default : goal.returns-in_default
+returns-in_default c = leaves_constant c.args.globals.now I32 (place_targets c.args.place.now) (place_held c.args.place.now) c.only.result c.leaves.result c.only.ensures c.leaves.ensures
