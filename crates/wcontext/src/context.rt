@@ -77,8 +77,8 @@ impl Context {
     {
         let range = self.types.get(type_index as usize)?;
         Some(Signature {
-            params: &self.values[range.start..range.middle],
-            results: &self.values[range.middle..range.end],
+            params: &self.values[range.start as usize..range.middle as usize],
+            results: &self.values[range.middle as usize..range.end as usize],
         })
     }
 

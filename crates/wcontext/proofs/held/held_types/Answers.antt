@@ -13,12 +13,12 @@ loop-of_type-preserved c =
     let values = c.loop-of_type.values.items in
     let ranges = c.loop-of_type.ranges.items in
     let done = take c.loop-of_type.of_type-index c.args.types.now in
-    let r : TypeRange = record { start = c.len-start.result; middle = c.len-middle.result; end = c.len-end.result } in
+    let r : TypeRange = record { start = c.in_ok-start.start; middle = c.in_ok-middle.middle; end = c.in_ok-end.end } in
     let first : c.extend_from_slice.new.self.items ≡ values ++ t.params.items = appended c.in_ok-extend_from_slice.ensures.items refl c.deref.ensures.value in
     let all : c.extend_from_slice-in-loop-of_type.new.self.items ≡ (values ++ t.params.items) ++ t.results.items = appended c.in_ok-extend_from_slice-2.ensures.items first c.deref-in-loop-of_type.ensures.value in
-    let start : r.start ≡ length values = c.len-start.ensures ∙ c.loop-of_type.values.ok.0 in
-    let middle : r.middle ≡ length (values ++ t.params.items) = c.len-middle.ensures ∙ c.extend_from_slice.new.self.ok.0 ∙ ap length first in
-    let end : r.end ≡ length ((values ++ t.params.items) ++ t.results.items) = c.len-end.ensures ∙ c.extend_from_slice-in-loop-of_type.new.self.ok.0 ∙ ap length all in
+    let start : r.start ≡ length values = c.in_ok-start.ensures ∙ c.len.ensures ∙ c.loop-of_type.values.ok.0 in
+    let middle : r.middle ≡ length (values ++ t.params.items) = c.in_ok-middle.ensures ∙ c.len-in-loop-of_type.ensures ∙ c.extend_from_slice.new.self.ok.0 ∙ ap length first in
+    let end : r.end ≡ length ((values ++ t.params.items) ++ t.results.items) = c.in_ok-end.ensures ∙ c.len-in-loop-of_type-2.ensures ∙ c.extend_from_slice-in-loop-of_type.new.self.ok.0 ∙ ap length all in
     let pushed : c.push.new.self.items ≡ ranges ++ r ∷ [] = c.in_ok-push.ensures.items in
     let step : take (c.loop-of_type.of_type-index + 1) c.args.types.now ≡ done ++ t ∷ [] = take_more c.args.types.now c.loop-of_type.of_type-index t c.loop-of_type-test.true ∙ ap (λ x. done ++ x ∷ []) (sym c.of_type-item.is) in
     record {
