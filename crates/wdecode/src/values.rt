@@ -76,6 +76,7 @@ pub trait Item<'a>: Sized + Drop {
 }
 
 /// So many values, one behind the other. Room is made for as many as the bytes can hold, and for no more.
+#[inline(never)]
 fn times_at<'a, T: Item<'a>>(
     alloc: Global,
     count: u32,
@@ -94,7 +95,8 @@ fn times_at<'a, T: Item<'a>>(
     Ok((items, rest))
 }
 
-/// A vector (5.1.3).
+/// A vector (5.1.3). One of no values is read in place.
+#[inline(always)]
 pub fn vector_at<'a, T: Item<'a>>(
     alloc: Global,
     bytes: &'a [u8],
@@ -102,6 +104,9 @@ pub fn vector_at<'a, T: Item<'a>>(
     ensures { Gives (λ x. (map T.shape x.0.items, x.1.now)) result (vector_of T.at bytes.now) }
 {
     let (count, rest) = u32_at(bytes)?;
+    if count == 0 {
+        return Ok((Vec::new(alloc), rest));
+    }
     times_at(alloc, count, rest)
 }
 
