@@ -1,5 +1,6 @@
 // How many workers there are, and how the indices are cut.
 ghost use Rattle.std.specs.Prelude.{◌≡◌, ◌≤◌, IfNone, IfSome};
+ghost use Rattle.std.specs.Int.{div_ceil};
 ghost use Rattle.pieces.specs.Cuts.{InRange, pieces};
 
 /// A number of workers from 1 to 64, and a size of pieces from 1 to 65,535. No answer of `gather` or
@@ -42,6 +43,24 @@ impl Plan {
         ensures { result ≡ self.now.piece }
     {
         self.piece
+    }
+
+    /// How many groups so many things make, where a group has as many as a piece. The last group may have fewer.
+    pub fn count_groups(&self, things: u32) -> u32
+        ensures { result ≡ div_ceil things self.now.piece }
+    {
+        things.div_ceil(self.piece)
+    }
+
+    /// The plan of as many workers that takes one group at once.
+    pub fn one_group_each(&self) -> Plan
+        ensures workers { result.workers ≡ self.now.workers }
+        ensures piece { result.piece ≡ 1 }
+    {
+        Plan {
+            workers: self.workers,
+            piece: 1,
+        }
     }
 
     // The same plan with no more workers than the indices below n have pieces, and one at least.
