@@ -1,6 +1,15 @@
 ghost use Rattle.verdict.specs.Laws.{OneVerdict};
 
+use soundness::validation::{one_fault, typed_where_no_fault, unique_tree};
+use wdecode::{bodies_are_determined, shells_are_determined};
+
 /// Bytes have one verdict at most: the first refusal, or none.
 pub fn one_verdict()
     ensures { OneVerdict }
-{}
+{
+    bodies_are_determined();
+    shells_are_determined();
+    unique_tree();
+    typed_where_no_fault();
+    one_fault();
+}
