@@ -3,7 +3,7 @@ ghost use Rattle.wsyntax.specs.Validation.Verdict.{IsVerdict, Accepted};
 ghost use Rattle.verdict.specs.Judged.{PassBefore, IsFirstBody};
 ghost use Rattle.verdict.specs.Refusals.{verdict_of};
 
-use crate::jobs::{GroupedBodies, count_groups};
+use crate::jobs::GroupedBodies;
 use crate::passing::Scratch;
 use crate::refusal::Refusal;
 use pieces::{Plan, TryFault, Watch, try_all};
@@ -28,16 +28,6 @@ fn new_scratches<'a>(
         scratches.push(Scratch::new(alloc, context))?;
     }
     Ok(scratches)
-}
-
-/// The plan of as many workers that takes one group at once.
-fn one_group_each(plan: Plan) -> Plan
-    ensures { result.workers ≡ plan.workers }
-{
-    match Plan::new(plan.workers(), 1) {
-        Some(single) => single,
-        None => unreachable!(),
-    }
 }
 
 /// Judges the bodies of a module, in groups of as many as the plan has in a piece, up to the first that is refused.
@@ -68,8 +58,8 @@ fn examine_bodies<R: Threads + Wait + Sync, W: Watch + Sync>(
         size,
         watch,
     };
-    let groups = count_groups(bodies.len() as u32, size);
-    match try_all(rt, alloc, &job, scratches, groups, one_group_each(plan)) {
+    let groups = plan.count_groups(bodies.len() as u32);
+    match try_all(rt, alloc, &job, scratches, groups, plan.one_group_each()) {
         Ok(_) => Ok(()),
         Err(TryFault::Stopped { fault, .. }) => Err(Refusal::Body {
             func: imported + fault.place,

@@ -28,14 +28,6 @@ pub(crate) struct GroupedBodies<'a, W> {
     ghost sized: { 0 < size },
 }
 
-/// How many groups of that size so many bodies make.
-pub(crate) fn count_groups(bodies: u32, size: u32) -> u32
-    requires { 0 < size }
-    ensures { result ≡ div_ceil bodies size }
-{
-    bodies.div_ceil(size)
-}
-
 /// Judges the bytes of the body at that place, which is that of the function of that index, imported ones counted.
 fn judge_at(
     alloc: Global,
