@@ -10,7 +10,7 @@ use wdecode::{
     branch_at, call_at, constant_at, has_too_many_locals, jump_at, load_at, locals_at,
     long_constant_at, numeric_at, opening_at, store_at, token_at, variable_at,
 };
-use wsyntax::Token;
+use wsyntax::{Opcode, Token};
 
 /// What one worker keeps from body to body.
 #[derive(Drop)]
@@ -96,22 +96,18 @@ macro_rules! look_known {
     };
 }
 
-/// Reads and checks an instruction behind its opcode that is numeric, or a load or a store. Operators of one type have an
-/// arm, for which the compiler looks that type up.
+/// Reads and checks an instruction behind its opcode that is numeric, or a load or a store. Each opcode is told apart
+/// from all others at once, so that the compiler makes one table of all arms.
 #[inline(always)]
 fn number_passes<'a>(checker: &mut Checker<'_>, byte: u8, rest: &'a [u8]) -> Front<'a>
     requires { checker.old.frames ≡ [] → ⊥ }
     ensures outside { checker.new.outside ≡ checker.old.outside }
     ensures passes { Passes (byte ∷ rest.now) checker.old checker.new result }
 {
-    match byte {
-        0x6A..=0x78 => look_known!(checker, numeric_at(byte, rest)),
-        0x46..=0x4F => look_known!(checker, numeric_at(byte, rest)),
-        0x7C..=0x8A => look_known!(checker, numeric_at(byte, rest)),
-        0x51..=0x5A => look_known!(checker, numeric_at(byte, rest)),
-        0x45..=0xC4 => look_known!(checker, numeric_at(byte, rest)),
-        0x28..=0x35 => look_known!(checker, load_at(byte, rest)),
-        0x36..=0x3E => look_known!(checker, store_at(byte, rest)),
+    match Opcode::from_byte(byte) {
+        Some(Opcode::Numeric(_)) => look_known!(checker, numeric_at(byte, rest)),
+        Some(Opcode::Load(_)) => look_known!(checker, load_at(byte, rest)),
+        Some(Opcode::Store(_)) => look_known!(checker, store_at(byte, rest)),
         _ => Front::Other,
     }
 }
@@ -137,7 +133,6 @@ fn access_passes<'a>(checker: &mut Checker<'_>, byte: u8, rest: &'a [u8]) -> Fro
         0x3B => look_known!(checker, store_at(byte, rest)),
         0x23 => look_known!(checker, variable_at(byte, rest)),
         0x24 => look_known!(checker, variable_at(byte, rest)),
-        0x45 => look_known!(checker, numeric_at(byte, rest)),
         _ => number_passes(checker, byte, rest),
     }
 }

@@ -184,6 +184,22 @@ impl<'a> OperandList<'a> {
         self.places.len() + self.more
     }
 
+    /// Whether there surely is an operand above the lowest so many, which one comparison tells where none stands in a run.
+    #[inline(always)]
+    pub(crate) fn reaches(&self, base: usize) -> bool
+        ensures { result ≡ true → base < length self.now.items }
+    {
+        self.places.len() > base
+    }
+
+    /// The same of two operands.
+    #[inline(always)]
+    pub(crate) fn reaches_two(&self, base: usize) -> bool
+        ensures { result ≡ true → base + 2 ≤ length self.now.items }
+    {
+        self.places.len() >= 2 && self.places.len() - 2 >= base
+    }
+
     /// The types of a list.
     #[inline]
     pub(crate) fn types_of(&self, list: TypeList) -> &'a [ValType]

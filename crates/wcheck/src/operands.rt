@@ -106,7 +106,7 @@ impl<'a> OperandStack<'a> {
         ensures below { self.new.below ≡ self.old.below }
         ensures types { self.new.types ≡ self.old.types }
     {
-        self.list.len() > self.base && self.list.pop_known(t)
+        self.list.reaches(self.base) && self.list.pop_known(t)
     }
 
     /// Takes the topmost operand, whatever its type, if it stands in a place of its own.
@@ -117,7 +117,7 @@ impl<'a> OperandStack<'a> {
         ensures below { self.new.below ≡ self.old.below }
         ensures types { self.new.types ≡ self.old.types }
     {
-        self.list.len() > self.base && self.list.pop_single()
+        self.list.reaches(self.base) && self.list.pop_single()
     }
 
     /// Puts an operand of the second type in the place of the topmost, if that is known to be of the first.
@@ -128,7 +128,7 @@ impl<'a> OperandStack<'a> {
         ensures below { self.new.below ≡ self.old.below }
         ensures types { self.new.types ≡ self.old.types }
     {
-        self.list.len() > self.base && self.list.retype_known(t, u)
+        self.list.reaches(self.base) && self.list.retype_known(t, u)
     }
 
     /// Puts an operand of the second type in the place of the two topmost, if both are known to be of the first.
@@ -139,7 +139,7 @@ impl<'a> OperandStack<'a> {
         ensures below { self.new.below ≡ self.old.below }
         ensures types { self.new.types ≡ self.old.types }
     {
-        self.list.len() - self.base >= 2 && self.list.join_known(t, u)
+        self.list.reaches_two(self.base) && self.list.join_known(t, u)
     }
 
     /// Takes the two topmost operands, if they are known to be of the first type and, below it, of the second.
@@ -150,7 +150,7 @@ impl<'a> OperandStack<'a> {
         ensures below { self.new.below ≡ self.old.below }
         ensures types { self.new.types ≡ self.old.types }
     {
-        self.list.len() - self.base >= 2 && self.list.pop_both_known(u, t)
+        self.list.reaches_two(self.base) && self.list.pop_both_known(u, t)
     }
 
     /// Puts an operand of this type on top. `false`: memory was refused.

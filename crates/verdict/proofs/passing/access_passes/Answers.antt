@@ -36,6 +36,3 @@ returns-then-step_known-11-clause-passes c = looked_behind c.args.checker.now c.
 
 pub returns-then-step_known-12-clause-passes : goal.returns-then-step_known-12-clause-passes
 returns-then-step_known-12-clause-passes c = looked_behind c.args.checker.now c.step_known-in-Some-variable_at-2.new.self _ c.in-Some-variable_at-2.after.now c.in-Some-variable_at-2.token c.in-Some-variable_at-2.ensures (c.step_known-in-Some-variable_at-2.ensures.step c.if-step_known-12.true) (c.step_known-in-Some-variable_at-2.ensures.same c.if-step_known-12.true)
-
-pub returns-then-step_known-13-clause-passes : goal.returns-then-step_known-13-clause-passes
-returns-then-step_known-13-clause-passes c = looked_behind c.args.checker.now c.step_known-in-Some-numeric_at.new.self _ c.in-Some-numeric_at.after.now c.in-Some-numeric_at.token c.in-Some-numeric_at.ensures (c.step_known-in-Some-numeric_at.ensures.step c.if-step_known-13.true) (c.step_known-in-Some-numeric_at.ensures.same c.if-step_known-13.true)
