@@ -1,5 +1,5 @@
 -- The answer, from what its parts say.
-use Rattle.std.proofs.Common.{◌≡◌, ℕ, suc, ◌^◌, ◌<◌, false, List, [], ◌∷◌, ◌++◌, Some, IsSomeAnd, Err, length, refl, sym, subst, ◌∙◌, arith}
+use Rattle.std.proofs.Common.{◌≡◌, ℕ, suc, ◌^◌, ◌<◌, false, List, [], ◌∷◌, ◌++◌, Some, IsSomeAnd, Err, length, refl, sym, ap, subst, ◌∙◌, arith}
 use Rattle.std.specs.Prelude.{slice_get, map, IfSome}
 use Rattle.std.proofs.lemmas.List.{length-map}
 use Rattle.std.proofs.lemmas.Option.{same_Some}
@@ -12,7 +12,7 @@ use Rattle.wsyntax.specs.Texts.Report.{CallEnd, report_text}
 use Rattle.wsyntax.specs.Texts.Answer.{Limits, IsAnswer, calls_line}
 use Rattle.texts.specs.Calls.{ReadsCalls, calls_of}
 use Rattle.texts.specs.Ends.{end_of, ends_of}
-use Rattle.texts.specs.Parts.{AreParts}
+use Rattle.texts.specs.Parts.{AreParts, parts_text}
 use Rattle.texts.specs.declared.call.Call.{Call}
 use Rattle.texts.specs.declared.part.Part.{Part}
 use Rattle.texts.specs.declared.fault.CallsFault.{CallsFault}
@@ -78,11 +78,17 @@ few_ends a s calls parts written few (lines, gives, are) same =
     (ends_of lines, subst (AreParts 0 (ends_of lines)) (sym same) are, omega arith)
 
 -- on calls that were run
-pub report_is : (bytes text : List ℕ) (a : AcceptedModule) (s : Settings) (calls given : List Call) (parts written : List Part) (out : List ℕ)
+pub report_is : (bytes text : List ℕ) (a : AcceptedModule) (s : Settings) (calls given : List Call) (parts written : List Part) (last : List ℕ)
     → IsVerdict bytes Accepted → Spells bytes (module_shape a.«module») (shapes_of a.bodies.items) → IsCalls text (Good (calls_of calls)) → given ≡ calls → GiveParts a s given parts
-    → written ≡ parts → ((ends : List CallEnd) → AreParts 0 ends written → out ≡ report_text ends) → IsSomeAnswer bytes text (limits s.fuel s.frames s.pages) out
+    → written ≡ parts → ((ends : List CallEnd) → AreParts 0 ends written → parts_text written ++ last ≡ report_text ends) → IsSomeAnswer bytes text (limits s.fuel s.frames s.pages) (parts_text parts ++ last)
 unfolding IsAnswer
-report_is bytes text a s calls given parts written out v spells said same (lines, gives, are) wrote whole =
+report_is bytes text a s calls given parts written last v spells said same (lines, gives, are) wrote whole =
     let ends' : AreEnds a s calls lines = subst (λ (x : List Call). AreEnds a s x lines) same (ends_given a s given lines gives) in
-    let text' : out ≡ report_text (ends_of lines) = whole (ends_of lines) (subst (AreParts 0 (ends_of lines)) (sym wrote) are) in
+    let text' : parts_text parts ++ last ≡ report_text (ends_of lines) = ap (λ (l : List Part). parts_text l ++ last) (sym wrote) ∙ whole (ends_of lines) (subst (AreParts 0 (ends_of lines)) (sym wrote) are) in
     ((λ n. is_short (slice_get lines n)), (Accepted, v, (Good (calls_of calls), said, (module_shape a.«module», shapes_of a.bodies.items, ends_of lines, spells, ends', text'))))
+
+-- ---- a line alone
+
+-- where there are no parts the last line is all that is written
+pub line_alone : (bytes text : List ℕ) (l : Limits) (parts : List Part) (last : List ℕ) → parts ≡ [] → IsSomeAnswer bytes text l last → IsSomeAnswer bytes text l (parts_text parts ++ last)
+line_alone bytes text l parts last none h = subst (λ (p : List Part). IsSomeAnswer bytes text l (parts_text p ++ last)) (sym none) h

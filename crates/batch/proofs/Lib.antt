@@ -5,3 +5,4 @@ pub mod Instance
 pub mod Batches
 pub mod GroupedLines
 pub mod Answered
+pub mod PartsWritten

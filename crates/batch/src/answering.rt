@@ -6,12 +6,13 @@ ghost use Rattle.wsyntax.specs.Binary.Shell.{Spells};
 ghost use Rattle.wsyntax.specs.Validation.Verdict.{IsVerdict, Accepted as accepted_verdict};
 ghost use Rattle.wsyntax.specs.Texts.Lines.{verdict_line};
 ghost use Rattle.wsyntax.specs.Texts.Answer.{calls_line as refusal_line};
+ghost use Rattle.texts.specs.Parts.{parts_text};
 ghost use Rattle.verdict.specs.Judgement.{shapes_of};
 ghost use Rattle.wstore.specs.Settings.{limits};
 ghost use Rattle.batch.specs.Answers.{Answers, HasStatus, IsSomeAnswer, StatusBy, refused_text};
 
 use crate::line::line_of;
-use crate::output::write_text;
+use crate::output::write_parts;
 use crate::running::run_groups;
 use crate::status::{AnswerFault, Status};
 use pieces::{Plan, Watch};
@@ -19,14 +20,15 @@ use std::alloc::{AllocError, Global};
 use std::io::Write;
 use std::sync::Wait;
 use std::thread::Threads;
-use texts::{CallsFault, read_calls, report_of};
+use texts::{CallsFault, Part, last_line, read_calls};
 use verdict::{Accepted, judge};
 use wstore::Settings;
 
-/// What is written, and what it is.
+/// What is written, the texts of some parts and a last line behind them, and what it is.
 #[derive(Drop)]
 struct Written {
-    text: String,
+    parts: Vec<Part>,
+    last: String,
     status: Status,
 }
 
@@ -51,21 +53,24 @@ fn answer_on<R: Threads + Wait + Sync, W: Watch + Sync>(
     plan: Plan,
     watch: &W,
 ) -> Result<Written, AllocError>
-    ensures answer { IfOk result (λ a. (bytes : List ℕ) → IsVerdict bytes accepted_verdict → Spells bytes (module_shape accepted.now.module) (shapes_of accepted.now.bodies.items) → IsSomeAnswer bytes calls.now (limits settings.fuel settings.frames settings.pages) (string_bytes a.text)) }
+    ensures answer { IfOk result (λ a. (bytes : List ℕ) → IsVerdict bytes accepted_verdict → Spells bytes (module_shape accepted.now.module) (shapes_of accepted.now.bodies.items) → IsSomeAnswer bytes calls.now (limits settings.fuel settings.frames settings.pages) (parts_text a.parts.items ++ string_bytes a.last)) }
     ensures status { IfOk result (λ a. StatusBy calls.now accepted_verdict a.status) }
 {
     let calls = match read_calls(alloc, calls) {
         Ok(calls) => calls,
         Err(fault) => {
             return Ok(Written {
-                text: calls_line(alloc, fault)?,
+                parts: Vec::new(alloc),
+                last: calls_line(alloc, fault)?,
                 status: Status::CallsRefused,
             });
         }
     };
     let parts = run_groups(rt, alloc, accepted, &calls, settings, plan, watch)?;
+    let last = last_line(alloc, &parts)?;
     Ok(Written {
-        text: report_of(alloc, &parts)?,
+        parts,
+        last,
         status: Status::Good,
     })
 }
@@ -80,13 +85,14 @@ fn answer_to<R: Threads + Wait + Sync, W: Watch + Sync>(
     plan: Plan,
     watch: &W,
 ) -> Result<Written, AllocError>
-    ensures answer { IfOk result (λ a. IsSomeAnswer bytes.now calls.now (limits settings.fuel settings.frames settings.pages) (string_bytes a.text)) }
+    ensures answer { IfOk result (λ a. IsSomeAnswer bytes.now calls.now (limits settings.fuel settings.frames settings.pages) (parts_text a.parts.items ++ string_bytes a.last)) }
     ensures status { IfOk result (λ a. HasStatus bytes.now calls.now a.status) }
 {
     match judge(rt, alloc, bytes, plan, watch) {
         Ok(accepted) => answer_on(rt, alloc, &accepted, calls, settings, plan, watch),
         Err(refusal) => Ok(Written {
-            text: line_of(alloc, Err(refusal))?,
+            parts: Vec::new(alloc),
+            last: line_of(alloc, Err(refusal))?,
             status: Status::ModuleRefused,
         }),
     }
@@ -111,7 +117,7 @@ pub fn answer<R: Threads + Wait + Sync, W: Watch + Sync, O: Write>(
     let Ok(answer) = answer_to(rt, alloc, bytes, calls, settings, plan, watch) else {
         return Err(AnswerFault::Memory);
     };
-    match write_text(out, answer.text.as_bytes()) {
+    match write_parts(out, &answer.parts, answer.last.as_bytes()) {
         Ok(()) => Ok(answer.status),
         Err(_) => Err(AnswerFault::Write),
     }

@@ -1,8 +1,10 @@
 ghost use Rattle.std.specs.Prelude.{◌≡◌, List, ◌++◌, ℕ, MatchResult};
 ghost use Rattle.std.specs.Io.KnownBytes.{Appends};
+ghost use Rattle.texts.specs.Parts.{parts_text};
 ghost use Rattle.batch.specs.Output.{AppendsFront};
 
 use std::io::Write;
+use texts::Part;
 
 /// A write that failed, or that took no byte.
 #[derive(Clone, Copy, Debug, PartialEq, Eq)]
@@ -22,4 +24,22 @@ pub fn write_text<W: Write>(out: &mut W, text: &[u8]) -> Result<(), WriteFailed>
         }
     }
     Ok(())
+}
+
+/// Writes the texts of the parts one behind another and a last line behind them, or a beginning of that.
+pub(crate) fn write_parts<W: Write>(
+    out: &mut W,
+    parts: &[Part],
+    last: &[u8],
+) -> Result<(), WriteFailed>
+    ensures { MatchResult result
+        (λ _. Appends (W.contents out.old) (W.contents out.new) (parts_text parts.now ++ last.now))
+        (λ _. AppendsFront (W.contents out.old) (W.contents out.new) (parts_text parts.now ++ last.now)) }
+{
+    for part in parts {
+        if let Err(failed) = write_text(out, part.text()) {
+            return Err(failed);
+        }
+    }
+    write_text(out, last)
 }

@@ -57,7 +57,17 @@ fn one_group_each(plan: Plan) -> Plan
     }
 }
 
-/// Runs each call as `run_batch` does, in groups of as many as the plan has in a piece. Each worker makes the lines of its
+/// How many groups there are for each worker, at most, so that one that comes late is not waited for long.
+const GROUPS_EACH: u32 = 64;
+
+/// How many calls a group has: as many as the plan has in a piece, or more where that makes too many groups.
+fn group_size(calls: u32, plan: Plan) -> u32
+    ensures { 0 < result }
+{
+    plan.piece().max(calls / (plan.workers() * GROUPS_EACH))
+}
+
+/// Runs each call as `run_batch` does, in groups of as many as the plan has in a piece, or more. Each worker makes the lines of its
 /// groups, and the parts stand in the order of the calls.
 pub(crate) fn run_groups<R: Threads + Wait + Sync, W: Watch + Sync>(
     rt: &R,
@@ -72,7 +82,7 @@ pub(crate) fn run_groups<R: Threads + Wait + Sync, W: Watch + Sync>(
     ensures { IfOk result (λ parts. GiveParts accepted.now settings calls.now parts.items) }
 {
     let (pool, tickets) = Pool::new(alloc, plan.workers())?;
-    let size = plan.piece();
+    let size = group_size(calls.len() as u32, plan);
     let groups = count_groups(calls.len() as u32, size);
     let calls = Calls {
         alloc,

@@ -4,7 +4,7 @@ ghost use Rattle.std.specs.Prelude.{◌+◌, ◌<◌, ◌^◌, length};
 use std::alloc::{AllocError, Global};
 use std::process::Abort;
 use std::test::Fail;
-use texts::{Call, CallsFault, Line, Outcome, Part, StartRefusal, read_calls, report, report_of};
+use texts::{Call, CallsFault, Line, Outcome, Part, StartRefusal, last_line, read_calls, report};
 use wnum::NumTrap;
 use wsyntax::{Trap, Value};
 
@@ -254,15 +254,20 @@ fn limits_are_met(rt: HostRuntime) -> Result<(), Fail> {
     Ok(())
 }
 
-/// The report of calls that end in two parts.
-fn report_of_two(alloc: Global, front: &[Line], back: &[Line]) -> Result<String, AllocError>
+/// The parts of calls that end in two, and the last line of their report.
+fn of_two(
+    alloc: Global,
+    front: &[Line],
+    back: &[Line],
+) -> Result<(Vec<Part>, String), AllocError>
     requires { length front.now + length back.now < 2 ^ 64 }
 {
     let parts = vec![in alloc;
         Part::of(alloc, 0, front)?,
         Part::of(alloc, front.len(), back)?,
     ]?;
-    report_of(alloc, &parts)
+    let last = last_line(alloc, &parts)?;
+    Ok((parts, last))
 }
 
 #[test]
@@ -270,13 +275,19 @@ fn parts_make_one_report(rt: HostRuntime) -> Result<(), Fail> {
     let alloc = rt.alloc();
     let front = vec![in alloc; Line::NoExport, trap(Trap::OutOfBounds, 3)]?;
     let back = vec![in alloc; Line::NoMemory, trap(Trap::Unreachable, 4)]?;
+    let (parts, last) = of_two(alloc, &front, &back)?;
+    assert_eq!(rt; parts.len(), 2);
     assert_eq!(rt;
-        report_of_two(alloc, &front, &back)?.as_str(),
-        "0 no-export\n\
-        1 trap out-of-bounds fuel 3\n\
-        2 no-memory\n\
-        3 trap unreachable fuel 4\n\
-        total 4 values 0 traps 2 exhausted 0 refused 1 no-memory 1 fuel 7\n"
+        parts[0].text(),
+        b"0 no-export\n1 trap out-of-bounds fuel 3\n".as_slice()
+    );
+    assert_eq!(rt;
+        parts[1].text(),
+        b"2 no-memory\n3 trap unreachable fuel 4\n".as_slice()
+    );
+    assert_eq!(rt;
+        last.as_str(),
+        "total 4 values 0 traps 2 exhausted 0 refused 1 no-memory 1 fuel 7\n"
     );
     Ok(())
 }

@@ -1,12 +1,13 @@
 -- A part of a report, and parts one behind another.
 use Rattle.std.proofs.Common.{◌≡◌, ℕ, ◌+◌, ◌<◌, ◌≤◌, List, [], ◌∷◌, ◌++◌, length, get_or, take, drop, string_bytes, refl, sym, ap, ◌∙◌, subst, append_assoc, length-append, arith}
-use Rattle.std.proofs.lemmas.List.{append-nil, drop_more, drop_all, length-map, take_all}
+use Rattle.std.proofs.lemmas.Grind.{flat_map-append}
+use Rattle.std.proofs.lemmas.List.{append-nil, drop_more, drop_all, length-map, take_all, take_more}
 use Rattle.wsyntax.specs.Texts.Report.{CallEnd, call_lines, plus, total_of, report_text}
 use Rattle.texts.specs.declared.line.Line.{Line}
 use Rattle.texts.specs.declared.part.Part.{Part}
 use Rattle.texts.specs.declared.total.Total.{Total}
 use Rattle.texts.specs.Ends.{ends_of}
-use Rattle.texts.specs.Parts.{IsPart, AreParts}
+use Rattle.texts.specs.Parts.{IsPart, AreParts, parts_text}
 use Rattle.texts.specs.Totals.{tally, IsWithin, total_text}
 use Rattle.texts.proofs.Joined.{lines_append, totals_append, report_whole}
 
@@ -85,11 +86,18 @@ joined_room parts i text total ends p below at h =
     let both = ap length next.both ∙ length-append next.front next.rest in
     (omega (arith, all, both, h.calls, next.part.calls), next.part.within)
 
+-- the texts up to the next part
+pub part_more : (parts : List Part) (i : ℕ) (p : Part) → i < length parts → p ≡ get_or parts i p → parts_text (take (i + 1) parts) ≡ parts_text (take i parts) ++ string_bytes p.text
+part_more parts i p below at =
+    ap parts_text (take_more parts i p below ∙ ap (λ q. take i parts ++ q ∷ []) (sym at)) ∙ flat_map-append (λ q. string_bytes q.text) (take i parts) (p ∷ []) ∙ ap (λ l. parts_text (take i parts) ++ l) (append-nil (string_bytes p.text))
+
 -- all parts are joined
-pub joined_whole : (parts : List Part) (i : ℕ) (text whole : List ℕ) (total : Total) (ends : List CallEnd) → length parts ≤ i → Joined parts i text total ends → whole ≡ text ++ total_text total.calls (tally total)
-    → whole ≡ report_text ends
-joined_whole parts i text whole total ends past h w =
-    let none : drop i parts ≡ [] = drop_all i parts past in
-    let empty : h.left ≡ [] = subst (AreParts (length h.done) h.left) none h.others in
-    let all : ends ≡ h.done = h.all ∙ ap (λ l. h.done ++ l) empty ∙ append-nil h.done in
-    report_whole ends total text whole (h.written ∙ ap (call_lines 0) (sym all)) (h.counts ∙ ap total_of (sym all)) (h.calls ∙ ap length (sym all)) w
+pub joined_whole : (parts : List Part) (i : ℕ) (empty line : List ℕ) (total : Total) (ends : List CallEnd) → length parts ≤ i → Joined parts i (parts_text (take i parts)) total ends → empty ≡ []
+    → line ≡ empty ++ total_text total.calls (tally total) → parts_text parts ++ line ≡ report_text ends
+joined_whole parts i empty line total ends past h none w =
+    let over : drop i parts ≡ [] = drop_all i parts past in
+    let left : h.left ≡ [] = subst (AreParts (length h.done) h.left) over h.others in
+    let all : ends ≡ h.done = h.all ∙ ap (λ l. h.done ++ l) left ∙ append-nil h.done in
+    let last : line ≡ total_text total.calls (tally total) = w ∙ ap (λ l. l ++ total_text total.calls (tally total)) none in
+    let texts : parts_text parts ≡ parts_text (take i parts) = ap parts_text (sym (take_all i parts past)) in
+    report_whole ends total (parts_text (take i parts)) _ (h.written ∙ ap (call_lines 0) (sym all)) (h.counts ∙ ap total_of (sym all)) (h.calls ∙ ap length (sym all)) (ap (λ l. parts_text parts ++ l) last ∙ ap (λ l. l ++ total_text total.calls (tally total)) texts)

@@ -1,5 +1,5 @@
 -- The parts of a report.
-use Rattle.std.specs.Prelude.{◌≡◌, ℕ, ◌+◌, List, [], ◌∷◌, ◌++◌, length, string_bytes}
+use Rattle.std.specs.Prelude.{◌≡◌, ℕ, ◌+◌, List, [], ◌∷◌, ◌++◌, length, flat_map, string_bytes}
 use Rattle.wsyntax.specs.Texts.Report.{CallEnd, call_lines, total_of}
 use Rattle.texts.specs.Totals.{tally, IsWithin}
 use Rattle.texts.specs.declared.part.Part.{Part}
@@ -15,3 +15,7 @@ pub record IsPart (n : ℕ) (ends : List CallEnd) (p : Part) : Type 0 where
 abbrev pub AreParts : ℕ → List CallEnd → List Part → Type 0
 AreParts n ends [] = ends ≡ []
 AreParts n ends (p ∷ ps) = (front : List CallEnd) × (rest : List CallEnd) × (ends ≡ front ++ rest) × IsPart n front p × AreParts (n + length front) rest ps
+
+-- the texts of the parts one behind another
+abbrev pub parts_text : List Part → List ℕ
+parts_text parts = flat_map (λ p. string_bytes p.text) parts

@@ -19,4 +19,4 @@ pub use ends::{Outcome, StartRefusal};
 pub use fault::CallsFault;
 pub use line::Line;
 pub use part::Part;
-pub use reports::{report, report_of};
+pub use reports::{last_line, report};

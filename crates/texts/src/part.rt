@@ -1,4 +1,4 @@
-ghost use Rattle.std.specs.Prelude.{◌≡◌, ◌+◌, ◌<◌, ◌^◌, IfOk, length};
+ghost use Rattle.std.specs.Prelude.{◌≡◌, ◌+◌, ◌<◌, ◌^◌, IfOk, length, string_bytes};
 ghost use Rattle.texts.specs.Ends.{ends_of};
 ghost use Rattle.texts.specs.Parts.{IsPart};
 
@@ -33,5 +33,11 @@ impl Part {
             total.count(line);
         }
         Ok(Part { text, total })
+    }
+    /// The text of its lines.
+    pub fn text(&self) -> &[u8]
+        ensures { result.now ≡ string_bytes self.now.text }
+    {
+        self.text.as_bytes()
     }
 }

@@ -1,6 +1,6 @@
 use Rattle.std.proofs.lemmas.Result.{IfOk-weaker}
 use Rattle.wstore.specs.Settings.{limits}
-use Rattle.batch.proofs.Answered.{spelled, refused_module}
+use Rattle.batch.proofs.Answered.{line_alone, spelled, refused_module}
 use Rattle.batch.proofs.answering.answer_to.Goals as goal
 
 pub returns-in-Ok-clause-answer : goal.returns-in-Ok-clause-answer
@@ -10,4 +10,5 @@ returns-in-Ok-clause-answer g c =
 pub returns-in_ok-line_of-in-Err-clause-answer : goal.returns-in_ok-line_of-in-Err-clause-answer
 returns-in_ok-line_of-in-Err-clause-answer g c =
     let s = c.args.settings in
-    refused_module c.args.bytes.now c.args.calls.now (limits s.fuel s.frames s.pages) c.in-Err.refusal _ c.in-Err.ensures.verdict c.in_ok-line_of-in-Err.ensures
+    line_alone c.args.bytes.now c.args.calls.now (limits s.fuel s.frames s.pages) _ _ c.new.ensures.items
+    (refused_module c.args.bytes.now c.args.calls.now (limits s.fuel s.frames s.pages) c.in-Err.refusal _ c.in-Err.ensures.verdict c.in_ok-line_of-in-Err.ensures)
