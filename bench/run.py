@@ -17,6 +17,9 @@ Last, what calls cost, in nanoseconds: a call and its return, which is what `fib
 small call on a fresh instance (the sum of two numbers), which is what a process with 100,000 lines of it takes less one with
 as many lines whose second argument is of another type, so that nothing is run: reading, judging and writing are in both (but
 a result is longer to write than `bad-arguments`). Of these the best of fifteen counts.
+
+First, where objdump is installed, how many indirect jumps the function of `gate` has that holds the loop over the tokens. A
+small change there makes the compiler share one jump among all tokens again, which costs a third of the speed.
 """
 import math
 import os
@@ -37,6 +40,9 @@ JSC = """const m=new WebAssembly.Module(readFile(arguments[0],'binary'));let r=0
 for(let i=0;i<+arguments[3];i++)r=new WebAssembly.Instance(m).exports[arguments[1]](+arguments[2]);print(r|0)"""
 ADD = '(module (func (export "add") (param i32 i32) (result i32) (i32.add (local.get 0) (local.get 1))))'
 CALLS = 100_000
+# The function that holds the loop over the tokens, by a part of its name, and how many indirect jumps it has at least where
+# each token has its own.
+LOOP, FEWEST_JUMPS = '<wmachine::invoking::invoke>', 50
 # Newer compilers join the jumps that computed goto is there for, unless they are told not to; older ones know no such words.
 APART = ['-mllvm', '-tail-dup-pred-size=1000', '-mllvm', '-tail-dup-succ-size=1000']
 
@@ -169,7 +175,22 @@ def calls_of_fib(size):
     return last
 
 
+def show_jumps(gate):
+    # How many indirect jumps the function of `gate` has that holds the loop over the tokens.
+    if not shutil.which('objdump'):
+        return
+    text = subprocess.run(['objdump', '-d', '--no-show-raw-insn', gate], capture_output=True, check=True).stdout.decode()
+    jumps, inside = 0, False
+    for line in text.splitlines():
+        if line.endswith('>:'):
+            inside = LOOP in line
+        elif inside and re.search(r'\tjmp +\*', line):
+            jumps += 1
+    print(f'indirect jumps of the loop over the tokens: {jumps}' + (f', WARNING: below {FEWEST_JUMPS}' if jumps < FEWEST_JUMPS else ''))
+
+
 def main(gate):
+    show_jumps(gate)
     with open(os.path.join(here, 'kernels.wat')) as file:
         text = file.read()
     ratios, in_fib = {}, {}
