@@ -1,6 +1,6 @@
 //! A batch of calls on many workers.
 
-ghost use Rattle.std.specs.Prelude.{◌<◌, ◌^◌, ◌≡◌, IfOk, length};
+ghost use Rattle.std.specs.Prelude.{◌<◌, ◌^◌, IfOk, length};
 ghost use Rattle.batch.specs.Ends.{AreEnds};
 ghost use Rattle.batch.specs.Groups.{GiveParts};
 
@@ -47,16 +47,6 @@ pub fn run_batch<R: Threads + Wait + Sync, W: Watch + Sync>(
     }
 }
 
-/// The plan of as many workers that takes one group at once.
-fn one_group_each(plan: Plan) -> Plan
-    ensures { result.workers ≡ plan.workers }
-{
-    match Plan::new(plan.workers(), 1) {
-        Some(single) => single,
-        None => unreachable!(),
-    }
-}
-
 /// How many groups there are for each worker, at most, so that one that comes late is not waited for long.
 const GROUPS_EACH: u32 = 64;
 
@@ -67,8 +57,8 @@ fn group_size(calls: u32, plan: Plan) -> u32
     plan.piece().max(calls / (plan.workers() * GROUPS_EACH))
 }
 
-/// Runs each call as `run_batch` does, in groups of as many as the plan has in a piece, or more. Each worker makes the lines of its
-/// groups, and the parts stand in the order of the calls.
+/// Runs each call as `run_batch` does, in groups of as many as the plan has in a piece, or more. Each worker makes the
+/// lines of its groups, and the parts stand in the order of the calls.
 pub(crate) fn run_groups<R: Threads + Wait + Sync, W: Watch + Sync>(
     rt: &R,
     alloc: Global,
@@ -92,7 +82,7 @@ pub(crate) fn run_groups<R: Threads + Wait + Sync, W: Watch + Sync>(
         pool: &pool,
     };
     let job = GroupedCalls { calls, size, watch };
-    match try_all(rt, alloc, &job, tickets, groups, one_group_each(plan)) {
+    match try_all(rt, alloc, &job, tickets, groups, plan.one_group_each()) {
         Ok(parts) => Ok(parts),
         Err(TryFault::Stopped { .. } | TryFault::Memory) => Err(AllocError),
     }
