@@ -7,11 +7,13 @@ the file, by the clock.
   gate    one worker after the file was read: a fresh process, less the same process on as many zero bytes, which are refused
           once they are read
   C       bench/peer.c, a plain decoder and checker of the same design, one pass; its own clock, the file being read
-  node    WebAssembly.validate, held to one thread by taskset; its own clock, the file being read
+  node    WebAssembly.validate, held to one processor by taskset; its own clock, the file being read
+  gate 4  four workers after the file was read
+  node 4  WebAssembly.validate with all its threads
   whole   the same process of gate, its start and the reading of the file included; then with 2 and 4 workers
   wabt    wasm-validate, where it is installed, a fresh process
-In brackets: of C and node the ratio to gate, of the others to the whole process with one worker. Last the peak memory of
-`gate` with one worker, by the module's size. `--plot` draws the rows as bars.
+In brackets: of C and node the ratio to gate, of `gate 4` and `node 4` to the same engine on one, of the others to the whole
+process with one worker. Last the peak memory of `gate` with one worker, by the module's size. `--plot` draws the rows as bars.
 """
 import math
 import os
@@ -66,6 +68,7 @@ def engines(gate, peer, path, zeros, has_long_lists):
         takes['C'] = lambda: own_clock([peer, 'check', path, '1'])
     if shutil.which('node'):
         takes['node'] = lambda: own_clock(['taskset', '-c', '0', 'node', '-e', NODE, path])
+        takes['node 4'] = lambda: own_clock(['node', '-e', NODE, path])
     if shutil.which('wasm-validate') and not has_long_lists:
         takes['wabt'] = lambda: process(['wasm-validate', path], b'')
     return takes
@@ -93,7 +96,9 @@ def measure(gate, peer, folder, path, has_long_lists=False):
     best = best_times(engines(gate, peer, path, zeros, has_long_lists))
     if '1 workers' not in best:
         sys.exit(f'{path}: not accepted')
-    best['gate'] = best['1 workers'] - best.pop('reading')
+    reading = best.pop('reading')
+    best['gate'] = best['1 workers'] - reading
+    best['gate 4'] = best['4 workers'] - reading
     return {name: length / took / 1e6 for name, took in best.items()}
 
 
@@ -102,7 +107,8 @@ def cell(speeds, name, base):
 
 
 def report(gate, label, path, speeds):
-    cells = [f'{speeds["gate"]:.1f}', cell(speeds, 'C', 'gate'), cell(speeds, 'node', 'gate'), f'{speeds["1 workers"]:.1f}']
+    cells = [f'{speeds["gate"]:.1f}', cell(speeds, 'C', 'gate'), cell(speeds, 'node', 'gate')]
+    cells += [cell(speeds, 'gate 4', 'gate'), cell(speeds, 'node 4', 'node'), f'{speeds["1 workers"]:.1f}']
     cells += [cell(speeds, name, '1 workers') for name in ('2 workers', '4 workers', 'wabt')]
     timed = os.path.exists('/usr/bin/time')
     cells.append(f'{peak([gate, "check", path, "--workers", "1"]) / os.path.getsize(path):.1f}' if timed else '-')
@@ -155,7 +161,7 @@ def main(gate, words):
     with tempfile.TemporaryDirectory() as folder:
         peer = os.path.join(folder, 'peer')
         subprocess.run(['gcc', '-O2', '-o', peer, os.path.join(here, 'peer.c')], check=True)
-        print('| module | gate | C | node | whole | 2 workers | 4 workers | wabt | memory |\n|' + '---|' * 9)
+        print('| module | gate | C | node | gate 4 | node 4 | whole | 2 workers | 4 workers | wabt | memory |\n|' + '---|' * 11)
         for label, path, has_long_lists in modules(folder, words):
             speeds = measure(gate, peer, folder, path, has_long_lists)
             report(gate, label, path, speeds)
