@@ -255,11 +255,7 @@ fn limits_are_met(rt: HostRuntime) -> Result<(), Fail> {
 }
 
 /// The parts of calls that end in two, and the last line of their report.
-fn of_two(
-    alloc: Global,
-    front: &[Line],
-    back: &[Line],
-) -> Result<(Vec<Part>, String), AllocError>
+fn of_two(alloc: Global, front: &[Line], back: &[Line]) -> Result<(Vec<Part>, String), AllocError>
     requires { length front.now + length back.now < 2 ^ 64 }
 {
     let parts = vec![in alloc;
