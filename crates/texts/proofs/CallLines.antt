@@ -58,11 +58,12 @@ pub record LinesRead (text rest : List ℕ) (calls : List Call) : Type 0 where
 pub lines_begin : (text : List ℕ) → LinesRead text text []
 lines_begin text = record { done = []; lines = refl; say = tt; few = omega arith }
 
-say_more : (done : List TextLine) (calls : List Call) (line : TextLine) (c : Call) → SayAll done calls → Says line c → SayAll (done ++ line ∷ []) (calls ++ c ∷ [])
-say_more [] [] line c h s = (s, tt)
-say_more [] (d ∷ calls) line c h s = absurd h
-say_more (l ∷ done) [] line c h s = absurd h
-say_more (l ∷ done) (d ∷ calls) line c h s = (h.0, say_more done calls line c h.1 s)
+-- lines say calls, and others behind them say others
+pub say_both : (done rest : List TextLine) (calls more : List Call) → SayAll done calls → SayAll rest more → SayAll (done ++ rest) (calls ++ more)
+say_both [] rest [] more h g = g
+say_both [] rest (d ∷ calls) more h g = absurd h
+say_both (l ∷ done) rest [] more h g = absurd h
+say_both (l ∷ done) rest (d ∷ calls) more h g = (h.0, say_both done rest calls more h.1 g)
 
 -- a line more is read
 pub line_more : (text rest line next : List ℕ) (calls : List Call) (c : Call) → LinesRead text rest calls → length calls < line_limit → lines_of rest ≡ Ended line ∷ lines_of next → Says (Ended line) c
@@ -70,13 +71,13 @@ pub line_more : (text rest line next : List ℕ) (calls : List Call) (c : Call) 
 line_more text rest line next calls c h room at says = record {
   done = h.done ++ Ended line ∷ [];
   lines = h.lines ∙ ap (λ l. h.done ++ l) at ∙ sym (append_assoc h.done (Ended line ∷ []) (lines_of next));
-  say = say_more h.done calls (Ended line) c h.say says;
+  say = say_both h.done (Ended line ∷ []) calls (c ∷ []) h.say (says, tt);
   few = simp length-append (omega arith);
 }
 
 -- ---- the least bad line
 
-same_length : (done : List TextLine) (calls : List Call) → SayAll done calls → length done ≡ length calls
+pub same_length : (done : List TextLine) (calls : List Call) → SayAll done calls → length done ≡ length calls
 same_length [] [] h = refl
 same_length [] (c ∷ calls) h = absurd h
 same_length (l ∷ done) [] h = absurd h

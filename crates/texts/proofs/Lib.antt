@@ -6,3 +6,4 @@ mod JoinedParts
 mod Marks
 mod SignedWords
 mod Signs
+mod SlicedTexts

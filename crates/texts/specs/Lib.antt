@@ -3,3 +3,4 @@ pub mod Ends
 pub mod Reading
 pub mod Totals
 pub mod Parts
+pub mod Slices
