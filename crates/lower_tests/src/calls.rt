@@ -4,7 +4,10 @@ ghost use Rattle.std.specs.Prelude.{◌+◌, ◌<◌, ◌^◌, length};
 use std::alloc::{AllocError, Global};
 use std::process::Abort;
 use std::test::Fail;
-use texts::{Call, CallsFault, Line, Outcome, Part, StartRefusal, last_line, read_calls, report};
+use texts::{
+    Call, CallsFault, Line, Outcome, Part, StartRefusal, count_calls, cut_lines, last_line,
+    read_calls, report,
+};
 use wnum::NumTrap;
 use wsyntax::{Trap, Value};
 
@@ -285,5 +288,54 @@ fn parts_make_one_report(rt: HostRuntime) -> Result<(), Fail> {
         last.as_str(),
         "total 4 values 0 traps 2 exhausted 0 refused 1 no-memory 1 fuel 7\n"
     );
+    Ok(())
+}
+
+#[test]
+fn a_text_is_cut_behind_newlines(rt: HostRuntime) -> Result<(), Fail> {
+    let alloc = rt.alloc();
+    let text = b"add\ti32:1\n\nsub\ti64:-2\n\ti32:7\nlast";
+    let lines = [
+        b"add\ti32:1\n".as_slice(),
+        b"\n",
+        b"sub\ti64:-2\n",
+        b"\ti32:7\n",
+        b"last",
+    ];
+    let cut = cut_lines(alloc, text, 0)?;
+    assert_eq!(rt; cut.as_slice(), lines.as_slice());
+    let longer = [
+        b"add\ti32:1\n\n".as_slice(),
+        b"sub\ti64:-2\n",
+        b"\ti32:7\nlast",
+    ];
+    let cut = cut_lines(alloc, text, 10)?;
+    assert_eq!(rt; cut.as_slice(), longer.as_slice());
+    let ended = [b"f\n".as_slice(), b""];
+    let cut = cut_lines(alloc, b"f\n", 1)?;
+    assert_eq!(rt; cut.as_slice(), ended.as_slice());
+    let cut = cut_lines(alloc, b"", 0)?;
+    assert_eq!(rt; cut.len(), 1);
+    Ok(())
+}
+
+// The number of calls that the slices of so many bytes have together.
+fn count_in_slices(alloc: Global, text: &[u8], size: usize) -> Result<Option<usize>, CallsFault> {
+    let mut read = Vec::new(alloc);
+    for slice in &cut_lines(alloc, text, size)? {
+        read.push(read_calls(alloc, slice)?)?;
+    }
+    Ok(count_calls(&read))
+}
+
+#[test]
+fn slices_have_too_many_lines_together(rt: HostRuntime) -> Result<(), Fail> {
+    let alloc = rt.alloc();
+    let mut text = vec![in alloc; b'\n'; 100_000]?;
+    assert_eq!(rt; count_in_slices(alloc, &text, 40_000)?, Some(100_000));
+    assert_eq!(rt; count_in_slices(alloc, &text, 99_998)?, Some(100_000));
+    text.push(b'\n')?;
+    assert_eq!(rt; count_in_slices(alloc, &text, 40_000)?, None);
+    assert_eq!(rt; count_in_slices(alloc, &text, 99_999)?, None);
     Ok(())
 }

@@ -1,6 +1,6 @@
-mod accepted;
 mod called;
 mod exports;
+mod lent;
 mod meeting;
 mod plans;
 mod told;

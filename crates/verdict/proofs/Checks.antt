@@ -14,7 +14,7 @@ use Rattle.wcheck.specs.declared.checked.CheckedBody.{CheckedBody}
 use Rattle.wcheck.specs.Bodies.{IsTypedAs, IsFaultyAt, FitsAs}
 use Rattle.verdict.specs.declared.refusal.Class.TheVariants.{IllTyped}
 use Rattle.verdict.specs.Judged.{class_of}
-use Rattle.verdict.specs.Judgement.{IsCheckedFrom}
+use Rattle.accepted.specs.Judgement.{IsCheckedFrom}
 use Rattle.verdict.proofs.Bodies.{tree_of, class_typing}
 
 pub typed_class : Agrees body → TypedIsAccepted → (C : Context) (f : ℕ) (bytes : List ℕ) (b : Body) → SpellsBody bytes (body_shape b) → FewLocals (body_shape b) → IsTypedAs C f b → class_of C f bytes ≡ None

@@ -7,14 +7,6 @@ pub mod Firsts
 pub mod Groups
 pub mod OnePass
 pub mod Checks
-pub mod SearchedNames
-pub mod ExportNumbers
 pub mod OneVerdict
 pub mod Judgements
-pub mod PlainStarts
-pub mod Mentions
-pub mod FunctionShapes
 pub mod CheckedBodies
-pub mod Lendings
-pub mod NumberedTexts
-pub mod Numbering

@@ -6,8 +6,8 @@ use Rattle.wsyntax.specs.Binary.Shell.{module_limit}
 use Rattle.wsyntax.specs.Validation.ModuleContext.{IndexedContext}
 use Rattle.wsyntax.specs.Validation.Verdict.{IsModule}
 use Rattle.wcheck.specs.declared.checked.CheckedBody.{CheckedBody}
-use Rattle.verdict.specs.Judgement.{IsJudged}
-use Rattle.verdict.specs.Small.{IsSmall}
+use Rattle.accepted.specs.Judgement.{IsJudged}
+use Rattle.accepted.specs.Small.{IsSmall}
 use Rattle.verdict.proofs.Sizes.{segments_fit, body_fits}
 use Rattle.verdict.proofs.TokenCounts.{tokens_fit}
 

@@ -2,11 +2,4 @@ pub mod Refusals
 pub mod Judged
 pub mod Groups
 pub mod OnePass
-pub mod Floats
-pub mod Judgement
-pub mod Kept
-pub mod Exports
-pub mod TypeNumbers
-pub mod FunctionShapes
-pub mod Small
 pub mod Laws

@@ -1,20 +1,13 @@
 ghost use Rattle.std.specs.Prelude.{◌≡◌, ◌+◌, ◌<◌, ◌^◌, ℕ, MatchResult, IfOk, IfSome, length, map};
-ghost use Rattle.wsyntax.specs.Modules.{module_shape};
-ghost use Rattle.wsyntax.specs.Execution.Start.{any, body_has_floats, has_floats};
 ghost use Rattle.wsyntax.specs.Validation.Verdict.{IsVerdict, Accepted as accepted_verdict};
 ghost use Rattle.verdict.specs.Judged.{PassBefore, IsFirstBody};
-ghost use Rattle.verdict.specs.Judgement.{AreChecked, shapes_of};
-ghost use Rattle.verdict.specs.Kept.{IsAcceptedFrom};
+ghost use Rattle.accepted.specs.Judgement.{AreChecked};
+ghost use Rattle.accepted.specs.Kept.{IsAcceptedFrom};
 ghost use Rattle.verdict.specs.Refusals.{verdict_of};
 
-use crate::accepted::Accepted;
-use crate::exports::numbers_by_name;
-use crate::floats::declarations_have_floats;
 use crate::keeping_jobs::KeptBodies;
 use crate::refusal::Refusal;
-use crate::shapes::function_shapes;
-use crate::type_numbers::type_numbers;
-use layout::Layout;
+use accepted::Accepted;
 use pieces::{Plan, TryFault, Watch, try_all};
 use soundness::validation::{accepted_is_typed, refused_at_first_fault};
 use std::alloc::Global;
@@ -23,7 +16,6 @@ use std::thread::Threads;
 use wcheck::CheckedBody;
 use wcontext::{Context, check_module};
 use wdecode::{decode_module, grammar_is_read};
-use wsyntax::Module;
 
 /// Judges the bodies of a module, up to the first that is refused, and keeps them.
 fn judge_bodies<R: Threads + Wait + Sync, W: Watch + Sync>(
@@ -62,19 +54,6 @@ fn judge_bodies<R: Threads + Wait + Sync, W: Watch + Sync>(
     }
 }
 
-fn bodies_have_floats(bodies: &[CheckedBody]) -> bool
-    ensures { result ≡ any body_has_floats (shapes_of bodies.now) }
-{
-    bodies.iter().any(|body| body.has_floats())
-}
-
-/// Whether a module with these bodies mentions a float.
-fn has_floats(module: &Module<'_>, bodies: &[CheckedBody]) -> bool
-    ensures { result ≡ has_floats (module_shape «module».now) (shapes_of bodies.now) }
-{
-    declarations_have_floats(module) || bodies_have_floats(bodies)
-}
-
 /// Judges a module, and keeps it with its context and its checked bodies.
 pub fn judge<'a, R: Threads + Wait + Sync, W: Watch + Sync>(
     rt: &R,
@@ -92,25 +71,5 @@ pub fn judge<'a, R: Threads + Wait + Sync, W: Watch + Sync>(
     let module = decode_module(alloc, bytes)?;
     let context = check_module(alloc, &module)?;
     let bodies = judge_bodies(rt, alloc, &context, &module.bodies, plan, watch)?;
-    let by_name = numbers_by_name(alloc, &module.exports)?;
-    let type_numbers = type_numbers(alloc, &module.types)?;
-    let shapes = function_shapes(
-        alloc,
-        &module.types,
-        &type_numbers,
-        &module.functions,
-        &bodies,
-    )?;
-    let layout = Layout::of(alloc, &module)?;
-    let mentions_floats = has_floats(&module, &bodies);
-    Ok(Accepted {
-        module,
-        context,
-        bodies,
-        shapes,
-        by_name,
-        mentions_floats,
-        type_numbers,
-        layout,
-    })
+    Ok(Accepted::of(alloc, module, context, bodies)?)
 }

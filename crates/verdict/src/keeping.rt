@@ -1,7 +1,7 @@
 ghost use Rattle.std.specs.Prelude.{◌≡◌, ◌+◌, ◌<◌, ◌^◌, Some, None, MatchResult, length, map};
 ghost use Rattle.pieces.specs.Faults.{AllowsFault};
 ghost use Rattle.verdict.specs.Judged.{class_of};
-ghost use Rattle.verdict.specs.Judgement.{IsCheckedFrom};
+ghost use Rattle.accepted.specs.Judgement.{IsCheckedFrom};
 
 use crate::refusal::Class;
 use pieces::JobFault;

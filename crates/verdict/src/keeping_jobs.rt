@@ -29,7 +29,7 @@ impl<'a, W: Watch> Job for KeptBodies<'a, W> {
     type Fault = Class;
 
     ghost use Rattle.verdict.specs.Judged.{class_at, none_and_some, one_class};
-    ghost use Rattle.verdict.specs.Judgement.{IsCheckedAt};
+    ghost use Rattle.accepted.specs.Judgement.{IsCheckedAt};
 
     ghost limit = { λ j. length j.bodies.now };
 

@@ -1,11 +1,8 @@
 //! Judging a module: the grammar, the module rules and every body, on many workers.
 #![tactic(auto)]
 
-mod accepted;
 mod body;
 mod examining;
-mod exports;
-mod floats;
 mod jobs;
 mod judging;
 mod keeping;
@@ -14,8 +11,6 @@ mod laws;
 mod passing;
 mod refusal;
 mod refused_body;
-mod shapes;
-mod type_numbers;
 
 pub use accepted::Accepted;
 pub use examining::examine;

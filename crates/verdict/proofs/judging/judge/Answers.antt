@@ -1,19 +1,10 @@
-use Rattle.std.proofs.Common.{Ok, Err, List, length, map, ap, sym, subst, ◌∙◌, arith}
-use Rattle.std.specs.List.{range_with_len}
-use Rattle.std.specs.List.Sorted.{IsPermutation}
-use Rattle.wsyntax.specs.declared.module.Export.{Export}
+use Rattle.std.proofs.Common.{Ok, Err, length, map, ap, sym, ◌∙◌, arith}
 use Rattle.std.proofs.lemmas.List.{length-map}
-use Rattle.wsyntax.specs.Modules.{module_shape, func_type_of}
-use Rattle.verdict.specs.Exports.{AreAscending}
+use Rattle.wsyntax.specs.Modules.{module_shape}
 use Rattle.verdict.specs.Refusals.{of_decoding, of_rules}
 use Rattle.verdict.proofs.Firsts.{decoded, not_decoded, not_kept, judged, refused_so, indices_fit}
-use Rattle.wsyntax.specs.declared.FuncType.{FuncType}
-use Rattle.verdict.specs.TypeNumbers.{AreTypeNumbers}
-use Rattle.std.proofs.Math.Logic.{∥∥₁_map}
-use Rattle.verdict.proofs.Judgements.{is_judged}
-use Rattle.verdict.proofs.Lendings.{shaped_same, looked_same, typed_same, numbered_same, paired_same, few_same}
+use Rattle.verdict.proofs.Judgements.{is_judged, accepted_from}
 use Rattle.verdict.proofs.SegmentBytes.{segments_are_bytes}
-use Rattle.verdict.proofs.Sizes.{segments_fit}
 use Rattle.verdict.proofs.Smallness.{is_small}
 use Rattle.verdict.proofs.judging.judge.Goals as goal
 
@@ -66,78 +57,34 @@ returns-clause-verdict g c =
     (ap length c.deref.ensures.value ∙ sym (length-map _ _))
     c.in_ok-bodies.ensures.verdict
 
-pub invariant_of-result-clause-judged : goal.invariant_of-result-clause-judged
-invariant_of-result-clause-judged g c =
-    ∣ is_judged (module_shape c.in_ok-module.module) c.in_ok-context.context (map (λ b. b.now) c.deref.result.now) (length c.deref.result.now) c.in_ok-bodies.bodies.items
+-- ---- what is known of the parts
+
+pub of-requires-clause-judged : goal.of-requires-clause-judged
+of-requires-clause-judged g c =
+    is_judged (module_shape c.in_ok-module.module) c.in_ok-context.context (map (λ b. b.now) c.deref.result.now) (length c.deref.result.now) c.in_ok-bodies.bodies.items
     c.in_ok-context.ensures.valid
     c.in_ok-context.ensures.context
     c.in_ok-module.ensures.found.paired
     (ap (map (λ b. b.now)) c.deref.ensures.value)
     (ap length c.deref.ensures.value ∙ sym (length-map _ _))
-    c.in_ok-bodies.ensures.bodies ∣₁
-
-pub invariant_of-result-clause-shaped : goal.invariant_of-result-clause-shaped
-invariant_of-result-clause-shaped g c =
-    shaped_same _ c.deref-4.result.now c.in_ok-module.module.types.items c.deref-5.result.now c.in_ok-type_numbers.type_numbers.items c.deref-6.result.now c.in_ok-module.module.functions.items c.deref-7.result.now c.in_ok-bodies.bodies.items
-    c.deref-4.ensures.value c.deref-5.ensures.value c.deref-6.ensures.value c.deref-7.ensures.value c.in_ok-shapes.ensures
-
-pub invariant_of-result-clause-small : goal.invariant_of-result-clause-small
-invariant_of-result-clause-small g c =
-    ∥∥₁_map (invariant_of-result-clause-judged g c)
-    (is_small c.args.bytes.now (module_shape c.in_ok-module.module) c.in_ok-context.context c.in_ok-bodies.bodies.items
-    (decoded _ _ c.in_ok-module.module c.in_ok-module.ensures.found c.in_ok-module.ensures.too_large))
-
-pub invariant_of-result-clause-filled : goal.invariant_of-result-clause-filled
-invariant_of-result-clause-filled g c = segments_are_bytes c.args.bytes.now (module_shape c.in_ok-module.module) c.in_ok-module.ensures.found (λ k. omega (arith, c.type_inv.bytes k))
-
--- rule 10 is kept
-pub invariant_of-result-clause-distinct : goal.invariant_of-result-clause-distinct
-invariant_of-result-clause-distinct g c = c.in_ok-context.ensures.valid 10
-
-pub invariant_of-result-clause-each : goal.invariant_of-result-clause-each
-invariant_of-result-clause-each g c =
-    ∣ subst (λ (es : List Export). IsPermutation (range_with_len 0 (length es)) c.in_ok-by_name.by_name.items) c.deref-2.ensures.value c.in_ok-by_name.ensures.each ∣₁
-
-pub invariant_of-result-clause-ascending : goal.invariant_of-result-clause-ascending
-invariant_of-result-clause-ascending g c = subst (λ (es : List Export). AreAscending es c.in_ok-by_name.by_name.items) c.deref-2.ensures.value c.in_ok-by_name.ensures.ascending
-
-pub invariant_of-result-clause-looked : goal.invariant_of-result-clause-looked
-invariant_of-result-clause-looked g c =
-    looked_same c.has_floats-mentions_floats.result (module_shape c.in_ok-module.module) c.deref-8.result.now c.in_ok-bodies.bodies.items c.deref-8.ensures.value c.has_floats-mentions_floats.ensures
-
-pub invariant_of-result-clause-numbered : goal.invariant_of-result-clause-numbered
-invariant_of-result-clause-numbered g c =
-    ∣ subst (λ (ts : List FuncType). AreTypeNumbers (map func_type_of ts) c.in_ok-type_numbers.type_numbers.items) c.deref-3.ensures.value c.in_ok-type_numbers.ensures ∣₁
-
--- rule 3 is kept
-pub function_shapes-requires-clause-typed : goal.function_shapes-requires-clause-typed
-function_shapes-requires-clause-typed g c =
-    typed_same c.deref-4.result.now c.in_ok-module.module.types.items c.deref-6.result.now c.in_ok-module.module.functions.items c.deref-4.ensures.value c.deref-6.ensures.value (c.in_ok-context.ensures.valid 3)
-
-pub function_shapes-requires-clause-numbered : goal.function_shapes-requires-clause-numbered
-function_shapes-requires-clause-numbered g c =
-    numbered_same c.deref-3.result.now c.deref-4.result.now c.in_ok-module.module.types.items c.deref-5.result.now c.in_ok-type_numbers.type_numbers.items c.deref-3.ensures.value c.deref-4.ensures.value c.deref-5.ensures.value c.in_ok-type_numbers.ensures
-
-pub function_shapes-requires-clause-paired : goal.function_shapes-requires-clause-paired
-function_shapes-requires-clause-paired g c =
-    paired_same _ _ _ _ c.deref-6.result.now c.in_ok-module.module.functions.items c.deref-7.result.now c.in_ok-bodies.bodies.items (module_shape c.in_ok-module.module) c.deref-6.ensures.value c.deref-7.ensures.value
-    (ap length c.deref.ensures.value ∙ sym (length-map _ _))
-    c.in_ok-module.ensures.found.paired
     c.in_ok-bodies.ensures.bodies
 
-pub function_shapes-requires-clause-few : goal.function_shapes-requires-clause-few
-function_shapes-requires-clause-few g c =
-    few_same _ _ _ _ c.deref-7.result.now c.in_ok-bodies.bodies.items c.deref-7.ensures.value c.in_ok-bodies.ensures.bodies
+pub of-requires-clause-small : goal.of-requires-clause-small
+of-requires-clause-small g c =
+    is_small c.args.bytes.now (module_shape c.in_ok-module.module) c.in_ok-context.context c.in_ok-bodies.bodies.items
+    (decoded _ _ c.in_ok-module.module c.in_ok-module.ensures.found c.in_ok-module.ensures.too_large)
+    (of-requires-clause-judged g c)
 
-pub of-requires-clause-few : goal.of-requires-clause-few
-of-requires-clause-few g c =
-    let few = segments_fit c.args.bytes.now (module_shape c.in_ok-module.module) (decoded _ _ c.in_ok-module.module c.in_ok-module.ensures.found c.in_ok-module.ensures.too_large) in
-    record { elements = omega arith; segments = omega arith }
+pub of-requires-clause-filled : goal.of-requires-clause-filled
+of-requires-clause-filled g c = segments_are_bytes c.args.bytes.now (module_shape c.in_ok-module.module) c.in_ok-module.ensures.found (λ k. omega (arith, c.type_inv.bytes k))
 
--- rule 12 is kept
-pub of-requires-clause-elements : goal.of-requires-clause-elements
-of-requires-clause-elements g c = c.in_ok-context.ensures.valid 12
-
--- rule 13 is kept
-pub of-requires-clause-segments : goal.of-requires-clause-segments
-of-requires-clause-segments g c = c.in_ok-context.ensures.valid 13
+pub returns-clause-parts : goal.returns-clause-parts
+returns-clause-parts g c =
+    accepted_from c.args.bytes.now c.in_ok-module.module c.in_ok-context.context c.in_ok-bodies.bodies c.in_ok-of.field-0 c.in_ok-of.ensures c.in_ok-module.ensures.found
+    (is_judged (module_shape c.in_ok-module.module) c.in_ok-context.context (map (λ b. b.now) c.deref.result.now) (length c.deref.result.now) c.in_ok-bodies.bodies.items
+    c.in_ok-context.ensures.valid
+    c.in_ok-context.ensures.context
+    c.in_ok-module.ensures.found.paired
+    (ap (map (λ b. b.now)) c.deref.ensures.value)
+    (ap length c.deref.ensures.value ∙ sym (length-map _ _))
+    c.in_ok-bodies.ensures.bodies)

@@ -1,6 +1,6 @@
 use Rattle.std.proofs.Common.{[], true, refl}
 use Rattle.wsyntax.specs.Instructions.{Do, Drop, Select, Return, Unreachable, Nop, Else, End}
-use Rattle.verdict.proofs.OnePass.{looked, looked_open, looked_one, passed_behind, end_read, else_read, drop_read, select_read, return_read, unreachable_read, nop_read}
+use Rattle.verdict.proofs.OnePass.{looked, looked_open, looked_one, end_read, else_read, drop_read, select_read, return_read, unreachable_read, nop_read}
 use Rattle.verdict.proofs.passing.frequent_passes.Goals as goal
 
 pub returns-in-Ok-true-clause-passes : goal.returns-in-Ok-true-clause-passes

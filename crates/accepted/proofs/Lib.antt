@@ -1,0 +1,9 @@
+pub mod SearchedNames
+pub mod ExportNumbers
+pub mod PlainStarts
+pub mod Mentions
+pub mod FunctionShapes
+pub mod CheckedBodies
+pub mod Lendings
+pub mod NumberedTexts
+pub mod Numbering

@@ -1,0 +1,53 @@
+ghost use Rattle.std.specs.Prelude.{◌≡◌, IfOk};
+ghost use Rattle.wsyntax.specs.Modules.{module_shape};
+ghost use Rattle.accepted.specs.Judgement.{IsJudged};
+ghost use Rattle.accepted.specs.Small.{IsSmall};
+ghost use Rattle.soundness.specs.Instances.{SegmentsAreBytes};
+
+use crate::accepted::Accepted;
+use crate::exports::numbers_by_name;
+use crate::floats::has_floats;
+use crate::shapes::function_shapes;
+use crate::type_numbers::type_numbers;
+use layout::Layout;
+use std::alloc::{AllocError, Global};
+use wcheck::CheckedBody;
+use wcontext::Context;
+use wsyntax::Module;
+
+impl<'a> Accepted<'a> {
+    /// A module that passed, with its context and its checked bodies. What its holders ask for is computed here, once.
+    pub fn of(
+        alloc: Global,
+        module: Module<'a>,
+        context: Context,
+        bodies: Vec<CheckedBody>,
+    ) -> Result<Accepted<'a>, AllocError>
+        requires judged { IsJudged (module_shape «module») context bodies.items }
+        requires filled { SegmentsAreBytes (module_shape «module») }
+        requires small { IsSmall (module_shape «module») bodies.items }
+        ensures { IfOk result (λ a. (a.«module» ≡ «module».entry) × (a.context ≡ context) × (a.bodies ≡ bodies)) }
+    {
+        let by_name = numbers_by_name(alloc, &module.exports)?;
+        let type_numbers = type_numbers(alloc, &module.types)?;
+        let shapes = function_shapes(
+            alloc,
+            &module.types,
+            &type_numbers,
+            &module.functions,
+            &bodies,
+        )?;
+        let layout = Layout::of(alloc, &module)?;
+        let mentions_floats = has_floats(&module, &bodies);
+        Ok(Accepted {
+            module,
+            context,
+            bodies,
+            shapes,
+            by_name,
+            mentions_floats,
+            type_numbers,
+            layout,
+        })
+    }
+}

@@ -1,0 +1,69 @@
+ghost use Rattle.std.specs.Prelude.{◌≡◌, IfOk, map};
+ghost use Rattle.wsyntax.specs.Modules.{func_type_of};
+ghost use Rattle.accepted.specs.TypeNumbers.{code_of, key_of, Numbers, AreTypeNumbers};
+
+use std::alloc::{AllocError, Global};
+use std::collections::BTreeMap;
+use wsyntax::{FuncType, ValType};
+
+/// What stands between the parameters and the results in the text of a type: the code of no type.
+const BETWEEN: u8 = 4;
+
+fn code_of(of_type: ValType) -> u8
+    ensures { result ≡ code_of of_type }
+{
+    match of_type {
+        ValType::I32 => 0,
+        ValType::I64 => 1,
+        ValType::F32 => 2,
+        ValType::F64 => 3,
+    }
+}
+
+fn codes_of(alloc: Global, types: &[ValType]) -> Result<Vec<u8>, AllocError>
+    ensures { IfOk result (λ v. v.items ≡ map code_of types.now) }
+{
+    types.iter().map(|of_type| code_of(*of_type)).collect(alloc)
+}
+
+/// A text that no other function type has.
+fn key_of(alloc: Global, of_type: &FuncType) -> Result<Vec<u8>, AllocError>
+    ensures { IfOk result (λ v. v.items ≡ key_of (func_type_of of_type.now)) }
+{
+    let mut key = codes_of(alloc, &of_type.params)?;
+    key.push(BETWEEN)?;
+    key.extend_from_slice(&codes_of(alloc, &of_type.results)?)?;
+    Ok(key)
+}
+
+/// The number of that text: the one that it has, or the next, which it then has.
+fn number_of(
+    numbers: &mut BTreeMap<Vec<u8>, u32>,
+    key: Vec<u8>,
+    next: u32,
+) -> Result<u32, AllocError>
+    ensures { IfOk result (λ n. Numbers numbers.old.entries numbers.new.entries key.items next n) }
+{
+    if let Some(number) = numbers.get(key.as_slice()) {
+        return Ok(*number);
+    }
+    numbers.insert(key, next)?;
+    Ok(next)
+}
+
+/// Of each type a number, equal for equal types alone. The time is near linear in the length of the
+/// types, whatever they are.
+pub(crate) fn type_numbers(alloc: Global, types: &[FuncType]) -> Result<Vec<u32>, AllocError>
+    ensures { IfOk result (λ v. AreTypeNumbers (map func_type_of types.now) v.items) }
+{
+    let mut first = BTreeMap::new(alloc);
+    let mut numbers = Vec::new(alloc);
+    for of_type in types {
+        let key = key_of(alloc, of_type)?;
+        let Ok(next) = u32::try_from(numbers.len()) else {
+            return Err(AllocError);
+        };
+        numbers.push(number_of(&mut first, key, next)?)?;
+    }
+    Ok(numbers)
+}
