@@ -7,7 +7,7 @@ ghost use Rattle.wmachine.specs.Calls.{HasParams};
 ghost use Rattle.std.specs.List.{list_all, zip};
 ghost use Rattle.wmachine.specs.Arguments.{is_of_type, are_of_types};
 
-use verdict::Accepted;
+use accepted::Accepted;
 use wsyntax::{ValType, Value};
 
 /// Whether a value is of this type (4.2.1).

@@ -2,7 +2,7 @@ ghost use Rattle.std.specs.Prelude.{◌≡◌, ℕ, true, IsErr, IfOk, OnErr};
 ghost use Rattle.ends.specs.Outcomes.{outcome_of};
 ghost use Rattle.wsyntax.specs.Execution.Store.{Store};
 ghost use Rattle.wsyntax.specs.Execution.Ends.{Outcome as MeantOutcome};
-ghost use Rattle.verdict.specs.Judgement.{shapes_of};
+ghost use Rattle.accepted.specs.Judgement.{shapes_of};
 ghost use Rattle.wstore.specs.Views.{module_in, context_in, store_in};
 ghost use Rattle.wstore.specs.Runs.{Fits, Runs};
 ghost use Rattle.wmachine.specs.Calls.{HasParams, GivesTyped, NeverStuck};

@@ -9,6 +9,3 @@ pub use arguments::fits;
 pub use ends::Outcome;
 pub use fuel::Fuel;
 pub use invoking::invoke;
-
-#[cfg(test)]
-mod tests;

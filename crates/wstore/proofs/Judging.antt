@@ -7,7 +7,7 @@ use Rattle.wsyntax.specs.Modules.{ModuleShape, BodyShape, body_shape}
 use Rattle.wsyntax.specs.Validation.ModuleContext.{IndexedContext, module_context}
 use Rattle.wsyntax.specs.Validation.Verdict.{function_at}
 use Rattle.wcheck.specs.declared.checked.CheckedBody.{CheckedBody}
-use Rattle.verdict.specs.Judgement.{IsJudged, IsCheckedFrom, shapes_of}
+use Rattle.accepted.specs.Judgement.{IsJudged, IsCheckedFrom, shapes_of}
 use Rattle.soundness.specs.Instances.{Judged, TypedAt}
 
 typed_from : (m : ModuleShape) (place : ℕ) (bytes : List ℕ) (c : CheckedBody) → IsCheckedFrom (module_context m) (function_at m place) bytes c → TypedAt m place (body_shape c.body)

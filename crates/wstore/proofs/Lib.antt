@@ -1,5 +1,4 @@
 pub mod Buffers
-pub mod Declared
 pub mod Globals
 pub mod Held
 pub mod Judging

@@ -17,8 +17,8 @@ use Rattle.wcheck.specs.declared.checked.CheckedBody.{CheckedBody}
 use Rattle.refinement.specs.Machine.{Body, Program}
 use Rattle.interpreter.specs.declared.code.Code.{Code}
 use Rattle.interpreter.specs.Code.{body_of, bodies_of, program_of, IsShapeOf, IsCode}
-use Rattle.verdict.specs.FunctionShapes.{function_shape, function_shapes}
-use Rattle.verdict.specs.TypeNumbers.{AreTypeNumbers}
+use Rattle.accepted.specs.FunctionShapes.{function_shape, function_shapes}
+use Rattle.accepted.specs.TypeNumbers.{AreTypeNumbers}
 use Rattle.wstore.proofs.Programs.{StandsAt, body_at}
 
 -- ---- shapes

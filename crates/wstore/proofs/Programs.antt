@@ -16,7 +16,7 @@ use Rattle.refinement.specs.Machine.{Body}
 use Rattle.refinement.specs.Reached.{BodyHolds}
 use Rattle.refinement.specs.Trees.{code_of, TreeIsFound}
 use Rattle.interpreter.specs.Code.{body_of, bodies_of}
-use Rattle.verdict.specs.Judgement.{IsJudged, shapes_of}
+use Rattle.accepted.specs.Judgement.{IsJudged, shapes_of}
 use Rattle.wstore.specs.Runs.{longest}
 
 -- ---- trees

@@ -25,9 +25,9 @@ use Rattle.interpreter.specs.Ended.{EndsWith, IsTypedStore}
 use Rattle.interpreter.specs.Execution.{Executes, LeavesTyped}
 use Rattle.interpreter.specs.declared.machine.Execution.{Execution}
 use Rattle.ends.specs.Outcomes.{outcome_of}
-use Rattle.verdict.specs.Judgement.{IsJudged, shapes_of}
-use Rattle.verdict.specs.Small.{IsSmall}
-use Rattle.verdict.specs.TypeNumbers.{AreTypeNumbers}
+use Rattle.accepted.specs.Judgement.{IsJudged, shapes_of}
+use Rattle.accepted.specs.Small.{IsSmall}
+use Rattle.accepted.specs.TypeNumbers.{AreTypeNumbers}
 use Rattle.wstore.specs.Held.{store_of, IsHeld}
 use Rattle.wstore.specs.Runs.{Fits, Runs, IsTypedCall, longest}
 use Rattle.wstore.proofs.Held.{tagged_again, is_held}

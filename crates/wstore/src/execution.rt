@@ -3,14 +3,14 @@
 ghost use Rattle.std.specs.Prelude.{◌≡◌, IfOk};
 ghost use Rattle.ends.specs.Outcomes.{outcome_of};
 ghost use Rattle.parts.specs.Seen.{seen};
-ghost use Rattle.verdict.specs.Judgement.{shapes_of};
+ghost use Rattle.accepted.specs.Judgement.{shapes_of};
 ghost use Rattle.wstore.specs.Views.{module_in, context_in, store_in};
 ghost use Rattle.wstore.specs.Runs.{Fits, IsTypedCall, Runs};
 
 use crate::instance::Instance;
+use accepted::Accepted;
 use interpreter::{Code, Execution, execute};
 use std::alloc::{AllocError, Global};
-use verdict::Accepted;
 use wsyntax::Value;
 
 /// The code of a module without imports.

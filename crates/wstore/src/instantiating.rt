@@ -3,7 +3,7 @@ ghost use Rattle.wsyntax.specs.Modules.{module_shape};
 ghost use Rattle.wsyntax.specs.Execution.Start.{start_refusal, fresh_store};
 ghost use Rattle.soundness.specs.Slots.{slot_store};
 ghost use Rattle.parts.specs.Seen.{seen};
-ghost use Rattle.verdict.specs.Judgement.{shapes_of};
+ghost use Rattle.accepted.specs.Judgement.{shapes_of};
 ghost use Rattle.wstore.specs.Buffers.{room_with};
 ghost use Rattle.wstore.specs.Faults.{IsFault};
 ghost use Rattle.wstore.specs.Views.{store_in};
@@ -13,10 +13,10 @@ use crate::fresh::fresh_parts;
 use crate::instance::Instance;
 use crate::refusal::refusal;
 use crate::settings::Settings;
+use accepted::Accepted;
 use memory::CleanMem;
 use soundness::instances::starts_typed;
 use std::alloc::Global;
-use verdict::Accepted;
 
 /// Makes an instance in the memory that is lent (4.5.4), and runs nothing. What refuses it is asked before any memory is;
 /// then the element segments are written, and the data segments, each in order. Where there is no instance, what was lent

@@ -22,6 +22,3 @@ pub use instance::Instance;
 pub use instantiating::instantiate;
 pub use judged::accepted_is_judged;
 pub use settings::Settings;
-
-#[cfg(test)]
-mod tests;

@@ -1,7 +1,7 @@
 use Rattle.std.proofs.Common.{ap, map, ◌∙◌}
 use Rattle.std.proofs.Math.Logic.{∥∥₁_map}
 use Rattle.wsyntax.specs.Modules.{func_type_of}
-use Rattle.verdict.specs.Judgement.{shapes_of}
+use Rattle.accepted.specs.Judgement.{shapes_of}
 use Rattle.parts.specs.Seen.{seen}
 use Rattle.wstore.specs.Views.{module_in}
 use Rattle.wstore.proofs.TypedCalls.{known, typed_call, all_runs, held_after}

@@ -1,6 +1,5 @@
 // What no clause says: that memory is had, and that modules in bytes give what the standard says. The values that are
 // expected are the standard's.
-use super::*;
 use ends::StartRefusal;
 use memory::CleanMem;
 use pieces::{Plan, Quiet};
@@ -10,6 +9,7 @@ use std::sync::Wait;
 use std::test::*;
 use std::thread::Threads;
 use verdict::{Accepted, judge};
+use wstore::{Entry, Instance, NotStarted, Settings, StartFault, accepted_is_judged, instantiate};
 use wsyntax::{ValType, Value};
 
 // (module (memory 1 2) (table 3 4 funcref) (global (mut i32) (i32.const -2)) (global (mut i64) (i64.const -3))

@@ -2,9 +2,9 @@ use Rattle.std.proofs.Common.{◌≡◌, Some, sym, ap, ◌∙◌, subst}
 use Rattle.std.specs.Prelude.{slice_get}
 use Rattle.wsyntax.specs.Modules.{module_shape}
 use Rattle.wsyntax.specs.Execution.Values.{type_of}
-use Rattle.verdict.specs.Judgement.{IsJudged}
-use Rattle.wstore.proofs.Declared.{declared_content}
-use Rattle.wstore.proofs.tests.set_global_at.Goals as goal
+use Rattle.accepted.specs.Judgement.{IsJudged}
+use Rattle.store_tests.proofs.Declared.{declared_content}
+use Rattle.store_tests.proofs.instances.set_global_at.Goals as goal
 
 pub set_global-requires : goal.set_global-requires
 set_global-requires c =

@@ -1,9 +1,9 @@
 use Rattle.std.proofs.Common.{◌≡◌, Some, sym, ap, ◌∙◌, subst}
 use Rattle.std.specs.Prelude.{slice_get}
 use Rattle.wsyntax.specs.Modules.{module_shape}
-use Rattle.verdict.specs.Judgement.{IsJudged}
-use Rattle.wstore.proofs.Declared.{declared_below}
-use Rattle.wstore.proofs.tests.global_at.Goals as goal
+use Rattle.accepted.specs.Judgement.{IsJudged}
+use Rattle.store_tests.proofs.Declared.{declared_below}
+use Rattle.store_tests.proofs.instances.global_at.Goals as goal
 
 pub global-requires-in-Some : goal.global-requires-in-Some
 global-requires-in-Some c =

@@ -1,7 +1,6 @@
 // What no clause says: that calls come to an end, with the outcomes of small programs and the fuel that they spend.
 ghost use Rattle.std.specs.Prelude.{◌≡◌};
 
-use crate::{Fuel, Outcome, fits, invoke};
 use memory::CleanMem;
 use pieces::{Plan, Quiet};
 use std::alloc::Global;
@@ -10,6 +9,7 @@ use std::sync::Wait;
 use std::test::Fail;
 use std::thread::Threads;
 use verdict::{Accepted, judge};
+use wmachine::{Fuel, Outcome, fits, invoke};
 use wstore::{Instance, Settings, instantiate};
 use wsyntax::{Trap, Value};
 

@@ -8,7 +8,7 @@ use Rattle.wsyntax.specs.declared.types.GlobalType.{GlobalType}
 use Rattle.wsyntax.specs.Modules.{ModuleShape}
 use Rattle.wsyntax.specs.Validation.ModuleContext.{IndexedContext, module_context}
 use Rattle.wcheck.specs.declared.checked.CheckedBody.{CheckedBody}
-use Rattle.verdict.specs.Judgement.{IsJudged}
+use Rattle.accepted.specs.Judgement.{IsJudged}
 
 pub declared_content : (m : ModuleShape) (x : IndexedContext) (all : List CheckedBody) (k : ℕ) (g : GlobalType) → ∥ IsJudged m x all ∥₁ → slice_get x.context.globals k ≡ Some g
     → option_map (λ (g : GlobalType). g.content) (slice_get (module_context m).globals k) ≡ Some g.content
