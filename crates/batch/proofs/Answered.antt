@@ -17,10 +17,10 @@ use Rattle.texts.specs.declared.call.Call.{Call}
 use Rattle.texts.specs.declared.part.Part.{Part}
 use Rattle.texts.specs.declared.fault.CallsFault.{CallsFault}
 use Rattle.texts.specs.declared.fault.CallsFault.TheVariants as fault
-use Rattle.verdict.specs.Kept.{IsAcceptedFrom}
-use Rattle.verdict.specs.Judgement.{shapes_of}
+use Rattle.accepted.specs.Kept.{IsAcceptedFrom}
+use Rattle.accepted.specs.Judgement.{shapes_of}
 use Rattle.verdict.specs.Refusals.{verdict_of, fault_of}
-use Rattle.verdict.specs.declared.accepted.Accepted.{Accepted as AcceptedModule}
+use Rattle.accepted.specs.declared.accepted.Accepted.{Accepted as AcceptedModule}
 use Rattle.verdict.specs.declared.refusal.Refusal.{Refusal}
 use Rattle.verdict.specs.declared.refusal.Refusal.TheVariants as refusal
 use Rattle.wstore.specs.declared.settings.Settings.{Settings}

@@ -10,8 +10,8 @@ use Rattle.texts.specs.Calls.{call_of, calls_of}
 use Rattle.texts.specs.Ends.{end_of, ends_of}
 use Rattle.texts.specs.declared.call.Call.{Call}
 use Rattle.texts.specs.declared.line.Line.{Line}
-use Rattle.verdict.specs.declared.accepted.Accepted.{Accepted}
-use Rattle.verdict.specs.Judgement.{shapes_of}
+use Rattle.accepted.specs.declared.accepted.Accepted.{Accepted}
+use Rattle.accepted.specs.Judgement.{shapes_of}
 use Rattle.wstore.specs.declared.settings.Settings.{Settings}
 use Rattle.wstore.specs.Settings.{limits}
 use Rattle.wsyntax.specs.declared.value.Value.{Value}
@@ -22,17 +22,16 @@ use Rattle.batch.proofs.Instance.{instance_of}
 
 -- ---- one call
 
--- the line of the call at its place
-pub given_line : (a : Accepted) (s : Settings) (calls : List Call) (n f : ℕ) (c : Call) (args : List Value) (line : Line) → slice_get calls n ≡ Some c
-    → ∥ Judged (module_shape a.«module») (shapes_of a.bodies.items) ∥₁ → IsCallee (module_shape a.«module») (call_of c) f → args ≡ c.args.items
-    → EndsAlone (module_shape a.«module») (shapes_of a.bodies.items) (limits s.fuel s.frames s.pages) f args line → GivesLineAt a s calls n line
-given_line a s calls n f c args line at judged callee same h =
+-- its line
+pub given_line : (a : Accepted) (s : Settings) (f : ℕ) (c : Call) (args : List Value) (line : Line) → ∥ Judged (module_shape a.«module») (shapes_of a.bodies.items) ∥₁ → IsCallee (module_shape a.«module») (call_of c) f → args ≡ c.args.items
+    → EndsAlone (module_shape a.«module») (shapes_of a.bodies.items) (limits s.fuel s.frames s.pages) f args line → GivesLine a s c line
+given_line a s f c args line judged callee same h =
     let m = module_shape a.«module» in
     let bodies = shapes_of a.bodies.items in
     let l = limits s.fuel s.frames s.pages in
     let ends : EndsAlone m bodies l f c.args.items line = subst (λ (x : List Value). EndsAlone m bodies l f x line) same h in
     let (i, is) = instance_of m bodies judged in
-    (c, at, alone_end m bodies l (call_of c) f i line callee is ends)
+    alone_end m bodies l (call_of c) f i line callee is ends
 
 -- ---- all calls
 

@@ -18,7 +18,7 @@ use Rattle.wsyntax.specs.Execution.Start.{InstanceOf}
 use Rattle.wsyntax.specs.Texts.Calls.{Call}
 use Rattle.wsyntax.specs.Texts.Answer.{Limits, Names, EndOf, misfit, not_started, no_memory, ran}
 use Rattle.soundness.specs.Instances.{Judged}
-use Rattle.verdict.specs.Exports.{IsExported}
+use Rattle.accepted.specs.Exports.{IsExported}
 use Rattle.wmachine.specs.Calls.{HasParams}
 use Rattle.texts.specs.Ends.{end_of}
 use Rattle.texts.specs.declared.line.Line.{Line}

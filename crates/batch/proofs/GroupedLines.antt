@@ -1,21 +1,22 @@
 -- Lines of consecutive calls, and groups of them.
-use Rattle.std.proofs.Common.{◌≡◌, ℕ, suc, ◌+◌, ◌-◌, ◌*◌, ◌<◌, ◌≤◌, min, List, [], ◌∷◌, ◌++◌, Some, length, get_or, take, drop, refl, sym, ap, subst, ◌∙◌, arith}
+use Rattle.std.proofs.Common.{◌≡◌, ℕ, suc, ◌+◌, ◌-◌, ◌<◌, ◌≤◌, ◌^◌, List, [], ◌∷◌, ◌++◌, Some, length, get_or, take, take-add, drop, Vec, refl, sym, ap, subst, ◌∙◌, arith, append_assoc, length-append}
 use Rattle.std.specs.Prelude.{slice_get}
-use Rattle.std.specs.Int.{div_ceil}
-use Rattle.std.proofs.Math.Nat.{mul-le-mul_right, suc-mul}
-use Rattle.std.proofs.lemmas.Grind.{div_ceil_times}
-use Rattle.std.proofs.lemmas.List.{drop_all, drop-drop, get_or-drop, length-drop, length-map, length-take, map-append, take-append-drop, take_min, take_more}
-use Rattle.std.proofs.lemmas.Option.{get_or_from_slice_get}
+use Rattle.std.specs.declared.alloc.Global.{Global}
+use Rattle.std.proofs.lemmas.Grind.{flat_map-append}
+use Rattle.std.proofs.lemmas.List.{append-nil, length-map, length-take, map-append, take_all, take_more, take-append-drop}
+use Rattle.std.proofs.lemmas.Option.{same_Some}
 use Rattle.pieces.specs.TryAll.{AllPass}
 use Rattle.texts.specs.Ends.{end_of, ends_of}
 use Rattle.texts.specs.Parts.{IsPart, AreParts}
+use Rattle.texts.specs.Slices.{joined_calls}
 use Rattle.texts.specs.declared.call.Call.{Call}
 use Rattle.texts.specs.declared.line.Line.{Line}
 use Rattle.texts.specs.declared.part.Part.{Part}
-use Rattle.verdict.specs.declared.accepted.Accepted.{Accepted}
+use Rattle.accepted.specs.declared.accepted.Accepted.{Accepted}
 use Rattle.wstore.specs.declared.settings.Settings.{Settings}
-use Rattle.batch.specs.Ends.{GivesLineAt}
-use Rattle.batch.specs.Groups.{GiveLines, group_of, GivesPart, GiveParts}
+use Rattle.batch.specs.Ends.{GivesLine}
+use Rattle.batch.specs.Groups.{AreGroups, AddsGroups, GiveLines, GivesPart, GivesPartAt, GiveParts}
+use Rattle.batch.specs.declared.group.Group.{Group}
 
 -- ---- lines
 
@@ -34,96 +35,101 @@ give_both a s (c ∷ cs) others [] more h g = absurd h
 give_both a s (c ∷ cs) others (x ∷ xs) more h g = (h.0, give_both a s cs others xs more h.1 g)
 
 -- the line of the next call
-pub give_more : (a : Accepted) (s : Settings) (calls : List Call) (first place : ℕ) (lines : List Line) (line : Line) → first ≤ place → place < length calls
-    → GiveLines a s (take (place - first) (drop first calls)) lines → GivesLineAt a s calls place line → GiveLines a s (take (place + 1 - first) (drop first calls)) (lines ++ line ∷ [])
-give_more a s calls first place lines line from below h (c, at, g) =
-    let k : place + 1 - first ≡ place - first + 1 = omega arith in
-    let inside : place - first < length (drop first calls) = simp length-drop (omega arith) in
-    let there : first + (place - first) ≡ place = omega arith in
-    let is : get_or (drop first calls) (place - first) c ≡ c =
-    get_or-drop first calls (place - first) c ∙ ap (λ (i : ℕ). get_or calls i c) there ∙ get_or_from_slice_get calls place c c at in
-    let more : take (place + 1 - first) (drop first calls) ≡ take (place - first) (drop first calls) ++ c ∷ [] =
-    ap (λ (i : ℕ). take i (drop first calls)) k ∙ take_more (drop first calls) (place - first) c inside ∙ ap (λ (d : Call). take (place - first) (drop first calls) ++ d ∷ []) is in
-    subst (λ (l : List Call). GiveLines a s l (lines ++ line ∷ [])) (sym more) (give_both a s (take (place - first) (drop first calls)) (c ∷ []) lines (line ∷ []) h (g, tt))
+pub give_more : (a : Accepted) (s : Settings) (calls : List Call) (i : ℕ) (c : Call) (lines : List Line) (line : Line) → i < length calls → c ≡ get_or calls i c → GiveLines a s (take i calls) lines → GivesLine a s c line
+    → GiveLines a s (take (i + 1) calls) (lines ++ line ∷ [])
+give_more a s calls i c lines line below at h g =
+    let more : take (i + 1) calls ≡ take i calls ++ c ∷ [] = take_more calls i c below ∙ ap (λ (d : Call). take i calls ++ d ∷ []) (sym at) in
+    subst (λ (l : List Call). GiveLines a s l (lines ++ line ∷ [])) (sym more) (give_both a s (take i calls) (c ∷ []) lines (line ∷ []) h (g, tt))
 
--- ---- one group
+-- all lines of a group
+pub part_given : (a : Accepted) (s : Settings) (g : Group) (i : ℕ) (lines given : List Line) (p : Part) → length g.calls.now ≤ i → GiveLines a s (take i g.calls.now) lines → given ≡ lines → IsPart g.first (ends_of given) p → GivesPart a s g p
+part_given a s g i lines given p all h same part = (
+  lines,
+  subst (λ (l : List Call). GiveLines a s l lines) (take_all i g.calls.now all) h,
+  subst (λ (l : List Line). IsPart g.first (ends_of l) p) same part,
+)
 
--- no group is empty
-pub first_below : (n size g : ℕ) → 0 < size → g < div_ceil n size → g * size < n
-first_below n size g some below =
-    let t = div_ceil_times n size some in
-    let b : suc g * size ≤ div_ceil n size * size = mul-le-mul_right size below in
-    let c = suc-mul g size in
-    omega arith
+-- ---- groups
 
--- the calls from the first of a group up to its end
-pub group_is : (calls : List Call) (size g first most end n : ℕ) → n ≡ length calls → first ≡ g * size → first ≤ n → most ≡ min size (n - first) → end ≡ first + most → take (end - first) (drop first calls) ≡ group_of size g calls
-group_is calls size g first most «end» n count at within is to =
-    let all : length (drop first calls) ≡ n - first = simp length-drop (omega arith) in
-    let k : end - first ≡ min size (length (drop first calls)) = omega (arith, all, is, to) in
-    ap (λ (i : ℕ). take i (drop first calls)) k ∙ take_min size (drop first calls) ∙ ap (λ (i : ℕ). take size (drop i calls)) at
+-- none yet
+pub none_added : (n : ℕ) (groups : List Group) → AddsGroups n [] groups groups
+none_added n groups = ([], sym (append-nil groups), refl)
 
--- the part of a group
-pub group_given : (a : Accepted) (s : Settings) (calls : List Call) (size g most end : ℕ) (lines given : List Line) (p : Part) → 0 < size → g < div_ceil (length calls) size → most ≡ min size (length calls - g * size) → end ≡ g * size + most
-    → GiveLines a s (take (end - g * size) (drop (g * size) calls)) lines → given ≡ lines → IsPart (g * size) (ends_of given) p → GivesPart a s calls size g p
-group_given a s calls size g most «end» lines given p some below is to h same part =
-    let inside : g * size ≤ length calls = omega (arith, first_below (length calls) size g some below) in (
-      lines,
-      subst (λ (l : List Call). GiveLines a s l lines) (group_is calls size g (g * size) most end (length calls) refl refl inside is to) h,
-      subst (λ (l : List Line). IsPart (g * size) (ends_of l) p) same part,
+-- groups, and others behind them
+are_both : (n m : ℕ) (calls others : List Call) (groups more : List Group) → AreGroups n calls groups → m ≡ n + length calls → AreGroups m others more → AreGroups n (calls ++ others) (groups ++ more)
+are_both n m calls others [] more h at g =
+    let same : m ≡ n = omega (arith, at, ap length h) in
+    subst (λ (l : List Call). AreGroups n (l ++ others) more) (sym h) (subst (λ (k : ℕ). AreGroups k others more) same g)
+are_both n m calls others (p ∷ ps) more (first, (rest, both, are)) at g =
+    let far : m ≡ n + length p.calls.now + length rest = omega (arith, at, ap length both, length-append p.calls.now rest) in
+    (first, (rest ++ others, ap (λ (l : List Call). l ++ others) both ∙ append_assoc p.calls.now rest others, are_both (n + length p.calls.now) m rest others ps more are far g))
+
+-- groups are added behind those that were added
+pub adds_both : (n m : ℕ) (calls others : List Call) (old groups new : List Group) → AddsGroups n calls old groups → m ≡ n + length calls → AddsGroups m others groups new → AddsGroups n (calls ++ others) old new
+adds_both n m calls others old groups new (front, added, are) at (more, then', others') =
+    (front ++ more, then' ∙ ap (λ (l : List Group). l ++ more) added ∙ append_assoc old front more, are_both n m calls others front more are at others')
+
+-- one group more, of the calls from one place to another
+pub adds_one : (n : ℕ) (calls : List Call) (from to : ℕ) (old groups : List Group) (g : Group) → from ≤ to → to ≤ length calls → AddsGroups n (take from calls) old groups → g.first ≡ n + from → g.calls.now ≡ take (to - from) (drop from calls)
+    → AddsGroups n (take to calls) old (groups ++ g ∷ [])
+adds_one n calls from to old groups g order within h first is =
+    let count : length (take from calls) ≡ from = simp length-take (omega arith) in
+    let sum : from + (to - from) ≡ to = omega arith in
+    let both : take from calls ++ g.calls.now ≡ take to calls = ap (λ (l : List Call). take from calls ++ l) is ∙ sym (take-add from (to - from) calls) ∙ ap (λ (k : ℕ). take k calls) sum in
+    let one : AddsGroups g.first g.calls.now groups (groups ++ g ∷ []) = (g ∷ [], refl, (refl, ([], sym (append-nil g.calls.now), refl))) in
+    subst (λ (l : List Call). AddsGroups n l old (groups ++ g ∷ [])) both
+    (adds_both n g.first (take from calls) g.calls.now old groups (groups ++ g ∷ []) h (first ∙ ap (λ (k : ℕ). n + k) (sym count)) one)
+
+-- ---- slices
+
+-- the calls up to the next slice
+pub slice_more : (slices : List (Vec Call Global)) (i : ℕ) (calls : Vec Call Global) → i < length slices → calls ≡ get_or slices i calls → joined_calls (take (i + 1) slices) ≡ joined_calls (take i slices) ++ calls.items
+slice_more slices i calls below at =
+    let front : take (i + 1) slices ≡ take i slices ++ calls ∷ [] = take_more slices i calls below ∙ ap (λ (c : Vec Call Global). take i slices ++ c ∷ []) (sym at) in
+    ap joined_calls front ∙ flat_map-append (λ (c : Vec Call Global). c.items) (take i slices) (calls ∷ []) ∙ ap (λ (l : List Call). joined_calls (take i slices) ++ l) (append-nil calls.items)
+
+-- there is room for the numbers of the calls of the next slice
+pub slice_fits : (slices : List (Vec Call Global)) (i : ℕ) (calls : Vec Call Global) → i < length slices → calls ≡ get_or slices i calls → length (joined_calls slices) < 2 ^ 32 → length (joined_calls (take i slices)) + length calls.items < 2 ^ 32
+slice_fits slices i calls below at few =
+    let both : joined_calls slices ≡ joined_calls (take (i + 1) slices) ++ joined_calls (drop (i + 1) slices) =
+    ap joined_calls (sym (take-append-drop (i + 1) slices)) ∙ flat_map-append (λ (c : Vec Call Global). c.items) (take (i + 1) slices) (drop (i + 1) slices) in
+    omega (
+      arith,
+      few,
+      ap length both,
+      length-append (joined_calls (take (i + 1) slices)) (joined_calls (drop (i + 1) slices)),
+      ap length (slice_more slices i calls below at),
+      length-append (joined_calls (take i slices)) calls.items,
     )
 
 -- ---- all groups
 
--- another number changes nothing where there are no parts, or where the numbers are the same
-renumbered : (n m : ℕ) (parts : List Part) (lines : List Line) → ((p : Part) (ps : List Part) → parts ≡ p ∷ ps → n ≡ m) → AreParts n (ends_of lines) parts → AreParts m (ends_of lines) parts
-renumbered n m [] lines same h = h
-renumbered n m (p ∷ ps) lines same h = subst (λ (i : ℕ). AreParts i (ends_of lines) (p ∷ ps)) (same p ps refl) h
-
--- a group before the last one is full
-full_group : (calls : List Call) (size k m : ℕ) (others : List Part) → 0 < size → m * size < length calls + size → suc k + length others ≡ m → (p : Part) (ps : List Part) → others ≡ p ∷ ps
-    → (group : ℕ) → group ≡ length (take size (drop (k * size) calls)) → suc k * size ≡ k * size + group
-full_group calls size k m others some last count p ps is group at =
-    let more : suc (suc k) ≤ m = omega (arith, ap length is, count) in
-    let a : suc (suc k) * size ≤ m * size = mul-le-mul_right size more in
-    let b = suc-mul (suc k) size in
-    let c = suc-mul k size in
-    let len : length (take size (drop (k * size) calls)) ≡ min size (length calls - k * size) = simp (length-take, length-drop) refl in
-    omega arith
-
-parts_from : (a : Accepted) (s : Settings) (calls : List Call) (size k m : ℕ) (parts : List Part) → 0 < size → length calls ≤ m * size → m * size < length calls + size → k + length parts ≡ m
-    → ((i : ℕ) (p : Part) → slice_get parts i ≡ Some p → GivesPart a s calls size (k + i) p)
-    → (lines : List Line) × GiveLines a s (drop (k * size) calls) lines × AreParts (k * size) (ends_of lines) parts
-parts_from a s calls size k m [] some all last count each =
-    let same : m ≡ k = omega (arith, count) in
-    let past : length calls ≤ k * size = subst (λ (j : ℕ). length calls ≤ j * size) same all in
-    ([], subst (λ (l : List Call). GiveLines a s l []) (sym (drop_all (k * size) calls past)) tt, refl)
-parts_from a s calls size k m (p ∷ ps) some all last count each =
-    let here : k + 0 ≡ k = omega arith in
-    let behind : suc k + length ps ≡ m = omega (arith, count) in
-    let (front, gives, part) = subst (λ (j : ℕ). GivesPart a s calls size j p) here (each 0 p refl) in
-    let (rest, more, parts) = parts_from a s calls size (suc k) m ps some all last behind (λ i q e. subst (λ (j : ℕ). GivesPart a s calls size j q) (let j : k + suc i ≡ suc k + i = omega arith in j) (each (suc i) q e)) in
-    let next : suc k * size ≡ k * size + size = suc-mul k size in
-    let both : take size (drop (k * size) calls) ++ drop (suc k * size) calls ≡ drop (k * size) calls =
-    ap (λ (l : List Call). take size (drop (k * size) calls) ++ l) (ap (λ (j : ℕ). drop j calls) next ∙ sym (drop-drop size (k * size) calls)) ∙ take-append-drop size (drop (k * size) calls) in
-    let many : length (ends_of front) ≡ length (take size (drop (k * size) calls)) = length-map front end_of ∙ as_many a s _ front gives in (
-      front ++ rest,
-      subst (λ (l : List Call). GiveLines a s l (front ++ rest)) both (give_both a s _ _ front rest gives more),
+parts_from : (a : Accepted) (s : Settings) (n : ℕ) (calls : List Call) (groups : List Group) (parts : List Part) → length parts ≡ length groups → AreGroups n calls groups
+    → ((i : ℕ) (p : Part) → slice_get parts i ≡ Some p → GivesPartAt a s groups i p)
+    → (lines : List Line) × GiveLines a s calls lines × AreParts n (ends_of lines) parts
+parts_from a s n calls [] [] count are each = ([], subst (λ (l : List Call). GiveLines a s l []) (sym are) tt, refl)
+parts_from a s n calls [] (p ∷ ps) count are each = absurd (omega (arith, count))
+parts_from a s n calls (g ∷ gs) [] count are each = absurd (omega (arith, count))
+parts_from a s n calls (g ∷ gs) (p ∷ ps) count (first, (rest, both, are)) each =
+    let (h, at, (front, gives, part)) = each 0 p refl in
+    let same : h ≡ g = sym (same_Some g h at) in
+    let gives' : GiveLines a s g.calls.now front = subst (λ (x : Group). GiveLines a s x.calls.now front) same gives in
+    let part' : IsPart n (ends_of front) p = subst (λ (k : ℕ). IsPart k (ends_of front) p) (ap (λ (x : Group). x.first) same ∙ first) part in
+    let behind : length ps ≡ length gs = omega (arith, count) in
+    let (more, others, parts) = parts_from a s (n + length g.calls.now) rest gs ps behind are (λ i q e. each (suc i) q e) in
+    let many : length (ends_of front) ≡ length g.calls.now = length-map front end_of ∙ as_many a s g.calls.now front gives' in (
+      front ++ more,
+      subst (λ (l : List Call). GiveLines a s l (front ++ more)) (sym both) (give_both a s g.calls.now rest front more gives' others),
       (
         ends_of front,
-        ends_of rest,
-        map-append end_of front rest,
-        part,
-        renumbered (suc k * size) (k * size + length (ends_of front)) ps rest (λ q qs e. full_group calls size k m ps some last behind q qs e (length (ends_of front)) many) parts,
+        ends_of more,
+        map-append end_of front more,
+        part',
+        subst (λ (k : ℕ). AreParts (n + k) (ends_of more) ps) (sym many) parts,
       ),
     )
 
-pub all_groups : (a : Accepted) (s : Settings) (calls : List Call) (size m : ℕ) (parts : List Part) → 0 < size → m ≡ div_ceil (length calls) size
-    → AllPass m (λ g. Unit {0}) (λ g part. GivesPart a s calls size g part) parts → GiveParts a s calls parts
-all_groups a s calls size m parts some is h =
-    let t = div_ceil_times (length calls) size some in
-    let all : length calls ≤ m * size = subst (λ (j : ℕ). length calls ≤ j * size) (sym is) t.0 in
-    let last : m * size < length calls + size = subst (λ (j : ℕ). j * size < length calls + size) (sym is) t.1 in
-    let none : 0 * size ≡ 0 = omega arith in
-    subst (λ (j : ℕ). (lines : List Line) × GiveLines a s (drop j calls) lines × AreParts j (ends_of lines) parts) none
-    (parts_from a s calls size 0 m parts some all last (omega (arith, h.len)) (λ i p e. subst (λ (j : ℕ). GivesPart a s calls size j p) (let j : i ≡ 0 + i = omega arith in j) (h.each i p e).1))
+pub all_parts : (a : Accepted) (s : Settings) (calls : List Call) (groups given : List Group) (n : ℕ) (parts : List Part) → AreGroups 0 calls groups → given ≡ groups → n ≡ length groups
+    → AllPass n (λ g. Unit {0}) (λ g part. GivesPartAt a s given g part) parts → GiveParts a s calls parts
+all_parts a s calls groups given n parts are same count h =
+    parts_from a s 0 calls groups parts (h.len ∙ count) are (λ i p e. subst (λ (l : List Group). GivesPartAt a s l i p) same (h.each i p e).1)

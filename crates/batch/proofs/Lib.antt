@@ -6,3 +6,4 @@ pub mod Batches
 pub mod GroupedLines
 pub mod Answered
 pub mod PartsWritten
+pub mod SlicedCalls

@@ -18,8 +18,8 @@ use Rattle.texts.specs.Ends.{end_of, ends_of}
 use Rattle.texts.specs.declared.call.Call.{Call}
 use Rattle.texts.specs.declared.line.Line.{Line}
 use Rattle.texts.specs.declared.line.Line.TheVariants.{Ran, NoExport, NotAFunction, BadArguments, NotStarted, NoMemory}
-use Rattle.verdict.specs.declared.accepted.Accepted.{Accepted}
-use Rattle.verdict.specs.Judgement.{shapes_of}
+use Rattle.accepted.specs.declared.accepted.Accepted.{Accepted}
+use Rattle.accepted.specs.Judgement.{shapes_of}
 use Rattle.wstore.specs.declared.settings.Settings.{Settings}
 use Rattle.wstore.specs.Settings.{limits}
 
@@ -50,10 +50,6 @@ EndsAlone m bodies l f args BadArguments = ⊥
 -- the call names function f, and its arguments are of the types of the parameters
 abbrev pub IsCallee : ModuleShape → Meant → ℕ → Type 0
 IsCallee m c f = (sig : FuncType) × Names m c f sig × (types c.args ≡ sig.params)
-
--- the call at that place does
-abbrev pub IsCalleeAt : Accepted → List Call → ℕ → ℕ → Type 0
-IsCalleeAt a calls n f = (c : Call) × (slice_get calls n ≡ Some c) × IsCallee (module_shape a.«module») (call_of c) f
 
 -- the call met want of memory
 abbrev pub is_short : Option Line → Bool

@@ -1,13 +1,23 @@
--- The calls of a batch in groups of consecutive ones, each of so many; the last group may have fewer.
-use Rattle.std.specs.Prelude.{ℕ, ◌*◌, List, [], ◌∷◌, take, drop}
+-- The calls of a batch in groups of consecutive ones.
+use Rattle.std.specs.Prelude.{◌≡◌, ℕ, ◌+◌, List, [], ◌∷◌, ◌++◌, Some, length, slice_get}
 use Rattle.texts.specs.Ends.{ends_of}
 use Rattle.texts.specs.Parts.{IsPart, AreParts}
 use Rattle.texts.specs.declared.call.Call.{Call}
 use Rattle.texts.specs.declared.line.Line.{Line}
 use Rattle.texts.specs.declared.part.Part.{Part}
-use Rattle.verdict.specs.declared.accepted.Accepted.{Accepted}
+use Rattle.accepted.specs.declared.accepted.Accepted.{Accepted}
 use Rattle.wstore.specs.declared.settings.Settings.{Settings}
 use Rattle.batch.specs.Ends.{GivesLine}
+use Rattle.batch.specs.declared.group.Group.{Group}
+
+-- the groups have these calls, from number n on: the first group has those in front, and the others have the rest
+abbrev pub AreGroups : ℕ → List Call → List Group → Type 0
+AreGroups n calls [] = calls ≡ []
+AreGroups n calls (g ∷ gs) = (g.first ≡ n) × ((rest : List Call) × (calls ≡ g.calls.now ++ rest) × AreGroups (n + length g.calls.now) rest gs)
+
+-- groups of these calls, from number n on, stand behind the old ones
+abbrev pub AddsGroups : ℕ → List Call → List Group → List Group → Type 0
+AddsGroups n calls old new = (more : List Group) × (new ≡ old ++ more) × AreGroups n calls more
 
 -- the lines say how these calls end, one line a call
 abbrev pub GiveLines : Accepted → Settings → List Call → List Line → Type 0
@@ -15,13 +25,13 @@ GiveLines a s [] [] = Unit {0}
 GiveLines a s (c ∷ cs) (line ∷ lines) = GivesLine a s c line × GiveLines a s cs lines
 GiveLines a s _ _ = ⊥
 
--- the calls of group g
-abbrev pub group_of : ℕ → ℕ → List Call → List Call
-group_of size g calls = take size (drop (g * size) calls)
+-- the part has lines that say how the calls of the group end
+abbrev pub GivesPart : Accepted → Settings → Group → Part → Type 0
+GivesPart a s g part = (lines : List Line) × GiveLines a s g.calls.now lines × IsPart g.first (ends_of lines) part
 
--- the part has lines that say how the calls of group g end
-abbrev pub GivesPart : Accepted → Settings → List Call → ℕ → ℕ → Part → Type 0
-GivesPart a s calls size g part = (lines : List Line) × GiveLines a s (group_of size g calls) lines × IsPart (g * size) (ends_of lines) part
+-- of the group at that place
+abbrev pub GivesPartAt : Accepted → Settings → List Group → ℕ → Part → Type 0
+GivesPartAt a s groups i part = (g : Group) × (slice_get groups i ≡ Some g) × GivesPart a s g part
 
 -- the parts have lines that say how these calls end
 abbrev pub GiveParts : Accepted → Settings → List Call → List Part → Type 0

@@ -4,3 +4,4 @@ pub mod Ends
 pub mod Groups
 pub mod Answers
 pub mod Laws
+pub mod Slices

@@ -7,12 +7,13 @@ ghost use Rattle.wsyntax.specs.Validation.Verdict.{IsVerdict, Accepted as accept
 ghost use Rattle.wsyntax.specs.Texts.Lines.{verdict_line};
 ghost use Rattle.wsyntax.specs.Texts.Answer.{calls_line as refusal_line};
 ghost use Rattle.texts.specs.Parts.{parts_text};
-ghost use Rattle.verdict.specs.Judgement.{shapes_of};
+ghost use Rattle.accepted.specs.Judgement.{shapes_of};
 ghost use Rattle.wstore.specs.Settings.{limits};
 ghost use Rattle.batch.specs.Answers.{Answers, HasStatus, IsSomeAnswer, StatusBy, refused_text};
 
 use crate::line::line_of;
 use crate::output::write_parts;
+use crate::reading::read_by_workers;
 use crate::running::run_groups;
 use crate::status::{AnswerFault, Status};
 use pieces::{Plan, Watch};
@@ -20,7 +21,7 @@ use std::alloc::{AllocError, Global};
 use std::io::Write;
 use std::sync::Wait;
 use std::thread::Threads;
-use texts::{CallsFault, Part, last_line, read_calls};
+use texts::{CallsFault, Part, last_line};
 use verdict::{Accepted, judge};
 use wstore::Settings;
 
@@ -56,8 +57,8 @@ fn answer_on<R: Threads + Wait + Sync, W: Watch + Sync>(
     ensures answer { IfOk result (λ a. (bytes : List ℕ) → IsVerdict bytes accepted_verdict → Spells bytes (module_shape accepted.now.module) (shapes_of accepted.now.bodies.items) → IsSomeAnswer bytes calls.now (limits settings.fuel settings.frames settings.pages) (parts_text a.parts.items ++ string_bytes a.last)) }
     ensures status { IfOk result (λ a. StatusBy calls.now accepted_verdict a.status) }
 {
-    let calls = match read_calls(alloc, calls) {
-        Ok(calls) => calls,
+    let slices = match read_by_workers(rt, alloc, calls, plan) {
+        Ok(slices) => slices,
         Err(fault) => {
             return Ok(Written {
                 parts: Vec::new(alloc),
@@ -66,7 +67,7 @@ fn answer_on<R: Threads + Wait + Sync, W: Watch + Sync>(
             });
         }
     };
-    let parts = run_groups(rt, alloc, accepted, &calls, settings, plan, watch)?;
+    let parts = run_groups(rt, alloc, accepted, &slices, settings, plan, watch)?;
     let last = last_line(alloc, &parts)?;
     Ok(Written {
         parts,

@@ -7,7 +7,7 @@ ghost use Rattle.wsyntax.specs.declared.value.Value.{Value};
 ghost use Rattle.wsyntax.specs.Execution.Store.{Module};
 ghost use Rattle.wsyntax.specs.Execution.Start.{InstanceOf, fresh_store};
 ghost use Rattle.wsyntax.specs.Texts.Answer.{Limits};
-ghost use Rattle.verdict.specs.Judgement.{shapes_of};
+ghost use Rattle.accepted.specs.Judgement.{shapes_of};
 ghost use Rattle.wstore.specs.Faults.{IsFault};
 ghost use Rattle.wstore.specs.Settings.{limits};
 ghost use Rattle.wstore.specs.Views.{module_in, context_in, store_in};

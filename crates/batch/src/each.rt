@@ -2,16 +2,17 @@
 
 ghost use Rattle.std.specs.Prelude.{length};
 
-use crate::calls::Calls;
+use crate::runner::Runner;
 use memory::Ticket;
 use pieces::{Job, JobFault, Stage, Watch};
 use std::sync::Wait;
-use texts::Line;
+use texts::{Call, Line};
 
 /// The calls of a batch. One index of the job is one call.
 #[derive(Drop)]
 pub(crate) struct EachCall<'a, 'w, W> {
-    pub(crate) calls: Calls<'a>,
+    pub(crate) runner: Runner<'a>,
+    pub(crate) calls: &'a [Call<'a>],
     pub(crate) watch: &'w W,
 }
 
@@ -25,26 +26,27 @@ impl<'a, 'w, W: Watch> Job for EachCall<'a, 'w, W> {
     ghost use Rattle.memory.specs.Pools.{IsTicketOf};
     ghost use Rattle.batch.specs.Ends.{GivesLineAt};
 
-    ghost limit = { λ j. length j.calls.calls.now };
+    ghost limit = { λ j. length j.calls.now };
 
-    ghost belongs = { λ j t. IsTicketOf j.calls.pool.now t };
+    ghost belongs = { λ j t. IsTicketOf j.runner.pool.now t };
 
     ghost passes = { λ j i. Unit {0} };
 
-    ghost gives = { λ j i line. GivesLineAt j.calls.accepted.now j.calls.settings j.calls.calls.now i line };
+    ghost gives = { λ j i line. GivesLineAt j.runner.accepted.now j.runner.settings j.calls.now i line };
 
     ghost refuses = { λ j i f. ⊥ };
 
     fn run<R: Wait>(&self, rt: &R, ticket: &mut Ticket, index: u32) -> Result<Line, JobFault<()>> {
         self.watch.note(Stage::Call, index);
-        let function = match self.calls.callee(index) {
+        let call = &self.calls[index as usize];
+        let function = match self.runner.callee(call) {
             Ok(function) => function,
             Err(line) => return Ok(line),
         };
-        let clean = self.calls.lend(rt, ticket);
+        let clean = self.runner.lend(rt, ticket);
         self.watch.lent(index, clean.len());
-        let (line, clean) = self.calls.line(index, function, clean);
-        self.calls.give_back(rt, ticket, clean);
+        let (line, clean) = self.runner.line(call, function, clean);
+        self.runner.give_back(rt, ticket, clean);
         Ok(line)
     }
 

@@ -1,34 +1,69 @@
 //! The calls of a batch in groups.
 
-ghost use Rattle.std.specs.Prelude.{◌≡◌, ◌<◌, length};
-ghost use Rattle.std.specs.Int.{div_ceil};
+ghost use Rattle.std.specs.Prelude.{◌<◌, ◌+◌, ◌^◌, IfOk, OnOk, length};
+ghost use Rattle.texts.specs.Slices.{joined_calls};
+ghost use Rattle.batch.specs.Groups.{AreGroups, AddsGroups};
 
-use crate::calls::Calls;
+use crate::group::Group;
+use crate::runner::Runner;
 use memory::Ticket;
 use pieces::{Job, JobFault, Stage, Watch};
+use std::alloc::{AllocError, Global};
 use std::sync::Wait;
-use texts::Part;
+use texts::{Call, Part};
+
+/// Puts calls, of which the first has that number, behind groups, in groups of that size. The last may have fewer.
+fn push_groups<'s, 't>(
+    groups: &mut Vec<Group<'s, 't>>,
+    calls: &'s [Call<'t>],
+    first: u32,
+    size: usize,
+) -> Result<(), AllocError>
+    requires few { first + length calls.now < 2 ^ 32 }
+    requires some { 0 < size }
+    ensures { OnOk result (AddsGroups first calls.now groups.old.items groups.new.items) }
+{
+    let mut from = 0;
+    'groups: while from < calls.len() {
+        let to = from + size.min(calls.len() - from);
+        groups.push(Group {
+            calls: &calls[from..to],
+            first: first + from as u32,
+        })?;
+        from = to;
+    }
+    Ok(())
+}
+
+/// The calls of all slices of a text in groups of that size. The last of a slice may have fewer.
+pub(crate) fn groups_of<'s, 't>(
+    alloc: Global,
+    slices: &'s [Vec<Call<'t>>],
+    size: usize,
+) -> Result<Vec<Group<'s, 't>>, AllocError>
+    requires few { length (joined_calls slices.now) < 2 ^ 32 }
+    requires some { 0 < size }
+    ensures { IfOk result (λ groups. AreGroups 0 (joined_calls slices.now) groups.items) }
+{
+    let mut groups = Vec::new(alloc);
+    let mut first = 0;
+    for calls in slices {
+        push_groups(&mut groups, calls, first, size)?;
+        first += calls.len() as u32;
+    }
+    Ok(groups)
+}
 
 /// The calls of a batch in groups of consecutive ones. One index of the job is one group, and its result the part of the
 /// report that has its lines. The calls of a group have one memory in turn, which is lent once.
 #[derive(Drop)]
-pub(crate) struct GroupedCalls<'a, 'w, W> {
-    pub(crate) calls: Calls<'a>,
-    /// How many calls a group has. The last group may have fewer.
-    pub(crate) size: u32,
+pub(crate) struct GroupedCalls<'a, 's, 't, 'w, W> {
+    pub(crate) runner: Runner<'a>,
+    pub(crate) groups: &'s [Group<'s, 't>],
     pub(crate) watch: &'w W,
-    ghost sized: { 0 < size },
 }
 
-/// How many groups of that size so many calls make.
-pub(crate) fn count_groups(calls: u32, size: u32) -> u32
-    requires { 0 < size }
-    ensures { result ≡ div_ceil calls size }
-{
-    calls.div_ceil(size)
-}
-
-impl<'a, 'w, W: Watch> Job for GroupedCalls<'a, 'w, W> {
+impl<'a, 's, 't, 'w, W: Watch> Job for GroupedCalls<'a, 's, 't, 'w, W> {
     type Local = Ticket;
 
     type Out = Part;
@@ -36,31 +71,31 @@ impl<'a, 'w, W: Watch> Job for GroupedCalls<'a, 'w, W> {
     type Fault = ();
 
     ghost use Rattle.memory.specs.Pools.{IsTicketOf};
-    ghost use Rattle.batch.specs.Groups.{GivesPart};
+    ghost use Rattle.batch.specs.Groups.{GivesPartAt};
 
-    ghost limit = { λ j. div_ceil (length j.calls.calls.now) j.size };
+    ghost limit = { λ j. length j.groups.now };
 
-    ghost belongs = { λ j t. IsTicketOf j.calls.pool.now t };
+    ghost belongs = { λ j t. IsTicketOf j.runner.pool.now t };
 
     ghost passes = { λ j g. Unit {0} };
 
-    ghost gives = { λ j g part. GivesPart j.calls.accepted.now j.calls.settings j.calls.calls.now j.size g part };
+    ghost gives = { λ j g part. GivesPartAt j.runner.accepted.now j.runner.settings j.groups.now g part };
 
     ghost refuses = { λ j g f. ⊥ };
 
     fn run<R: Wait>(&self, rt: &R, ticket: &mut Ticket, index: u32) -> Result<Part, JobFault<()>> {
-        let first = index * self.size;
-        let count = self.size.min(self.calls.calls.len() as u32 - first);
-        let Ok(mut lines) = Vec::with_capacity(self.calls.alloc, count as usize) else {
+        let group = &self.groups[index as usize];
+        let Ok(mut lines) = Vec::with_capacity(self.runner.alloc, group.calls.len()) else {
             return Err(JobFault::Memory);
         };
-        let mut clean = self.calls.lend(rt, ticket);
-        for place in first..first + count {
-            self.watch.note(Stage::Call, place);
-            let line = match self.calls.callee(place) {
+        let mut clean = self.runner.lend(rt, ticket);
+        for (place, call) in group.calls.iter().enumerate() {
+            let number = group.first + place as u32;
+            self.watch.note(Stage::Call, number);
+            let line = match self.runner.callee(call) {
                 Ok(function) => {
-                    self.watch.lent(place, clean.len());
-                    let (line, back) = self.calls.line(place, function, clean);
+                    self.watch.lent(number, clean.len());
+                    let (line, back) = self.runner.line(call, function, clean);
                     clean = back;
                     line
                 }
@@ -70,8 +105,8 @@ impl<'a, 'w, W: Watch> Job for GroupedCalls<'a, 'w, W> {
                 return Err(JobFault::Memory);
             }
         }
-        self.calls.give_back(rt, ticket, clean);
-        let Ok(part) = Part::of(self.calls.alloc, first as usize, &lines) else {
+        self.runner.give_back(rt, ticket, clean);
+        let Ok(part) = Part::of(self.runner.alloc, group.first as usize, &lines) else {
             return Err(JobFault::Memory);
         };
         Ok(part)

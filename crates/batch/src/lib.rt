@@ -3,14 +3,17 @@
 
 mod answering;
 mod call;
-mod calls;
 mod each;
+mod group;
 mod groups;
 mod laws;
 mod line;
 mod output;
+mod reading;
 mod report;
+mod runner;
 mod running;
+mod slices;
 mod status;
 
 pub use answering::answer;

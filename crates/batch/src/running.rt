@@ -1,20 +1,22 @@
 //! A batch of calls on many workers.
 
 ghost use Rattle.std.specs.Prelude.{◌<◌, ◌^◌, IfOk, length};
+ghost use Rattle.texts.specs.Slices.{joined_calls};
 ghost use Rattle.batch.specs.Ends.{AreEnds};
 ghost use Rattle.batch.specs.Groups.{GiveParts};
 
-use crate::calls::Calls;
 use crate::each::EachCall;
-use crate::groups::{GroupedCalls, count_groups};
+use crate::groups::{GroupedCalls, groups_of};
+use crate::runner::Runner;
 use memory::Pool;
 use pieces::{Plan, TryFault, Watch, try_all};
 use std::alloc::{AllocError, Global};
 use std::sync::Wait;
 use std::thread::Threads;
-use texts::{Call, Line, Part};
+use texts::{Call, Line, Part, count_calls};
 use verdict::Accepted;
 use wstore::Settings;
+use wsyntax::LINE_LIMIT;
 
 /// Runs each call alone, on an instance of its own, with a memory that is lent from one pool, where the module has one. The
 /// lines stand in the order of the calls.
@@ -33,14 +35,17 @@ pub fn run_batch<R: Threads + Wait + Sync, W: Watch + Sync>(
         return Err(AllocError);
     };
     let (pool, tickets) = Pool::new(alloc, plan.workers())?;
-    let calls = Calls {
+    let runner = Runner {
         alloc,
         accepted,
-        calls,
         settings,
         pool: &pool,
     };
-    let job = EachCall { calls, watch };
+    let job = EachCall {
+        runner,
+        calls,
+        watch,
+    };
     match try_all(rt, alloc, &job, tickets, count, plan) {
         Ok(lines) => Ok(lines),
         Err(TryFault::Stopped { .. } | TryFault::Memory) => Err(AllocError),
@@ -51,38 +56,45 @@ pub fn run_batch<R: Threads + Wait + Sync, W: Watch + Sync>(
 const GROUPS_EACH: u32 = 64;
 
 /// How many calls a group has: as many as the plan has in a piece, or more where that makes too many groups.
-fn group_size(calls: u32, plan: Plan) -> u32
+fn group_size(calls: usize, plan: Plan) -> usize
     ensures { 0 < result }
 {
-    plan.piece().max(calls / (plan.workers() * GROUPS_EACH))
+    let groups = (plan.workers() * GROUPS_EACH) as usize;
+    (plan.piece() as usize).max(calls / groups)
 }
 
-/// Runs each call as `run_batch` does, in groups of as many as the plan has in a piece, or more. Each worker makes the
-/// lines of its groups, and the parts stand in the order of the calls.
+/// Runs each call of all slices of a text as `run_batch` does, in groups of as many as the plan has in a piece, or more.
+/// Each worker makes the lines of its groups, and the parts stand in the order of the calls.
 pub(crate) fn run_groups<R: Threads + Wait + Sync, W: Watch + Sync>(
     rt: &R,
     alloc: Global,
     accepted: &Accepted<'_>,
-    calls: &[Call<'_>],
+    slices: &[Vec<Call<'_>>],
     settings: Settings,
     plan: Plan,
     watch: &W,
 ) -> Result<Vec<Part>, AllocError>
-    requires { length calls.now < 2 ^ 32 }
-    ensures { IfOk result (λ parts. GiveParts accepted.now settings calls.now parts.items) }
+    requires { length (joined_calls slices.now) < 2 ^ 32 }
+    ensures { IfOk result (λ parts. GiveParts accepted.now settings (joined_calls slices.now) parts.items) }
 {
     let (pool, tickets) = Pool::new(alloc, plan.workers())?;
-    let size = group_size(calls.len() as u32, plan);
-    let groups = count_groups(calls.len() as u32, size);
-    let calls = Calls {
+    let calls = count_calls(slices).unwrap_or(LINE_LIMIT);
+    let groups = groups_of(alloc, slices, group_size(calls, plan))?;
+    let Ok(count) = u32::try_from(groups.len()) else {
+        return Err(AllocError);
+    };
+    let runner = Runner {
         alloc,
         accepted,
-        calls,
         settings,
         pool: &pool,
     };
-    let job = GroupedCalls { calls, size, watch };
-    match try_all(rt, alloc, &job, tickets, groups, plan.one_group_each()) {
+    let job = GroupedCalls {
+        runner,
+        groups: &groups,
+        watch,
+    };
+    match try_all(rt, alloc, &job, tickets, count, plan.one_group_each()) {
         Ok(parts) => Ok(parts),
         Err(TryFault::Stopped { .. } | TryFault::Memory) => Err(AllocError),
     }

@@ -212,6 +212,49 @@ fn refusals_are_answered(rt: HostRuntime) -> Result<(), Fail> {
     Ok(())
 }
 
+// Texts that are long enough for several workers.
+#[test]
+fn long_texts_are_answered(rt: HostRuntime) -> Result<(), Fail> {
+    let alloc = rt.alloc();
+    let mut late = vec![in alloc; b'\n'; 50_000]?;
+    late.extend_from_slice(b"\t\n")?;
+    late.extend_from_slice(&vec![in alloc; b'\n'; 20_000]?)?;
+    let (text, status) = answered(&rt, ADD, &late)?;
+    assert_eq!(rt;
+        text.as_slice(),
+        "accepted\ncalls line 50001 refused\n".as_bytes()
+    );
+    assert_eq!(rt; status, Status::CallsRefused);
+    let (text, status) = answered(&rt, ADD, &vec![in alloc; b'\n'; 100_001]?)?;
+    assert_eq!(rt;
+        text.as_slice(),
+        "accepted\ncalls line 100001 refused\n".as_bytes()
+    );
+    assert_eq!(rt; status, Status::CallsRefused);
+    let name = vec![in alloc; b'a'; 20_000]?;
+    let mut calls = Vec::new(alloc);
+    for _ in 0..4 {
+        calls.extend_from_slice(&name)?;
+        calls.extend_from_slice(b"\nadd\ti32:1\ti32:2\n")?;
+    }
+    let (text, status) = answered(&rt, ADD, &calls)?;
+    assert_eq!(rt;
+        text.as_slice(),
+        "0 no-export\n\
+        1 values i32:3 fuel 1\n\
+        2 no-export\n\
+        3 values i32:3 fuel 1\n\
+        4 no-export\n\
+        5 values i32:3 fuel 1\n\
+        6 no-export\n\
+        7 values i32:3 fuel 1\n\
+        total 8 values 4 traps 0 exhausted 0 refused 4 no-memory 0 fuel 4\n"
+            .as_bytes()
+    );
+    assert_eq!(rt; status, Status::Good);
+    Ok(())
+}
+
 // The answer to the call of `add` on 1 and 2.
 const SUM: &[u8] = b"0 values i32:3 fuel 1\n\
     total 1 values 1 traps 0 exhausted 0 refused 0 no-memory 0 fuel 1\n";

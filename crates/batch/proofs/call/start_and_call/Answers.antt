@@ -3,8 +3,8 @@ use Rattle.wsyntax.specs.Modules.{module_shape}
 use Rattle.wsyntax.specs.Execution.Ends as meant
 use Rattle.wsyntax.specs.declared.value.Value.{Value}
 use Rattle.wsyntax.specs.Execution.Store.{Store}
-use Rattle.verdict.specs.declared.accepted.Accepted.{Accepted}
-use Rattle.verdict.specs.Judgement.{shapes_of}
+use Rattle.accepted.specs.declared.accepted.Accepted.{Accepted}
+use Rattle.accepted.specs.Judgement.{shapes_of}
 use Rattle.wstore.specs.Runs.{Runs}
 use Rattle.batch.proofs.Alone.{ends_in_start, ends_in_call, fuel_is}
 use Rattle.batch.proofs.call.start_and_call.Goals as goal

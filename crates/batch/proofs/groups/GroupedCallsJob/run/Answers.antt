@@ -1,31 +1,32 @@
-use Rattle.std.proofs.Common.{◌≡◌, ◌+◌, ◌-◌, ◌*◌, ◌<◌, ◌≤◌, true, length, min, arith}
+use Rattle.std.proofs.Common.{◌≡◌, ◌≤◌, true, length, slice_index_or, arith}
 use Rattle.std.specs.Prelude.{is_ok}
-use Rattle.batch.specs.Ends.{GivesLineAt}
-use Rattle.batch.proofs.GroupedLines.{give_more, group_given}
+use Rattle.std.proofs.lemmas.Option.{slice_get-get_or}
+use Rattle.batch.specs.Ends.{GivesLine}
+use Rattle.batch.proofs.GroupedLines.{give_more, part_given}
 use Rattle.batch.proofs.groups.GroupedCallsJob.run.Goals as goal
 use Rattle.batch.proofs.groups.GroupedCallsJob.run.Goals.{in-Ok-callee, in-Err}
 
 pub loop-place-preserved : goal.loop-place-preserved
 loop-place-preserved g c =
-    let calls = c.args.self.now.calls in
-    let first = c.args.index * c.args.self.now.size in
+    let runner = c.args.self.now.runner in
+    let calls = (slice_index_or c.args.self.now.groups.now c.args.index c.index-self-index.result).calls.now in
     let ok : is_ok c.push.result ≡ true = c.if-is_err.ensures.negation in
     let items = rw ok at c.push.ensures.items in
-    let from : first ≤ c.loop-place.place = omega arith in
-    let below : c.loop-place.place < length calls.calls.now = omega (arith, c.min-count.ensures) in
-    let given : GivesLineAt calls.accepted.now calls.settings calls.calls.now c.loop-place.place c.match-callee.line = elim c.match-callee.branch [
+    let given : GivesLine runner.accepted.now runner.settings c.call-item.result c.match-callee.line = elim c.match-callee.branch [
       | in-Ok-callee w ↦ rw w.line-is w.line-line.ensures
       | in-Err w ↦ rw w.line-is w.in-Err.ensures.refused
     ] in
-    rw items (give_more calls.accepted.now calls.settings calls.calls.now first c.loop-place.place c.loop-place.lines.items c.match-callee.line from below c.loop-place.invariant given)
+    rw items (give_more runner.accepted.now runner.settings calls c.loop-place.place c.call-item.result c.loop-place.lines.items c.match-callee.line c.loop-place-test.true c.call-item.is c.loop-place.invariant given)
 
 pub returns-clause-answer : goal.returns-clause-answer
 returns-clause-answer g c =
-    let calls = c.args.self.now.calls in
-    let first = c.args.index * c.args.self.now.size in
-    let most : c.min-count.result ≡ min c.args.self.now.size (length calls.calls.now - first) = omega (arith, c.min-count.ensures) in
-    let all : c.loop-place.place ≡ first + c.min-count.result = omega arith in (
+    let runner = c.args.self.now.runner in
+    let group = slice_index_or c.args.self.now.groups.now c.args.index c.index-self-index.result in
+    let past : length group.calls.now ≤ c.loop-place.place = omega arith in (
       tt,
-      group_given calls.accepted.now calls.settings calls.calls.now c.args.self.now.size c.args.index c.min-count.result c.loop-place.place c.loop-place.lines.items c.deref.result.now _ c.args.self.now.sized c.requires.index most all
-          c.loop-place.invariant c.deref.ensures.value c.in-Ok-of.ensures,
+      (
+        group,
+        slice_get-get_or c.args.self.now.groups.now c.args.index c.index-self-index.result c.requires.index,
+        part_given runner.accepted.now runner.settings group c.loop-place.place c.loop-place.lines.items c.deref.result.now c.in-Ok-of.part past c.loop-place.invariant c.deref.ensures.value c.in-Ok-of.ensures,
+      ),
     )

@@ -1,7 +1,7 @@
 -- The lines so far.
-use Rattle.std.proofs.Common.{◌-◌, take, drop}
+use Rattle.std.proofs.Common.{take}
 use Rattle.batch.specs.Groups.{GiveLines}
 use Rattle.batch.proofs.groups.GroupedCallsJob.run.Given as goal
 
 abbrev pub invariant-loop-place : goal.invariant-loop-place
-invariant-loop-place g l = GiveLines l.self.calls.accepted.now l.self.calls.settings (take (l.place - l.first) (drop l.first l.self.calls.calls.now)) l.lines.items
+invariant-loop-place g l = GiveLines l.self.runner.accepted.now l.self.runner.settings (take l.place l.group.calls.now) l.lines.items

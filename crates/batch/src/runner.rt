@@ -1,6 +1,6 @@
-//! The calls of a batch, each on an instance of its own.
+//! What runs calls, each on an instance of its own.
 
-ghost use Rattle.std.specs.Prelude.{◌<◌, ◌≤◌, ◌^◌, ◌≡◌, ℕ, length, IfOk, IfErr};
+ghost use Rattle.std.specs.Prelude.{IfOk, IfErr};
 ghost use Rattle.wsyntax.specs.Modules.{module_shape};
 ghost use Rattle.texts.specs.Calls.{call_of};
 ghost use Rattle.batch.specs.Ends.{IsCallee, RefusedAs};
@@ -33,28 +33,25 @@ fn callee(accepted: &Accepted<'_>, call: &Call<'_>) -> Result<u32, Line>
     Ok(function)
 }
 
-/// The calls of a batch, each to be run on an instance of its own. The pool is asked only where the module has a memory.
+/// What the calls of a batch are run with, each on an instance of its own. The pool is asked only where the module has a
+/// memory.
 #[derive(Drop)]
-pub(crate) struct Calls<'a> {
+pub(crate) struct Runner<'a> {
     pub(crate) alloc: Global,
     pub(crate) accepted: &'a Accepted<'a>,
-    pub(crate) calls: &'a [Call<'a>],
     pub(crate) settings: Settings,
     pub(crate) pool: &'a Pool,
-    ghost few: { length calls.now < 2 ^ 32 },
 }
 
-impl<'a> Calls<'a> {
+impl<'a> Runner<'a> {
     ghost use Rattle.memory.specs.Pools.{IsTicketOf};
-    ghost use Rattle.batch.specs.Ends.{GivesLineAt, IsCalleeAt};
+    ghost use Rattle.batch.specs.Ends.{GivesLine};
 
-    /// The function of the call at that place, or how the call ends.
-    pub(crate) fn callee(&self, index: u32) -> Result<u32, Line>
-        requires { index < length self.now.calls.now }
-        ensures named { IfOk result (IsCalleeAt self.now.accepted.now self.now.calls.now index) }
-        ensures refused { IfErr result (GivesLineAt self.now.accepted.now self.now.settings self.now.calls.now index) }
+    /// The function that a call names, or how the call ends.
+    pub(crate) fn callee(&self, call: &Call<'_>) -> Result<u32, Line>
+        ensures named { IfOk result (IsCallee (module_shape self.now.accepted.now.module) (call_of call.now)) }
+        ensures refused { IfErr result (GivesLine self.now.accepted.now self.now.settings call.now) }
     {
-        let call = &self.calls[index as usize];
         callee(self.accepted, call)
     }
 
@@ -79,18 +76,17 @@ impl<'a> Calls<'a> {
         }
     }
 
-    /// How the call at that place ends, whose function is this one, in the memory that is lent, and that memory, clean again.
-    pub(crate) fn line(&self, index: u32, function: u32, clean: CleanMem) -> (Line, CleanMem)
-        requires { IsCalleeAt self.now.accepted.now self.now.calls.now index function }
-        ensures { GivesLineAt self.now.accepted.now self.now.settings self.now.calls.now index result.0 }
+    /// How a call ends, whose function is this one, in the memory that is lent, and that memory, clean again.
+    pub(crate) fn line(&self, call: &Call<'_>, function: u32, clean: CleanMem) -> (Line, CleanMem)
+        requires { IsCallee (module_shape self.now.accepted.now.module) (call_of call.now) function }
+        ensures { GivesLine self.now.accepted.now self.now.settings call.now result.0 }
     {
         accepted_is_judged(self.accepted);
-        let args = &self.calls[index as usize].args;
         run_alone(
             self.alloc,
             self.accepted,
             function,
-            args,
+            &call.args,
             self.settings,
             clean,
         )

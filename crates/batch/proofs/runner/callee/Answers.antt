@@ -2,10 +2,10 @@ use Rattle.std.proofs.Common.{◌≡◌, ℕ, List, refl, subst}
 use Rattle.wsyntax.specs.declared.module.ExportKind.{ExportKind}
 use Rattle.wsyntax.specs.declared.module.ExportKind.TheVariants.{Function}
 use Rattle.wsyntax.specs.Texts.Answer.{missing, other_kind}
-use Rattle.verdict.specs.Exports.{IsExported}
+use Rattle.accepted.specs.Exports.{IsExported}
 use Rattle.wsyntax.specs.Modules.{ModuleShape, module_shape}
 use Rattle.batch.proofs.CallEnds.{refused_arguments, callee_of, fits_no, fits_yes}
-use Rattle.batch.proofs.calls.callee.Goals as goal
+use Rattle.batch.proofs.runner.callee.Goals as goal
 
 -- an export of that kind is an exported function
 function_of : (m : ModuleShape) (name : List ℕ) (kind : ExportKind) (f : ℕ) → kind ≡ Function → IsExported m name kind f → IsExported m name Function f

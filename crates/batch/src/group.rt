@@ -1,0 +1,12 @@
+ghost use Rattle.std.specs.Prelude.{◌<◌, ◌+◌, ◌^◌, length};
+
+use texts::Call;
+
+/// Some consecutive calls of a batch.
+#[derive(Clone, Copy)]
+pub(crate) struct Group<'s, 't> {
+    pub(crate) calls: &'s [Call<'t>],
+    /// The number of the first of them.
+    pub(crate) first: u32,
+    pub(crate) ghost few: { first + length calls.now < 2 ^ 32 },
+}
