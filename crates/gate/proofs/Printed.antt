@@ -9,13 +9,13 @@ use Rattle.wstore.specs.declared.settings.Settings.{Settings}
 use Rattle.batch.specs.Report.{status_of}
 use Rattle.batch.specs.declared.status.Status.{Status}
 use Rattle.batch.specs.declared.status.Status.TheVariants.{Good, ModuleRefused, CallsRefused}
-use Rattle.gate.specs.declared.words.Request.{Request}
-use Rattle.gate.specs.declared.words.Request.TheVariants.{Check, Run, Text}
+use Rattle.command.specs.Requests.{IsRequestOf}
+use Rattle.command.specs.declared.request.Request.{Request}
+use Rattle.command.specs.declared.request.Request.TheVariants.{Check, Run, Text}
+use Rattle.files.specs.Reads.{ReadsPaths}
 use Rattle.gate.specs.Checks.{Judges}
 use Rattle.gate.specs.Endings.{answer_status}
 use Rattle.gate.specs.Prints.{AsksFor, Does, PrintsAnswer, PrintsCallsRefusal, PrintsGood, PrintsRefusal}
-use Rattle.gate.specs.Reads.{ReadsPaths}
-use Rattle.gate.specs.Requests.{IsRequestOf}
 use Rattle.gate.specs.Runs.{RunsOn}
 
 only_good : (s : Status) → answer_status s ≡ 0 → s ≡ Good

@@ -2,6 +2,10 @@
 use Rattle.std.specs.Prelude.{◌≡◌, ◌⊎◌, ℕ, Result, Ok, Err}
 use Rattle.batch.specs.declared.status.Status.{Status}
 use Rattle.batch.specs.declared.status.Status.TheVariants.{Good, ModuleRefused, CallsRefused}
+use Rattle.batch.specs.declared.status.AnswerFault.{AnswerFault}
+use Rattle.batch.specs.declared.status.AnswerFault.TheVariants as answer
+use Rattle.command.specs.declared.fault.WordsFault.{WordsFault}
+use Rattle.command.specs.declared.fault.WordsFault.TheVariants as words
 use Rattle.gate.specs.declared.fault.Fault.{Fault}
 use Rattle.gate.specs.declared.fault.Fault.TheVariants as fault
 
@@ -11,12 +15,23 @@ answer_status Good = 0
 answer_status ModuleRefused = 2
 answer_status CallsRefused = 3
 
--- where there is none
+-- where the words ask for nothing that can be done
+abbrev pub fault_of : WordsFault → Fault
+fault_of (words.Usage text) = fault.Usage text
+fault_of words.Memory = fault.Memory
+
+-- where there is no answer
 abbrev pub fault_status : Fault → ℕ
 fault_status (fault.Usage text) = 64
 fault_status (fault.Unreadable path) = 74
 fault_status fault.Write = 74
 fault_status fault.Memory = 70
+
+-- what is told of an answer: behind one that was written whole a flush may fail
+abbrev pub EndsAs : Result Status AnswerFault → Result Status Fault → Type 0
+EndsAs (Ok status) r = (r ≡ Ok status) ⊎ (r ≡ Err fault.Write)
+EndsAs (Err answer.Write) r = r ≡ Err fault.Write
+EndsAs (Err answer.Memory) r = r ≡ Err fault.Memory
 
 -- of what came of a request
 abbrev pub result_status : Result Status Fault → ℕ

@@ -1,5 +1,3 @@
-pub mod Requests
-pub mod Options
 pub mod Endings
 pub mod Reads
 pub mod Checks

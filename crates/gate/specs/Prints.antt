@@ -8,15 +8,16 @@ use Rattle.batch.specs.Output.{AppendsFront}
 use Rattle.batch.specs.Report.{status_of}
 use Rattle.batch.specs.declared.status.Status.{Status}
 use Rattle.batch.specs.declared.status.Status.TheVariants.{Good, ModuleRefused, CallsRefused}
+use Rattle.command.specs.Requests.{AsksHelp, AsksVersion, IsRequestOf}
+use Rattle.command.specs.declared.request.Request.{Request}
+use Rattle.command.specs.declared.request.Request.TheVariants.{Check, Run, Text}
+use Rattle.files.specs.Reads.{ReadsPaths}
 use Rattle.gate.specs.Checks.{Checks, Judges}
-use Rattle.gate.specs.Reads.{ReadsPaths, ReadsInOrder}
+use Rattle.gate.specs.Reads.{ReadsInOrder}
 use Rattle.gate.specs.Endings.{result_status}
-use Rattle.gate.specs.Requests.{AsksHelp, AsksVersion, IsRequestOf}
 use Rattle.gate.specs.Runs.{RunsOn, AnswersRead}
 use Rattle.gate.specs.declared.fault.Fault.{Fault}
 use Rattle.gate.specs.declared.fault.Fault.TheVariants as fault
-use Rattle.gate.specs.declared.words.Request.{Request}
-use Rattle.gate.specs.declared.words.Request.TheVariants.{Check, Run, Text}
 
 -- a text that is asked for is written, or a beginning of it where a write failed
 abbrev pub Shows : List ℕ → Option (List ℕ) → Option (List ℕ) → Result Status Fault → Type 0

@@ -1,16 +1,13 @@
 -- What is read of a source, and in which order.
-use Rattle.std.specs.Prelude.{◌≡◌, ◌⊎◌, ℕ, ◌+◌, List, [], ◌∷◌, ◌++◌, Option, Some, Result, Ok, Err, IfSome, take}
+use Rattle.std.specs.Prelude.{◌≡◌, ◌⊎◌, ℕ, ◌+◌, List, [], ◌∷◌, Option, Result, Ok, Err, IfSome, take}
 use Rattle.batch.specs.declared.status.Status.{Status}
+use Rattle.files.specs.Reads.{ReadsPaths}
 use Rattle.gate.specs.declared.fault.Fault.{Fault}
 use Rattle.gate.specs.declared.fault.Fault.TheVariants as fault
 
 -- what is read of a path that holds this: no more than one byte past the limit
 abbrev pub IsRead : ℕ → Option (List ℕ) → List ℕ → Type 0
 IsRead limit held bytes = IfSome held (λ all. bytes ≡ take (limit + 1) all)
-
--- where the paths that were asked for before are known, these are asked for after them
-abbrev pub ReadsPaths : Option (List (List ℕ)) → Option (List (List ℕ)) → List (List ℕ) → Type 0
-ReadsPaths old new paths = IfSome old (λ before. new ≡ Some (before ++ paths))
 
 -- the file of this path cannot be read, or there is no memory for it
 abbrev pub IsWant : List ℕ → Fault → Type 0

@@ -5,8 +5,10 @@ ghost use Rattle.gate.specs.Runs.{RunsOn};
 
 use crate::check::MOST_OF_MODULE;
 use crate::fault::Fault;
-use crate::source::{Source, read_file};
-use batch::{AnswerFault, Plan, Quiet, Settings, Status, answer};
+use crate::finishing::finish;
+use crate::reading::read_file;
+use batch::{Plan, Quiet, Settings, Status, answer};
+use files::Source;
 use std::alloc::Global;
 use std::io::Write;
 use std::sync::Wait;
@@ -32,13 +34,6 @@ pub fn answer_files<'a, R: Threads + Wait + Sync, S: Source, O: Write>(
 {
     let bytes = read_file(alloc, path, MOST_OF_MODULE, source)?;
     let text = read_file(alloc, calls, MOST_OF_CALLS, source)?;
-    let status = match answer(rt, alloc, &bytes, &text, settings, plan, &Quiet, out) {
-        Ok(status) => status,
-        Err(AnswerFault::Memory) => return Err(Fault::Memory),
-        Err(AnswerFault::Write) => return Err(Fault::Write),
-    };
-    match out.flush() {
-        Ok(()) => Ok(status),
-        Err(_) => Err(Fault::Write),
-    }
+    let answered = answer(rt, alloc, &bytes, &text, settings, plan, &Quiet, out);
+    finish(answered, out)
 }

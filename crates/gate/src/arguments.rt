@@ -1,8 +1,8 @@
 // The program over its process.
-use crate::disk::Disk;
 use crate::fault::{Fault, end};
 use crate::program::run;
-use crate::words::usage;
+use command::{WordsFault, usage};
+use files::Disk;
 use std::alloc::{AllocError, Global};
 use std::env;
 use std::io::{ErrorKind, Write};
@@ -18,7 +18,7 @@ pub fn run_process<R: Env + Files + AllocGlobal + Threads + Wait + Sync, O: Writ
 ) -> u8 {
     let words = match words_of(rt) {
         Ok(words) => words,
-        Err(fault) => return end(&fault, err),
+        Err(fault) => return end(&Fault::from(fault), err),
     };
     let texts = match texts_of(rt.alloc(), words.as_slice()) {
         Ok(texts) => texts,
@@ -28,10 +28,13 @@ pub fn run_process<R: Env + Files + AllocGlobal + Threads + Wait + Sync, O: Writ
 }
 
 // The words after the program's name.
-fn words_of<'a, R: Env + AllocGlobal>(rt: &R) -> Result<Vec<String>, Fault<'a>> {
+fn words_of<R: Env + AllocGlobal>(rt: &R) -> Result<Vec<String>, WordsFault> {
     match env::args(rt) {
-        Ok(args) => args.skip(1).collect(rt.alloc()).map_err(|_| Fault::Memory),
-        Err(error) if error.kind() == ErrorKind::OutOfMemory => Err(Fault::Memory),
+        Ok(args) => args
+            .skip(1)
+            .collect(rt.alloc())
+            .map_err(|_| WordsFault::Memory),
+        Err(error) if error.kind() == ErrorKind::OutOfMemory => Err(WordsFault::Memory),
         Err(_) => Err(usage(rt.alloc(), "error: the words are not UTF-8\n")),
     }
 }

@@ -1,11 +1,13 @@
 // Judging one file.
 ghost use Rattle.std.specs.Prelude.{List, [], ◌∷◌};
+ghost use Rattle.files.specs.Reads.{ReadsPaths};
 ghost use Rattle.gate.specs.Checks.{Checks};
-ghost use Rattle.gate.specs.Reads.{ReadsPaths};
 
 use crate::fault::Fault;
-use crate::source::{Source, read_file};
-use batch::{AnswerFault, Plan, Quiet, Status, report_verdict};
+use crate::finishing::finish;
+use crate::reading::read_file;
+use batch::{Plan, Quiet, Status, report_verdict};
+use files::Source;
 use std::alloc::Global;
 use std::io::Write;
 use std::sync::Wait;
@@ -28,13 +30,6 @@ pub fn check_file<'a, R: Threads + Wait + Sync, S: Source, O: Write>(
     ensures only { ReadsPaths (S.asked source.old) (S.asked source.new) (path.entry.now ∷ []) }
 {
     let bytes = read_file(alloc, path, MOST_OF_MODULE, source)?;
-    let status = match report_verdict(rt, alloc, bytes.as_slice(), plan, &Quiet, out) {
-        Ok(status) => status,
-        Err(AnswerFault::Memory) => return Err(Fault::Memory),
-        Err(AnswerFault::Write) => return Err(Fault::Write),
-    };
-    match out.flush() {
-        Ok(()) => Ok(status),
-        Err(_) => Err(Fault::Write),
-    }
+    let answered = report_verdict(rt, alloc, bytes.as_slice(), plan, &Quiet, out);
+    finish(answered, out)
 }

@@ -2,6 +2,7 @@
 ghost use Rattle.std.specs.Prelude.{◌≡◌};
 ghost use Rattle.gate.specs.Endings.{fault_status};
 
+use command::WordsFault;
 use std::io::Write;
 use thiserror::Error;
 
@@ -20,6 +21,19 @@ pub enum Fault<'a> {
     /// A growth of memory was refused.
     #[error("gate: no memory\n")]
     Memory,
+}
+
+impl From<WordsFault> for Fault<'_> {
+    ghost use Rattle.gate.specs.Endings.{fault_of};
+
+    ghost from_gives = { λ w f. f ≡ fault_of w };
+
+    fn from(fault: WordsFault) -> Self {
+        match fault {
+            WordsFault::Usage(text) => Fault::Usage(text),
+            WordsFault::Memory => Fault::Memory,
+        }
+    }
 }
 
 impl Fault<'_> {

@@ -4,13 +4,12 @@
 mod answer;
 mod arguments;
 mod check;
-mod disk;
 mod fault;
+mod finishing;
 mod program;
-mod source;
+mod reading;
 #[cfg(test)]
 mod tests;
-mod words;
 
 use std::process::ExitCode;
 

@@ -7,9 +7,9 @@ ghost use Rattle.gate.specs.Prints.{AsksFor, Does, Obeys, PrintsCallsRefusal, Pr
 use crate::answer::answer_files;
 use crate::check::check_file;
 use crate::fault::{Fault, end};
-use crate::source::Source;
-use crate::words::{Request, read_words};
 use batch::{Status, write_text};
+use command::{Request, read_words};
+use files::Source;
 use std::alloc::Global;
 use std::io::Write;
 use std::sync::Wait;
@@ -34,7 +34,7 @@ pub fn run<R: Threads + Wait + Sync, S: Source, O: Write, E: Write>(
 {
     let request = match read_words(alloc, words) {
         Ok(request) => request,
-        Err(fault) => return end(&fault, err),
+        Err(fault) => return end(&Fault::from(fault), err),
     };
     match obey(rt, alloc, request, source, out) {
         Ok(status) => number(status),

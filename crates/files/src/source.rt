@@ -1,8 +1,6 @@
-// Where modules and calls come from.
-ghost use Rattle.std.specs.Prelude.{◌≡◌, ◌⊎◌, ◌≤◌, ℕ, List, [], ◌∷◌, Option, IfOk, IfErr, IfSome, IsNone, None, take, vec_len};
-ghost use Rattle.gate.specs.Reads.{IsWant, ReadsPaths};
+ghost use Rattle.std.specs.Prelude.{◌≡◌, ◌≤◌, ℕ, List, [], ◌∷◌, Option, IfOk, IfSome, IsNone, None, take, vec_len};
+ghost use Rattle.files.specs.Reads.{ReadsPaths};
 
-use crate::fault::Fault;
 use std::alloc::Global;
 use thiserror::Error;
 
@@ -32,23 +30,4 @@ pub trait Source {
         ensures unreadable { result ≡ Err ReadFault.Unreadable → IsNone (holds self.old path.now) }
         ensures same { (other : List ℕ) → holds self.new other ≡ holds self.old other }
         ensures logged { ReadsPaths (asked self.old) (asked self.new) (path.now ∷ []) };
-}
-
-/// The bytes of a path, `most` of them where it holds more, or why the program ends without them.
-pub fn read_file<'a, S: Source>(
-    alloc: Global,
-    path: &'a str,
-    most: usize,
-    source: &mut S,
-) -> Result<Vec<u8>, Fault<'a>>
-    ensures known { IfOk result (λ bytes. IfSome (S.holds source.old path.entry.now) (λ held. bytes.items ≡ take most held)) }
-    ensures fault { IfErr result (IsWant path.entry.now) }
-    ensures same { (other : List ℕ) → S.holds source.new other ≡ S.holds source.old other }
-    ensures logged { ReadsPaths (S.asked source.old) (S.asked source.new) (path.entry.now ∷ []) }
-{
-    match source.read(alloc, path, most) {
-        Ok(bytes) => Ok(bytes),
-        Err(ReadFault::Unreadable) => Err(Fault::Unreadable(path)),
-        Err(ReadFault::Memory) => Err(Fault::Memory),
-    }
 }

@@ -1,11 +1,12 @@
 // What the matched words give. Each has passed its range.
 ghost use Rattle.std.specs.Prelude.{◌≡◌, Contains, IfSome, map};
-ghost use Rattle.gate.specs.Options.{SaysLimits, SaysNumber};
-ghost use Rattle.gate.specs.Requests.{IsRequestOf};
+ghost use Rattle.command.specs.Options.{SaysLimits, SaysNumber};
+ghost use Rattle.command.specs.Requests.{IsRequestOf};
 
-use super::Request;
-use batch::{Plan, Settings};
+use crate::request::Request;
 use clap::ArgMatches;
+use pieces::Plan;
+use wstore::Settings;
 
 /// The file and the plan that `gate check` is given.
 pub fn check_of<'a>(words: &'a [&'a str], matches: &ArgMatches<'a>) -> Option<Request<'a>>

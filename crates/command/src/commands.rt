@@ -1,6 +1,7 @@
 // The commands, their words and their options.
 use clap::{Arg, Command, value_parser};
 use std::alloc::{AllocError, Global};
+use std::ops::Range;
 
 /// What `gate run --help` ends with.
 const RUN_EXAMPLE: &str = "\
@@ -37,25 +38,31 @@ pub fn gate_command<'a>(alloc: Global) -> Result<Command<'a>, AllocError> {
 
 // `gate check`.
 fn check_command<'a>(alloc: Global) -> Result<Command<'a>, AllocError> {
+    let words = vec![in alloc;
+        module_word(alloc),
+        workers_option(alloc),
+        piece_option(alloc),
+    ]?;
     Command::new(alloc, "check")
         .about("Prints the verdict on a module: accepted, or its first refusal")
-        .arg(module_word(alloc))?
-        .arg(workers_option(alloc))?
-        .arg(piece_option(alloc))
+        .args(words)
 }
 
 // `gate run`.
 fn run_command<'a>(alloc: Global) -> Result<Command<'a>, AllocError> {
+    let words = vec![in alloc;
+        module_word(alloc),
+        calls_word(alloc),
+        workers_option(alloc),
+        piece_option(alloc),
+        fuel_option(alloc),
+        frames_option(alloc),
+        pages_option(alloc),
+    ]?;
     Command::new(alloc, "run")
         .about("Runs calls of a module, each alone, and prints how each ends")
         .after_long_help(RUN_EXAMPLE)
-        .arg(module_word(alloc))?
-        .arg(calls_word(alloc))?
-        .arg(workers_option(alloc))?
-        .arg(piece_option(alloc))?
-        .arg(fuel_option(alloc))?
-        .arg(frames_option(alloc))?
-        .arg(pages_option(alloc))
+        .args(words)
 }
 
 fn module_word<'a>(alloc: Global) -> Arg<'a> {
@@ -73,46 +80,42 @@ fn calls_word<'a>(alloc: Global) -> Arg<'a> {
 }
 
 fn workers_option<'a>(alloc: Global) -> Arg<'a> {
-    Arg::new(alloc, "workers")
-        .long("workers")
-        .value_name("N")
-        .help("How many threads work, 1 to 64")
-        .value_parser(value_parser!(u32).range(1..65))
-        .default_value("4")
+    let help = "How many threads work, 1 to 64";
+    number_option(alloc, "workers", help, 1..65, "4")
 }
 
 fn piece_option<'a>(alloc: Global) -> Arg<'a> {
-    Arg::new(alloc, "piece")
-        .long("piece")
-        .value_name("N")
-        .help("How many bodies or calls a thread takes at once, 1 to 65535")
-        .value_parser(value_parser!(u32).range(1..65_536))
-        .default_value("16")
+    let help = "How many bodies or calls a thread takes at once, 1 to 65535";
+    number_option(alloc, "piece", help, 1..65_536, "16")
 }
 
 fn fuel_option<'a>(alloc: Global) -> Arg<'a> {
-    Arg::new(alloc, "fuel")
-        .long("fuel")
-        .value_name("N")
-        .help("How much fuel a call has, 0 to 1000000000")
-        .value_parser(value_parser!(u32).range(0..1_000_000_001))
-        .default_value("1000000")
+    let help = "How much fuel a call has, 0 to 1000000000";
+    number_option(alloc, "fuel", help, 0..1_000_000_001, "1000000")
 }
 
 fn frames_option<'a>(alloc: Global) -> Arg<'a> {
-    Arg::new(alloc, "frames")
-        .long("frames")
-        .value_name("N")
-        .help("How many functions of a call are entered at a time, 1 to 4096")
-        .value_parser(value_parser!(u32).range(1..4_097))
-        .default_value("1024")
+    let help = "How many functions of a call are entered at a time, 1 to 4096";
+    number_option(alloc, "frames", help, 1..4_097, "1024")
 }
 
 fn pages_option<'a>(alloc: Global) -> Arg<'a> {
-    Arg::new(alloc, "pages")
-        .long("pages")
+    let help = "How many pages of memory a call has, 0 to 1024";
+    number_option(alloc, "pages", help, 0..1_025, "256")
+}
+
+// An option that takes a number within the range.
+fn number_option<'a>(
+    alloc: Global,
+    name: &'a str,
+    help: &'a str,
+    range: Range<i64>,
+    default: &'a str,
+) -> Arg<'a> {
+    Arg::new(alloc, name)
+        .long(name)
         .value_name("N")
-        .help("How many pages of memory a call has, 0 to 1024")
-        .value_parser(value_parser!(u32).range(0..1_025))
-        .default_value("256")
+        .help(help)
+        .value_parser(value_parser!(u32).range(range))
+        .default_value(default)
 }

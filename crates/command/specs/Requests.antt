@@ -1,7 +1,7 @@
 -- What the words of the command line ask for.
 use Rattle.std.specs.Prelude.{◌⊎◌, ℕ, List, Contains, codes}
-use Rattle.gate.specs.declared.words.Request.{Request}
-use Rattle.gate.specs.declared.words.Request.TheVariants.{Check, Run, Text}
+use Rattle.command.specs.declared.request.Request.{Request}
+use Rattle.command.specs.declared.request.Request.TheVariants.{Check, Run, Text}
 
 -- a word asks for help
 abbrev pub AsksHelp : List (List ℕ) → Type 0

@@ -1,0 +1,72 @@
+// Reading of the words.
+ghost use Rattle.std.specs.Prelude.{IfOk, IsTrue, map};
+ghost use Rattle.command.specs.Requests.{AsksHelp, AsksVersion, IsRequestOf};
+
+use crate::commands::gate_command;
+use crate::fault::{WordsFault, usage};
+use crate::matched::{check_of, find_word, run_of};
+use crate::request::Request;
+use clap::error::ErrorKind;
+use clap::{ArgMatches, Error};
+use std::alloc::Global;
+
+/// Reads the words that follow the program's name.
+pub fn read_words<'a>(alloc: Global, words: &'a [&'a str]) -> Result<Request<'a>, WordsFault>
+    ensures request { IfOk result (IsRequestOf (map (λ w. w.now) words.now)) }
+{
+    let command = gate_command(alloc).map_err(|_| WordsFault::Memory)?;
+    match command.try_get_matches_from(words) {
+        Ok(matches) => request_of(alloc, words, &matches),
+        Err(error) => answer_of(alloc, words, &error),
+    }
+}
+
+// What the matched words ask for.
+fn request_of<'a>(
+    alloc: Global,
+    words: &'a [&'a str],
+    matches: &ArgMatches<'a>,
+) -> Result<Request<'a>, WordsFault>
+    ensures { IfOk result (IsRequestOf (map (λ w. w.now) words.now)) }
+{
+    if let Some(request) = check_of(words, matches) {
+        return Ok(request);
+    }
+    match run_of(words, matches) {
+        Some(request) => Ok(request),
+        None => Err(usage(alloc, "error: the words are no command\n")),
+    }
+}
+
+// Whether a word asks for help.
+fn asks_help(words: &[&str]) -> bool
+    ensures { IsTrue result → AsksHelp (map (λ w. w.now) words.now) }
+{
+    find_word(words, "help").is_some()
+        || find_word(words, "--help").is_some()
+        || find_word(words, "-h").is_some()
+}
+
+// Whether a word asks for the version.
+fn asks_version(words: &[&str]) -> bool
+    ensures { IsTrue result → AsksVersion (map (λ w. w.now) words.now) }
+{
+    find_word(words, "--version").is_some() || find_word(words, "-V").is_some()
+}
+
+// A text that is asked for, or a mistake in the words.
+fn answer_of<'a>(alloc: Global, words: &[&str], error: &Error) -> Result<Request<'a>, WordsFault>
+    ensures { IfOk result (IsRequestOf (map (λ w. w.now) words.now)) }
+{
+    if matches!(error.kind(), ErrorKind::OutOfMemory) {
+        return Err(WordsFault::Memory);
+    }
+    let text = error.to_string(alloc).map_err(|_| WordsFault::Memory)?;
+    if error.use_stderr() {
+        Err(WordsFault::Usage(text))
+    } else if asks_help(words) || asks_version(words) {
+        Ok(Request::Text(text))
+    } else {
+        Err(WordsFault::Usage(text))
+    }
+}

@@ -1,0 +1,25 @@
+// How the program is done with an answer.
+ghost use Rattle.std.specs.Io.KnownBytes.{Keeps};
+ghost use Rattle.gate.specs.Endings.{EndsAs};
+
+use crate::fault::Fault;
+use batch::{AnswerFault, Status};
+use std::io::Write;
+
+/// Flushes what was written of an answer, where it was written whole, and says how it ended.
+pub fn finish<'a, O: Write>(
+    answered: Result<Status, AnswerFault>,
+    out: &mut O,
+) -> Result<Status, Fault<'a>>
+    ensures ends { EndsAs answered result }
+    ensures kept { Keeps (O.contents out.old) (O.contents out.new) }
+{
+    match answered {
+        Ok(status) => match out.flush() {
+            Ok(()) => Ok(status),
+            Err(_) => Err(Fault::Write),
+        },
+        Err(AnswerFault::Memory) => Err(Fault::Memory),
+        Err(AnswerFault::Write) => Err(Fault::Write),
+    }
+}
