@@ -3,7 +3,6 @@ ghost use Rattle.wstore.specs.Settings.{limits};
 ghost use Rattle.gate.specs.Reads.{ReadsInOrder};
 ghost use Rattle.gate.specs.Runs.{RunsOn};
 
-use crate::check::MOST_OF_MODULE;
 use crate::fault::Fault;
 use crate::finishing::finish;
 use crate::reading::read_file;
@@ -13,10 +12,7 @@ use std::alloc::Global;
 use std::io::Write;
 use std::sync::Wait;
 use std::thread::Threads;
-use wsyntax::CALLS_LIMIT;
-
-/// One byte more than a text of calls may have: what is read of a longer file is too large as well.
-const MOST_OF_CALLS: usize = CALLS_LIMIT + 1;
+use wsyntax::{CALLS_LIMIT, MODULE_LIMIT};
 
 /// Reads a module whole, and then the calls, and writes the answer to both.
 pub fn answer_files<'a, R: Threads + Wait + Sync, S: Source, O: Write>(
@@ -32,8 +28,8 @@ pub fn answer_files<'a, R: Threads + Wait + Sync, S: Source, O: Write>(
     ensures answer { RunsOn (S.holds source.old path.entry.now) (S.holds source.old calls.entry.now) (limits settings.fuel settings.frames settings.pages) (O.contents out.old) (O.contents out.new) result }
     ensures order { ReadsInOrder path.entry.now calls.entry.now (S.asked source.old) (S.asked source.new) result }
 {
-    let bytes = read_file(alloc, path, MOST_OF_MODULE, source)?;
-    let text = read_file(alloc, calls, MOST_OF_CALLS, source)?;
+    let bytes = read_file(alloc, path, MODULE_LIMIT, source)?;
+    let text = read_file(alloc, calls, CALLS_LIMIT, source)?;
     let answered = answer(rt, alloc, &bytes, &text, settings, plan, &Quiet, out);
     finish(answered, out)
 }

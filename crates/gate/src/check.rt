@@ -14,9 +14,6 @@ use std::sync::Wait;
 use std::thread::Threads;
 use wsyntax::MODULE_LIMIT;
 
-/// One byte more than a module may have: what is read of a longer file is too large as well.
-pub(crate) const MOST_OF_MODULE: usize = MODULE_LIMIT + 1;
-
 /// Reads a module whole, judges it and writes its verdict line.
 pub fn check_file<'a, R: Threads + Wait + Sync, S: Source, O: Write>(
     rt: &R,
@@ -29,7 +26,7 @@ pub fn check_file<'a, R: Threads + Wait + Sync, S: Source, O: Write>(
     ensures check { Checks (S.holds source.old path.entry.now) (O.contents out.old) (O.contents out.new) result }
     ensures only { ReadsPaths (S.asked source.old) (S.asked source.new) (path.entry.now ∷ []) }
 {
-    let bytes = read_file(alloc, path, MOST_OF_MODULE, source)?;
+    let bytes = read_file(alloc, path, MODULE_LIMIT, source)?;
     let answered = report_verdict(rt, alloc, bytes.as_slice(), plan, &Quiet, out);
     finish(answered, out)
 }
