@@ -16,7 +16,8 @@ ratios. The results of all must be equal. Both programs in C are made by clang -
 Last, what calls cost, in nanoseconds: a call and its return, which is what `fib` takes by the number of its calls; and a
 small call on a fresh instance (the sum of two numbers), which is what a process with 100,000 lines of it takes less one with
 as many lines whose second argument is of another type, so that nothing is run: reading, judging and writing are in both (but
-a result is longer to write than `bad-arguments`). Of these the best of fifteen counts.
+a result is longer to write than `bad-arguments`); and a small call on an instance that is there, which is what the calls take
+more where a start function, which adds two numbers, runs before each. Of these the best of fifteen counts.
 
 First, where objdump is installed, how many indirect jumps the function of `gate` has that holds the loop over the tokens. A
 small change there makes the compiler share one jump among all tokens again, which costs a third of the speed.
@@ -38,7 +39,8 @@ const s=process.hrtime.bigint();r=f(+process.argv[3]);const t=Number(process.hrt
 console.log(best,r|0)"""
 JSC = """const m=new WebAssembly.Module(readFile(arguments[0],'binary'));let r=0;
 for(let i=0;i<+arguments[3];i++)r=new WebAssembly.Instance(m).exports[arguments[1]](+arguments[2]);print(r|0)"""
-ADD = '(module (func (export "add") (param i32 i32) (result i32) (i32.add (local.get 0) (local.get 1))))'
+ADD = '(func (export "add") (param i32 i32) (result i32) (i32.add (local.get 0) (local.get 1)))'
+START = '(func $start (drop (i32.add (i32.const 1) (i32.const 2)))) (start $start)'
 CALLS = 100_000
 # The function that holds the loop over the tokens, by a part of its name, and how many indirect jumps it has at least where
 # each token has its own.
@@ -156,15 +158,18 @@ def milliseconds(of_gate, of_other):
     return f'{of_other:9.1f} ({of_other / of_gate:5.2f})'
 
 
-def small_call(gate, folder):
-    # Nanoseconds of a call of `add`, and of a line that is refused before anything is run.
-    module, calls = translated(folder, 'add', ADD), os.path.join(folder, 'calls')
-    spent = {'i32': 1e9, 'i64': 1e9}
+def small_calls(gate, folder):
+    # Nanoseconds of a call of `add`, of one that has a start function before it, and of a line that is refused before anything
+    # is run; each is run in turn, so that all meet the same load.
+    plain, begun = translated(folder, 'add', f'(module {ADD})'), translated(folder, 'begun', f'(module {ADD} {START})')
+    calls = os.path.join(folder, 'calls')
+    kinds = [(plain, 'i32'), (begun, 'i32'), (plain, 'i64')]
+    spent = [1e9] * len(kinds)
     for _ in range(15):
-        for second in spent:
+        for at, (module, second) in enumerate(kinds):
             write(calls, f'add\ti32:1\t{second}:2\n' * CALLS)
-            spent[second] = min(spent[second], best_of([gate, 'run', module, calls, '--workers', '1'], 1)[0] * 1e6 / CALLS)
-    return spent['i32'] - spent['i64'], spent['i64']
+            spent[at] = min(spent[at], best_of([gate, 'run', module, calls, '--workers', '1'], 1)[0] * 1e6 / CALLS)
+    return spent
 
 
 def calls_of_fib(size):
@@ -215,8 +220,9 @@ def main(gate):
         for engine, all_of in ratios.items():
             print(f'geometric mean, {engine}: {math.exp(sum(map(math.log, all_of)) / len(all_of)):.2f}')
         print('a call and its return (fib), ns: ' + ', '.join(f'{engine} {of:.1f}' for engine, of in in_fib.items()))
-        small, refused = small_call(gate, folder)
-        print(f'a small call on a fresh instance, ns: {small:.0f}, beside {refused:.0f} for a line that is refused')
+        small, begun, refused = small_calls(gate, folder)
+        print(f'a small call, ns: {begun - small:.0f} on an instance that is there, {small - refused:.0f} on a fresh one, '
+              f'beside {refused:.0f} for a line that is refused')
 
 
 if __name__ == '__main__':
