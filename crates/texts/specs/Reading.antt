@@ -1,5 +1,5 @@
 -- What reading a text gives.
-use Rattle.std.specs.Prelude.{◌≡◌, ◌≢◌, ℕ, ◌+◌, ◌-◌, ◌*◌, ◌^◌, ◌<◌, ◌≤◌, List, [], ◌∷◌, ◌++◌, length, slice_index, All, Option, Some, None}
+use Rattle.std.specs.Prelude.{◌≡◌, ◌≢◌, ℕ, ◌+◌, ◌-◌, ◌*◌, ◌^◌, ◌<◌, ◌≤◌, List, [], ◌∷◌, ◌++◌, length, slice_index, All, Bool, eqb, Option, Some, None}
 use Rattle.std.specs.Int.{IsInRange}
 
 -- a value with P that is written so, or none where no such value is
@@ -15,6 +15,10 @@ IsFrontPrinted digits = (0 < length digits) × (slice_index digits 0 ≡ 48 → 
 abbrev pub IsLonger : ℕ → ℕ → Option ℕ → Type 0
 IsLonger n digit (Some longer) = IsInRange 48 57 digit × (longer ≡ n * 10 + (digit - 48)) × (longer < 2 ^ 64)
 IsLonger n digit None = IsInRange 48 57 digit → 2 ^ 64 ≤ n * 10 + (digit - 48)
+
+-- the byte is the mark
+abbrev pub is_mark : ℕ → ℕ → Bool
+is_mark mark b = eqb b mark
 
 -- it is empty, or the mark stands first
 abbrev pub StopsAt : ℕ → List ℕ → Type 0

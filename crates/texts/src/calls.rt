@@ -3,7 +3,7 @@ ghost use Rattle.texts.specs.Calls.{ReadsCalls};
 
 use crate::call::{Call, read_call};
 use crate::fault::CallsFault;
-use crate::split::split_before;
+use crate::split::{count_marks, split_before};
 use std::alloc::Global;
 use wsyntax::{CALLS_LIMIT, LINE_LIMIT};
 
@@ -15,7 +15,7 @@ pub fn read_calls(alloc: Global, text: &[u8]) -> Result<Vec<Call<'_>>, CallsFaul
     if text.len() > CALLS_LIMIT {
         return Err(CallsFault::TooLarge);
     }
-    let mut calls = Vec::new(alloc);
+    let mut calls = Vec::with_capacity(alloc, count_marks(text, b'\n').min(LINE_LIMIT))?;
     let mut rest = text;
     'lines: while !rest.is_empty() {
         let bad_line = CallsFault::Line(calls.len() as u32 + 1);
