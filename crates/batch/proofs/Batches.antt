@@ -6,6 +6,7 @@ use Rattle.wsyntax.specs.Modules.{module_shape}
 use Rattle.wsyntax.specs.Texts.Answer.{EndOf, EndsOf}
 use Rattle.soundness.specs.Instances.{Judged}
 use Rattle.pieces.specs.TryAll.{AllPass}
+use Rattle.texts.specs.Args.{args_of}
 use Rattle.texts.specs.Calls.{call_of, calls_of}
 use Rattle.texts.specs.Ends.{end_of, ends_of}
 use Rattle.texts.specs.declared.call.Call.{Call}
@@ -23,13 +24,13 @@ use Rattle.batch.proofs.Instance.{instance_of}
 -- ---- one call
 
 -- its line
-pub given_line : (a : Accepted) (s : Settings) (f : ℕ) (c : Call) (args : List Value) (line : Line) → ∥ Judged (module_shape a.«module») (shapes_of a.bodies.items) ∥₁ → IsCallee (module_shape a.«module») (call_of c) f → args ≡ c.args.items
+pub given_line : (a : Accepted) (s : Settings) (f : ℕ) (c : Call) (args : List Value) (line : Line) → ∥ Judged (module_shape a.«module») (shapes_of a.bodies.items) ∥₁ → IsCallee (module_shape a.«module») (call_of c) f → args ≡ args_of c.args
     → EndsAlone (module_shape a.«module») (shapes_of a.bodies.items) (limits s.fuel s.frames s.pages) f args line → GivesLine a s c line
 given_line a s f c args line judged callee same h =
     let m = module_shape a.«module» in
     let bodies = shapes_of a.bodies.items in
     let l = limits s.fuel s.frames s.pages in
-    let ends : EndsAlone m bodies l f c.args.items line = subst (λ (x : List Value). EndsAlone m bodies l f x line) same h in
+    let ends : EndsAlone m bodies l f (args_of c.args) line = subst (λ (x : List Value). EndsAlone m bodies l f x line) same h in
     let (i, is) = instance_of m bodies judged in
     alone_end m bodies l (call_of c) f i line callee is ends
 

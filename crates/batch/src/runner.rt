@@ -27,7 +27,7 @@ fn callee(accepted: &Accepted<'_>, call: &Call<'_>) -> Result<u32, Line>
     let ExportKind::Function = kind else {
         return Err(Line::NotAFunction);
     };
-    if !fits(accepted, function, &call.args) {
+    if !fits(accepted, function, call.args.as_slice()) {
         return Err(Line::BadArguments);
     }
     Ok(function)
@@ -86,7 +86,7 @@ impl<'a> Runner<'a> {
             self.alloc,
             self.accepted,
             function,
-            &call.args,
+            call.args.as_slice(),
             self.settings,
             clean,
         )

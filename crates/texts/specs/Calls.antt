@@ -2,13 +2,14 @@
 use Rattle.std.specs.Prelude.{ℕ, List, map, Result, Ok, Err, Vec}
 use Rattle.std.specs.declared.alloc.Global.{Global}
 use Rattle.wsyntax.specs.Texts.Calls.{Call as Meant, TooLong, BadLine, Good, IsCalls}
+use Rattle.texts.specs.Args.{args_of}
 use Rattle.texts.specs.declared.call.Call.{Call}
 use Rattle.texts.specs.declared.fault.CallsFault.{CallsFault}
 use Rattle.texts.specs.declared.fault.CallsFault.TheVariants.{TooLarge, Line, Memory}
 
 -- the call that a call of the code is
 abbrev pub call_of : Call → Meant
-call_of c = record { name = c.name.now; args = c.args.items }
+call_of c = record { name = c.name.now; args = args_of c.args }
 
 abbrev pub calls_of : List Call → List Meant
 calls_of calls = map call_of calls

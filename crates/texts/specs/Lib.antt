@@ -4,3 +4,4 @@ pub mod Reading
 pub mod Totals
 pub mod Parts
 pub mod Slices
+pub mod Args

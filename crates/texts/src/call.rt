@@ -3,16 +3,16 @@ ghost use Rattle.wsyntax.specs.Texts.Calls.{IsCall, call_text};
 ghost use Rattle.texts.specs.Reading.{IsReading};
 ghost use Rattle.texts.specs.Calls.{call_of};
 
+use crate::args::Args;
 use crate::split::split_before;
 use crate::value::read_value;
 use std::alloc::{AllocError, Global};
-use wsyntax::Value;
 
 /// A call of an export: its name, whose bytes are those of the text, and its arguments.
 #[derive(Debug, Drop)]
 pub struct Call<'a> {
     pub name: &'a [u8],
-    pub args: Vec<Value>,
+    pub args: Args,
 }
 
 // The call that a line without its newline says.
@@ -21,13 +21,13 @@ pub(crate) fn read_call(alloc: Global, line: &[u8]) -> Result<Option<Call<'_>>, 
     ensures { IfOk result (λ call. IsReading IsCall call_text line.now (option_map call_of call)) }
 {
     let (name, mut rest) = split_before(line, b'\t');
-    let mut args = Vec::new(alloc);
+    let mut args = Args::Empty;
     'fields: while !rest.is_empty() {
         let (field, after) = split_before(&rest[1..], b'\t');
         let Some(value) = read_value(field) else {
             return Ok(None);
         };
-        args.push(value)?;
+        args = args.followed_by(alloc, value)?;
         rest = after;
     }
     Ok(Some(Call { name, args }))

@@ -1,6 +1,7 @@
 //! The text of calls that is read, and the report that is written of how they ended.
 #![tactic(auto)]
 
+mod args;
 mod call;
 mod calls;
 mod fault;
@@ -14,6 +15,7 @@ mod total;
 mod value;
 mod words;
 
+pub use args::Args;
 pub use call::Call;
 pub use calls::read_calls;
 pub use ends::{Outcome, StartRefusal};

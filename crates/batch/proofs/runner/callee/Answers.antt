@@ -21,10 +21,10 @@ pub returns-then-not-fits-clause-refused : goal.returns-then-not-fits-clause-ref
 returns-then-not-fits-clause-refused c =
     let m = module_shape c.args.accepted.now.«module» in
     let exported : IsExported m c.args.call.now.name.now Function c.in-Some.function = function_of m _ _ _ c.in-Function.is ((c.export.ensures.some c.in-Some.kind c.in-Some.function).0 c.in-Some.is) in
-    refused_arguments m _ _ c.in-Some.function c.accepted_is_judged.ensures exported (fits_no _ _ _ _ _ c.deref.ensures.value c.if-not-fits.true c.fits.ensures.1)
+    refused_arguments m _ _ c.in-Some.function c.accepted_is_judged.ensures exported (fits_no _ _ _ _ _ c.as_slice.ensures c.if-not-fits.true c.fits.ensures.1)
 
 pub returns-clause-named : goal.returns-clause-named
 returns-clause-named c =
     let m = module_shape c.args.accepted.now.«module» in
     let exported : IsExported m c.args.call.now.name.now Function c.in-Some.function = function_of m _ _ _ c.in-Function.is ((c.export.ensures.some c.in-Some.kind c.in-Some.function).0 c.in-Some.is) in
-    callee_of m _ c.in-Some.function exported (fits_yes _ _ _ _ _ c.deref.ensures.value c.if-not-fits.false c.fits.ensures.0)
+    callee_of m _ c.in-Some.function exported (fits_yes _ _ _ _ _ c.as_slice.ensures c.if-not-fits.false c.fits.ensures.0)

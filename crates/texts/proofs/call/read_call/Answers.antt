@@ -1,22 +1,23 @@
 use Rattle.std.proofs.Common.{◌<◌, length, subst, rules}
 use Rattle.std.proofs.lemmas.List.{take_rest}
+use Rattle.texts.specs.Args.{args_of}
 use Rattle.texts.specs.Reading.{SplitsBefore}
 use Rattle.texts.proofs.Fields.{fields_begin, field_more, field_refused}
 use Rattle.texts.proofs.call.read_call.Goals as goal
 
 pub fields-init : goal.fields-init
-fields-init c = rw c.new-args.ensures.items (fields_begin c.args.line.now _ _ c.requires c.split_before.ensures)
+fields-init c = fields_begin c.args.line.now _ _ c.requires c.split_before.ensures
 
 pub returns-in_default : goal.returns-in_default
 returns-in_default c =
     let rest = c.fields.rest.now in
     let some : 0 < length rest = search rules in
     let split = subst (λ l. SplitsBefore 0x09 l c.split_before-in-fields.result.0.now c.split_before-in-fields.result.1.now) (take_rest rest 1) c.split_before-in-fields.ensures in
-    field_refused c.args.line.now _ rest _ _ c.fields.args.items some c.fields.invariant split c.in_default.ensures
+    field_refused c.args.line.now _ rest _ _ (args_of c.fields.args) some c.fields.invariant split c.in_default.ensures
 
 pub fields-preserved : goal.fields-preserved
 fields-preserved c =
     let rest = c.fields.rest.now in
     let some : 0 < length rest = search rules in
     let split = subst (λ l. SplitsBefore 0x09 l c.split_before-in-fields.result.0.now c.split_before-in-fields.result.1.now) (take_rest rest 1) c.split_before-in-fields.ensures in
-    rw c.in_ok-push.ensures.items (field_more c.args.line.now _ rest _ _ c.fields.args.items c.in-Some.value some c.fields.invariant split c.in-Some.ensures)
+    rw c.in_ok-args.ensures (field_more c.args.line.now _ rest _ _ (args_of c.fields.args) c.in-Some.value some c.fields.invariant split c.in-Some.ensures)
