@@ -52,17 +52,6 @@ pub fn run_batch<R: Threads + Wait + Sync, W: Watch + Sync>(
     }
 }
 
-/// How many groups there are for each worker, at most, so that one that comes late is not waited for long.
-const GROUPS_EACH: u32 = 64;
-
-/// How many calls a group has: as many as the plan has in a piece, or more where that makes too many groups.
-fn group_size(calls: usize, plan: Plan) -> usize
-    ensures { 0 < result }
-{
-    let groups = (plan.workers() * GROUPS_EACH) as usize;
-    (plan.piece() as usize).max(calls / groups)
-}
-
 /// Runs each call of all slices of a text as `run_batch` does, in groups of as many as the plan has in a piece, or more.
 /// Each worker makes the lines of its groups, and the parts stand in the order of the calls.
 pub(crate) fn run_groups<R: Threads + Wait + Sync, W: Watch + Sync>(
@@ -79,7 +68,8 @@ pub(crate) fn run_groups<R: Threads + Wait + Sync, W: Watch + Sync>(
 {
     let (pool, tickets) = Pool::new(alloc, plan.workers())?;
     let calls = count_calls(slices).unwrap_or(LINE_LIMIT);
-    let groups = groups_of(alloc, slices, group_size(calls, plan))?;
+    let size = plan.for_many(calls as u32).piece() as usize;
+    let groups = groups_of(alloc, slices, size)?;
     let Ok(count) = u32::try_from(groups.len()) else {
         return Err(AllocError);
     };

@@ -18,6 +18,9 @@ const MOST_WORKERS: u32 = 64;
 /// The greatest size of a piece.
 const LONGEST_PIECE: u32 = 65_535;
 
+/// How many groups there are for each worker, at most, so that one that comes late is not waited for long.
+const MOST_GROUPS: u32 = 64;
+
 impl Plan {
     /// `None` exactly where there are no workers or more than 64, or where a piece is empty or longer than
     /// 65,535 indices.
@@ -43,6 +46,18 @@ impl Plan {
         ensures { result ≡ self.now.piece }
     {
         self.piece
+    }
+
+    /// The plan of as many workers whose pieces are longer where so many things would make more than 64 for each worker.
+    pub fn for_many(&self, things: u32) -> Plan
+        ensures workers { result.workers ≡ self.now.workers }
+        ensures longer { self.now.piece ≤ result.piece }
+    {
+        let each = things / (self.workers * MOST_GROUPS);
+        Plan {
+            workers: self.workers,
+            piece: self.piece.max(each.min(LONGEST_PIECE)),
+        }
     }
 
     /// How many groups so many things make, where a group has as many as a piece. The last group may have fewer.

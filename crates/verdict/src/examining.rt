@@ -30,12 +30,31 @@ fn new_scratches<'a>(
     Ok(scratches)
 }
 
-/// Judges the bodies of a module, in groups of as many as the plan has in a piece, up to the first that is refused.
+/// A module of at least so many bytes makes a group worth its while.
+const SHORTEST_GROUP: usize = 4_096;
+
+/// How many groups there are for each worker at least, where they are long enough.
+const FEWEST_GROUPS: u32 = 16;
+
+/// The plan whose pieces are the groups of the bodies of a module of so many bytes: shorter where bodies are few and long, so
+/// that every worker has some, and longer where they are many.
+fn grouping(plan: Plan, bodies: u32, bytes: usize) -> Plan
+    ensures { result.workers ≡ plan.workers }
+{
+    let many = plan.for_many(bodies);
+    let wanted = plan.workers().saturating_mul(FEWEST_GROUPS) as usize;
+    let groups = wanted.min(bytes / SHORTEST_GROUP).max(1) as u32;
+    let size = (bodies / groups).max(1).min(many.piece());
+    Plan::new(plan.workers(), size).unwrap_or(many)
+}
+
+/// Judges the bodies of a module of so many bytes in groups, up to the first that is refused.
 fn examine_bodies<R: Threads + Wait + Sync, W: Watch + Sync>(
     rt: &R,
     alloc: Global,
     context: &Context,
     bodies: &[&[u8]],
+    bytes: usize,
     plan: Plan,
     watch: &W,
 ) -> Result<(), Refusal>
@@ -49,6 +68,7 @@ fn examine_bodies<R: Threads + Wait + Sync, W: Watch + Sync>(
         return Err(Refusal::Memory);
     };
     let imported = context.imported_functions() as u32;
+    let plan = grouping(plan, bodies.len() as u32, bytes);
     let size = plan.piece();
     let job = GroupedBodies {
         alloc,
@@ -84,5 +104,5 @@ pub fn examine<R: Threads + Wait + Sync, W: Watch + Sync>(
     refused_at_first_fault();
     let module = decode_module(alloc, bytes)?;
     let context = check_module(alloc, &module)?;
-    examine_bodies(rt, alloc, &context, &module.bodies, plan, watch)
+    examine_bodies(rt, alloc, &context, &module.bodies, bytes.len(), plan, watch)
 }

@@ -7,7 +7,7 @@ use Rattle.verdict.proofs.examining.examine_bodies.Goals.{in-Ok-try_all, in-Err-
 
 pub returns : goal.returns
 returns g c =
-    let some : 0 < c.piece-size.result = omega (arith, c.piece-size.ensures, c.args.plan.in_range.2) in
+    let some : 0 < c.piece-size.result = omega (arith, c.piece-size.ensures, c.grouping-plan.result.in_range.2) in
     let same = c.count_groups-groups.ensures ∙ ap (div_ceil (length c.args.bodies.now)) (sym c.piece-size.ensures) in
     elim c.match-try_all.branch [
       | in-Ok-try_all w ↦
