@@ -6,6 +6,7 @@ pub mod Bodies
 pub mod Firsts
 pub mod Groups
 pub mod OnePass
+pub mod WholeBodies
 pub mod Checks
 pub mod OneVerdict
 pub mod Judgements

@@ -20,11 +20,6 @@ abbrev pub typing_class : algorithm.Verdict → Option Class
 typing_class Accepted = None
 typing_class (Refused at) = Some (IllTyped at)
 
--- the verdict where the tokens stop at that one, or at none
-abbrev pub stopped_at : Option ℕ → algorithm.Verdict
-stopped_at None = Accepted
-stopped_at (Some at) = Refused at
-
 -- the body of function f under the context of its module
 abbrev pub body_class : Context → ℕ → BodyShape → Option Class
 body_class C f b =

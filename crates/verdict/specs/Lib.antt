@@ -2,4 +2,5 @@ pub mod Refusals
 pub mod Judged
 pub mod Groups
 pub mod OnePass
+pub mod WholeBodies
 pub mod Laws

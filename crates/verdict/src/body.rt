@@ -1,45 +1,112 @@
-ghost use Rattle.std.specs.Prelude.{◌≡◌, ◌<◌, Some, None, IfOk, MatchResult, length};
+ghost use Rattle.std.specs.Prelude.{◌≡◌, ◌∷◌, ◌+◌, ◌<◌, List, [], Some, None, IfOk, MatchResult, length};
 ghost use Rattle.pieces.specs.Faults.{AllowsFault};
-ghost use Rattle.wsyntax.specs.Modules.{tokens_of};
-ghost use Rattle.wsyntax.specs.Validation.Algorithm.{alg};
-ghost use Rattle.wsyntax.specs.Validation.ModuleContext.{function_context};
-ghost use Rattle.wsyntax.specs.Validation.Verdict.{result_of};
-ghost use Rattle.verdict.specs.Judged.{class_of, stopped_at};
+ghost use Rattle.wsyntax.specs.Instructions.{Token as Instruction};
+ghost use Rattle.wsyntax.specs.Modules.{seen};
+ghost use Rattle.wsyntax.specs.Binary.Nesting.{expression};
+ghost use Rattle.verdict.specs.Judged.{class_of};
+ghost use Rattle.verdict.specs.WholeBodies.{class_from, class_read, Tells};
 
 use crate::refusal::Class;
 use pieces::JobFault;
+use smallvec::SmallVec;
 use std::alloc::{AllocError, Global};
 use wcheck::Checker;
-use wdecode::{BodyFault, decode_body, grammar_is_read};
-use wsyntax::Body;
+use wdecode::{Fault, enter, has_too_many_locals, locals_at, token_at};
+use wsyntax::Token;
 
-/// Checks the tokens of a body: `None` where they are typed, else the first that no completion can save.
-fn first_fault(
+/// Looks at the token of that number, where no fault of the body is known yet: the fault that is known then.
+fn look(
     checker: &mut Checker<'_>,
-    func: u32,
-    body: &Body,
-) -> Result<Option<usize>, AllocError>
-    requires { func < length checker.old.outside.functions }
+    targets: &[u32],
+    fault: Option<Class>,
+    token: Token,
+    at: usize,
+) -> Result<Option<Class>, AllocError>
     ensures outside { checker.new.outside ≡ checker.old.outside }
-    ensures verdict { IfOk result (λ at. alg (function_context checker.old.outside func body.now.runs.items) (result_of checker.old.outside func) (tokens_of body.now.code) ≡ stopped_at at) }
+    ensures inside { IfOk result (λ _. checker.new.inside ≡ checker.old.inside) }
+    ensures goes_on { IfOk result (λ now. (after : List Instruction)
+        → class_from checker.old.inside fault checker.old.frames at (seen targets.now token ∷ after) ≡ class_from checker.old.inside now checker.new.frames (at + 1) after) }
 {
-    checker.begin(func, &body.runs)?;
-    for (at, token) in body.code.tokens.iter().enumerate() {
-        if !checker.step(*token, &body.code.targets)? {
-            return Ok(Some(at));
-        }
+    if fault.is_some() {
+        return Ok(fault);
     }
-    if checker.finish() {
+    if checker.step(token, targets)? {
         Ok(None)
     } else {
-        Ok(Some(body.code.tokens.len()))
+        Ok(Some(Class::IllTyped { at }))
     }
 }
 
-/// Judges the bytes of the body of the function of that index, imported ones counted.
+/// What a body of so many tokens is refused for, behind its last token.
+fn at_end(checker: &Checker<'_>, fault: Option<Class>, count: usize) -> Option<Class>
+    ensures { result ≡ class_from checker.now.inside fault checker.now.frames count [] }
+{
+    match fault {
+        Some(class) => Some(class),
+        None if checker.finish() => None,
+        None => Some(Class::IllTyped { at: count }),
+    }
+}
+
+/// What a body is refused for that has these bytes behind its locals, where a fault of it is known or none is: the bytes
+/// are read to their end all the same. Each token is let go as soon as the checker has seen it, so that no more is kept
+/// than the open blocks, and the labels of one branch table.
+fn tokens_fault(
+    alloc: Global,
+    checker: &mut Checker<'_>,
+    targets: &mut Vec<u32>,
+    known: Option<Class>,
+    bytes: &[u8],
+) -> Result<Option<Class>, Fault>
+    ensures outside { checker.new.outside ≡ checker.old.outside }
+    ensures verdict { Tells result (class_read checker.old.inside known checker.old.frames 0 (expression.read bytes.now)) }
+{
+    let mut opened = SmallVec::new(alloc);
+    let mut fault = known;
+    let mut rest = bytes;
+    for at in 0..bytes.len() {
+        targets.clear();
+        let (token, after) = token_at(targets, rest)?;
+        fault = look(checker, targets, fault, token, at)?;
+        let closes = enter(&mut opened, token)?;
+        if closes {
+            if after.is_empty() {
+                return Ok(at_end(checker, fault, at + 1));
+            }
+            return Err(Fault::Malformed);
+        }
+        rest = after;
+    }
+    Err(Fault::Malformed)
+}
+
+/// What a body is refused for, if it is; Malformed says that the bytes spell none.
+fn body_fault(
+    alloc: Global,
+    checker: &mut Checker<'_>,
+    targets: &mut Vec<u32>,
+    func: u32,
+    bytes: &[u8],
+) -> Result<Option<Class>, Fault>
+    requires { func < length checker.old.outside.functions }
+    ensures outside { checker.new.outside ≡ checker.old.outside }
+    ensures verdict { Tells result (class_of checker.old.outside func bytes.now) }
+{
+    let (runs, rest) = locals_at(alloc, bytes)?;
+    if has_too_many_locals(&runs) {
+        let known = Some(Class::TooManyLocals);
+        return tokens_fault(alloc, checker, targets, known, rest);
+    }
+    checker.begin(func, &runs)?;
+    tokens_fault(alloc, checker, targets, None, rest)
+}
+
+/// Judges the bytes of the body of the function of that index, imported ones counted. The targets are room for the
+/// labels of a branch table, whatever they hold.
 pub(crate) fn judge_body(
     alloc: Global,
     checker: &mut Checker<'_>,
+    targets: &mut Vec<u32>,
     func: u32,
     bytes: &[u8],
 ) -> Result<(), JobFault<Class>>
@@ -49,16 +116,10 @@ pub(crate) fn judge_body(
         (λ _. class_of checker.old.outside func bytes.now ≡ None)
         (AllowsFault (λ class. class_of checker.old.outside func bytes.now ≡ Some class)) }
 {
-    grammar_is_read();
-    let body = match decode_body(alloc, bytes) {
-        Ok(body) => body,
-        Err(BodyFault::Malformed) => return Err(JobFault::Refused(Class::Malformed)),
-        Err(BodyFault::TooManyLocals) => return Err(JobFault::Refused(Class::TooManyLocals)),
-        Err(BodyFault::Memory) => return Err(JobFault::Memory),
-    };
-    match first_fault(checker, func, &body) {
+    match body_fault(alloc, checker, targets, func, bytes) {
         Ok(None) => Ok(()),
-        Ok(Some(at)) => Err(JobFault::Refused(Class::IllTyped { at })),
-        Err(_) => Err(JobFault::Memory),
+        Ok(Some(class)) => Err(JobFault::Refused(class)),
+        Err(Fault::Malformed) => Err(JobFault::Refused(Class::Malformed)),
+        Err(Fault::Memory) => Err(JobFault::Memory),
     }
 }

@@ -45,7 +45,8 @@ fn judge_at(
     if scratch.passes(alloc, func, bytes) {
         return Ok(());
     }
-    match judge_body(alloc, &mut scratch.checker, func, bytes) {
+    let Scratch { checker, targets } = scratch;
+    match judge_body(alloc, checker, targets, func, bytes) {
         Ok(()) => Ok(()),
         Err(JobFault::Refused(class)) => Err(JobFault::Refused(RefusedBody { place, class })),
         Err(JobFault::Memory) => Err(JobFault::Memory),

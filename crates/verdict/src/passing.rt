@@ -17,7 +17,7 @@ use wsyntax::{Opcode, Token};
 pub(crate) struct Scratch<'a> {
     pub(crate) checker: Checker<'a>,
     /// The labels of the branch table at hand.
-    targets: Vec<u32>,
+    pub(crate) targets: Vec<u32>,
 }
 
 impl<'a> Scratch<'a> {
