@@ -52,6 +52,9 @@ pub fn run_batch<R: Threads + Wait + Sync, W: Watch + Sync>(
     }
 }
 
+/// How many groups there are for each worker at least, where there are as many calls: few long calls are shared too.
+const FEWEST_GROUPS: u32 = 16;
+
 /// Runs each call of all slices of a text as `run_batch` does, in groups of as many as the plan has in a piece, or more.
 /// Each worker makes the lines of its groups, and the parts stand in the order of the calls.
 pub(crate) fn run_groups<R: Threads + Wait + Sync, W: Watch + Sync>(
@@ -68,7 +71,8 @@ pub(crate) fn run_groups<R: Threads + Wait + Sync, W: Watch + Sync>(
 {
     let (pool, tickets) = Pool::new(alloc, plan.workers())?;
     let calls = count_calls(slices).unwrap_or(LINE_LIMIT);
-    let size = plan.for_many(calls as u32).piece() as usize;
+    let wanted = plan.workers().saturating_mul(FEWEST_GROUPS);
+    let size = plan.grouping(calls as u32, wanted).piece() as usize;
     let groups = groups_of(alloc, slices, size)?;
     let Ok(count) = u32::try_from(groups.len()) else {
         return Err(AllocError);

@@ -48,15 +48,16 @@ impl Plan {
         self.piece
     }
 
-    /// The plan of as many workers whose pieces are longer where so many things would make more than 64 for each worker.
-    pub fn for_many(&self, things: u32) -> Plan
-        ensures workers { result.workers ≡ self.now.workers }
-        ensures longer { self.now.piece ≤ result.piece }
+    /// The plan of as many workers whose pieces are the groups of so many things: shorter than those of this plan where
+    /// these would make fewer groups than are wanted, and longer where they would make more than 64 for each worker.
+    pub fn grouping(&self, things: u32, wanted: u32) -> Plan
+        ensures { result.workers ≡ self.now.workers }
     {
-        let each = things / (self.workers * MOST_GROUPS);
+        let longer = self.piece.max(things / (self.workers * MOST_GROUPS));
+        let piece = longer.min(things / wanted.max(1)).clamp(1, LONGEST_PIECE);
         Plan {
             workers: self.workers,
-            piece: self.piece.max(each.min(LONGEST_PIECE)),
+            piece,
         }
     }
 

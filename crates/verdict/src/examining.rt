@@ -36,16 +36,12 @@ const SHORTEST_GROUP: usize = 4_096;
 /// How many groups there are for each worker at least, where they are long enough.
 const FEWEST_GROUPS: u32 = 16;
 
-/// The plan whose pieces are the groups of the bodies of a module of so many bytes: shorter where bodies are few and long, so
-/// that every worker has some, and longer where they are many.
+/// The plan whose pieces are the groups of the bodies of a module of so many bytes.
 fn grouping(plan: Plan, bodies: u32, bytes: usize) -> Plan
     ensures { result.workers ≡ plan.workers }
 {
-    let many = plan.for_many(bodies);
     let wanted = plan.workers().saturating_mul(FEWEST_GROUPS) as usize;
-    let groups = wanted.min(bytes / SHORTEST_GROUP).max(1) as u32;
-    let size = (bodies / groups).max(1).min(many.piece());
-    Plan::new(plan.workers(), size).unwrap_or(many)
+    plan.grouping(bodies, wanted.min(bytes / SHORTEST_GROUP) as u32)
 }
 
 /// Judges the bodies of a module of so many bytes in groups, up to the first that is refused.
@@ -104,5 +100,13 @@ pub fn examine<R: Threads + Wait + Sync, W: Watch + Sync>(
     refused_at_first_fault();
     let module = decode_module(alloc, bytes)?;
     let context = check_module(alloc, &module)?;
-    examine_bodies(rt, alloc, &context, &module.bodies, bytes.len(), plan, watch)
+    examine_bodies(
+        rt,
+        alloc,
+        &context,
+        &module.bodies,
+        bytes.len(),
+        plan,
+        watch,
+    )
 }
