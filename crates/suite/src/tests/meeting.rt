@@ -174,8 +174,9 @@ fn two_bodies_are_examined_at_once(rt: HostRuntime) -> Result<(), Fail> {
 fn meeting_of_answer<R: Threads + Wait + Abort + Sync>(
     rt: &R,
     alloc: Global,
+    piece: u32,
 ) -> Result<Meeting, Fail> {
-    let plan = Plan::new(2, 1).ok_or("plan")?;
+    let plan = Plan::new(2, piece).ok_or("plan")?;
     let settings = Settings::new(10, 1, 0).ok_or("settings")?;
     let meeting = Meeting::new();
     let mut text = Vec::new(alloc);
@@ -197,7 +198,7 @@ fn meeting_of_answer<R: Threads + Wait + Abort + Sync>(
 fn two_bodies_and_two_calls_of_an_answer_meet(rt: HostRuntime) -> Result<(), Fail> {
     let (mut bodies_met, mut calls_met) = (false, false);
     for _ in 0..TRIES {
-        let meeting = meeting_of_answer(&rt, rt.alloc())?;
+        let meeting = meeting_of_answer(&rt, rt.alloc(), 1)?;
         bodies_met = bodies_met || meeting.bodies.has_met();
         calls_met = calls_met || meeting.calls.has_met();
         if bodies_met && calls_met {
@@ -205,4 +206,15 @@ fn two_bodies_and_two_calls_of_an_answer_meet(rt: HostRuntime) -> Result<(), Fai
         }
     }
     panic!(rt; "bodies met: {bodies_met}, calls met: {calls_met}")
+}
+
+// Few calls are shared among the workers, whatever the piece.
+#[test]
+fn two_calls_of_one_piece_are_run_at_once(rt: HostRuntime) -> Result<(), Fail> {
+    for _ in 0..TRIES {
+        if meeting_of_answer(&rt, rt.alloc(), 16)?.calls.has_met() {
+            return Ok(());
+        }
+    }
+    panic!(rt; "no two calls were run at once")
 }
