@@ -3,6 +3,7 @@ pub mod Counts
 pub mod DequeSteps
 pub mod Registers
 pub mod MarkSteps
+pub mod SideBySide
 pub mod Crews
 pub mod Absorbing
 pub mod Settles

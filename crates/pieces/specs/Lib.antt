@@ -10,6 +10,7 @@ pub mod Absorbing
 pub mod Faults
 pub mod Gathered
 pub mod Working
+pub mod SideBySide
 pub mod Crew
 pub mod TryAll
 pub mod TestJobs

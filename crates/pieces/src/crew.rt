@@ -3,12 +3,12 @@ ghost use Rattle.std.specs.Prelude.{◌≡◌, ◌<◌, ◌≤◌, ℕ, All, len
 ghost use Rattle.pieces.specs.Crew.{IsReady, IsDone};
 
 use crate::bag::Bag;
+use crate::beside::each_beside;
 use crate::job::Job;
 use crate::mark::Mark;
 use crate::member::Member;
 use crate::work::work;
 use std::sync::Wait;
-use std::thread;
 use std::thread::Threads;
 
 // Runs one worker. One that finds no memory for an answer lowers the mark to 0, so that the others pass
@@ -36,9 +36,7 @@ fn run_member<R: Wait, J: Job>(
     }
 }
 
-// The first worker runs on the calling thread, since `for_each_mut` runs the last of a slice there. A
-// worker whose thread cannot be started runs on the thread that would have started it, after that
-// thread's own.
+// A worker whose thread cannot be started runs on the calling thread, behind those that are started after it.
 fn run_each<R: Threads + Wait + Sync, J: Job + Sync>(
     rt: &R,
     job: &J,
@@ -52,14 +50,11 @@ fn run_each<R: Threads + Wait + Sync, J: Job + Sync>(
     ensures { (i : ℕ) (d : _) → i < length crew.old
         → IsDone bag.now mark.now (J.passes job.now) (J.gives job.now) (J.refuses job.now) (slice_index_or crew.old i d) (slice_index_or crew.new i d) }
 {
-    let workers = crew.len();
     let one = |_: usize, member: &mut Member<J::Local, J::Out, J::Fault>|
         requires { (bag.now.n ≤ J.limit job.now) × IsReady bag.now mark.now (J.belongs job.now) member.old }
         ensures { IsDone bag.entry.now mark.entry.now (J.passes job.entry.now) (J.gives job.entry.now) (J.refuses job.entry.now) member.old member.new }
     { run_member(rt, job, bag, mark, member) };
-    crew.reverse();
-    thread::for_each_mut(rt, crew, workers, &one);
-    crew.reverse();
+    each_beside(rt, &one, crew);
 }
 
 // Runs all workers, and gives them back.

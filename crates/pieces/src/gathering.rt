@@ -86,9 +86,9 @@ fn sorted<O: Drop, F: Drop>(
 /// Runs the job on the plan's workers, and gives their answers in rising order of index. An index above
 /// one that is refused, or that found no memory, may be missing. One local is needed for each worker, and
 /// where there are more workers than pieces those that are left over are dropped unused.
-/// `Err` comes only where memory for the run itself was refused. The calling thread is one of the
-/// workers, and workers that cannot be started are replaced by those that run. It may wait; what it
-/// promises holds if it returns.
+/// `Err` comes only where memory for the run itself was refused. Each of several workers has a thread of
+/// its own, and the calling thread waits for them; workers whose threads cannot be started are replaced
+/// by those that run. It may wait; what it promises holds if it returns.
 pub fn gather<R: Threads + Wait + Sync, J: Job + Sync>(
     rt: &R,
     alloc: Global,

@@ -4,6 +4,7 @@
 #![tactic(auto)]
 
 mod bag;
+mod beside;
 mod crew;
 mod gathering;
 mod history;

@@ -162,8 +162,8 @@ fn put_first(
 }
 
 /// A bag with all pieces of the indices below n, a mark that nothing has lowered, and as many empty
-/// shares as the plan has workers, the first for the calling thread. It takes the memory of the whole
-/// run; `take`, `lower` and `read` take none.
+/// shares as the plan has workers. It takes the memory of the whole run; `take`, `lower` and `read` take
+/// none.
 pub fn open(alloc: Global, n: u32, plan: Plan) -> Result<(Bag, Mark, Vec<Share>), AllocError>
     ensures bag { IfOk result (λ o. (o.0.n ≡ n) × (o.0.size ≡ plan.piece)) }
     ensures shares { IfOk result (λ o. vec_len o.2 ≡ plan.workers) }
