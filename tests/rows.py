@@ -2,9 +2,9 @@
 """usage: rows.py GATE    runs the program GATE on each row of the tables of modules, which the crate `suite` reads too.
 
 check.tsv    name, the module as bytes in hexadecimal, what `gate check` prints, its status; each is run with three plans,
-             and once more with stacks of 64 KiB
+             and once more with stacks of 64 KiB, on 64 workers
 run.tsv      name, the module, the calls, the options, what `gate run` prints, its status; each is run with twelve plans,
-             and once more with stacks of 64 KiB
+             and once more with stacks of 64 KiB, on 64 workers
 Bytes are in hexadecimal; `xNN*K` stands for K times the bytes NN. In calls and in what is printed \\t is a tab and \\n a
 newline. Lines that begin with # are comments.
 """
@@ -50,6 +50,8 @@ def write(path, contents):
 
 def main(gate):
     passed, failed = 0, 0
+    # The thread that starts them all has a call open for each.
+    many = ['--workers', '64', '--piece', '1']
 
     def expect(name, words, text, status, **settings):
         nonlocal passed, failed
@@ -65,7 +67,7 @@ def main(gate):
             write(path, bytes_of(module))
             for options in ([], ['--workers', '1', '--piece', '1'], ['--workers', '64', '--piece', '65535']):
                 expect(name, ['check', path] + options, line.encode() + b'\n', int(status))
-            expect(name, ['check', path, '--workers', '4'], line.encode() + b'\n', int(status), preexec_fn=small_stack, env={})
+            expect(name, ['check', path] + many, line.encode() + b'\n', int(status), preexec_fn=small_stack, env={})
 
     def run(path, calls_path):
         for name, module, calls, options, text, status in rows('run.tsv'):
@@ -75,7 +77,7 @@ def main(gate):
             for workers in ('1', '2', '8', '64'):
                 for piece in ('1', '7', '65535'):
                     expect(name, words + ['--workers', workers, '--piece', piece], text_of(text), int(status))
-            expect(name, words, text_of(text), int(status), preexec_fn=small_stack, env={})
+            expect(name, words + many, text_of(text), int(status), preexec_fn=small_stack, env={})
 
     with tempfile.TemporaryDirectory() as folder:
         path = os.path.join(folder, 'module.wasm')
