@@ -1,10 +1,10 @@
 ghost use Rattle.std.specs.Prelude.{◌≡◌, IfOk, map};
-ghost use Rattle.wsyntax.specs.Modules.{func_type_of};
+ghost use Rattle.wsyntax.specs.FuncTypes.{func_type_of};
 ghost use Rattle.accepted.specs.TypeNumbers.{code_of, key_of, Numbers, AreTypeNumbers};
 
 use std::alloc::{AllocError, Global};
 use std::collections::BTreeMap;
-use wsyntax::{FuncType, ValType};
+use wsyntax::{FuncType, FuncTypes, ValType};
 
 /// What stands between the parameters and the results in the text of a type: the code of no type.
 const BETWEEN: u8 = 4;
@@ -27,12 +27,12 @@ fn codes_of(alloc: Global, types: &[ValType]) -> Result<Vec<u8>, AllocError>
 }
 
 /// A text that no other function type has.
-fn key_of(alloc: Global, of_type: &FuncType) -> Result<Vec<u8>, AllocError>
-    ensures { IfOk result (λ v. v.items ≡ key_of (func_type_of of_type.now)) }
+fn key_of(alloc: Global, of_type: FuncType<'_>) -> Result<Vec<u8>, AllocError>
+    ensures { IfOk result (λ v. v.items ≡ key_of (func_type_of of_type.entry)) }
 {
-    let mut key = codes_of(alloc, &of_type.params)?;
+    let mut key = codes_of(alloc, of_type.params)?;
     key.push(BETWEEN)?;
-    key.extend_from_slice(&codes_of(alloc, &of_type.results)?)?;
+    key.extend_from_slice(&codes_of(alloc, of_type.results)?)?;
     Ok(key)
 }
 
@@ -53,14 +53,17 @@ fn number_of(
 
 /// Of each type a number, equal for equal types alone. The time is near linear in the length of the
 /// types, whatever they are.
-pub(crate) fn type_numbers(alloc: Global, types: &[FuncType]) -> Result<Vec<u32>, AllocError>
-    ensures { IfOk result (λ v. AreTypeNumbers (map func_type_of types.now) v.items) }
+pub(crate) fn type_numbers(alloc: Global, types: &FuncTypes) -> Result<Vec<u32>, AllocError>
+    ensures { IfOk result (λ v. AreTypeNumbers types.now v.items) }
 {
     let mut first = BTreeMap::new(alloc);
     let mut numbers = Vec::new(alloc);
-    for of_type in types {
+    for index in 0..types.len() {
+        let Some(of_type) = types.get(index) else {
+            unreachable!()
+        };
         let key = key_of(alloc, of_type)?;
-        let Ok(next) = u32::try_from(numbers.len()) else {
+        let Ok(next) = u32::try_from(index) else {
             return Err(AllocError);
         };
         numbers.push(number_of(&mut first, key, next)?)?;

@@ -1,14 +1,43 @@
--- What the options of the command line say.
-use Rattle.std.specs.Prelude.{◌≡◌, ℕ, List, IfSome, codes}
-use Rattle.std.specs.Str.Parse.{digits_value, without_leading_plus}
-use Rattle.clap.specs.Words.{found_of, one_text}
-use Rattle.clap.specs.declared.parser.matches.ArgMatches.{ArgMatches}
-use Rattle.wstore.specs.declared.settings.Settings.{Settings}
+-- What the words of the command line say of numbers.
+use Rattle.std.specs.Prelude.{◌≡◌, ◌≢◌, ◌⊎◌, ℕ, ◌+◌, ◌<◌, List, [], ◌++◌, length, slice_index_or, codes}
+use Rattle.std.specs.List.{All, AllWithin, before_first}
+use Rattle.std.specs.Str.{bytes_eq}
+use Rattle.std.specs.Str.Parse.{IsNumeral, digits_value, without_leading_plus}
 
--- the text of the option, where it has one, is this number in decimal
-abbrev pub SaysNumber : ArgMatches → List ℕ → ℕ → Type 0
-SaysNumber m id n = IfSome (one_text (found_of m) id) (λ text. n ≡ digits_value 10 (without_leading_plus text))
+-- the words that may be options: those before the first `--`
+abbrev pub option_words : List (List ℕ) → List (List ℕ)
+option_words words = before_first (λ word. bytes_eq word (codes "--")) words
 
--- each limit is what the option of its name says
-abbrev pub SaysLimits : ArgMatches → Settings → Type 0
-SaysLimits m s = SaysNumber m (codes "fuel") s.fuel × (SaysNumber m (codes "frames") s.frames × SaysNumber m (codes "pages") s.pages)
+-- the text is this number in decimal, perhaps with a plus before it
+abbrev pub IsDecimal : ℕ → List ℕ → Type 0
+IsDecimal n text = IsNumeral 10 (without_leading_plus text) × (n ≡ digits_value 10 (without_leading_plus text))
+
+-- the word does not begin with the option
+abbrev pub LacksOption : List ℕ → List ℕ → Type 0
+LacksOption option word = (rest : List ℕ) → word ≢ option ++ rest
+
+-- the word at k is the option, `=` and the text; or it is the option alone, and the next word is the text
+abbrev pub GivesText : List (List ℕ) → List ℕ → ℕ → List ℕ → Type 0
+GivesText words option k text =
+    (slice_index_or words k [] ≡ option ++ (codes "=" ++ text))
+    ⊎ ((slice_index_or words k [] ≡ option) × (k + 1 < length words) × (slice_index_or words (k + 1) [] ≡ text))
+
+-- the first word that begins with the option gives the text; or no word begins with it, and the text is the default
+abbrev pub SaysText : List (List ℕ) → List ℕ → List ℕ → List ℕ → Type 0
+SaysText words option default text =
+    ((k : ℕ) × (k < length words) × AllWithin (LacksOption option) words 0 k × GivesText words option k text)
+    ⊎ (All (LacksOption option) words × (text ≡ default))
+
+-- the words say this number of the option with this name and default
+abbrev pub SaysNumber : List (List ℕ) → List ℕ → List ℕ → ℕ → Type 0
+SaysNumber words name default n = (text : List ℕ) × SaysText (option_words words) (codes "--" ++ name) default text × IsDecimal n text
+
+-- the words say these limits of a call
+abbrev pub SaysLimits : List (List ℕ) → ℕ → ℕ → ℕ → Type 0
+SaysLimits words fuel frames pages =
+    SaysNumber words (codes "fuel") (codes "1000000") fuel
+    × (SaysNumber words (codes "frames") (codes "1024") frames × SaysNumber words (codes "pages") (codes "256") pages)
+
+-- the words say how many threads work, and how much each takes at once
+abbrev pub SaysPlan : List (List ℕ) → ℕ → ℕ → Type 0
+SaysPlan words workers piece = SaysNumber words (codes "workers") (codes "4") workers × SaysNumber words (codes "piece") (codes "16") piece

@@ -3,6 +3,17 @@ use clap::{Arg, Command, value_parser};
 use std::alloc::{AllocError, Global};
 use std::ops::Range;
 
+/// How many threads work where no word says it.
+pub const WORKERS_DEFAULT: &str = "4";
+/// How much a thread takes at once where no word says it.
+pub const PIECE_DEFAULT: &str = "16";
+/// How much fuel a call has where no word says it.
+pub const FUEL_DEFAULT: &str = "1000000";
+/// How many functions are entered at a time where no word says it.
+pub const FRAMES_DEFAULT: &str = "1024";
+/// How many pages of memory a call has where no word says it.
+pub const PAGES_DEFAULT: &str = "256";
+
 /// What `gate run --help` ends with.
 const RUN_EXAMPLE: &str = "\
 CALLS has one line a call: the name of an export, and then for each argument a tab and `i32:NUMBER` or
@@ -81,27 +92,27 @@ fn calls_word<'a>(alloc: Global) -> Arg<'a> {
 
 fn workers_option<'a>(alloc: Global) -> Arg<'a> {
     let help = "How many threads work, 1 to 64";
-    number_option(alloc, "workers", help, 1..65, "4")
+    number_option(alloc, "workers", help, 1..65, WORKERS_DEFAULT)
 }
 
 fn piece_option<'a>(alloc: Global) -> Arg<'a> {
     let help = "How many bodies or calls a thread takes at once, 1 to 65535";
-    number_option(alloc, "piece", help, 1..65_536, "16")
+    number_option(alloc, "piece", help, 1..65_536, PIECE_DEFAULT)
 }
 
 fn fuel_option<'a>(alloc: Global) -> Arg<'a> {
     let help = "How much fuel a call has, 0 to 1000000000";
-    number_option(alloc, "fuel", help, 0..1_000_000_001, "1000000")
+    number_option(alloc, "fuel", help, 0..1_000_000_001, FUEL_DEFAULT)
 }
 
 fn frames_option<'a>(alloc: Global) -> Arg<'a> {
     let help = "How many functions of a call are entered at a time, 1 to 4096";
-    number_option(alloc, "frames", help, 1..4_097, "1024")
+    number_option(alloc, "frames", help, 1..4_097, FRAMES_DEFAULT)
 }
 
 fn pages_option<'a>(alloc: Global) -> Arg<'a> {
     let help = "How many pages of memory a call has, 0 to 1024";
-    number_option(alloc, "pages", help, 0..1_025, "256")
+    number_option(alloc, "pages", help, 0..1_025, PAGES_DEFAULT)
 }
 
 // An option that takes a number within the range.

@@ -6,6 +6,7 @@ mod fault;
 mod matched;
 mod reading;
 mod request;
+mod said;
 
 pub use fault::{WordsFault, usage};
 pub use reading::read_words;

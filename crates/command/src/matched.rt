@@ -1,9 +1,13 @@
 // What the matched words give. Each has passed its range.
 ghost use Rattle.std.specs.Prelude.{◌≡◌, Contains, IfSome, map};
-ghost use Rattle.command.specs.Options.{SaysLimits, SaysNumber};
+ghost use Rattle.command.specs.Options.{SaysLimits, SaysNumber, SaysPlan};
 ghost use Rattle.command.specs.Requests.{IsRequestOf};
 
+use crate::commands::{
+    FRAMES_DEFAULT, FUEL_DEFAULT, PAGES_DEFAULT, PIECE_DEFAULT, WORKERS_DEFAULT,
+};
 use crate::request::Request;
+use crate::said::is_said;
 use clap::ArgMatches;
 use pieces::Plan;
 use wstore::Settings;
@@ -14,7 +18,7 @@ pub fn check_of<'a>(words: &'a [&'a str], matches: &ArgMatches<'a>) -> Option<Re
 {
     let matches = matches.subcommand_matches("check")?;
     let path = find_word(words, matches.get_str("module")?)?;
-    let plan = plan_of(matches)?;
+    let plan = plan_of(words, matches)?;
     Some(Request::Check { path, plan })
 }
 
@@ -25,8 +29,8 @@ pub fn run_of<'a>(words: &'a [&'a str], matches: &ArgMatches<'a>) -> Option<Requ
     let matches = matches.subcommand_matches("run")?;
     let path = find_word(words, matches.get_str("module")?)?;
     let calls = find_word(words, matches.get_str("calls")?)?;
-    let settings = settings_of(matches)?;
-    let plan = plan_of(matches)?;
+    let settings = settings_of(words, matches)?;
+    let plan = plan_of(words, matches)?;
     Some(Request::Run {
         path,
         calls,
@@ -36,27 +40,34 @@ pub fn run_of<'a>(words: &'a [&'a str], matches: &ArgMatches<'a>) -> Option<Requ
 }
 
 // How many threads, and how much each takes at once.
-fn plan_of(matches: &ArgMatches<'_>) -> Option<Plan> {
-    let workers = number_of(matches, "workers")?;
-    let piece = number_of(matches, "piece")?;
+fn plan_of(words: &[&str], matches: &ArgMatches<'_>) -> Option<Plan>
+    ensures { IfSome result (λ p. SaysPlan (map (λ w. w.now) words.now) p.workers p.piece) }
+{
+    let workers = number_of(words, matches, "workers", WORKERS_DEFAULT)?;
+    let piece = number_of(words, matches, "piece", PIECE_DEFAULT)?;
     Plan::new(workers, piece)
 }
 
 // The limits of each call.
-fn settings_of(matches: &ArgMatches<'_>) -> Option<Settings>
-    ensures { IfSome result (SaysLimits matches.now) }
+fn settings_of(words: &[&str], matches: &ArgMatches<'_>) -> Option<Settings>
+    ensures { IfSome result (λ s. SaysLimits (map (λ w. w.now) words.now) s.fuel s.frames s.pages) }
 {
-    let fuel = number_of(matches, "fuel")?;
-    let frames = number_of(matches, "frames")?;
-    let pages = number_of(matches, "pages")?;
+    let fuel = number_of(words, matches, "fuel", FUEL_DEFAULT)?;
+    let frames = number_of(words, matches, "frames", FRAMES_DEFAULT)?;
+    let pages = number_of(words, matches, "pages", PAGES_DEFAULT)?;
     Settings::new(fuel, frames, pages)
 }
 
-// The number that an option says.
-fn number_of(matches: &ArgMatches<'_>, option: &str) -> Option<u32>
-    ensures { IfSome result (SaysNumber matches.now option.now) }
+// The number that an option has matched, where the words say it.
+fn number_of(words: &[&str], matches: &ArgMatches<'_>, name: &str, default: &str) -> Option<u32>
+    ensures { IfSome result (SaysNumber (map (λ w. w.now) words.now) name.now default.now) }
 {
-    matches.get_one::<u32>(option)
+    let number = matches.get_one::<u32>(name)?;
+    if is_said(words, name, default, number) {
+        Some(number)
+    } else {
+        None
+    }
 }
 
 /// The word that is this text.

@@ -9,6 +9,7 @@ use Rattle.wstore.specs.declared.settings.Settings.{Settings}
 use Rattle.batch.specs.Report.{status_of}
 use Rattle.batch.specs.declared.status.Status.{Status}
 use Rattle.batch.specs.declared.status.Status.TheVariants.{Good, ModuleRefused, CallsRefused}
+use Rattle.command.specs.Options.{SaysLimits}
 use Rattle.command.specs.Requests.{IsRequestOf}
 use Rattle.command.specs.declared.request.Request.{Request}
 use Rattle.command.specs.declared.request.Request.TheVariants.{Check, Run, Text}
@@ -57,16 +58,17 @@ not_calls_refused s a b = let e : Good ≡ CallsRefused = sym a ∙ b in absurd 
 
 -- a run that ends with an answer
 answer : (words : List (List ℕ)) (path calls : Bor (List ℕ)) (settings : Settings) (holds : List ℕ → Option (List ℕ)) (asked asked' : Option (List (List ℕ))) (old new : Option (List ℕ)) (s t : Status)
-    → Contains words path.now × Contains words calls.now → RunsOn (holds path.now) (holds calls.now) (limits settings.fuel settings.frames settings.pages) old new (Ok s) → ReadsPaths asked asked' (path.now ∷ calls.now ∷ []) → s ≡ t → PrintsAnswer words holds asked asked' old new t
-answer words path calls settings holds asked asked' old new s t named done order e = record {
+    → Contains words path.now → Contains words calls.now → SaysLimits words settings.fuel settings.frames settings.pages → RunsOn (holds path.now) (holds calls.now) (limits settings.fuel settings.frames settings.pages) old new (Ok s) → ReadsPaths asked asked' (path.now ∷ calls.now ∷ []) → s ≡ t → PrintsAnswer words holds asked asked' old new t
+answer words path calls settings holds asked asked' old new s t named calls_named said done order e = record {
   path = path.now;
   calls = calls.now;
-  named = named.0;
-  calls_named = named.1;
+  named = named;
+  calls_named = calls_named;
   in_order = order;
   fuel = settings.fuel;
   frames = settings.frames;
   pages = settings.pages;
+  said = said;
   in_range = settings.in_range;
   answered = subst (λ (x : Status). RunsOn (holds path.now) (holds calls.now) (limits settings.fuel settings.frames settings.pages) old new (Ok x)) e done;
 }
@@ -76,25 +78,25 @@ good words (Check path plan) holds asked asked' old new s named (v, judged, is, 
     let same : v ≡ Accepted = only_accepted v (sym is ∙ only_good s e) in
     inr (inl record {
       path = path.now;
-      named = named;
+      named = named.0;
       only = order;
       judged = subst (Judges (holds path.now)) same judged;
       written = subst (λ (x : Verdict). Appends old new (verdict_line x)) same written;
     })
-good words (Run path calls settings plan) holds asked asked' old new s named done order e =
-    inr (inr (answer words path calls settings holds asked asked' old new s Good named done order (only_good s e)))
+good words (Run path calls settings plan) holds asked asked' old new s (named, (calls_named, said)) done order e =
+    inr (inr (answer words path calls settings holds asked asked' old new s Good named calls_named said.0 done order (only_good s e)))
 good words (Text text) holds asked asked' old new s asks shown order e = inl asks
 
 pub refusal : (words : List (List ℕ)) (request : Request) (holds : List ℕ → Option (List ℕ)) (asked asked' : Option (List (List ℕ))) (old new : Option (List ℕ)) (s : Status) → IsRequestOf words request → Does request holds old new (Ok s) → AsksFor request asked asked' (Ok s) → answer_status s ≡ 2 → PrintsRefusal words holds asked asked' old new
 refusal words (Check path plan) holds asked asked' old new s named (v, judged, is, written) order e =
-    inl (v, sym is ∙ only_refused s e, record { path = path.now; named = named; only = order; judged = judged; written = written })
-refusal words (Run path calls settings plan) holds asked asked' old new s named done order e =
-    inr (answer words path calls settings holds asked asked' old new s ModuleRefused named done order (only_refused s e))
+    inl (v, sym is ∙ only_refused s e, record { path = path.now; named = named.0; only = order; judged = judged; written = written })
+refusal words (Run path calls settings plan) holds asked asked' old new s (named, (calls_named, said)) done order e =
+    inr (answer words path calls settings holds asked asked' old new s ModuleRefused named calls_named said.0 done order (only_refused s e))
 refusal words (Text text) holds asked asked' old new s asks shown order e = absurd (not_refused s shown.0 (only_refused s e))
 
 pub calls_refusal : (words : List (List ℕ)) (request : Request) (holds : List ℕ → Option (List ℕ)) (asked asked' : Option (List (List ℕ))) (old new : Option (List ℕ)) (s : Status) → IsRequestOf words request → Does request holds old new (Ok s) → AsksFor request asked asked' (Ok s) → answer_status s ≡ 3 → PrintsCallsRefusal words holds asked asked' old new
 calls_refusal words (Check path plan) holds asked asked' old new s named (v, judged, is, written) order e =
     absurd (no_verdict v (sym is ∙ only_calls_refused s e))
-calls_refusal words (Run path calls settings plan) holds asked asked' old new s named done order e =
-    answer words path calls settings holds asked asked' old new s CallsRefused named done order (only_calls_refused s e)
+calls_refusal words (Run path calls settings plan) holds asked asked' old new s (named, (calls_named, said)) done order e =
+    answer words path calls settings holds asked asked' old new s CallsRefused named calls_named said.0 done order (only_calls_refused s e)
 calls_refusal words (Text text) holds asked asked' old new s asks shown order e = absurd (not_calls_refused s shown.0 (only_calls_refused s e))

@@ -8,6 +8,7 @@ use Rattle.batch.specs.Output.{AppendsFront}
 use Rattle.batch.specs.Report.{status_of}
 use Rattle.batch.specs.declared.status.Status.{Status}
 use Rattle.batch.specs.declared.status.Status.TheVariants.{Good, ModuleRefused, CallsRefused}
+use Rattle.command.specs.Options.{SaysLimits}
 use Rattle.command.specs.Requests.{AsksHelp, AsksVersion, IsRequestOf}
 use Rattle.command.specs.declared.request.Request.{Request}
 use Rattle.command.specs.declared.request.Request.TheVariants.{Check, Run, Text}
@@ -55,7 +56,7 @@ pub record PrintsVerdict (words : List (List ℕ)) (holds : List ℕ → Option 
   pub judged : Judges (holds path) v
   pub written : Appends old new (verdict_line v)
 
--- the answer with this status is written to the module and the calls whose paths stand among the words, within some limits; the module was asked for first, and then the calls
+-- the answer with this status is written to the module and the calls whose paths stand among the words, within the limits that the words say; the module was asked for first, and then the calls
 pub record PrintsAnswer (words : List (List ℕ)) (holds : List ℕ → Option (List ℕ)) (asked asked' : Option (List (List ℕ))) (old new : Option (List ℕ)) (status : Status) : Type 0 where
   pub path : List ℕ
   pub calls : List ℕ
@@ -65,6 +66,7 @@ pub record PrintsAnswer (words : List (List ℕ)) (holds : List ℕ → Option (
   pub fuel : ℕ
   pub frames : ℕ
   pub pages : ℕ
+  pub said : SaysLimits words fuel frames pages
   pub in_range : AreSettings fuel frames pages
   pub answered : AnswersRead (holds path) (holds calls) (limits fuel frames pages) old new (Ok status)
 

@@ -176,13 +176,17 @@ fn the_version_goes_to_standard_output(rt: HostRuntime) {
 
 #[test]
 fn a_file_that_cannot_be_read(rt: HostRuntime) {
-    let asked: [(&[&str], &[u8]); 4] = [
+    let asked: [(&[&str], &[u8]); 5] = [
         (&["check", "y.wasm"], b"gate: cannot read y.wasm\n"),
         (&["run", "y.wasm", "x.calls"], b"gate: cannot read y.wasm\n"),
         (&["run", "y.wasm", "y.calls"], b"gate: cannot read y.wasm\n"),
         (
             &["run", "x.wasm", "y.calls"],
             b"gate: cannot read y.calls\n",
+        ),
+        (
+            &["run", "--", "--fuel.wasm", "x.calls"],
+            b"gate: cannot read --fuel.wasm\n",
         ),
     ];
     // The second module would be refused.

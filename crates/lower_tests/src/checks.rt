@@ -2,7 +2,7 @@ use std::alloc::{AllocError, Global};
 use std::test::Fail;
 use wcheck::{Checker, Destination, check_body};
 use wcontext::check_module;
-use wsyntax::{BlockType, Body, Expression, FuncType, LocalRun, Module, Operator, Token, ValType};
+use wsyntax::{BlockType, Body, Expression, LocalRun, Module, Operator, Token, ValType};
 
 /// A module with functions whose types have these indices, and with no type yet.
 fn some_functions(alloc: Global, type_indices: &[u32]) -> Result<Module<'static>, AllocError> {
@@ -11,22 +11,10 @@ fn some_functions(alloc: Global, type_indices: &[u32]) -> Result<Module<'static>
     Ok(module)
 }
 
-/// A function type.
-fn func_type(
-    alloc: Global,
-    params: &[ValType],
-    results: &[ValType],
-) -> Result<FuncType, AllocError> {
-    Ok(FuncType {
-        params: params.to_vec(alloc)?,
-        results: results.to_vec(alloc)?,
-    })
-}
-
 /// A module with one function, `[] -> []`.
 fn one_function(alloc: Global) -> Result<Module<'static>, AllocError> {
     let mut module = some_functions(alloc, &[0])?;
-    module.types.push(func_type(alloc, &[], &[])?)?;
+    module.types.push(&[], &[])?;
     Ok(module)
 }
 
@@ -35,12 +23,10 @@ fn one_function(alloc: Global) -> Result<Module<'static>, AllocError> {
 fn several_types(alloc: Global) -> Result<Module<'static>, AllocError> {
     let i32 = [ValType::I32];
     let mut module = some_functions(alloc, &[1, 2])?;
-    module.types.push(func_type(alloc, &i32, &i32)?)?;
-    module.types.push(func_type(alloc, &[], &[])?)?;
-    module
-        .types
-        .push(func_type(alloc, &[], &[ValType::I32, ValType::I64])?)?;
-    module.types.push(func_type(alloc, &i32, &[ValType::I64])?)?;
+    module.types.push(&i32, &i32)?;
+    module.types.push(&[], &[])?;
+    module.types.push(&[], &[ValType::I32, ValType::I64])?;
+    module.types.push(&i32, &[ValType::I64])?;
     Ok(module)
 }
 
@@ -501,10 +487,10 @@ fn long_lists(alloc: Global) -> Result<Module<'static>, AllocError> {
         ValType::I64,
     ];
     let mut module = some_functions(alloc, &[0, 1, 2])?;
-    module.types.push(func_type(alloc, &[], &[])?)?;
-    module.types.push(func_type(alloc, &[], &long)?)?;
-    module.types.push(func_type(alloc, &long, &[])?)?;
-    module.types.push(func_type(alloc, &long, &long)?)?;
+    module.types.push(&[], &[])?;
+    module.types.push(&[], &long)?;
+    module.types.push(&long, &[])?;
+    module.types.push(&long, &long)?;
     Ok(module)
 }
 
@@ -598,9 +584,9 @@ fn long_lists_again(alloc: Global) -> Result<Module<'static>, AllocError> {
     let mut same = other;
     same[0] = ValType::I32;
     let mut module = long_lists(alloc)?;
-    module.types.push(func_type(alloc, &same, &[])?)?;
-    module.types.push(func_type(alloc, &other, &[])?)?;
-    module.types.push(func_type(alloc, &same[1..], &[])?)?;
+    module.types.push(&same, &[])?;
+    module.types.push(&other, &[])?;
+    module.types.push(&same[1..], &[])?;
     module.functions.push(4)?;
     module.functions.push(5)?;
     module.functions.push(6)?;

@@ -1,14 +1,14 @@
 use std::alloc::{AllocError, Global};
 use std::test::Fail;
 use wcontext::*;
-use wsyntax::{Export, ExportKind, FuncType, GlobalType, Import, ImportKind, Module, ValType};
+use wsyntax::{Export, ExportKind, GlobalType, Import, ImportKind, Module, ValType};
 
 /// A module that imports one function of type `[i32 i64] -> [f32 i32]`.
 fn one_import<'a>(alloc: Global) -> Result<Module<'a>, AllocError> {
     let mut module = Module::empty(alloc);
-    let params = vec![in alloc; ValType::I32, ValType::I64]?;
-    let results = vec![in alloc; ValType::F32, ValType::I32]?;
-    module.types.push(FuncType { params, results })?;
+    let params = [ValType::I32, ValType::I64];
+    let results = [ValType::F32, ValType::I32];
+    module.types.push(&params, &results)?;
     let kind = ImportKind::Function(0);
     module.imports.push(Import {
         module: b"m",

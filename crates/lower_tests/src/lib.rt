@@ -18,3 +18,5 @@ mod modules;
 mod numbers;
 #[cfg(test)]
 mod rows;
+#[cfg(test)]
+mod types;

@@ -1,7 +1,8 @@
 -- A list that is taken from where it was put, which needs no comparison.
-use Rattle.std.proofs.Common.{◌≡◌, ◌≤◌, ◌-◌, ◌+◌, ◌&&◌, ℕ, Bool, true, List, [], ◌∷◌, ◌++◌, map, drop, take, reverse, length, Option, Some, refl, sym, ap, ◌∙◌, arith, length-append, length-drop, drop-cons, ◌<◌, suc, get_or}
+use Rattle.std.proofs.Common.{◌≡◌, ◌≤◌, ◌-◌, ◌+◌, ◌&&◌, ℕ, Bool, true, false, List, [], ◌∷◌, ◌++◌, map, drop, take, reverse, length, Option, Some, refl, sym, ap, ◌∙◌, arith, length-append, length-drop, drop-cons, ◌<◌, suc, get_or}
+use Rattle.std.specs.Cmp.Lexicographic.{pointwise}
 use Rattle.std.proofs.lemmas.List.{reverse-append, append_assoc, map-append, take-append-drop, drop-append-le, length-map}
-use Rattle.std.proofs.Math.Seq.{take-append_seam}
+use Rattle.std.proofs.Math.Seq.{take-append_seam, take-length}
 use Rattle.wcheck.proofs.Basics.{same_type-true}
 use Rattle.wcheck.proofs.Behind.{map-reverse}
 use Rattle.wsyntax.specs.declared.ValType.{ValType}
@@ -21,6 +22,23 @@ same_as_itself F64 = refl
 pub same_list : (ts : List ValType) → same_types ts ts ≡ true
 same_list [] = refl
 same_list (t ∷ ts) = ap (λ b. b && same_types ts ts) (same_as_itself t) ∙ same_list ts
+
+both : (a b : Bool) → (a && b) ≡ true → (a ≡ true) × (b ≡ true)
+both true b h = (refl, h)
+both false b h = absurd cc
+
+-- lists that are the same type by type
+pub same_from : {E : ValType → ValType → Bool} → ((t u : ValType) → E t u ≡ true → t ≡ u) → (ts us : List ValType) → pointwise E ts us ≡ true → ts ≡ us
+same_from tells [] [] h = refl
+same_from tells [] (u ∷ us) h = absurd cc
+same_from tells (t ∷ ts) [] h = absurd cc
+same_from {E} tells (t ∷ ts) (u ∷ us) h =
+    let parts = both (E t u) (pointwise E ts us) h in
+    rw (tells t u parts.0, same_from tells ts us parts.1) refl
+
+-- the rest of a list from a place on
+pub rest_is : (ts : List ValType) (k : ℕ) → take (length ts - k) (drop k ts) ≡ drop k ts
+rest_is ts k = ap (λ n. take n (drop k ts)) (sym (length-drop k ts)) ∙ take-length (drop k ts)
 
 -- lists at one place
 pub same_place : (types : List FuncType) (a b : TypeList) → a ≡ b → same_types (reverse (list_of types a)) (reverse (list_of types b)) ≡ true

@@ -71,8 +71,21 @@ fn is_known(x: Operand, t: ValType) -> bool
     x as u8 == t as u8
 }
 
-/// How many of the last types of both lists are the same.
+/// How many of the last types of both lists are the same: mostly all of the shorter, which are compared at once.
 pub(crate) fn common_end(a: &[ValType], b: &[ValType]) -> usize
+    ensures first { result ≤ length a.now }
+    ensures second { result ≤ length b.now }
+    ensures same { drop (length a.now - result) a.now ≡ drop (length b.now - result) b.now }
+{
+    let most = a.len().min(b.len());
+    if a[a.len() - most..] == b[b.len() - most..] {
+        return most;
+    }
+    count_common(a, b)
+}
+
+/// The same, one type after the other.
+fn count_common(a: &[ValType], b: &[ValType]) -> usize
     ensures first { result ≤ length a.now }
     ensures second { result ≤ length b.now }
     ensures same { drop (length a.now - result) a.now ≡ drop (length b.now - result) b.now }

@@ -2,5 +2,5 @@ pub mod Shapes
 pub mod Constants
 pub mod Counts
 pub mod Distinct
-pub mod Ranges
 pub mod FirstPlaces
+pub mod Made

@@ -1,5 +1,3 @@
-pub mod Signatures
-pub mod Held
 pub mod Lists
 pub mod Indexed
 pub mod Constants

@@ -1,19 +1,16 @@
-use crate::held::{HeldTypes, TypeRange, held_types};
 use crate::lists::{ListPair, TypeList, no_types, one_type};
 use crate::places::first_places;
-use crate::signature::Signature;
 use crate::spaces::Spaces;
 use std::alloc::{AllocError, Global};
 use std::marker::Model;
-use wsyntax::{GlobalType, Module, ValType};
+use wsyntax::{FuncType, FuncTypes, GlobalType, Module, ValType};
 
 /// What the bodies of a module's functions are checked under (3.1.1): it owns all that it looks up, so it does not
 /// borrow the module. Each look-up takes constant time. Indices of functions and globals count the imported ones
 /// first.
 #[derive(Debug, Drop)]
 pub struct Context {
-    values: Vec<ValType>,
-    types: Vec<TypeRange>,
+    types: FuncTypes,
     /// Of each function type the first places of its lists; none where no list is long.
     places: Vec<ListPair>,
     functions: Vec<u32>,
@@ -37,11 +34,11 @@ impl Model for Context {
 
 impl Context {
     ghost use Rattle.std.specs.Prelude.{◌≡◌, ◌≤◌, length, slice_get, option_map, IfSome, IfOk};
+    ghost use Rattle.wsyntax.specs.FuncTypes.{func_type_of};
     ghost use Rattle.wsyntax.specs.Modules.{module_shape};
     ghost use Rattle.wsyntax.specs.Validation.ModuleContext.{indexed_context};
     ghost use Rattle.wsyntax.specs.Validation.Rules.{ImportsTyped, FunctionsTyped};
     ghost use Rattle.wcontext.specs.Lists.{list_of, pair_type};
-    ghost use Rattle.wcontext.specs.Signatures.{lent_type};
     ghost use Rattle.wcontext.specs.Spaces.{AreSpacesOf};
 
     /// The context of a module whose functions all have types.
@@ -55,10 +52,8 @@ impl Context {
         requires functions { FunctionsTyped (module_shape «module».now) }
         ensures { IfOk result (λ c. c ≡ indexed_context (module_shape «module».now)) }
     {
-        let HeldTypes { values, ranges } = held_types(alloc, &module.types)?;
         let mut context = Context {
-            values,
-            types: ranges,
+            types: module.types.copy(alloc)?,
             places: Vec::new(alloc),
             imported: spaces.imported_functions,
             has_table: !spaces.tables.is_empty(),
@@ -72,20 +67,16 @@ impl Context {
 
     /// The function type of that index; `None` where the module has none.
     #[inline]
-    pub fn signature(&self, type_index: u32) -> Option<Signature<'_>>
-        ensures { option_map lent_type result ≡ slice_get self.now.context.types type_index }
+    pub fn signature(&self, type_index: u32) -> Option<FuncType<'_>>
+        ensures { option_map func_type_of result ≡ slice_get self.now.context.types type_index }
     {
-        let range = self.types.get(type_index as usize)?;
-        Some(Signature {
-            params: &self.values[range.start as usize..range.middle as usize],
-            results: &self.values[range.middle as usize..range.end as usize],
-        })
+        self.types.get(type_index as usize)
     }
 
     /// The type of the function of that index; `None` where the module has none.
     #[inline]
-    pub fn function(&self, func: u32) -> Option<Signature<'_>>
-        ensures { option_map lent_type result ≡ slice_get self.now.context.functions func }
+    pub fn function(&self, func: u32) -> Option<FuncType<'_>>
+        ensures { option_map func_type_of result ≡ slice_get self.now.context.functions func }
     {
         let type_index = self.functions.get(func as usize)?;
         self.signature(*type_index)

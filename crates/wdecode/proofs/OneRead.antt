@@ -1,7 +1,7 @@
 -- What is read behind an opcode.
 use Rattle.std.proofs.Common.{◌≡◌, ℕ, List, ◌∷◌, Some, IsTrue, refl, ap, ◌∙◌}
 use Rattle.wsyntax.specs.Brackets.{lies_within}
-use Rattle.wsyntax.specs.Instructions.{Op, Token, Do, OpenBlock, OpenLoop, OpenIf}
+use Rattle.wsyntax.specs.Instructions.{Op, Do, OpenBlock, OpenLoop, OpenIf}
 use Rattle.wsyntax.specs.Table.{opcode_of}
 use Rattle.wsyntax.specs.declared.instructions.BlockType.{BlockType}
 use Rattle.wsyntax.specs.declared.opcode.Opcode.{Opcode}

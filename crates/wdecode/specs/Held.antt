@@ -1,13 +1,19 @@
--- 5.5 A section as it is held, without where it lies in memory.
-use Rattle.std.specs.Prelude.{map}
-use Rattle.wsyntax.specs.Modules.{func_type_of, import_shape, export_shape, global_shape, element_shape, data_shape}
+-- Types and sections (5.5) as they are held, without where they lie in memory.
+use Rattle.std.specs.Prelude.{List, map}
+use Rattle.wsyntax.specs.Types.{FuncType}
+use Rattle.wsyntax.specs.declared.ValType.{ValType}
+use Rattle.wsyntax.specs.Modules.{import_shape, export_shape, global_shape, element_shape, data_shape}
 use Rattle.wsyntax.specs.Binary.Sections.{SectionShape, Custom, Types, Imports, Functions, Tables, Memories, Globals, Exports, Start, Elements, Bodies, Segments}
 use Rattle.wdecode.specs.declared.section.Section.{Section}
 use Rattle.wdecode.specs.declared.section.Section.TheVariants as held
 
+-- the type of these parameters and results
+abbrev pub type_of : List ValType → List ValType → FuncType
+type_of params results = record { params = params; results = results }
+
 abbrev pub section_shape : Section → SectionShape
 section_shape held.Custom = Custom
-section_shape (held.Types v) = Types (map func_type_of v.items)
+section_shape (held.Types v) = Types v
 section_shape (held.Imports v) = Imports (map import_shape v.items)
 section_shape (held.Functions v) = Functions v.items
 section_shape (held.Tables v) = Tables v.items

@@ -6,15 +6,16 @@ ghost use Rattle.wsyntax.specs.Binary.Values.{vector_at as vector_of};
 ghost use Rattle.wsyntax.specs.Binary.Sections.{contents, section};
 
 use crate::fault::Fault;
+use crate::types::filled_types;
 use crate::values::{Item, blob_at, name_at, u32_at, vector_at};
 use std::alloc::Global as Alloc;
-use wsyntax::{Data, Element, Export, FuncType, Global, Import, Limits, Table};
+use wsyntax::{Data, Element, Export, FuncTypes, Global, Import, Limits, Table};
 
 /// What a section holds.
 #[derive(Debug, Drop)]
 pub enum Section<'a> {
     Custom,
-    Types(Vec<FuncType>),
+    Types(FuncTypes),
     Imports(Vec<Import<'a>>),
     Functions(Vec<u32>),
     Tables(Vec<Table>),
@@ -48,7 +49,7 @@ fn contents_at(alloc: Alloc, id: u8, bytes: &[u8]) -> Result<Section<'_>, Fault>
             let (_name, _rest) = name_at(bytes)?;
             Ok(Section::Custom)
         }
-        1 => Ok(Section::Types(filled(alloc, bytes)?)),
+        1 => Ok(Section::Types(filled_types(alloc, bytes)?)),
         2 => Ok(Section::Imports(filled(alloc, bytes)?)),
         3 => Ok(Section::Functions(filled(alloc, bytes)?)),
         4 => Ok(Section::Tables(filled(alloc, bytes)?)),

@@ -1,18 +1,17 @@
 ghost use Rattle.std.specs.Prelude.{◌≡◌, ℕ, List, Option, map};
 ghost use Rattle.wdecode.specs.Gives.{Gives};
-ghost use Rattle.wsyntax.specs.Types.{FuncType as FuncTypeShape};
+ghost use Rattle.wdecode.specs.Held.{type_of};
 ghost use Rattle.wsyntax.specs.declared.types.ValType.{ValType as ValTypeShape};
 ghost use Rattle.wsyntax.specs.declared.types.Limits.{Limits as LimitsShape};
 ghost use Rattle.wsyntax.specs.declared.module.Table.{Table as TableShape};
-ghost use Rattle.wsyntax.specs.Modules.{func_type_of};
-ghost use Rattle.wsyntax.specs.Binary.Production.{given, ◌>>=◌ as followed_by};
-ghost use Rattle.wsyntax.specs.Binary.Values.{s33};
+ghost use Rattle.wsyntax.specs.Binary.Production.{given, ◌>>=◌ as followed_by, times_at as times_of, whole_at};
+ghost use Rattle.wsyntax.specs.Binary.Values.{s33, vector_at as vector_of};
 ghost use Rattle.wsyntax.specs.Binary.Types.{val_type, block_type, index_of, func_type, limits, table_type, global_type};
 
 use crate::fault::Fault;
 use crate::values::{Item, u32_at, vector_at};
 use std::alloc::Global;
-use wsyntax::{BlockType, FuncType, GlobalType, Limits, Table, ValType};
+use wsyntax::{BlockType, FuncTypes, GlobalType, Limits, Table, ValType};
 
 /// A value type (5.3.1).
 #[inline(always)]
@@ -59,17 +58,48 @@ pub fn block_type_at(bytes: &[u8]) -> Result<(BlockType, &[u8]), Fault>
     }
 }
 
-/// A function type (5.3.3).
+/// The parameters and the results of a function type (5.3.3), and the bytes after it.
 #[tactic(auto, unfolding(wsyntax::specs::Binary::Types::func_type))]
-pub fn func_type_at(alloc: Global, bytes: &[u8]) -> Result<(FuncType, &[u8]), Fault>
-    ensures { Gives (λ x. (func_type_of x.0, x.1.now)) result (func_type.read bytes.now) }
+fn func_type_at(alloc: Global, bytes: &[u8]) -> Result<(Vec<ValType>, Vec<ValType>, &[u8]), Fault>
+    ensures { Gives (λ x. (type_of x.0.items x.1.items, x.2.now)) result (func_type.read bytes.now) }
 {
     let [0x60, rest @ ..] = bytes else {
         return Err(Fault::Malformed);
     };
     let (params, rest) = vector_at::<ValType>(alloc, rest)?;
     let (results, rest) = vector_at::<ValType>(alloc, rest)?;
-    Ok((FuncType { params, results }, rest))
+    Ok((params, results, rest))
+}
+
+/// The fewest bytes of a function type.
+const LEAST_TYPE: usize = 3;
+
+/// So many function types, one behind the other. Room is made for as many as the bytes can hold, and for no more.
+fn func_types_at(alloc: Global, count: u32, bytes: &[u8]) -> Result<(FuncTypes, &[u8]), Fault>
+    ensures { Gives (λ x. (x.0, x.1.now)) result (times_of func_type.read count bytes.now) }
+{
+    let most = bytes.len() / LEAST_TYPE;
+    let mut types = FuncTypes::with_capacity(alloc, most.min(count as usize))?;
+    let mut rest = bytes;
+    for _ in 0..count {
+        let (params, results, after) = func_type_at(alloc, rest)?;
+        types.push(&params, &results)?;
+        rest = after;
+    }
+    Ok((types, rest))
+}
+
+/// The function types that fill bytes (5.5.4).
+pub fn filled_types(alloc: Global, bytes: &[u8]) -> Result<FuncTypes, Fault>
+    ensures { Gives (λ ts. ts) result (whole_at (vector_of func_type.read) bytes.now) }
+{
+    let (count, rest) = u32_at(bytes)?;
+    let (types, rest) = func_types_at(alloc, count, rest)?;
+    if rest.is_empty() {
+        Ok(types)
+    } else {
+        Err(Fault::Malformed)
+    }
 }
 
 /// Limits (5.3.4).
@@ -145,20 +175,6 @@ impl<'a> Item<'a> for ValType {
 
     fn read(_alloc: Global, bytes: &'a [u8]) -> Result<(ValType, &'a [u8]), Fault> {
         val_type_at(bytes)
-    }
-}
-
-impl<'a> Item<'a> for FuncType {
-    ghost Shape = { FuncTypeShape };
-
-    ghost shape = { func_type_of };
-
-    ghost at = { func_type.read };
-
-    const LEAST: usize = 3;
-
-    fn read(alloc: Global, bytes: &'a [u8]) -> Result<(FuncType, &'a [u8]), Fault> {
-        func_type_at(alloc, bytes)
     }
 }
 

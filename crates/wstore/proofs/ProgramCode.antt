@@ -2,13 +2,13 @@
 use Rattle.std.proofs.Common.{◌≡◌, ℕ, zero, suc, ◌+◌, ◌<◌, Bool, true, false, nat_eq, List, [], ◌∷◌, length, map, refl, sym, ap, ◌∙◌, subst, arith}
 use Rattle.std.specs.Prelude.{Some, slice_get, slice_index, replicate}
 use Rattle.std.proofs.lemmas.Bool.{eq-eqb, eqb-true}
-use Rattle.std.proofs.lemmas.List.{length-map, length-replicate, length-append}
+use Rattle.std.proofs.lemmas.List.{length-replicate, length-append}
 use Rattle.std.proofs.lemmas.List.Elements.{All-get_or}
 use Rattle.std.proofs.lemmas.List.Sums.{sum_by-cons}
 use Rattle.std.proofs.lemmas.Option.{slice_get_within, slice_get-get_or, unwrap_or-slice_get, get_or_from_slice_get}
 use Rattle.wsyntax.specs.declared.module.LocalRun.{LocalRun}
 use Rattle.wsyntax.specs.Types.{FuncType, same_func_type}
-use Rattle.wsyntax.specs.Modules.{ModuleShape, func_type_of}
+use Rattle.wsyntax.specs.Modules.{ModuleShape}
 use Rattle.wsyntax.specs.Binary.Sections.{locals_of}
 use Rattle.wsyntax.specs.Validation.ModuleContext.{type_at, empty_type, declared}
 use Rattle.wsyntax.specs.Validation.Rules.{FunctionsTyped}
@@ -76,7 +76,7 @@ numbers_tell types numbers y z k t n within is there =
 
 -- the code has the parts of the module
 pub record HasParts (c : Code) (m : ModuleShape) (numbers : List ℕ) (all : List CheckedBody) : Type 0 where
-  pub types : map func_type_of c.types.now ≡ m.types
+  pub types : c.types.now ≡ m.types
   pub functions : c.functions.now ≡ m.functions
   pub bodies : c.bodies.now ≡ all
   pub shapes : c.shapes.now ≡ function_shapes m.types numbers m.functions all
@@ -107,7 +107,7 @@ is_code c m numbers all h rule count n =
           let k = slice_index numbers at.of_type in
           subst (λ (x : Body). IsShapeOf x s) at.same
           (subst (IsShapeOf (body_of t at.checked)) (shape_at m.types numbers m.functions all f at.of_type at.checked s (shaped f s es) at.typed at.there) (shape_is t k at.checked));
-      kinds_count = ap length h.kinds ∙ n.count ∙ ap length (sym h.types) ∙ length-map c.types.now func_type_of;
+      kinds_count = ap length h.kinds ∙ n.count ∙ ap length (sym h.types);
       kinds = λ f b s y t k eb es et ek.
           let at = stands f b eb in
           let shape = shape_at m.types numbers m.functions all f at.of_type at.checked s (shaped f s es) at.typed at.there in

@@ -15,7 +15,7 @@ use wsyntax::Value;
 
 /// The code of a module without imports.
 fn code_of<'a>(accepted: &'a Accepted<'_>) -> Code<'a>
-    ensures types { result.types.now ≡ accepted.now.module.types.items }
+    ensures types { result.types.now ≡ accepted.now.module.types }
     ensures functions { result.functions.now ≡ accepted.now.module.functions.items }
     ensures bodies { result.bodies.now ≡ accepted.now.bodies.items }
     ensures shapes { result.shapes.now ≡ accepted.now.shapes.items }

@@ -1,4 +1,5 @@
 pub mod Types
+pub mod FuncTypes
 pub mod Instructions
 pub mod Brackets
 pub mod Table

@@ -6,7 +6,6 @@ use Rattle.wsyntax.specs.Instructions.{Token, Do, OpenBlock, OpenLoop, OpenIf, E
 use Rattle.wsyntax.specs.Table.{num_op, load_access, store_access, little_endian}
 use Rattle.wsyntax.specs.declared.instructions.Token.{Token as Flat}
 use Rattle.wsyntax.specs.declared.instructions.Token.TheVariants as flat
-use Rattle.wsyntax.specs.declared.types.FuncType.{FuncType as HeldFuncType}
 use Rattle.wsyntax.specs.declared.module.Module.{Module}
 use Rattle.wsyntax.specs.declared.module.Expression.{Expression}
 use Rattle.wsyntax.specs.declared.module.Initial.{Initial}
@@ -112,10 +111,6 @@ place_tokens p = map (seen (place_targets p)) (place_held p)
 
 -- ---- 2.5 modules
 
--- 2.3.3 a function type
-abbrev pub func_type_of : HeldFuncType → FuncType
-func_type_of t = record { params = t.params.items; results = t.results.items }
-
 -- 2.5.11 an import
 pub record ImportShape : Type 0 where
   pub module_name : List ℕ
@@ -185,7 +180,7 @@ pub record ModuleShape : Type 0 where
 
 abbrev pub module_shape : Module → ModuleShape
 module_shape m = record {
-  types = map func_type_of m.types.items;
+  types = m.types;
   imports = map import_shape m.imports.items;
   functions = m.functions.items;
   tables = m.tables.items;

@@ -4,6 +4,7 @@
 
 mod access_rows;
 mod bounds;
+mod func_types;
 mod instruction_row;
 mod instructions;
 mod module;
@@ -16,6 +17,7 @@ mod value;
 
 pub use access_rows::AccessRow;
 pub use bounds::{CALLS_LIMIT, LINE_LIMIT, LOCAL_LIMIT, MODULE_LIMIT, limits_are_defined};
+pub use func_types::{FuncType, FuncTypes};
 pub use instruction_row::{Immediates, Row};
 pub use instructions::{BlockType, Load, Operator, Store, Token};
 pub use module::{
@@ -25,5 +27,5 @@ pub use module::{
 pub use opcode::Opcode;
 pub use operator_rows::{Arity, OperatorRow};
 pub use rows::row;
-pub use types::{FuncType, GlobalType, Limits, ValType};
+pub use types::{GlobalType, Limits, ValType};
 pub use value::{Trap, Value};

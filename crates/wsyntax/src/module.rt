@@ -2,8 +2,9 @@ ghost use Rattle.std.specs.Prelude.{IsTrue, [], length};
 ghost use Rattle.std.specs.List.{list_all};
 ghost use Rattle.wsyntax.specs.Brackets.{closes, lies_within};
 
+use crate::func_types::FuncTypes;
 use crate::instructions::Token;
-use crate::types::{FuncType, GlobalType, Limits, ValType};
+use crate::types::{GlobalType, Limits, ValType};
 use std::alloc::Global as Alloc;
 use std::mem::size_of;
 
@@ -212,7 +213,7 @@ pub struct Body {
 /// memories and globals count the imported ones first.
 #[derive(Debug, Drop)]
 pub struct Module<'a> {
-    pub types: Vec<FuncType>,
+    pub types: FuncTypes,
     pub imports: Vec<Import<'a>>,
     /// Of each defined function the index of its type.
     pub functions: Vec<u32>,
@@ -236,7 +237,7 @@ impl<'a> Module<'a> {
         ensures { module_shape result ≡ empty_module }
     {
         Module {
-            types: Vec::new(alloc),
+            types: FuncTypes::new(alloc),
             imports: Vec::new(alloc),
             functions: Vec::new(alloc),
             tables: Vec::new(alloc),

@@ -7,13 +7,6 @@ pub enum ValType {
     F64,
 }
 
-/// A function type (2.3.3): the types of the parameters and of the results, each list as it is written.
-#[derive(Debug, Drop)]
-pub struct FuncType {
-    pub params: Vec<ValType>,
-    pub results: Vec<ValType>,
-}
-
 /// The size range of a table (in entries) or of a memory (in pages of 65,536 bytes) (2.3.4).
 #[derive(Clone, Copy, Debug, PartialEq, Eq)]
 pub struct Limits {

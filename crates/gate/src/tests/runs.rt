@@ -21,7 +21,7 @@ type Row = (
 );
 
 // Sums, fuel and frames.
-const PLAIN: [Row; 9] = [
+const PLAIN: [Row; 11] = [
     (
         ADDS,
         &[],
@@ -39,6 +39,20 @@ const PLAIN: [Row; 9] = [
     (
         LOOPS,
         &["--fuel", "5"],
+        "f\n",
+        "0 out-of-fuel fuel 5\ntotal 1 values 0 traps 0 exhausted 1 refused 0 no-memory 0 fuel 5\n",
+        0,
+    ),
+    (
+        LOOPS,
+        &["--fuel=5"],
+        "f\n",
+        "0 out-of-fuel fuel 5\ntotal 1 values 0 traps 0 exhausted 1 refused 0 no-memory 0 fuel 5\n",
+        0,
+    ),
+    (
+        LOOPS,
+        &["--fuel", "+005"],
         "f\n",
         "0 out-of-fuel fuel 5\ntotal 1 values 0 traps 0 exhausted 1 refused 0 no-memory 0 fuel 5\n",
         0,

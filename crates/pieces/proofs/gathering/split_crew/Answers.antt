@@ -1,4 +1,4 @@
-use Rattle.std.proofs.Common.{◌≡◌, ◌++◌, ◌∷◌, [], List, sym, ◌∙◌, ap, append_assoc}
+use Rattle.std.proofs.Common.{◌++◌, ◌∷◌, [], List, sym, ◌∙◌, ap, append_assoc}
 use Rattle.pieces.specs.declared.member.Member.{Member}
 use Rattle.pieces.specs.declared.share.Share.{Share}
 use Rattle.pieces.specs.Gathered.{Answer}

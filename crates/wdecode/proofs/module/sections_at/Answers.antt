@@ -26,3 +26,6 @@ each-preserved c =
     ] in
     let on = goes_on inv.0 last (module_shape c.each.module) c.each.rest.now after s total some inv.1 c.in_ok-section.ensures follows.0 inv.2 in
     (on.0, on.1, ap (λ (l : ℕ). sections_at on.0 l (module_shape c.put-module.result) after) (sym follows.1) ∙ ap (λ (m : ModuleShape). sections_at on.0 (last_after last s) m after) c.put-module.ensures ∙ on.2)
+
+pub each-init : goal.each-init
+each-init c = (length c.args.bytes.now, omega arith, ap (λ (m : ModuleShape). sections_at (length c.args.bytes.now) 0 m c.args.bytes.now) c.empty-module.ensures)

@@ -1,11 +1,9 @@
-use Rattle.std.proofs.Common.{List, length, map, subst}
+use Rattle.std.proofs.Common.{List, length, subst}
 use Rattle.std.specs.List.{range_with_len}
 use Rattle.std.specs.List.Sorted.{IsPermutation}
-use Rattle.wsyntax.specs.declared.FuncType.{FuncType}
 use Rattle.wsyntax.specs.declared.module.Export.{Export}
-use Rattle.wsyntax.specs.Modules.{module_shape, func_type_of}
+use Rattle.wsyntax.specs.Modules.{module_shape}
 use Rattle.accepted.specs.Exports.{AreAscending}
-use Rattle.accepted.specs.TypeNumbers.{AreTypeNumbers}
 use Rattle.accepted.proofs.Lendings.{shaped_same, looked_same, typed_same, numbered_same, paired_same, few_same}
 use Rattle.accepted.proofs.accepted.Accepted.of.Goals as goal
 
@@ -14,18 +12,18 @@ use Rattle.accepted.proofs.accepted.Accepted.of.Goals as goal
 -- rule 3 is kept
 pub function_shapes-requires-clause-typed : goal.function_shapes-requires-clause-typed
 function_shapes-requires-clause-typed c =
-    typed_same c.deref-3.result.now c.args.«module».types.items c.deref-5.result.now c.args.«module».functions.items c.deref-3.ensures.value c.deref-5.ensures.value (c.requires.judged.rules 3)
+    typed_same c.args.«module».types c.deref-3.result.now c.args.«module».functions.items c.deref-3.ensures.value (c.requires.judged.rules 3)
 
 pub function_shapes-requires-clause-numbered : goal.function_shapes-requires-clause-numbered
 function_shapes-requires-clause-numbered c =
-    numbered_same c.deref-2.result.now c.deref-3.result.now c.args.«module».types.items c.deref-4.result.now c.in_ok-type_numbers.type_numbers.items c.deref-2.ensures.value c.deref-3.ensures.value c.deref-4.ensures.value c.in_ok-type_numbers.ensures
+    numbered_same c.args.«module».types c.deref-2.result.now c.in_ok-type_numbers.type_numbers.items c.deref-2.ensures.value c.in_ok-type_numbers.ensures
 
 pub function_shapes-requires-clause-paired : goal.function_shapes-requires-clause-paired
 function_shapes-requires-clause-paired c =
-    paired_same c.deref-5.result.now c.deref-6.result.now c.args.bodies.items (module_shape c.args.«module») c.args.context c.deref-5.ensures.value c.deref-6.ensures.value c.requires.judged
+    paired_same c.deref-3.result.now c.deref-4.result.now c.args.bodies.items (module_shape c.args.«module») c.args.context c.deref-3.ensures.value c.deref-4.ensures.value c.requires.judged
 
 pub function_shapes-requires-clause-few : goal.function_shapes-requires-clause-few
-function_shapes-requires-clause-few c = few_same c.deref-6.result.now c.args.bodies.items (module_shape c.args.«module») c.args.context c.deref-6.ensures.value c.requires.judged
+function_shapes-requires-clause-few c = few_same c.deref-4.result.now c.args.bodies.items (module_shape c.args.«module») c.args.context c.deref-4.ensures.value c.requires.judged
 
 -- ---- what the layout asks for
 
@@ -61,13 +59,13 @@ invariant_of-result-clause-ascending c = subst (λ (es : List Export). AreAscend
 
 pub invariant_of-result-clause-numbered : goal.invariant_of-result-clause-numbered
 invariant_of-result-clause-numbered c =
-    ∣ subst (λ (ts : List FuncType). AreTypeNumbers (map func_type_of ts) c.in_ok-type_numbers.type_numbers.items) c.deref-2.ensures.value c.in_ok-type_numbers.ensures ∣₁
+    ∣ c.in_ok-type_numbers.ensures ∣₁
 
 pub invariant_of-result-clause-shaped : goal.invariant_of-result-clause-shaped
 invariant_of-result-clause-shaped c =
-    shaped_same _ c.deref-3.result.now c.args.«module».types.items c.deref-4.result.now c.in_ok-type_numbers.type_numbers.items c.deref-5.result.now c.args.«module».functions.items c.deref-6.result.now c.args.bodies.items
-    c.deref-3.ensures.value c.deref-4.ensures.value c.deref-5.ensures.value c.deref-6.ensures.value c.in_ok-shapes.ensures
+    shaped_same _ c.args.«module».types c.deref-2.result.now c.in_ok-type_numbers.type_numbers.items c.deref-3.result.now c.args.«module».functions.items c.deref-4.result.now c.args.bodies.items
+    c.deref-2.ensures.value c.deref-3.ensures.value c.deref-4.ensures.value c.in_ok-shapes.ensures
 
 pub invariant_of-result-clause-looked : goal.invariant_of-result-clause-looked
 invariant_of-result-clause-looked c =
-    looked_same c.has_floats-mentions_floats.result (module_shape c.args.«module») c.deref-7.result.now c.args.bodies.items c.deref-7.ensures.value c.has_floats-mentions_floats.ensures
+    looked_same c.has_floats-mentions_floats.result (module_shape c.args.«module») c.deref-5.result.now c.args.bodies.items c.deref-5.ensures.value c.has_floats-mentions_floats.ensures

@@ -1,6 +1,5 @@
 use Rattle.std.proofs.Common.{ap, map, ◌∙◌}
 use Rattle.std.proofs.Math.Logic.{∥∥₁_map}
-use Rattle.wsyntax.specs.Modules.{func_type_of}
 use Rattle.accepted.specs.Judgement.{shapes_of}
 use Rattle.parts.specs.Seen.{seen}
 use Rattle.wstore.specs.Views.{module_in}
@@ -16,7 +15,7 @@ is_typed_call-requires c =
     ∥∥₁_map (known (module_in i) i.accepted.now.context all numbers (seen i.parts) c.accepted_holds.ensures c.is_small.ensures c.types_are_numbered.ensures i.runnable i.held) (λ k.
     typed_call (module_in i) i.accepted.now.context all numbers (seen i.parts) code.result c.args.function c.args.args.now c.args.fuel c.args.frames c.tree_is_found.ensures c.one_instance.ensures k
     (record {
-      types = ap (map func_type_of) code.ensures.types;
+      types = code.ensures.types;
       functions = code.ensures.functions;
       bodies = code.ensures.bodies;
       shapes = code.ensures.shapes ∙ c.functions_have_shapes.ensures;

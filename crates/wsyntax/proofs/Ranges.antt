@@ -4,10 +4,9 @@ use Rattle.std.specs.List.{All, slice_range}
 use Rattle.std.proofs.lemmas.List.Elements.{All-head, All-tail, All-weaker, All-push}
 use Rattle.std.proofs.lemmas.List.{drop-append-le, take-append-le, length-drop, map-append}
 use Rattle.std.proofs.Math.Seq.{drop-append_seam, take-append_seam, take-length}
-use Rattle.wsyntax.specs.Types.{FuncType}
-use Rattle.wsyntax.specs.declared.ValType.{ValType}
-use Rattle.wcontext.specs.declared.held.TypeRange.{TypeRange}
-use Rattle.wcontext.specs.Held.{type_in, IsWithin}
+use Rattle.wsyntax.specs.Types.{FuncType, ValType}
+use Rattle.wsyntax.specs.declared.func_types.TypeRange.{TypeRange}
+use Rattle.wsyntax.specs.FuncTypes.{type_in, IsWithin}
 
 within_more : (values more : List ValType) (r : TypeRange) → IsWithin values r → IsWithin (values ++ more) r
 within_more values more r is = record { params = is.params; results = is.results; all = omega (arith, length-append values more, is.all) }
