@@ -42,30 +42,39 @@ fn type_of(value: &Value) -> ValType {
     }
 }
 
-fn call_swap<R: Abort>(rt: &R, alloc: Global, accepted: &Accepted<'_>) -> Result<(), Fail> {
-    let (kind, function) = accepted.export(b"f").ok_or("no export")?;
-    assert_eq!(rt; kind, ExportKind::Function);
+// The values of a call of the export with these arguments, which the fuel just pays for.
+fn swapped<R: Abort>(
+    rt: &R,
+    alloc: Global,
+    accepted: &Accepted<'_>,
+    function: u32,
+) -> Result<Vec<Value>, Fail> {
     let args = [Value::I32(5), Value::I64(0xFFFF_FFFF_FFFF_FFFE)];
     assert!(rt; fits(accepted, function, &args));
     let mut instance = instance(rt, alloc, accepted);
     let mut fuel = Fuel::new(1).ok_or("no fuel")?;
-    let Outcome::Values(values) = invoke(alloc, &mut instance, function, &args, &mut fuel, 1)?
-    else {
-        return Err("no values".into());
-    };
-    assert_eq!(rt;
-        values.as_slice(),
-        [Value::I64(0xFFFF_FFFF_FFFF_FFFE), Value::I32(5)].as_slice()
-    );
+    let ended = invoke(alloc, &mut instance, function, &args, &mut fuel, 1)?;
+    assert_eq!(rt; fuel.left(), 0);
+    match ended {
+        Outcome::Values(values) => Ok(values),
+        _ => Err("no values".into()),
+    }
+}
+
+fn gives_its_values<R: Abort>(rt: &R, alloc: Global, accepted: &Accepted<'_>) -> Result<(), Fail> {
+    let (kind, function) = accepted.export(b"f").ok_or("no export")?;
+    assert_eq!(rt; kind, ExportKind::Function);
+    let values = swapped(rt, alloc, accepted, function)?;
+    let wanted = [Value::I64(0xFFFF_FFFF_FFFF_FFFE), Value::I32(5)];
+    assert_eq!(rt; values.as_slice(), wanted.as_slice());
     let signature = accepted.context().function(function).ok_or("no type")?;
     let types: Vec<ValType> = values.iter().map(type_of).collect(alloc)?;
     assert_eq!(rt; types.as_slice(), signature.results);
-    assert_eq!(rt; fuel.left(), 0);
     Ok(())
 }
 
 #[test]
 fn a_call_of_a_module_ends_in_values_of_its_type(rt: HostRuntime) -> Result<(), Fail> {
     let accepted = accepted(&rt, rt.alloc());
-    call_swap(&rt, rt.alloc(), &accepted)
+    gives_its_values(&rt, rt.alloc(), &accepted)
 }

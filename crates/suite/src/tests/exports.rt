@@ -1,7 +1,8 @@
 // The exports of an accepted module, looked up by their names.
 use batch::{Plan, Quiet};
+use std::process::Abort;
 use std::test::Fail;
-use verdict::judge;
+use verdict::{Accepted, judge};
 use wsyntax::ExportKind;
 
 // (module (func (export "run")) (func (export "ru")) (memory (export "") (export "z") 1))
@@ -12,16 +13,25 @@ static MODULE: [u8; 54] = [
     0x02, 0x00, 0x0B, 0x02, 0x00, 0x0B,
 ];
 
+fn names_are_found<R: Abort>(rt: &R, accepted: &Accepted<'_>) {
+    let found = [
+        ("run", ExportKind::Function, 0),
+        ("ru", ExportKind::Function, 1),
+        ("", ExportKind::Memory, 0),
+        ("z", ExportKind::Memory, 0),
+    ];
+    for (name, kind, index) in found {
+        assert_eq!(rt; accepted.export(name.as_bytes()), Some((kind, index)));
+    }
+    for name in ["a", "r", "runs", "s", "zz"] {
+        assert_eq!(rt; accepted.export(name.as_bytes()), None);
+    }
+}
+
 #[test]
 fn exports_are_found_by_name(rt: HostRuntime) -> Result<(), Fail> {
     let plan = Plan::new(1, 1).ok_or("no plan")?;
     let accepted = judge(&rt, rt.alloc(), &MODULE, plan, &Quiet)?;
-    assert_eq!(rt; accepted.export(b"run"), Some((ExportKind::Function, 0)));
-    assert_eq!(rt; accepted.export(b"ru"), Some((ExportKind::Function, 1)));
-    assert_eq!(rt; accepted.export(b""), Some((ExportKind::Memory, 0)));
-    assert_eq!(rt; accepted.export(b"z"), Some((ExportKind::Memory, 0)));
-    for name in ["a", "r", "runs", "s", "zz"] {
-        assert_eq!(rt; accepted.export(name.as_bytes()), None);
-    }
+    names_are_found(&rt, &accepted);
     Ok(())
 }

@@ -32,54 +32,67 @@ const IMPORTED: GlobalType = GlobalType {
     mutable: false,
 };
 
-#[test]
-fn lends_the_module(rt: HostRuntime) -> Result<(), Fail> {
-    let accepted = accepted(&rt, rt.alloc());
-    let lent = accepted.module();
-    assert_eq!(rt; lent.types.len(), 3);
-    let [function, global] = lent.imports.as_slice() else {
+fn lends_the_imports<R: Abort>(rt: &R, accepted: &Accepted<'_>) -> Result<(), Fail> {
+    let [function, global] = accepted.module().imports.as_slice() else {
         return Err("two imports".into());
     };
     assert_eq!(rt; function.kind, ImportKind::Function(0));
     assert_eq!(rt; global.kind, ImportKind::Global(IMPORTED));
-    assert_eq!(rt; lent.functions.as_slice(), [1, 2].as_slice());
-    let [export] = lent.exports.as_slice() else {
+    Ok(())
+}
+
+fn lends_the_export<R: Abort>(rt: &R, accepted: &Accepted<'_>) -> Result<(), Fail> {
+    let [export] = accepted.module().exports.as_slice() else {
         return Err("one export".into());
     };
     assert_eq!(rt; export.name, b"a".as_slice());
     assert_eq!(rt; (export.kind, export.index), (ExportKind::Function, 1));
-    assert_eq!(rt; lent.bodies.len(), 2);
     Ok(())
 }
 
-#[test]
-fn lends_the_context(rt: HostRuntime) -> Result<(), Fail> {
-    let accepted = accepted(&rt, rt.alloc());
+fn lends_types_and_functions<R: Abort>(rt: &R, accepted: &Accepted<'_>) {
+    let lent = accepted.module();
+    assert_eq!(rt; (lent.types.len(), lent.bodies.len()), (3, 2));
+    assert_eq!(rt; lent.functions.as_slice(), [1, 2].as_slice());
+}
+
+fn lends_the_context<R: Abort>(rt: &R, accepted: &Accepted<'_>) {
     let context = accepted.context();
-    assert_eq!(rt; context.function_count(), 3);
-    assert_eq!(rt; context.imported_functions(), 1);
-    assert_eq!(rt; context.type_of(2), Some(2));
+    assert_eq!(rt;
+        (context.function_count(), context.imported_functions()),
+        (3, 1)
+    );
     assert_eq!(rt; context.global(0), Some(IMPORTED));
     assert!(rt; context.has_memory() && !context.has_table());
-    let signature = context.function(1).ok_or("no function")?;
-    assert_eq!(rt; signature.params, [ValType::I32].as_slice());
-    assert_eq!(rt; signature.results, [ValType::I32].as_slice());
+}
+
+fn the_context_knows_types<R: Abort>(rt: &R, accepted: &Accepted<'_>) -> Result<(), Fail> {
+    let context = accepted.context();
+    assert_eq!(rt; context.type_of(2), Some(2));
     assert!(rt; context.signature(3).is_none());
+    let signature = context.function(1).ok_or("no function")?;
+    let i32_alone = [ValType::I32].as_slice();
+    assert_eq!(rt;
+        (signature.params, signature.results),
+        (i32_alone, i32_alone)
+    );
     Ok(())
 }
 
-#[test]
-fn lends_a_body_with_a_branch(rt: HostRuntime) -> Result<(), Fail> {
-    let accepted = accepted(&rt, rt.alloc());
+fn lends_locals_and_tokens<R: Abort>(rt: &R, accepted: &Accepted<'_>) -> Result<(), Fail> {
     let body = accepted.body(1).ok_or("no body")?;
     let run = LocalRun {
         count: 2,
         content: ValType::I64,
     };
     assert_eq!(rt; body.locals(), [run].as_slice());
-    assert_eq!(rt; body.tokens().len(), 10);
-    assert_eq!(rt; body.entries().len(), 10);
+    assert_eq!(rt; (body.tokens().len(), body.entries().len()), (10, 10));
     assert_eq!(rt; body.tokens().get(4), Some(&Token::BrIf(0)));
+    Ok(())
+}
+
+fn lends_the_place_of_a_branch<R: Abort>(rt: &R, accepted: &Accepted<'_>) -> Result<(), Fail> {
+    let body = accepted.body(1).ok_or("no body")?;
     // on behind the block's end, with one operand above the 5
     let behind = Destination {
         target: 8,
@@ -100,31 +113,33 @@ fn to(target: u32) -> Destination {
     }
 }
 
-#[test]
-fn lends_a_body_with_a_branch_table(rt: HostRuntime) -> Result<(), Fail> {
-    let accepted = accepted(&rt, rt.alloc());
+fn lends_a_branch_table<R: Abort>(rt: &R, accepted: &Accepted<'_>) -> Result<(), Fail> {
     let body = accepted.body(2).ok_or("no body")?;
     let table = Token::BrTable { count: 2, first: 0 };
     assert_eq!(rt; body.tokens().get(3), Some(&table));
     assert_eq!(rt; body.targets(), [0, 1, 2].as_slice());
-    // two cases and the default: back to the loop, behind the block, and out of the body
-    let entry = body.entries().get(3).ok_or("no entry")?;
-    assert_eq!(rt; (entry.arity, entry.height), (2, 0));
-    assert_eq!(rt; body.cases(), [to(1), to(6), to(7)].as_slice());
     assert_eq!(rt; body.height(), 1);
     Ok(())
 }
 
-#[test]
-fn lends_no_other_body(rt: HostRuntime) {
-    let accepted = accepted(&rt, rt.alloc());
+fn lends_the_places_of_a_branch_table<R: Abort>(
+    rt: &R,
+    accepted: &Accepted<'_>,
+) -> Result<(), Fail> {
+    let body = accepted.body(2).ok_or("no body")?;
+    // two cases and the default: back to the loop, behind the block, and out of the body
+    let entry = body.entries().get(3).ok_or("no entry")?;
+    assert_eq!(rt; (entry.arity, entry.height), (2, 0));
+    assert_eq!(rt; body.cases(), [to(1), to(6), to(7)].as_slice());
+    Ok(())
+}
+
+fn lends_no_other_body<R: Abort>(rt: &R, accepted: &Accepted<'_>) {
     assert!(rt; accepted.body(0).is_none());
     assert!(rt; accepted.body(3).is_none());
 }
 
-#[test]
-fn lends_the_shapes_of_functions(rt: HostRuntime) -> Result<(), Fail> {
-    let accepted = accepted(&rt, rt.alloc());
+fn lends_the_shapes_of_functions<R: Abort>(rt: &R, accepted: &Accepted<'_>) -> Result<(), Fail> {
     let [first, second] = accepted.function_shapes() else {
         return Err("two shapes".into());
     };
@@ -136,12 +151,44 @@ fn lends_the_shapes_of_functions(rt: HostRuntime) -> Result<(), Fail> {
         (second.params, second.declared, second.results, second.kind),
         (1, 0, 0, 2)
     );
-    assert_eq!(rt; accepted.bodies().len(), 2);
-    assert_eq!(rt; accepted.type_numbers(), [0, 1, 2].as_slice());
-    assert_eq!(rt; accepted.declared_locals(0), None);
-    assert_eq!(rt; accepted.declared_locals(1), Some(2));
-    assert_eq!(rt; accepted.declared_locals(3), None);
-    assert_eq!(rt; accepted.function_type_number(2), Some(2));
-    assert!(rt; !accepted.has_floats());
     Ok(())
+}
+
+fn lends_the_numbers_of_types<R: Abort>(rt: &R, accepted: &Accepted<'_>) {
+    assert_eq!(rt; accepted.type_numbers(), [0, 1, 2].as_slice());
+    assert_eq!(rt; accepted.function_type_number(2), Some(2));
+    assert!(rt; !accepted.has_floats() && accepted.bodies().len() == 2);
+}
+
+fn lends_the_counts_of_locals<R: Abort>(rt: &R, accepted: &Accepted<'_>) {
+    for (function, count) in [(0, None), (1, Some(2)), (3, None)] {
+        assert_eq!(rt; accepted.declared_locals(function), count);
+    }
+}
+
+fn lends_the_module<R: Abort>(rt: &R, accepted: &Accepted<'_>) -> Result<(), Fail> {
+    lends_the_imports(rt, accepted)?;
+    lends_the_export(rt, accepted)?;
+    lends_types_and_functions(rt, accepted);
+    lends_the_shapes_of_functions(rt, accepted)?;
+    lends_the_numbers_of_types(rt, accepted);
+    lends_the_counts_of_locals(rt, accepted);
+    lends_the_context(rt, accepted);
+    the_context_knows_types(rt, accepted)
+}
+
+fn lends_the_bodies<R: Abort>(rt: &R, accepted: &Accepted<'_>) -> Result<(), Fail> {
+    lends_locals_and_tokens(rt, accepted)?;
+    lends_the_place_of_a_branch(rt, accepted)?;
+    lends_a_branch_table(rt, accepted)?;
+    lends_the_places_of_a_branch_table(rt, accepted)?;
+    lends_no_other_body(rt, accepted);
+    Ok(())
+}
+
+// One function holds the module: each that does is long to prove.
+#[test]
+fn an_accepted_module_lends_its_parts(rt: HostRuntime) -> Result<(), Fail> {
+    let accepted = accepted(&rt, rt.alloc());
+    lends_the_module(&rt, &accepted).and_then(|()| lends_the_bodies(&rt, &accepted))
 }

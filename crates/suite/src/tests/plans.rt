@@ -3,7 +3,7 @@ use crate::judges::verdict_line;
 use batch::{Plan, Quiet, Status};
 use std::alloc::{AllocError, Global};
 use std::test::Fail;
-use verdict::{Class, Refusal, examine, judge};
+use verdict::{Class, Refusal, examine};
 
 // The header, the type [] -> [], and the head of a section of 1,000 functions.
 const FRONT: [u8; 19] = [
@@ -34,25 +34,34 @@ fn thousand_bodies(alloc: Global) -> Result<Vec<u8>, AllocError> {
     Ok(bytes)
 }
 
+const THIRD: Refusal = Refusal::Body {
+    func: 3,
+    class: Class::IllTyped { at: 0 },
+};
+
 #[test]
 fn the_first_of_two_is_named(rt: HostRuntime) -> Result<(), Fail> {
     let bytes = thousand_bodies(rt.alloc())?;
-    let third = Refusal::Body {
-        func: 3,
-        class: Class::IllTyped { at: 0 },
-    };
     for workers in [1, 2, 8, 64] {
         for piece in [1, 7, 65_535] {
             let plan = Plan::new(workers, piece).ok_or("no plan")?;
-            let kept = judge(&rt, rt.alloc(), &bytes, plan, &Quiet).map(|_| ());
-            assert_eq!(rt; kept, Err(third), "{workers} workers, {piece} a piece");
             let examined = examine(&rt, rt.alloc(), &bytes, plan, &Quiet);
-            assert_eq!(rt; examined, Err(third), "{workers} workers, {piece} a piece");
+            assert_eq!(rt; examined, Err(THIRD), "{workers} workers, {piece} a piece");
+        }
+    }
+    Ok(())
+}
+
+// The line is that of both judges.
+#[test]
+fn the_line_names_the_first_of_two(rt: HostRuntime) -> Result<(), Fail> {
+    let bytes = thousand_bodies(rt.alloc())?;
+    for workers in [1, 2, 8, 64] {
+        for piece in [1, 7, 65_535] {
+            let plan = Plan::new(workers, piece).ok_or("no plan")?;
             let (line, status) = verdict_line(&rt, rt.alloc(), &bytes, plan)?;
-            assert_eq!(rt;
-                line.as_slice(),
-                b"refused body 3 ill-typed at 0\n".as_slice()
-            );
+            let line = line.as_slice();
+            assert_eq!(rt; line, b"refused body 3 ill-typed at 0\n".as_slice());
             assert_eq!(rt; status, Status::ModuleRefused);
         }
     }

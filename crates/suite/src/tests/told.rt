@@ -88,8 +88,23 @@ impl Watch for Counting {
     fn lent(&self, _call: u32, _bytes: usize) {}
 }
 
-// The judges tell each body once, and the answer each body and each call.
-fn tells_each_once<R: Threads + Wait + Abort + Sync>(
+// The judge that keeps the bodies tells each once, and so does the one that keeps nothing.
+fn judges_tell_each_once<R: Threads + Wait + Abort + Sync>(
+    rt: &R,
+    alloc: Global,
+    plan: Plan,
+) -> Result<(), Fail> {
+    let module = hundred_bodies(alloc)?;
+    let counting = Counting::new(alloc)?;
+    assert!(rt; judge(rt, alloc, &module, plan, &counting).is_ok());
+    assert!(rt; counting.bodies.is_each(1));
+    assert!(rt; examine(rt, alloc, &module, plan, &counting).is_ok());
+    assert!(rt; counting.bodies.is_each(2) && counting.calls.is_each(0));
+    Ok(())
+}
+
+// An answer tells each body and each call once.
+fn answer_tells_each_once<R: Threads + Wait + Abort + Sync>(
     rt: &R,
     alloc: Global,
     plan: Plan,
@@ -97,17 +112,13 @@ fn tells_each_once<R: Threads + Wait + Abort + Sync>(
     let module = hundred_bodies(alloc)?;
     let calls = hundred_calls(alloc)?;
     let counting = Counting::new(alloc)?;
-    assert!(rt; judge(rt, alloc, &module, plan, &counting).is_ok());
-    assert!(rt; counting.bodies.is_each(1) && counting.calls.is_each(0));
-    assert!(rt; examine(rt, alloc, &module, plan, &counting).is_ok());
-    assert!(rt; counting.bodies.is_each(2) && counting.calls.is_each(0));
     let settings = Settings::new(10, 1, 0).ok_or("settings")?;
     let mut text = Vec::new(alloc);
     let status = answer(
         rt, alloc, &module, &calls, settings, plan, &counting, &mut text,
     )?;
     assert_eq!(rt; status, Status::Good);
-    assert!(rt; counting.bodies.is_each(3) && counting.calls.is_each(1));
+    assert!(rt; counting.bodies.is_each(1) && counting.calls.is_each(1));
     Ok(())
 }
 
@@ -116,7 +127,8 @@ fn each_index_is_told_once(rt: HostRuntime) -> Result<(), Fail> {
     for workers in [1, 2, 8, 64] {
         for piece in [1, 7, 65_535] {
             let plan = Plan::new(workers, piece).ok_or("plan")?;
-            tells_each_once(&rt, rt.alloc(), plan)?;
+            judges_tell_each_once(&rt, rt.alloc(), plan)?;
+            answer_tells_each_once(&rt, rt.alloc(), plan)?;
         }
     }
     Ok(())
