@@ -1,87 +1,244 @@
 #!/usr/bin/env python3
-"""usage: wrong_bodies.py [--read | CRATE..]    shows that the wrong bodies in tests/wrong_bodies are refused.
+"""usage: wrong_bodies.py [--all] [--tree FOLDER] [CRATE..]    shows that the prover refuses wrong bodies.
 
-`rt ci` tries those that stand in a crate's must-fail/: one of each public function, and those that turn what the product is
-for. Each costs a check of its crate, and all of them together more than a landing has time for; so the others stand here, in
-a folder a crate, and `./test --all` tries them: in a copy of the tree, where they take the place of those in must-fail/, by
-`rt must-fail`. With --read it is only seen that each can be applied: that each old text stands once in its file.
+A wrong body is an edit of one function, in a crate's must-fail/ or, where that has another one of the same function, in
+tests/wrong_bodies, in a folder of the crate's name. `rt must-fail` tries those of must-fail/ one by one, and each costs a
+check of its crate, with all that the crate stands on. Here those of a crate that turn different functions stand together in
+one copy of it, a round: functions know one another by their contracts alone, so that a wrong body shows in its own function
+and nowhere else. One check has to name each of these functions among what is not proved, where `rt must-fail` takes any
+refusal. What a round does not name, and what turns no single function, is tried alone. The last check of a crate is that of
+its own text, over what the others kept, which has to be proved.
+
+With --all those of tests/wrong_bodies are tried too; without it is only seen that each can be applied.
+
+The libraries that a crate stands on are taken as they lie in FOLDER, a tree that `rt ci` has proved (this one, where none is
+given).
 """
+import argparse
+import glob
+import importlib.machinery
+import importlib.util
 import os
 import re
 import shutil
-import subprocess
 import sys
 import tempfile
+import time
+from concurrent.futures import ThreadPoolExecutor
+from dataclasses import dataclass
 
 root = os.path.realpath(os.path.join(os.path.dirname(os.path.abspath(__file__)), '..'))
-bodies = os.path.join(root, 'tests', 'wrong_bodies')
+
+# A check needs up to so many kilobytes.
+MEMORY_OF_A_CHECK = 3_000_000
+
+HEADER = re.compile(r'^([ \t]*)(?:pub(?:\([a-z]+\))? )?(?:const )?fn (\w+)', re.M)
+
+def load_kit():
+    """The kit's `rt` as a module: it reads edits, and knows the words of a check."""
+    path = os.path.realpath(shutil.which('rt'))
+    sys.path.insert(0, os.path.dirname(path))
+    loader = importlib.machinery.SourceFileLoader('rt_of_the_kit', path)
+    kit = importlib.util.module_from_spec(importlib.util.spec_from_loader(loader.name, loader))
+    loader.exec_module(kit)
+    kit.rtlib.guarded()
+    return kit
+
+
+@dataclass(frozen=True)
+class Function:
+    """A function of a source file: its name, and where its text begins and ends."""
+    file: str
+    name: str
+    first: int
+    end: int
+
+
+@dataclass(frozen=True)
+class Change:
+    file: str
+    first: int
+    end: int
+    new: str
+
+
+@dataclass
+class Body:
+    """A wrong body: its file, what it changes, and the functions in which that stands; none where it stands in no function."""
+    path: str
+    changes: list
+    functions: frozenset
+
+    def name(self):
+        return os.path.basename(self.path)[: -len('.edit')]
 
 
 def read(path):
-    with open(path) as file:
+    with open(path, encoding='utf-8') as file:
         return file.read()
 
 
-def edits(crate):
-    folder = os.path.join(bodies, crate)
-    return sorted(os.path.join(folder, name) for name in os.listdir(folder))
+def function_at(file, text, at):
+    """The function in which a place lies, with the lines right above its header."""
+    headers = [it for it in HEADER.finditer(text) if it.start() <= at]
+    if not headers:
+        return None
+    header = headers[-1]
+    closing = re.compile(rf'^{header[1]}\}}$', re.M).search(text, header.end())
+    if closing is None or closing.end() < at:
+        return None
+    first = text.rfind('\n\n', 0, header.start()) + 1
+    return Function(file, header[2], first, closing.end())
 
 
-def why_unread(crate, edit):
-    """Why an edit cannot be applied, if it cannot."""
-    parts = re.findall(r'^(file|old|new): ?(.*)$', read(edit), re.M)
-    if [word for word, _ in parts][-2:] != ['old', 'new']:
-        return 'it does not end with the lines old: and new:'
-    path = None
-    for word, text in parts:
+def changes_of(edit, folder):
+    """What an edit changes; its texts are read as `rt` reads them."""
+    changes, file, old = [], None, None
+    for line in read(edit).split('\n'):
+        word, _, text = line.partition(':')
+        text = text.removeprefix(' ')
         if word == 'file':
-            path = os.path.join(root, 'crates', crate, text)
-        elif path is None or not os.path.isfile(path):
-            return 'it names no file of the crate'
-        elif word == 'old' and read(path).count(text) != 1:
-            return f'an old text stands {read(path).count(text)} times'
-    return None
+            file = text.strip()
+        elif word == 'old':
+            old = text
+        elif word == 'new':
+            at = read(os.path.join(folder, file)).index(old)
+            changes.append(Change(file, at, at + len(old), text))
+    return changes
 
 
-def are_read(crates):
-    """Whether each edit can be applied."""
-    count, bad = 0, 0
-    for crate in crates:
-        for edit in edits(crate):
-            why = why_unread(crate, edit)
-            if why:
-                print(f'{os.path.relpath(edit, root)}: {why}')
-            count, bad = count + 1, bad + bool(why)
-    print(f'{count - bad} wrong bodies can be applied, {bad} not')
-    return bad == 0 and count > 0
+def body_of(edit, folder):
+    changes = changes_of(edit, folder)
+    found = [function_at(it.file, read(os.path.join(folder, it.file)), it.first) for it in changes]
+    in_code = all(it.file.startswith('src/') for it in changes)
+    return Body(edit, changes, frozenset(found) if in_code and None not in found else frozenset())
 
 
-def copy_into(folder, crates):
-    """The tree, with these edits alone and the libraries that are built."""
-    for name in ('crates.txt', 'HANDLES'):
-        shutil.copy(os.path.join(root, name), folder)
-    for crate in os.listdir(os.path.join(root, 'crates')):
-        here, there = (os.path.join(at, 'crates', crate) for at in (root, folder))
-        shutil.copytree(here, there, symlinks=True, ignore=shutil.ignore_patterns('must-fail', 'out'))
-        library = os.path.join(here, 'out', 'rlib')
-        if os.path.isdir(library):
-            shutil.copytree(library, os.path.join(there, 'out', 'rlib'), symlinks=True)
-        if crate in crates:
-            shutil.copytree(os.path.join(bodies, crate), os.path.join(there, 'must-fail'))
+def rounds_of(bodies):
+    """The bodies in as few rounds as it takes for no function to be turned twice in one, as far as they come in turn."""
+    rounds = []
+    for body in bodies:
+        free = (it for it in rounds if not any(body.functions & other.functions for other in it))
+        room = next(free, None)
+        if room is None:
+            rounds.append([body])
+        else:
+            room.append(body)
+    return rounds
 
 
-def main(words):
-    crates = [it for it in words if it != '--read'] or sorted(os.listdir(bodies))
-    if not are_read(crates):
-        return 1
-    if '--read' in words:
-        return 0
-    with tempfile.TemporaryDirectory() as folder:
-        copy_into(folder, crates)
-        failed = [it for it in crates if subprocess.run(['rt', 'must-fail', it], cwd=folder).returncode]
-    print(f'of {len(crates)} crates the wrong bodies of {len(crates) - len(failed)} were refused{": not of " if failed else ""}{" ".join(failed)}')
-    return 1 if failed else 0
+def texts_of(bodies, folder):
+    """The files that these bodies change, with all of their changes."""
+    texts = {}
+    for change in sorted({it for body in bodies for it in body.changes}, key=lambda it: -it.first):
+        text = texts.get(change.file) or read(os.path.join(folder, change.file))
+        texts[change.file] = text[: change.first] + change.new + text[change.end:]
+    return texts
+
+
+def lines_in(function, bodies, folder):
+    """The lines of a function in the text with these bodies."""
+    moved = lambda at: at + sum(len(it.new) - (it.end - it.first) for body in bodies for it in body.changes if it.file == function.file and it.end <= at)
+    text = texts_of(bodies, folder)[function.file]
+    return text.count('\n', 0, moved(function.first)) + 1, text.count('\n', 0, moved(function.end)) + 1
+
+
+def names(line, function, lines):
+    """Whether a line of the prover says that this function is not proved."""
+    place = re.match(r'(?:note: )?(?:\./)?(\S+?):(\d+):\d+: (.*)', line)
+    if not place:
+        return False
+    if place[1] == function.file:
+        return line.startswith('note: ') and lines[0] <= int(place[2]) <= lines[1]
+    module = re.escape(function.file[len('src/'): -len('.rt')])
+    in_proof = re.fullmatch(rf'proofs/{module}/(?:\w+/)*{function.name}/\w+\.antt', place[1])
+    return bool(in_proof) and place[3].startswith('error')
+
+
+def not_named(kit, crate, bodies, kept):
+    """Of the bodies of a round those whose functions the check does not all name."""
+    said = kit.checked(crate, texts_of(bodies, crate.folder), ['--jobs', '1'], kept).stdout.split('\n')
+    missing = []
+    for body in bodies:
+        spans = [(it, lines_in(it, bodies, crate.folder)) for it in body.functions]
+        if not all(any(names(line, it, lines) for line in said) for it, lines in spans):
+            missing.append(body)
+    return missing
+
+
+def unreadable(kit, crate, edits):
+    """Of these edits those that cannot be applied, with the reason."""
+    found = [(it, kit.read_edit(it, crate.folder)[1]) for it in edits]
+    return {it: f'{crate.name}/{os.path.basename(it)}: BAD EDIT: {why}' for it, why in found if why}
+
+
+def try_crate(kit, crate, edits):
+    """Tries the wrong bodies of a crate; answers the lines to print, and how many were not refused."""
+    started = time.monotonic()
+    bad = unreadable(kit, crate, edits)
+    lines, failed = list(bad.values()), len(bad)
+    readable = [body_of(it, crate.folder) for it in edits if it not in bad]
+    rounds = rounds_of([it for it in readable if it.functions])
+    with tempfile.TemporaryDirectory() as kept:
+        alone = [it for it in readable if not it.functions]
+        for bodies in rounds:
+            alone += not_named(kit, crate, bodies, kept)
+        for body in alone:
+            refused, said = kit.must_fail(crate, body.path, ['--jobs', '1'], kept)
+            lines.append(said)
+            failed += not refused
+        if kit.checked(crate, {}, ['--jobs', '1'], kept).returncode != 0:
+            lines.append(f'{crate.name}: its own text is not proved over what these checks kept')
+            failed += 1
+    lines.append(f'{crate.name}: {len(edits) - failed} of {len(edits)} wrong bodies refused, {len(edits) - failed - len(alone)} of them in their '
+                 f'functions in {len(rounds)} rounds, {len(alone)} alone ({time.monotonic() - started:.0f} s)')
+    return lines, failed
+
+
+def edits_in(*folder):
+    return sorted(glob.glob(os.path.join(root, *folder, '*.edit')))
+
+
+def further(name):
+    return edits_in('tests', 'wrong_bodies', name)
+
+
+def at_once():
+    """How many checks there is room for."""
+    memory = int(re.search(r'MemAvailable: *(\d+)', read('/proc/meminfo')).group(1))
+    return max(1, min(os.cpu_count() or 1, memory // MEMORY_OF_A_CHECK))
+
+
+def try_all(kit, edits):
+    """Tries these edits, a list a crate, several crates side by side; answers how many were not refused."""
+    failed = 0
+    with ThreadPoolExecutor(at_once()) as pool:
+        for tried in [pool.submit(try_crate, kit, crate, edits[crate]) for crate in edits]:
+            lines, bad = tried.result()
+            print(*lines, sep='\n', flush=True)
+            failed += bad
+    return failed
+
+
+def main():
+    parser = argparse.ArgumentParser(usage=__doc__)
+    parser.add_argument('--all', action='store_true')
+    parser.add_argument('--tree', default=root)
+    parser.add_argument('crates', nargs='*')
+    words = parser.parse_args()
+    kit = load_kit()
+    tree = os.path.realpath(words.tree)
+    names = words.crates or sorted(os.listdir(os.path.join(root, 'crates')))
+    crates = [kit.rtlib.Crate(os.path.join(tree, 'crates', it), tree, {}, name=it) for it in names]
+    crates.sort(key=lambda it: -it.count(rb'\n'))
+    edits = {it: edits_in('crates', it.name, 'must-fail') + (further(it.name) if words.all else []) for it in crates}
+    edits = {it: found for it, found in edits.items() if found}
+    left = [why for it in crates for why in unreadable(kit, it, further(it.name)).values()]
+    print(*left, sep='\n', end='\n' if left else '')
+    failed, count = try_all(kit, edits), sum(map(len, edits.values()))
+    print(f'{count - failed} wrong bodies refused, {failed} not')
+    return 1 if failed or left or count == 0 else 0
 
 
 if __name__ == '__main__':
-    sys.exit(main(sys.argv[1:]))
+    sys.exit(main())
