@@ -5,7 +5,7 @@ use Rattle.std.proofs.lemmas.Option.{slice_get-get_or}
 use Rattle.wsyntax.specs.Modules.{body_shape}
 use Rattle.wsyntax.specs.Binary.Shell.{FewLocals}
 use Rattle.wsyntax.specs.Validation.Context.{Context}
-use Rattle.wcheck.specs.declared.checked.CheckedBody.{CheckedBody}
+use Rattle.checked.specs.declared.body.CheckedBody.{CheckedBody}
 use Rattle.accepted.specs.Judgement.{AreChecked}
 
 -- each declares few locals

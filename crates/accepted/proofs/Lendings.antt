@@ -6,7 +6,7 @@ use Rattle.wsyntax.specs.Modules.{ModuleShape, body_shape}
 use Rattle.wsyntax.specs.Execution.Start.{has_floats}
 use Rattle.wsyntax.specs.Validation.ModuleContext.{IndexedContext}
 use Rattle.side_table.specs.declared.function_shape.FunctionShape.{FunctionShape}
-use Rattle.wcheck.specs.declared.checked.CheckedBody.{CheckedBody}
+use Rattle.checked.specs.declared.body.CheckedBody.{CheckedBody}
 use Rattle.accepted.specs.TypeNumbers.{AreTypeNumbers}
 use Rattle.accepted.specs.FunctionShapes.{function_shapes}
 use Rattle.wsyntax.specs.Binary.Shell.{FewLocals}

@@ -6,7 +6,7 @@ use Rattle.std.proofs.Props.{props}
 use Rattle.wsyntax.specs.Modules.{ModuleShape}
 use Rattle.wsyntax.specs.Validation.ModuleContext.{IndexedContext, module_context, empty_type}
 use Rattle.soundness.specs.Instances.{StartIsPlain}
-use Rattle.wcheck.specs.declared.checked.CheckedBody.{CheckedBody}
+use Rattle.checked.specs.declared.body.CheckedBody.{CheckedBody}
 use Rattle.accepted.specs.Judgement.{IsJudged}
 
 plain_if : (m : ModuleShape) (x : IndexedContext) (all : List CheckedBody) → ∥ IsJudged m x all ∥₁ → StartIsPlain → (start : Option ℕ) → m.start ≡ start

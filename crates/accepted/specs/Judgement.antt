@@ -6,9 +6,9 @@ use Rattle.wsyntax.specs.Binary.Shell.{SpellsBody, FewLocals}
 use Rattle.wsyntax.specs.Validation.Context.{Context}
 use Rattle.wsyntax.specs.Validation.ModuleContext.{module_context, imported_functions, IndexedContext, indexed_context}
 use Rattle.wsyntax.specs.Validation.Rules.{NoneBroken}
-use Rattle.wcheck.specs.declared.checked.CheckedBody.{CheckedBody}
-use Rattle.wcheck.specs.Bodies.{IsTypedAs, FitsAs}
-use Rattle.wcheck.specs.Promise.{IsCodeOf}
+use Rattle.checked.specs.declared.body.CheckedBody.{CheckedBody}
+use Rattle.checked.specs.Bodies.{IsTypedAs, FitsAs}
+use Rattle.checked.specs.Promise.{IsCodeOf}
 
 -- ---- one body
 

@@ -3,7 +3,7 @@ use Rattle.std.specs.Prelude.{◌≡◌, ◌-◌, ℕ, List, Option, Some, None,
 use Rattle.wsyntax.specs.Modules.{module_shape}
 use Rattle.wsyntax.specs.Binary.Shell.{Shell}
 use Rattle.wsyntax.specs.Validation.ModuleContext.{module_context, imported_functions, indexed_context}
-use Rattle.wcheck.specs.declared.checked.CheckedBody.{CheckedBody}
+use Rattle.checked.specs.declared.body.CheckedBody.{CheckedBody}
 use Rattle.accepted.specs.Judgement.{AreChecked}
 use Rattle.accepted.specs.declared.accepted.Accepted.{Accepted}
 

@@ -2,7 +2,7 @@
 use Rattle.std.specs.Prelude.{◌≡◌, ℕ, ◌^◌, ◌<◌, ◌≤◌, List, length, Some, slice_get}
 use Rattle.wsyntax.specs.Modules.{ModuleShape, tokens_of}
 use Rattle.wsyntax.specs.Binary.Shell.{module_limit}
-use Rattle.wcheck.specs.declared.checked.CheckedBody.{CheckedBody}
+use Rattle.checked.specs.declared.body.CheckedBody.{CheckedBody}
 
 -- 5.1.3 each segment and each token takes a byte at least
 pub record IsSmall (m : ModuleShape) (all : List CheckedBody) : Type 0 where

@@ -13,10 +13,10 @@ ghost use Rattle.layout.specs.Layouts.{IsLayoutOf};
 ghost use Rattle.soundness.specs.Instances.{SegmentsAreBytes};
 
 use crate::exports::number_of;
+use checked::CheckedBody;
 use layout::Layout;
 use side_table::FunctionShape;
 use soundness::instances::start_is_plain;
-use wcheck::CheckedBody;
 use wcontext::Context;
 use wsyntax::{ExportKind, Module};
 

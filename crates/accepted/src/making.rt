@@ -9,9 +9,9 @@ use crate::exports::numbers_by_name;
 use crate::floats::has_floats;
 use crate::shapes::function_shapes;
 use crate::type_numbers::type_numbers;
+use checked::CheckedBody;
 use layout::Layout;
 use std::alloc::{AllocError, Global};
-use wcheck::CheckedBody;
 use wcontext::Context;
 use wsyntax::Module;
 

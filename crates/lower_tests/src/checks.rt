@@ -1,6 +1,7 @@
+use side_table::Destination;
 use std::alloc::{AllocError, Global};
 use std::test::Fail;
-use wcheck::{Checker, Destination, check_body};
+use wcheck::{Checker, check_body};
 use wcontext::check_module;
 use wsyntax::{BlockType, Body, Expression, LocalRun, Module, Operator, Token, ValType};
 

@@ -7,7 +7,7 @@ use Rattle.std.proofs.lemmas.Option.{slice_get_within}
 use Rattle.wsyntax.specs.declared.types.GlobalType.{GlobalType}
 use Rattle.wsyntax.specs.Modules.{ModuleShape}
 use Rattle.wsyntax.specs.Validation.ModuleContext.{IndexedContext, module_context}
-use Rattle.wcheck.specs.declared.checked.CheckedBody.{CheckedBody}
+use Rattle.checked.specs.declared.body.CheckedBody.{CheckedBody}
 use Rattle.accepted.specs.Judgement.{IsJudged}
 
 pub declared_content : (m : ModuleShape) (x : IndexedContext) (all : List CheckedBody) (k : ℕ) (g : GlobalType) → ∥ IsJudged m x all ∥₁ → slice_get x.context.globals k ≡ Some g

@@ -2,7 +2,7 @@
 use Rattle.std.proofs.Common.{◌≡◌, ℕ, List, subst}
 use Rattle.pieces.specs.TryAll.{AllPass}
 use Rattle.wsyntax.specs.Validation.Context.{Context}
-use Rattle.wcheck.specs.declared.checked.CheckedBody.{CheckedBody}
+use Rattle.checked.specs.declared.body.CheckedBody.{CheckedBody}
 use Rattle.accepted.specs.Judgement.{IsCheckedAt, AreChecked}
 
 -- each is checked, so they all are

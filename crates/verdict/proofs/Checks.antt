@@ -10,8 +10,9 @@ use Rattle.wsyntax.specs.Validation.Algorithm.{Accepted, Refused, alg}
 use Rattle.wsyntax.specs.Validation.Laws.{TypedIsAccepted, RefusedAtFirstFault}
 use Rattle.wsyntax.specs.Validation.ModuleContext.{function_context}
 use Rattle.wsyntax.specs.Validation.Verdict.{result_of}
-use Rattle.wcheck.specs.declared.checked.CheckedBody.{CheckedBody}
-use Rattle.wcheck.specs.Bodies.{IsTypedAs, IsFaultyAt, FitsAs}
+use Rattle.checked.specs.declared.body.CheckedBody.{CheckedBody}
+use Rattle.checked.specs.Bodies.{IsTypedAs, FitsAs}
+use Rattle.wcheck.specs.Refusals.{IsFaultyAt}
 use Rattle.verdict.specs.declared.refusal.Class.TheVariants.{IllTyped}
 use Rattle.verdict.specs.Judged.{class_of}
 use Rattle.accepted.specs.Judgement.{IsCheckedFrom}

@@ -5,7 +5,7 @@ use Rattle.wsyntax.specs.Modules.{ModuleShape, module_shape}
 use Rattle.wsyntax.specs.Binary.Shell.{Shell}
 use Rattle.wsyntax.specs.Validation.ModuleContext.{IndexedContext, indexed_context, module_context, imported_functions}
 use Rattle.wsyntax.specs.Validation.Rules.{NoneBroken}
-use Rattle.wcheck.specs.declared.checked.CheckedBody.{CheckedBody}
+use Rattle.checked.specs.declared.body.CheckedBody.{CheckedBody}
 use Rattle.accepted.specs.declared.accepted.Accepted.{Accepted}
 use Rattle.accepted.specs.Judgement.{AreChecked, IsJudged}
 use Rattle.accepted.specs.Kept.{IsAcceptedFrom}

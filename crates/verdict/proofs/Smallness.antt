@@ -5,7 +5,7 @@ use Rattle.wsyntax.specs.Modules.{ModuleShape, tokens_of, body_shape}
 use Rattle.wsyntax.specs.Binary.Shell.{module_limit}
 use Rattle.wsyntax.specs.Validation.ModuleContext.{IndexedContext}
 use Rattle.wsyntax.specs.Validation.Verdict.{IsModule}
-use Rattle.wcheck.specs.declared.checked.CheckedBody.{CheckedBody}
+use Rattle.checked.specs.declared.body.CheckedBody.{CheckedBody}
 use Rattle.accepted.specs.Judgement.{IsJudged}
 use Rattle.accepted.specs.Small.{IsSmall}
 use Rattle.verdict.proofs.Sizes.{segments_fit, body_fits}

@@ -8,12 +8,12 @@ ghost use Rattle.verdict.specs.Refusals.{verdict_of};
 use crate::keeping_jobs::KeptBodies;
 use crate::refusal::Refusal;
 use accepted::Accepted;
+use checked::CheckedBody;
 use pieces::{Plan, TryFault, Watch, try_all};
 use soundness::validation::{accepted_is_typed, refused_at_first_fault};
 use std::alloc::Global;
 use std::sync::Wait;
 use std::thread::Threads;
-use wcheck::CheckedBody;
 use wcontext::{Context, check_module};
 use wdecode::{decode_module, grammar_is_read};
 

@@ -4,10 +4,11 @@ ghost use Rattle.verdict.specs.Judged.{class_of};
 ghost use Rattle.accepted.specs.Judgement.{IsCheckedFrom};
 
 use crate::refusal::Class;
+use checked::CheckedBody;
 use pieces::JobFault;
 use soundness::validation::{refused_at_first_fault, typed_is_accepted};
 use std::alloc::Global;
-use wcheck::{CheckFault, CheckedBody, check_body};
+use wcheck::{CheckFault, check_body};
 use wcontext::Context;
 use wdecode::{BodyFault, decode_body, grammar_is_read};
 

@@ -2,10 +2,10 @@ ghost use Rattle.std.specs.Prelude.{◌≡◌, ◌+◌, ◌<◌, ◌^◌, Some, 
 
 use crate::keeping::checked_body;
 use crate::refusal::Class;
+use checked::CheckedBody;
 use pieces::{Job, JobFault, Stage, Watch};
 use std::alloc::Global;
 use std::sync::Wait;
-use wcheck::CheckedBody;
 use wcontext::Context;
 
 /// The bodies of a module, each to be judged under the module's context and kept.

@@ -1,18 +1,8 @@
--- One of a list passes a test, in the words of the definition and in those of the code.
-use Rattle.std.proofs.Common.{◌≡◌, ◌≤◌, ◌<◌, ℕ, ◌+◌, Bool, true, false, ◌||◌, List, [], ◌∷◌, length, get_or, drop, map, refl, sym, ap, ◌∙◌}
-use Rattle.std.specs.List.{list_any}
+-- One of a list passes a test, as far as the list has been tested.
+use Rattle.std.proofs.Common.{◌≡◌, ◌≤◌, ◌<◌, ℕ, ◌+◌, Bool, true, false, ◌||◌, List, length, get_or, drop, map, refl, sym, ap, ◌∙◌}
 use Rattle.std.proofs.lemmas.List.{at_drop_more}
 use Rattle.wsyntax.specs.Execution.Start.{any}
 use Rattle.wcheck.proofs.Judging.{drop_past}
-
-pub any_is : {A : Type 0} (p : A → Bool) (xs : List A) → list_any p xs ≡ any p xs
-any_is p [] = refl
-any_is p (x ∷ xs) = ap (λ (t : Bool). p x || t) (any_is p xs)
-
--- of what the list stands for
-pub any_shown : {A B : Type 0} (shows : A → B) (p : B → Bool) (xs : List A) → list_any (λ x. p (shows x)) xs ≡ any p (map shows xs)
-any_shown shows p [] = refl
-any_shown shows p (x ∷ xs) = ap (λ (t : Bool). p (shows x) || t) (any_shown shows p xs)
 
 or_false : (t : Bool) → t ≡ (t || false)
 or_false true = refl

@@ -9,6 +9,5 @@ pub mod Checking
 pub mod Checked
 pub mod TableViews
 pub mod Outcomes
-pub mod Promise
-pub mod Bodies
+pub mod Refusals
 pub mod LocalRuns

@@ -4,15 +4,10 @@ use Rattle.wsyntax.specs.Modules.{BodyShape}
 use Rattle.wsyntax.specs.Execution.Start.{body_has_floats}
 use Rattle.wsyntax.specs.Instructions.{Token}
 use Rattle.wsyntax.specs.Validation.Context.{Stack, Context}
-use Rattle.wcheck.specs.declared.body.SideTable.{SideTable}
 use Rattle.wcheck.specs.declared.body.Outcome.{Outcome}
 use Rattle.wcheck.specs.declared.body.Outcome.TheVariants as outcome
-use Rattle.side_table.specs.SideTable.{Filled}
+use Rattle.checked.specs.Promise.{filled_with}
 use Rattle.wcheck.specs.Pass.{Notes, Through, Refused, pass_all, filled}
-
--- the tokens with the side table
-abbrev pub filled_with : List Token → SideTable → Filled
-filled_with tokens t = record { tokens = tokens; table = t.entries.items; cases = t.cases.items; height = t.height }
 
 -- the pass comes to this
 abbrev pub Comes : Context → Stack → List Token → Outcome → Type 0

@@ -1,8 +1,9 @@
 ghost use Rattle.std.specs.Prelude.{◌≡◌, ◌<◌, length, IfOk, IfErr};
-ghost use Rattle.wcheck.specs.Bodies.{IsTypedAs, RefusedFor, FitsAs};
+ghost use Rattle.checked.specs.Bodies.{IsTypedAs, FitsAs};
+ghost use Rattle.wcheck.specs.Refusals.{RefusedFor};
 
 use crate::body::{Outcome, pass_body};
-use crate::checked::CheckedBody;
+use checked::CheckedBody;
 use soundness::validation::{accepted_is_typed, refused_at_first_fault};
 use std::alloc::Global;
 use thiserror::Error;
@@ -39,11 +40,7 @@ pub fn check_body(
     accepted_is_typed();
     refused_at_first_fault();
     match pass_body(alloc, context, func, &body) {
-        Ok(Outcome::Passes { table, has_floats }) => Ok(CheckedBody {
-            body,
-            table,
-            has_floats,
-        }),
+        Ok(Outcome::Passes { table, has_floats }) => Ok(CheckedBody::new(body, table, has_floats)),
         Ok(Outcome::Refused(at)) => Err(CheckFault::IllTyped { at }),
         Err(_) => Err(CheckFault::Memory),
     }

@@ -5,10 +5,8 @@ mod apply;
 mod body;
 mod building;
 mod check;
-mod checked;
 mod checker;
 mod control;
-mod floats;
 mod frames;
 mod laws;
 mod locals;
@@ -19,7 +17,4 @@ mod scope;
 mod table;
 
 pub use check::{CheckFault, check_body};
-pub use checked::CheckedBody;
 pub use checker::Checker;
-pub use floats::{expression_has_floats, is_float};
-pub use side_table::Destination;

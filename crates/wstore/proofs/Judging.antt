@@ -6,7 +6,7 @@ use Rattle.std.proofs.lemmas.Option.{slice_get-map}
 use Rattle.wsyntax.specs.Modules.{ModuleShape, BodyShape, body_shape}
 use Rattle.wsyntax.specs.Validation.ModuleContext.{IndexedContext, module_context}
 use Rattle.wsyntax.specs.Validation.Verdict.{function_at}
-use Rattle.wcheck.specs.declared.checked.CheckedBody.{CheckedBody}
+use Rattle.checked.specs.declared.body.CheckedBody.{CheckedBody}
 use Rattle.accepted.specs.Judgement.{IsJudged, IsCheckedFrom, shapes_of}
 use Rattle.soundness.specs.Instances.{Judged, TypedAt}
 

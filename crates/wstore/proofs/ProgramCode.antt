@@ -13,7 +13,7 @@ use Rattle.wsyntax.specs.Binary.Sections.{locals_of}
 use Rattle.wsyntax.specs.Validation.ModuleContext.{type_at, empty_type, declared}
 use Rattle.wsyntax.specs.Validation.Rules.{FunctionsTyped}
 use Rattle.side_table.specs.declared.function_shape.FunctionShape.{FunctionShape}
-use Rattle.wcheck.specs.declared.checked.CheckedBody.{CheckedBody}
+use Rattle.checked.specs.declared.body.CheckedBody.{CheckedBody}
 use Rattle.refinement.specs.Machine.{Body, Program}
 use Rattle.interpreter.specs.declared.code.Code.{Code}
 use Rattle.interpreter.specs.Code.{body_of, bodies_of, program_of, IsShapeOf, IsCode}

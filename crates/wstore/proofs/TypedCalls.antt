@@ -15,7 +15,7 @@ use Rattle.wsyntax.specs.Execution.Laws.{StoreKept}
 use Rattle.wsyntax.specs.Execution.Start.{InstanceOf}
 use Rattle.soundness.specs.Slots.{SlotStore}
 use Rattle.soundness.specs.Instances.{Runnable, OneInstance}
-use Rattle.wcheck.specs.declared.checked.CheckedBody.{CheckedBody}
+use Rattle.checked.specs.declared.body.CheckedBody.{CheckedBody}
 use Rattle.refinement.specs.Machine.{Program, module_of}
 use Rattle.refinement.specs.Reached.{BodyHolds, ProgramHolds}
 use Rattle.refinement.specs.Trees.{TreeIsFound}

@@ -1,12 +1,12 @@
 // What an accepted module lends: its parts, its context and its checked bodies.
 use batch::{Plan, Quiet};
+use side_table::Destination;
 use std::alloc::Global;
 use std::process::Abort;
 use std::sync::Wait;
 use std::test::Fail;
 use std::thread::Threads;
 use verdict::{Accepted, judge};
-use wcheck::Destination;
 use wsyntax::{ExportKind, GlobalType, ImportKind, LocalRun, Token, ValType};
 
 // (module (import "m" "f" (func)) (import "m" "g" (global i64)) (memory 1) (export "a" (func 1))

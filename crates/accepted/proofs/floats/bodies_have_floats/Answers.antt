@@ -4,7 +4,7 @@ use Rattle.std.proofs.lemmas.Iterator.{YieldsList-from_slice}
 use Rattle.std.proofs.lemmas.Iterator.Search.{any_from_yields_List}
 use Rattle.wsyntax.specs.Modules.{body_shape}
 use Rattle.wsyntax.specs.Execution.Start.{body_has_floats}
-use Rattle.wcheck.specs.declared.checked.CheckedBody.{CheckedBody}
+use Rattle.checked.specs.declared.body.CheckedBody.{CheckedBody}
 use Rattle.accepted.proofs.Mentions.{any_shown}
 use Rattle.accepted.proofs.floats.bodies_have_floats.Goals as goal
 

@@ -2,7 +2,7 @@ use Rattle.std.proofs.Common.{List, map, ap, ◌∙◌}
 use Rattle.wsyntax.specs.declared.instructions.Token.{Token}
 use Rattle.wsyntax.specs.Modules.{seen}
 use Rattle.wsyntax.specs.Execution.Start.{any, token_has_floats}
-use Rattle.wcheck.proofs.floats.expression_has_floats.Goals as goal
+use Rattle.checked.proofs.floats.expression_has_floats.Goals as goal
 
 pub returns : goal.returns
 returns c =

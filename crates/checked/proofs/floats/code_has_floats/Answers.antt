@@ -4,8 +4,8 @@ use Rattle.std.proofs.lemmas.Iterator.{YieldsList-from_slice}
 use Rattle.std.proofs.lemmas.Iterator.Search.{any_from_yields_List}
 use Rattle.wsyntax.specs.Modules.{seen}
 use Rattle.wsyntax.specs.Execution.Start.{token_has_floats}
-use Rattle.wcheck.proofs.Mentions.{any_shown}
-use Rattle.wcheck.proofs.floats.code_has_floats.Goals as goal
+use Rattle.checked.proofs.Mentions.{any_shown}
+use Rattle.checked.proofs.floats.code_has_floats.Goals as goal
 
 pub returns : goal.returns
 returns c targets =
