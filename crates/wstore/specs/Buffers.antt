@@ -6,11 +6,6 @@ use Rattle.memory.specs.Buffered.{Buffered}
 abbrev pub with_bytes : Buffered → List ℕ → Buffered
 with_bytes b bytes = record b { memory = record b.memory { bytes = bytes } }
 
--- the bytes that come back: those of the memory's buffer, or what was lent where there is no memory
-abbrev pub room_with : Option Buffered → ℕ → ℕ
-room_with (Some b) lent = b.room
-room_with None lent = lent
-
 -- the bytes of the memory, none where there is no memory
 abbrev pub bytes_of : Option Buffered → List ℕ
 bytes_of (Some b) = b.memory.bytes

@@ -3,8 +3,8 @@ ghost use Rattle.wsyntax.specs.Modules.{module_shape};
 ghost use Rattle.wsyntax.specs.Execution.Start.{fresh_store};
 ghost use Rattle.soundness.specs.Slots.{slot_store};
 ghost use Rattle.parts.specs.Seen.{seen};
+ghost use Rattle.parts.specs.Buffers.{room_with};
 ghost use Rattle.layout.specs.Layouts.{IsLayoutOf};
-ghost use Rattle.wstore.specs.Buffers.{room_with};
 ghost use Rattle.wstore.specs.LaidOut.{IsLaidOut};
 
 use crate::memory_part::module_memory;

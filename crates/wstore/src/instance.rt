@@ -3,8 +3,8 @@ ghost use Rattle.wsyntax.specs.Modules.{module_shape};
 ghost use Rattle.wsyntax.specs.Validation.ModuleContext.{module_context};
 ghost use Rattle.soundness.specs.Instances.{Runnable};
 ghost use Rattle.parts.specs.Seen.{seen};
+ghost use Rattle.parts.specs.Buffers.{room_with};
 ghost use Rattle.accepted.specs.Judgement.{shapes_of};
-ghost use Rattle.wstore.specs.Buffers.{room_with};
 ghost use Rattle.wstore.specs.Held.{IsHeld};
 
 use accepted::Accepted;

@@ -3,8 +3,8 @@ ghost use Rattle.wsyntax.specs.Modules.{module_shape};
 ghost use Rattle.wsyntax.specs.Execution.Start.{start_refusal, fresh_store};
 ghost use Rattle.soundness.specs.Slots.{slot_store};
 ghost use Rattle.parts.specs.Seen.{seen};
+ghost use Rattle.parts.specs.Buffers.{room_with};
 ghost use Rattle.accepted.specs.Judgement.{shapes_of};
-ghost use Rattle.wstore.specs.Buffers.{room_with};
 ghost use Rattle.wstore.specs.Faults.{IsFault};
 ghost use Rattle.wstore.specs.Views.{store_in};
 

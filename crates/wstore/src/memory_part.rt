@@ -7,9 +7,10 @@ ghost use Rattle.memory.specs.Buffered.{zeros};
 ghost use Rattle.wsyntax.specs.Modules.{module_shape};
 ghost use Rattle.wsyntax.specs.Execution.Start.{layout_of};
 ghost use Rattle.parts.specs.Seen.{memory_of};
+ghost use Rattle.parts.specs.Buffers.{room_with};
 ghost use Rattle.layout.specs.Layouts.{IsLayoutOf};
 ghost use Rattle.layout.specs.Segments.{data_segments, places_of};
-ghost use Rattle.wstore.specs.Buffers.{with_bytes, room_with};
+ghost use Rattle.wstore.specs.Buffers.{with_bytes};
 ghost use Rattle.wstore.specs.LaidOut.{IsLaidOut};
 
 use layout::Layout;

@@ -3,9 +3,9 @@
 ghost use Rattle.std.specs.Prelude.{◌≡◌, ◌<◌, ◌^◌, ◌≤◌, option_and_then, option_map, slice_get, slice_set, length, Some, IfOk, OnErr, true};
 ghost use Rattle.wsyntax.specs.Execution.Values.{type_of};
 ghost use Rattle.parts.specs.Seen.{seen};
+ghost use Rattle.parts.specs.Buffers.{room_with};
 ghost use Rattle.memory.specs.Buffered.{IsWidth};
 ghost use Rattle.wsyntax.specs.Execution.Store.{read};
-ghost use Rattle.wstore.specs.Buffers.{room_with};
 ghost use Rattle.wstore.specs.Stores.{entry_at, pages_in, StoreWrites, StoreGrows};
 ghost use Rattle.wstore.specs.Views.{context_in, store_in};
 
