@@ -1,7 +1,8 @@
-ghost use Rattle.std.specs.Prelude.{◌≡◌, ℕ, true, IsErr, IfOk, OnErr};
+ghost use Rattle.std.specs.Prelude.{◌≡◌, ℕ, ◌≤◌, true, IsErr, IfOk, OnErr};
 ghost use Rattle.ends.specs.Outcomes.{outcome_of};
 ghost use Rattle.wsyntax.specs.Execution.Store.{Store};
 ghost use Rattle.wsyntax.specs.Execution.Ends.{Outcome as MeantOutcome};
+ghost use Rattle.parts.specs.Buffers.{room_with};
 ghost use Rattle.accepted.specs.Judgement.{shapes_of};
 ghost use Rattle.wstore.specs.Views.{module_in, context_in, store_in};
 ghost use Rattle.wstore.specs.Runs.{Fits, Runs};
@@ -41,6 +42,7 @@ pub fn invoke(
     ensures typed { IfOk result (λ o. GivesTyped (context_in instance.old) function (outcome_of o)) }
     ensures never_stuck { NeverStuck (module_in instance.old) (shapes_of instance.old.accepted.now.bodies.items) (store_in instance.old) function args.now }
     ensures limit { fuel.new.limit ≡ fuel.old.limit }
+    ensures room { room_with instance.old.parts.memory instance.old.lent ≤ room_with instance.new.parts.memory instance.new.lent }
     ensures of { instance.new.accepted.now ≡ instance.old.accepted.now }
     ensures failed { instance.old.failed ≡ true → IsErr result }
     ensures fails { OnErr result (instance.new.failed ≡ true) }

@@ -1,8 +1,9 @@
 //! Calls on the store of an instance.
 
-ghost use Rattle.std.specs.Prelude.{◌≡◌, IfOk};
+ghost use Rattle.std.specs.Prelude.{◌≡◌, ◌≤◌, IfOk};
 ghost use Rattle.ends.specs.Outcomes.{outcome_of};
 ghost use Rattle.parts.specs.Seen.{seen};
+ghost use Rattle.parts.specs.Buffers.{room_with};
 ghost use Rattle.accepted.specs.Judgement.{shapes_of};
 ghost use Rattle.wstore.specs.Views.{module_in, context_in, store_in};
 ghost use Rattle.wstore.specs.Runs.{Fits, IsTypedCall, Runs};
@@ -59,6 +60,7 @@ impl<'a> Instance<'a> {
     ) -> Result<Execution, AllocError>
         requires { Fits (context_in self.old) function args.now }
         ensures runs { IfOk result (λ x. Runs (module_in self.old) (shapes_of self.old.accepted.now.bodies.items) (store_in self.old) function args.now fuel frames (outcome_of x.outcome) (store_in self.new) x.left x.dispatches) }
+        ensures room { room_with self.old.parts.memory self.old.lent ≤ room_with self.new.parts.memory self.new.lent }
         ensures marks { (self.new.accepted.now ≡ self.old.accepted.now) × (self.new.failed ≡ self.old.failed) × (self.new.dispatches ≡ self.old.dispatches) }
     {
         self.accepted.accepted_holds();
