@@ -14,7 +14,7 @@ use crate::types::block_type_at;
 use crate::values::u32_at;
 use smallvec::SmallVec;
 use std::alloc::Global;
-use wsyntax::{Expression, Opcode, Token};
+use wsyntax::{Expression, Load, Opcode, Store, Token};
 
 /// The byte 00.
 #[inline(always)]
@@ -47,12 +47,104 @@ fn eight_at(bytes: &[u8]) -> Result<([u8; 8], &[u8]), Fault>
     }
 }
 
+/// A load behind its opcode (5.4.4): its alignment and its offset.
+fn load_immediates(load: Load, bytes: &[u8]) -> Result<(Token, &[u8]), Fault>
+    ensures value { (targets : List ℕ) → Gives (λ x. (seen targets x.0, x.1.now)) result (seen_as Do ((immediates (Opcode.Load load)).read bytes.now)) }
+    ensures within { IfOk result (λ x. (targets : ℕ) → IsTrue (lies_within targets x.0)) }
+{
+    let (align, rest) = u32_at(bytes)?;
+    let (offset, rest) = u32_at(rest)?;
+    let token = Token::Load {
+        load,
+        align,
+        offset,
+    };
+    Ok((token, rest))
+}
+
+/// A store behind its opcode (5.4.4): its alignment and its offset.
+fn store_immediates(store: Store, bytes: &[u8]) -> Result<(Token, &[u8]), Fault>
+    ensures value { (targets : List ℕ) → Gives (λ x. (seen targets x.0, x.1.now)) result (seen_as Do ((immediates (Opcode.Store store)).read bytes.now)) }
+    ensures within { IfOk result (λ x. (targets : ℕ) → IsTrue (lies_within targets x.0)) }
+{
+    let (align, rest) = u32_at(bytes)?;
+    let (offset, rest) = u32_at(rest)?;
+    let token = Token::Store {
+        store,
+        align,
+        offset,
+    };
+    Ok((token, rest))
+}
+
+/// An indirect call behind its opcode (5.4.1): the index of a type, and the byte of the table.
+fn indirect_call_immediates(bytes: &[u8]) -> Result<(Token, &[u8]), Fault>
+    ensures value { (targets : List ℕ) → Gives (λ x. (seen targets x.0, x.1.now)) result (seen_as Do ((immediates Opcode.CallIndirect).read bytes.now)) }
+    ensures within { IfOk result (λ x. (targets : ℕ) → IsTrue (lies_within targets x.0)) }
+{
+    let (index, rest) = u32_at(bytes)?;
+    let rest = zero_at(rest)?;
+    Ok((Token::CallIndirect(index), rest))
+}
+
+/// A constant i32 behind its opcode (5.4.5).
+fn i32_immediates(bytes: &[u8]) -> Result<(Token, &[u8]), Fault>
+    ensures value { (targets : List ℕ) → Gives (λ x. (seen targets x.0, x.1.now)) result (seen_as Do ((immediates Opcode.I32Const).read bytes.now)) }
+    ensures within { IfOk result (λ x. (targets : ℕ) → IsTrue (lies_within targets x.0)) }
+{
+    match wnum::front_s32(bytes) {
+        None => Err(Fault::Malformed),
+        Some((value, rest)) => Ok((Token::I32Const(value), rest)),
+    }
+}
+
+/// A constant i64 behind its opcode (5.4.5).
+fn i64_immediates(bytes: &[u8]) -> Result<(Token, &[u8]), Fault>
+    ensures value { (targets : List ℕ) → Gives (λ x. (seen targets x.0, x.1.now)) result (seen_as Do ((immediates Opcode.I64Const).read bytes.now)) }
+    ensures within { IfOk result (λ x. (targets : ℕ) → IsTrue (lies_within targets x.0)) }
+{
+    match wnum::front_s64(bytes) {
+        None => Err(Fault::Malformed),
+        Some((value, rest)) => Ok((Token::I64Const(value), rest)),
+    }
+}
+
+/// A constant f32 behind its opcode (5.4.5).
+fn f32_immediates(bytes: &[u8]) -> Result<(Token, &[u8]), Fault>
+    ensures value { (targets : List ℕ) → Gives (λ x. (seen targets x.0, x.1.now)) result (seen_as Do ((immediates Opcode.F32Const).read bytes.now)) }
+    ensures within { IfOk result (λ x. (targets : ℕ) → IsTrue (lies_within targets x.0)) }
+{
+    let (value, rest) = four_at(bytes)?;
+    Ok((Token::F32Const(value), rest))
+}
+
+/// A constant f64 behind its opcode (5.4.5).
+fn f64_immediates(bytes: &[u8]) -> Result<(Token, &[u8]), Fault>
+    ensures value { (targets : List ℕ) → Gives (λ x. (seen targets x.0, x.1.now)) result (seen_as Do ((immediates Opcode.F64Const).read bytes.now)) }
+    ensures within { IfOk result (λ x. (targets : ℕ) → IsTrue (lies_within targets x.0)) }
+{
+    let (value, rest) = eight_at(bytes)?;
+    Ok((Token::F64Const(value), rest))
+}
+
 /// An instruction that has one index or label.
 macro_rules! with_index {
-    ($made:path, $bytes:expr) => {{
-        let (index, rest) = u32_at($bytes)?;
-        Ok(($made(index), rest))
-    }};
+    ($made:path, $bytes:expr) => {
+        match u32_at($bytes) {
+            Err(fault) => Err(fault),
+            Ok((index, rest)) => Ok(($made(index), rest)),
+        }
+    };
+}
+
+/// An instruction that has the byte of the memory.
+macro_rules! with_zero {
+    ($token:expr, $bytes:expr) => {
+        match zero_at($bytes) {
+            Err(fault) => Err(fault),
+            Ok(rest) => Ok(($token, rest)),
+        }
+    };
 }
 
 /// An instruction without a body behind its opcode (5.4), but for `br_table`.
@@ -71,11 +163,7 @@ fn immediates_at(opcode: Opcode, bytes: &[u8]) -> Result<(Token, &[u8]), Fault>
         Opcode::BrTable => unreachable!(),
         Opcode::Return => Ok((Token::Return, bytes)),
         Opcode::Call => with_index!(Token::Call, bytes),
-        Opcode::CallIndirect => {
-            let (index, rest) = u32_at(bytes)?;
-            let rest = zero_at(rest)?;
-            Ok((Token::CallIndirect(index), rest))
-        }
+        Opcode::CallIndirect => indirect_call_immediates(bytes),
         Opcode::Drop => Ok((Token::Drop, bytes)),
         Opcode::Select => Ok((Token::Select, bytes)),
         Opcode::LocalGet => with_index!(Token::LocalGet, bytes),
@@ -83,54 +171,14 @@ fn immediates_at(opcode: Opcode, bytes: &[u8]) -> Result<(Token, &[u8]), Fault>
         Opcode::LocalTee => with_index!(Token::LocalTee, bytes),
         Opcode::GlobalGet => with_index!(Token::GlobalGet, bytes),
         Opcode::GlobalSet => with_index!(Token::GlobalSet, bytes),
-        Opcode::Load(load) => {
-            let (align, rest) = u32_at(bytes)?;
-            let (offset, rest) = u32_at(rest)?;
-            Ok((
-                Token::Load {
-                    load,
-                    align,
-                    offset,
-                },
-                rest,
-            ))
-        }
-        Opcode::Store(store) => {
-            let (align, rest) = u32_at(bytes)?;
-            let (offset, rest) = u32_at(rest)?;
-            Ok((
-                Token::Store {
-                    store,
-                    align,
-                    offset,
-                },
-                rest,
-            ))
-        }
-        Opcode::MemorySize => {
-            let rest = zero_at(bytes)?;
-            Ok((Token::MemorySize, rest))
-        }
-        Opcode::MemoryGrow => {
-            let rest = zero_at(bytes)?;
-            Ok((Token::MemoryGrow, rest))
-        }
-        Opcode::I32Const => match wnum::front_s32(bytes) {
-            None => Err(Fault::Malformed),
-            Some((value, rest)) => Ok((Token::I32Const(value), rest)),
-        },
-        Opcode::I64Const => match wnum::front_s64(bytes) {
-            None => Err(Fault::Malformed),
-            Some((value, rest)) => Ok((Token::I64Const(value), rest)),
-        },
-        Opcode::F32Const => {
-            let (value, rest) = four_at(bytes)?;
-            Ok((Token::F32Const(value), rest))
-        }
-        Opcode::F64Const => {
-            let (value, rest) = eight_at(bytes)?;
-            Ok((Token::F64Const(value), rest))
-        }
+        Opcode::Load(load) => load_immediates(load, bytes),
+        Opcode::Store(store) => store_immediates(store, bytes),
+        Opcode::MemorySize => with_zero!(Token::MemorySize, bytes),
+        Opcode::MemoryGrow => with_zero!(Token::MemoryGrow, bytes),
+        Opcode::I32Const => i32_immediates(bytes),
+        Opcode::I64Const => i64_immediates(bytes),
+        Opcode::F32Const => f32_immediates(bytes),
+        Opcode::F64Const => f64_immediates(bytes),
         Opcode::Numeric(operator) => Ok((Token::Numeric(operator), bytes)),
     }
 }

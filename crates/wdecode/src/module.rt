@@ -1,8 +1,8 @@
-ghost use Rattle.std.specs.Prelude.{◌≡◌, ◌≤◌, ◌<◌, length, ◌↔◌, IfOk, IsErrOf, Option};
+ghost use Rattle.std.specs.Prelude.{◌≡◌, ◌≤◌, ◌<◌, length, ◌↔◌, IfOk, IsErrOf, Option, option_map};
 ghost use Rattle.wdecode.specs.Gives.{Gives};
 ghost use Rattle.wdecode.specs.Held.{section_shape};
 ghost use Rattle.wsyntax.specs.Modules.{ModuleShape, module_shape};
-ghost use Rattle.wsyntax.specs.Binary.Shell.{rank as rank_of, put as put_section, sections_at as sections_of, empty_module as empty_shape, shell_of, Shell, module_limit};
+ghost use Rattle.wsyntax.specs.Binary.Shell.{rank as rank_of, put as put_section, sections_at as sections_of, empty_module as empty_shape, shell_of, strip, header, Shell, module_limit};
 
 use crate::fault::{DecodeFault, Fault};
 use crate::section::{Section, section_at};
@@ -74,11 +74,21 @@ fn sections_at(alloc: Alloc, bytes: &[u8]) -> Result<Module<'_>, Fault>
     Ok(module)
 }
 
+/// The bytes behind the magic and the version (5.5.15); `None` where they are not at the front.
+fn behind_header(bytes: &[u8]) -> Option<&[u8]>
+    ensures { option_map (λ tail. tail.now) result ≡ strip header bytes.now }
+{
+    match bytes {
+        [0x00, 0x61, 0x73, 0x6D, 0x01, 0x00, 0x00, 0x00, tail @ ..] => Some(tail),
+        _ => None,
+    }
+}
+
 /// A module, its bodies left as bytes (5.5.15).
 fn shell_at(alloc: Alloc, bytes: &[u8]) -> Result<Module<'_>, Fault>
     ensures { Gives module_shape result (shell_of bytes.now) }
 {
-    let [0x00, 0x61, 0x73, 0x6D, 0x01, 0x00, 0x00, 0x00, tail @ ..] = bytes else {
+    let Some(tail) = behind_header(bytes) else {
         return Err(Fault::Malformed);
     };
     let module = sections_at(alloc, tail)?;

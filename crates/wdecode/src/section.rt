@@ -12,7 +12,7 @@ use std::alloc::Global as Alloc;
 use wsyntax::{Data, Element, Export, FuncTypes, Global, Import, Limits, Table};
 
 /// What a section holds.
-#[derive(Debug, Drop)]
+#[derive(Drop)]
 pub enum Section<'a> {
     Custom,
     Types(FuncTypes),
