@@ -4,8 +4,8 @@
 Two calls of `rt` in one tree wait for each other, and one call goes by the number of crates below a crate, so that what
 most others wait for begins late. So each crate is proved in a tree of its own under out/lanes, with the libraries of the
 crates below it as hard links, and what the check keeps is moved back. Of the crates that wait for none, the one with the
-longest chain of others behind it goes first, with two processors where no other chain is longer. Standard error has a line
-for each crate, and of one that is not proved what the prover said.
+longest chain of others behind it goes first, with the processors that no other crate takes. Standard error has a line for
+each crate, and of one that is not proved what the prover said.
 """
 import os
 import re
@@ -23,6 +23,14 @@ MEMORY_OF_A_CHECK = 3_000_000
 
 # More processors than these make no check faster.
 MOST_JOBS = 4
+
+# Seconds that a check from nothing took beside three others. They say which crate goes first, and nothing else.
+SECONDS = {
+    'accepted': 175, 'batch': 190, 'checked': 27, 'command': 150, 'ends': 15, 'files': 30, 'gate': 190, 'interpreter': 180,
+    'layout': 50, 'memory': 88, 'numerics': 33, 'parts': 13, 'pieces': 285, 'refinement': 17, 'side_table': 14,
+    'soundness': 50, 'texts': 110, 'verdict': 200, 'wcheck': 290, 'wcontext': 135, 'wdecode': 437, 'wmachine': 55,
+    'wnum': 95, 'wstore': 115, 'wsyntax': 98,
+}
 
 
 def read(path):
@@ -53,18 +61,17 @@ def below(name, graph):
     return found
 
 
-def size(name):
-    """The bytes of a crate's functions, which stand for the time that its check takes: lemmas alone are proved fast."""
-    folder = os.path.join(root, 'crates', name, 'src')
-    return sum(os.path.getsize(os.path.join(at, file)) for at, _, files in os.walk(folder) for file in files)
+def seconds(name):
+    """About how long the check of a crate takes; a minute for one that was not measured."""
+    return SECONDS.get(name, 60)
 
 
 def behind(crates, graph):
-    """Of each crate the size of the longest chain of crates that wait for it, itself among them."""
+    """Of each crate the seconds of the longest chain of crates that wait for it, itself among them."""
     chains = {}
     for name in sorted(crates, key=lambda it: -len(below(it, graph))):
         others = [chains[it] for it in crates if name in graph[it]]
-        chains[name] = size(name) + max(others, default=0)
+        chains[name] = seconds(name) + max(others, default=0)
     return chains
 
 
@@ -125,10 +132,9 @@ def prove_libraries(crates, graph, count):
             ready = [it for it in left if done.issuperset(graph[it])]
             idle = room - sum(jobs for _, jobs in running.values())
             begun = ready[: max(idle, 0)]
-            longest = max(chains[it] for it in [*left, *(name for name, _ in running.values())])
             for name in begun:
                 spare = idle - len(begun) if name == begun[0] else 0
-                jobs = min(MOST_JOBS, spare + (2 if room > 1 and chains[name] == longest else 1))
+                jobs = min(MOST_JOBS, spare + 1)
                 left.remove(name)
                 running[pool.submit(prove_library, name, graph, jobs)] = name, jobs
             for ended in wait(running, return_when=FIRST_COMPLETED).done:

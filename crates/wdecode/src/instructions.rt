@@ -48,6 +48,7 @@ fn eight_at(bytes: &[u8]) -> Result<([u8; 8], &[u8]), Fault>
 }
 
 /// A load behind its opcode (5.4.4): its alignment and its offset.
+#[inline(always)]
 fn load_immediates(load: Load, bytes: &[u8]) -> Result<(Token, &[u8]), Fault>
     ensures value { (targets : List ℕ) → Gives (λ x. (seen targets x.0, x.1.now)) result (seen_as Do ((immediates (Opcode.Load load)).read bytes.now)) }
     ensures within { IfOk result (λ x. (targets : ℕ) → IsTrue (lies_within targets x.0)) }
@@ -63,6 +64,7 @@ fn load_immediates(load: Load, bytes: &[u8]) -> Result<(Token, &[u8]), Fault>
 }
 
 /// A store behind its opcode (5.4.4): its alignment and its offset.
+#[inline(always)]
 fn store_immediates(store: Store, bytes: &[u8]) -> Result<(Token, &[u8]), Fault>
     ensures value { (targets : List ℕ) → Gives (λ x. (seen targets x.0, x.1.now)) result (seen_as Do ((immediates (Opcode.Store store)).read bytes.now)) }
     ensures within { IfOk result (λ x. (targets : ℕ) → IsTrue (lies_within targets x.0)) }
@@ -78,6 +80,7 @@ fn store_immediates(store: Store, bytes: &[u8]) -> Result<(Token, &[u8]), Fault>
 }
 
 /// An indirect call behind its opcode (5.4.1): the index of a type, and the byte of the table.
+#[inline(always)]
 fn indirect_call_immediates(bytes: &[u8]) -> Result<(Token, &[u8]), Fault>
     ensures value { (targets : List ℕ) → Gives (λ x. (seen targets x.0, x.1.now)) result (seen_as Do ((immediates Opcode.CallIndirect).read bytes.now)) }
     ensures within { IfOk result (λ x. (targets : ℕ) → IsTrue (lies_within targets x.0)) }
@@ -88,6 +91,7 @@ fn indirect_call_immediates(bytes: &[u8]) -> Result<(Token, &[u8]), Fault>
 }
 
 /// A constant i32 behind its opcode (5.4.5).
+#[inline(always)]
 fn i32_immediates(bytes: &[u8]) -> Result<(Token, &[u8]), Fault>
     ensures value { (targets : List ℕ) → Gives (λ x. (seen targets x.0, x.1.now)) result (seen_as Do ((immediates Opcode.I32Const).read bytes.now)) }
     ensures within { IfOk result (λ x. (targets : ℕ) → IsTrue (lies_within targets x.0)) }
@@ -99,6 +103,7 @@ fn i32_immediates(bytes: &[u8]) -> Result<(Token, &[u8]), Fault>
 }
 
 /// A constant i64 behind its opcode (5.4.5).
+#[inline(always)]
 fn i64_immediates(bytes: &[u8]) -> Result<(Token, &[u8]), Fault>
     ensures value { (targets : List ℕ) → Gives (λ x. (seen targets x.0, x.1.now)) result (seen_as Do ((immediates Opcode.I64Const).read bytes.now)) }
     ensures within { IfOk result (λ x. (targets : ℕ) → IsTrue (lies_within targets x.0)) }
@@ -110,6 +115,7 @@ fn i64_immediates(bytes: &[u8]) -> Result<(Token, &[u8]), Fault>
 }
 
 /// A constant f32 behind its opcode (5.4.5).
+#[inline(always)]
 fn f32_immediates(bytes: &[u8]) -> Result<(Token, &[u8]), Fault>
     ensures value { (targets : List ℕ) → Gives (λ x. (seen targets x.0, x.1.now)) result (seen_as Do ((immediates Opcode.F32Const).read bytes.now)) }
     ensures within { IfOk result (λ x. (targets : ℕ) → IsTrue (lies_within targets x.0)) }
@@ -119,6 +125,7 @@ fn f32_immediates(bytes: &[u8]) -> Result<(Token, &[u8]), Fault>
 }
 
 /// A constant f64 behind its opcode (5.4.5).
+#[inline(always)]
 fn f64_immediates(bytes: &[u8]) -> Result<(Token, &[u8]), Fault>
     ensures value { (targets : List ℕ) → Gives (λ x. (seen targets x.0, x.1.now)) result (seen_as Do ((immediates Opcode.F64Const).read bytes.now)) }
     ensures within { IfOk result (λ x. (targets : ℕ) → IsTrue (lies_within targets x.0)) }

@@ -1,4 +1,4 @@
-ghost use Rattle.std.specs.Prelude.{◌≡◌, ◌≤◌, ◌<◌, ◌*◌, ◌+◌, ℕ, List, ◌++◌, length, drop, slice_range, Option, IfSome, IfNone};
+ghost use Rattle.std.specs.Prelude.{◌≡◌, ◌≤◌, ◌<◌, ◌*◌, ◌+◌, ℕ, List, ◌++◌, length, drop, slice_range, Option, Some, IfSome, IfNone};
 ghost use Rattle.std.specs.Option.{option_map};
 ghost use Rattle.wnum.specs.Reading.{sums_at, ranged, signed_value, fits_signed_bits, unsigned_at, signed_at};
 ghost use Rattle.wnum.specs.Number.{five, SpellsUnsigned, SpellsSigned, IsSpelledAt, NoneSpelledAt};
@@ -11,11 +11,35 @@ struct Groups<'a> {
     rest: &'a [u8],
 }
 
+/// The groups of a number of five bytes, which linkers write where they may put another number later; `None` at others.
+#[inline(always)]
+fn five_groups(bytes: &[u8]) -> Option<Groups<'_>>
+    ensures value { IfSome result (λ x. sums_at 5 bytes.now ≡ Some ((x.sum, x.sign), x.rest.now)) }
+    ensures small { IfSome result (λ x. (x.sum < 34359738368) × (x.sign ≤ 34359738368)) }
+{
+    let [a, b, c, d, e, rest @ ..] = bytes else {
+        return None;
+    };
+    if *a < 128 || *b < 128 || *c < 128 || *d < 128 || *e >= 128 {
+        return None;
+    }
+    let sum = u64::from(*a) - 128 + 128 * u64::from(*b);
+    let sum = sum - 16384 + 16384 * u64::from(*c);
+    let sum = sum - 2097152 + 2097152 * u64::from(*d);
+    let sum = sum - 268435456 + 268435456 * u64::from(*e);
+    let sign = if *e < 64 { 0 } else { 34359738368 };
+    Some(Groups { sum, sign, rest })
+}
+
 /// The groups of a number of at most five bytes, each worth a power of 128. What a byte has above its group is taken off with the next byte.
+#[inline(always)]
 fn groups_5(bytes: &[u8]) -> Option<Groups<'_>>
     ensures value { sums_at 5 bytes.now ≡ option_map (λ x. ((x.sum, x.sign), x.rest.now)) result }
     ensures small { IfSome result (λ x. (x.sum < 34359738368) × (x.sign ≤ 34359738368)) }
 {
+    if let Some(groups) = five_groups(bytes) {
+        return Some(groups);
+    }
     let [a, rest @ ..] = bytes else { return None };
     let sum = u64::from(*a);
     if *a < 128 {
@@ -151,17 +175,26 @@ fn long_s33(bytes: &[u8]) -> Option<(i64, &[u8])>
     }
 }
 
-/// A number s64 at the front, and the bytes after it (5.2.2).
+/// A number s64 at the front, and the bytes after it (5.2.2). One of one or two bytes is read in place.
 #[inline(always)]
 #[tactic(auto, unfolding(crate::specs::Reading::signed_at))]
 pub fn front_s64(bytes: &[u8]) -> Option<(i64, &[u8])>
     ensures { option_map (λ x. (x.0, x.1.now)) result ≡ signed_at 64 bytes.now }
 {
-    if let [a, rest @ ..] = bytes
-        && *a < 128
-    {
+    if let [a, rest @ ..] = bytes {
         let value = i64::from(*a);
-        return Some((if value < 64 { value } else { value - 128 }, rest));
+        if *a < 128 {
+            return Some((if value < 64 { value } else { value - 128 }, rest));
+        }
+        if let [b, rest @ ..] = rest
+            && *b < 128
+        {
+            let value = value - 128 + 128 * i64::from(*b);
+            if *b < 64 {
+                return Some((value, rest));
+            }
+            return Some((value - 16384, rest));
+        }
     }
     long_s64(bytes)
 }
