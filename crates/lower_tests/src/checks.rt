@@ -1,8 +1,19 @@
+// Bodies as the checker takes them, token by token.
+ghost use Rattle.std.specs.List.{list_all};
+ghost use Rattle.std.specs.Prelude.{◌<◌, [], IsTrue, length};
+ghost use Rattle.wsyntax.specs.Brackets.{closes, lies_within};
+
 use side_table::Destination;
 use std::alloc::{AllocError, Global};
+use std::process::Abort;
 use std::test::Fail;
 use wcheck::{Checker, check_body};
-use wcontext::check_module;
+use wcontext::{Context, check_module};
+use wsyntax::Token::{
+    Block, Br, BrIf, Call, Drop, Else, End, I32Const, I64Const, If, LocalGet, LocalSet, Loop, Nop,
+    Select, Unreachable,
+};
+use wsyntax::ValType::{F32, I32, I64};
 use wsyntax::{BlockType, Body, Expression, LocalRun, Module, Operator, Token, ValType};
 
 /// A module with functions whose types have these indices, and with no type yet.
@@ -22,39 +33,60 @@ fn one_function(alloc: Global) -> Result<Module<'static>, AllocError> {
 /// A module with the types `[i32] -> [i32]`, `[] -> []`, `[] -> [i32 i64]` and `[i32] -> [i64]`, and functions of the
 /// second and the third.
 fn several_types(alloc: Global) -> Result<Module<'static>, AllocError> {
-    let i32 = [ValType::I32];
     let mut module = some_functions(alloc, &[1, 2])?;
-    module.types.push(&i32, &i32)?;
+    module.types.push(&[I32], &[I32])?;
     module.types.push(&[], &[])?;
-    module.types.push(&[], &[ValType::I32, ValType::I64])?;
-    module.types.push(&i32, &[ValType::I64])?;
+    module.types.push(&[], &[I32, I64])?;
+    module.types.push(&[I32], &[I64])?;
     Ok(module)
 }
 
-/// Where the tokens, as those of a body of the module's first function with locals f32, f32 and i64, are refused; `None`
-/// where they are a body that is taken.
-fn refused_in(
-    alloc: Global,
-    module: &Module<'_>,
+const LONG: [ValType; 10] = [I32, I32, I32, I32, I32, I64, I64, I64, I64, I64];
+
+const OTHER: [ValType; 10] = [F32, I32, I32, I32, I32, I64, I64, I64, I64, I64];
+
+/// A module with the types `[] -> []`, `[] -> [t*]`, `[t*] -> []` and `[t*] -> [t*]`, where t* is five i32 and five i64, and
+/// functions of these types.
+fn long_lists(alloc: Global, type_indices: &[u32]) -> Result<Module<'static>, AllocError> {
+    let mut module = some_functions(alloc, type_indices)?;
+    module.types.push(&[], &[])?;
+    module.types.push(&[], &LONG)?;
+    module.types.push(&LONG, &[])?;
+    module.types.push(&LONG, &LONG)?;
+    Ok(module)
+}
+
+/// The same with three types more, and with a function of each type but the fourth: `[t*] -> []` again, `[u*] -> []`, where
+/// u* has another type in the first place, and `[v*] -> []`, where v* is t* without the first.
+fn long_lists_again(alloc: Global) -> Result<Module<'static>, AllocError> {
+    let mut module = long_lists(alloc, &[0, 1, 2, 4, 5, 6])?;
+    module.types.push(&LONG, &[])?;
+    module.types.push(&OTHER, &[])?;
+    module.types.push(&LONG[1..], &[])?;
+    Ok(module)
+}
+
+/// The locals f32, f32 and i64.
+const RUNS: [LocalRun; 2] = [
+    LocalRun {
+        count: 2,
+        content: F32,
+    },
+    LocalRun {
+        count: 1,
+        content: I64,
+    },
+];
+
+/// The tokens of a body and the targets of its branch table, and where it is refused; `None` where it is taken.
+type Case<'a> = (&'a [Token], &'a [u32], Option<usize>);
+
+/// Where the tokens are refused behind the beginning of a body.
+fn refused_by(
+    checker: &mut Checker<'_>,
     tokens: &[Token],
     targets: &[u32],
-) -> Result<Option<usize>, Fail> {
-    let context = check_module(alloc, module)?;
-    if context.function(0).is_none() {
-        return Err("the function is there".into());
-    }
-    let mut checker = Checker::new(alloc, &context);
-    let runs = [
-        LocalRun {
-            count: 2,
-            content: ValType::F32,
-        },
-        LocalRun {
-            count: 1,
-            content: ValType::I64,
-        },
-    ];
-    checker.begin(0, &runs)?;
+) -> Result<Option<usize>, AllocError> {
     for (at, token) in tokens.iter().enumerate() {
         if !checker.step(*token, targets)? {
             return Ok(Some(at));
@@ -67,16 +99,34 @@ fn refused_in(
     }
 }
 
-/// The same, in a module with one function, `[] -> []`.
-fn refused_at(alloc: Global, tokens: &[Token], targets: &[u32]) -> Result<Option<usize>, Fail> {
-    let module = one_function(alloc)?;
-    refused_in(alloc, &module, tokens, targets)
+/// Where the tokens, as those of a body of the context's first function with those locals, are refused.
+fn refused_in(
+    alloc: Global,
+    context: &Context,
+    tokens: &[Token],
+    targets: &[u32],
+) -> Result<Option<usize>, AllocError>
+    requires { 0 < length context.now.context.functions }
+{
+    let mut checker = Checker::new(alloc, context);
+    checker.begin(0, &RUNS)?;
+    refused_by(&mut checker, tokens, targets)
 }
 
-/// The same, in the module with several types.
-fn refused_among(alloc: Global, tokens: &[Token]) -> Result<Option<usize>, Fail> {
-    let module = several_types(alloc)?;
-    refused_in(alloc, &module, tokens, &[])
+fn assert_cases<R: Abort>(
+    rt: &R,
+    alloc: Global,
+    module: &Module<'_>,
+    cases: &[Case<'_>],
+) -> Result<(), Fail> {
+    let context = check_module(alloc, module)?;
+    assert!(rt; context.function(0).is_some());
+    for (place, case) in cases.iter().enumerate() {
+        let (tokens, targets, wanted) = *case;
+        let refused = refused_in(alloc, &context, tokens, targets)?;
+        assert!(rt; refused == wanted, "case {place}");
+    }
+    Ok(())
 }
 
 const ADD: Token = Token::Numeric(Operator::I32Add);
@@ -85,543 +135,314 @@ const EQZ: Token = Token::Numeric(Operator::I32Eqz);
 
 const LONG_EQZ: Token = Token::Numeric(Operator::I64Eqz);
 
-const CHOICE: Token = Token::If(BlockType::Value(ValType::I32));
+const EXTEND: Token = Token::Numeric(Operator::I32Extend16S);
+
+const LONG_EXTEND: Token = Token::Numeric(Operator::I64Extend32S);
+
+const ONE: Token = I32Const(1);
+
+const ZERO: Token = I32Const(0);
+
+const LONG_ZERO: Token = I64Const(0);
+
+const BLOCK: Token = Block(BlockType::Empty);
+
+const I32_BLOCK: Token = Block(BlockType::Value(I32));
+
+const CHOICE: Token = If(BlockType::Value(I32));
 
 const TABLE: Token = Token::BrTable { count: 1, first: 0 };
 
-const I32_BLOCK: Token = Token::Block(BlockType::Value(ValType::I32));
+/// Bodies in the module with one function.
+const PLAIN: [Case<'static>; 15] = [
+    // An operand is left at the end.
+    (&[ONE, End], &[], Some(1)),
+    // `unreachable` does not make an i64 an i32.
+    (&[Unreachable, LONG_ZERO, ADD, Drop, End], &[], Some(2)),
+    // `select` of two operands of unknown type.
+    (&[Unreachable, Select, Drop, End], &[], None),
+    // An `if` with a result and no `else`.
+    (&[ONE, CHOICE, I32Const(2), End, Drop, End], &[], Some(3)),
+    // A branch table of labels with different types.
+    (
+        &[I32_BLOCK, Unreachable, TABLE, End, Drop, End],
+        &[0, 1],
+        Some(2),
+    ),
+    // Code after a branch is checked, and takes what it likes.
+    (&[Br(0), ADD, Drop, End], &[], None),
+    // What `select` gives of unknown operands is unknown.
+    (&[Unreachable, Select, EQZ, Drop, End], &[], None),
+    // An instruction gives its result type, also where it cannot be reached.
+    (&[Unreachable, EQZ, LONG_EQZ, Drop, End], &[], Some(2)),
+    // `select` gives the type of the operand that is known.
+    (
+        &[Unreachable, LONG_ZERO, ZERO, Select, EQZ, Drop, End],
+        &[],
+        Some(4),
+    ),
+    // `br_if` leaves the types of its label.
+    (
+        &[I32_BLOCK, Unreachable, BrIf(0), LONG_EQZ, End, Drop, End],
+        &[],
+        Some(3),
+    ),
+    // The labels are those of the open blocks and of the function.
+    (&[BLOCK, Br(2), End, End], &[], Some(1)),
+    // Declared locals stand one behind another.
+    (&[LocalGet(2), LocalSet(1), End], &[], Some(1)),
+    (&[LocalGet(3), Drop, End], &[], Some(0)),
+    // An operator that reads the low bits with their sign keeps the type.
+    (&[ONE, EXTEND, EQZ, Drop, End], &[], None),
+    (&[ONE, EXTEND, LONG_EXTEND, Drop, End], &[], Some(2)),
+];
+
+#[test]
+fn bodies_of_one_function(rt: HostRuntime) -> Result<(), Fail> {
+    let module = one_function(rt.alloc())?;
+    assert_cases(&rt, rt.alloc(), &module, &PLAIN)
+}
+
+/// So many blocks inside one another.
+fn blocks(alloc: Global, depth: u32) -> Result<Vec<Token>, AllocError> {
+    let mut tokens = Vec::new(alloc);
+    for _ in 0..depth {
+        tokens.push(BLOCK)?;
+    }
+    for _ in 0..=depth {
+        tokens.push(End)?;
+    }
+    Ok(tokens)
+}
+
+/// Blocks inside one another need no stack of the machine.
+#[test]
+fn deep_blocks(rt: HostRuntime) -> Result<(), Fail> {
+    let module = one_function(rt.alloc())?;
+    let tokens = blocks(rt.alloc(), 100_000)?;
+    assert_cases(&rt, rt.alloc(), &module, &[(&tokens, &[], None)])
+}
 
 /// `[i32] -> [i32]` and `[i32] -> [i64]`, of the module with several types.
 const SAME: BlockType = BlockType::Index(0);
 
 const WIDER: BlockType = BlockType::Index(3);
 
-/// An operand is left at the end.
+/// A type that is not there.
+const MISSING: BlockType = BlockType::Index(4);
+
+/// Bodies in the module with several types.
+const AMONG: [Case<'static>; 11] = [
+    // A loop takes its parameters, and they lie in it.
+    (&[ONE, Loop(SAME), EQZ, End, Drop, End], &[], None),
+    (&[Loop(SAME), End, Drop, End], &[], Some(0)),
+    // A branch to a loop takes the parameters, not the results.
+    (&[ONE, Loop(WIDER), Br(0), End, Drop, End], &[], None),
+    (
+        &[ONE, Loop(WIDER), Drop, LONG_ZERO, Br(0), End, Drop, End],
+        &[],
+        Some(4),
+    ),
+    // A block that takes an i32 and gives an i64.
+    (
+        &[ONE, Block(WIDER), Drop, LONG_ZERO, End, LONG_EQZ, Drop, End],
+        &[],
+        None,
+    ),
+    (&[Nop, Block(MISSING), End, End], &[], Some(1)),
+    // Without `else` the parameters are the results, so they have to be of the same types.
+    (
+        &[I32Const(7), ONE, If(SAME), EQZ, End, Drop, End],
+        &[],
+        None,
+    ),
+    (
+        &[
+            I32Const(7),
+            ONE,
+            If(WIDER),
+            Drop,
+            I64Const(1),
+            End,
+            Drop,
+            End,
+        ],
+        &[],
+        Some(5),
+    ),
+    // Each branch of an `if` begins with the parameters.
+    (
+        &[
+            I32Const(7),
+            ONE,
+            If(WIDER),
+            Drop,
+            I64Const(1),
+            Else,
+            Drop,
+            I64Const(2),
+            End,
+            Drop,
+            End,
+        ],
+        &[],
+        None,
+    ),
+    // The last of the results lies on top.
+    (&[Call(1), LONG_EQZ, ADD, Drop, End], &[], None),
+    (&[Call(1), EQZ, Drop, Drop, End], &[], Some(1)),
+];
+
 #[test]
-fn operand_left_over(rt: HostRuntime) -> Result<(), Fail> {
-    let tokens = [Token::I32Const(1), Token::End];
-    assert_eq!(rt; refused_at(rt.alloc(), &tokens, &[])?, Some(1));
-    Ok(())
+fn bodies_among_several_types(rt: HostRuntime) -> Result<(), Fail> {
+    let module = several_types(rt.alloc())?;
+    assert_cases(&rt, rt.alloc(), &module, &AMONG)
 }
 
-/// `unreachable` does not make an i64 an i32.
+/// `[t*] -> [t*]`, of the modules with long lists.
+const LONG_SAME: BlockType = BlockType::Index(3);
+
+/// Bodies in the module with long lists.
+const LONG_LISTS: [Case<'static>; 8] = [
+    // A long list is taken whole, in a block and after a loop too.
+    (
+        &[
+            Call(1),
+            Block(LONG_SAME),
+            Loop(LONG_SAME),
+            ZERO,
+            BrIf(0),
+            End,
+            End,
+            Call(2),
+            End,
+        ],
+        &[],
+        None,
+    ),
+    (&[Call(1), Call(2), Call(2), End], &[], Some(2)),
+    // The last of a long list lies on top, and what is left of it stays where it is.
+    (
+        &[
+            Call(1),
+            LONG_EQZ,
+            Drop,
+            Drop,
+            LONG_ZERO,
+            LONG_ZERO,
+            Call(2),
+            End,
+        ],
+        &[],
+        None,
+    ),
+    (&[Call(1), Drop, ZERO, Call(2), End], &[], Some(3)),
+    (&[Call(1), ZERO, End], &[], Some(2)),
+    // What is put behind a branch is known.
+    (
+        &[
+            Unreachable,
+            Call(2),
+            Call(1),
+            Drop,
+            Unreachable,
+            Call(2),
+            End,
+        ],
+        &[],
+        None,
+    ),
+    (&[Unreachable, Call(1), EQZ, End], &[], Some(2)),
+    // An if of a long list to the same one may lack its else.
+    (
+        &[Call(1), ZERO, If(LONG_SAME), End, Call(2), End],
+        &[],
+        None,
+    ),
+];
+
 #[test]
-fn other_type_after_unreachable(rt: HostRuntime) -> Result<(), Fail> {
-    let tokens = [
-        Token::Unreachable,
-        Token::I64Const(0),
-        ADD,
-        Token::Drop,
-        Token::End,
-    ];
-    assert_eq!(rt; refused_at(rt.alloc(), &tokens, &[])?, Some(2));
-    Ok(())
+fn bodies_with_long_lists(rt: HostRuntime) -> Result<(), Fail> {
+    let module = long_lists(rt.alloc(), &[0, 1, 2])?;
+    assert_cases(&rt, rt.alloc(), &module, &LONG_LISTS)
 }
 
-/// `select` of two operands of unknown type.
+/// A long list is taken for an equal one of another type, and for no other; a part of it too.
+const AGAIN: [Case<'static>; 4] = [
+    (&[Call(1), Call(3), End], &[], None),
+    (&[Call(1), Call(4), End], &[], Some(1)),
+    (&[Call(1), Call(5), EQZ, Drop, End], &[], None),
+    (&[Call(1), Drop, Call(5), End], &[], Some(2)),
+];
+
 #[test]
-fn select_after_unreachable(rt: HostRuntime) -> Result<(), Fail> {
-    let tokens = [Token::Unreachable, Token::Select, Token::Drop, Token::End];
-    assert_eq!(rt; refused_at(rt.alloc(), &tokens, &[])?, None);
-    Ok(())
+fn long_lists_of_other_types(rt: HostRuntime) -> Result<(), Fail> {
+    let module = long_lists_again(rt.alloc())?;
+    assert_cases(&rt, rt.alloc(), &module, &AGAIN)
 }
 
-/// An `if` with a result and no `else`.
-#[test]
-fn if_without_else(rt: HostRuntime) -> Result<(), Fail> {
-    let tokens = [
-        Token::I32Const(1),
-        CHOICE,
-        Token::I32Const(2),
-        Token::End,
-        Token::Drop,
-        Token::End,
-    ];
-    assert_eq!(rt; refused_at(rt.alloc(), &tokens, &[])?, Some(3));
-    Ok(())
+/// The tokens as a body with no locals.
+fn body_of(alloc: Global, tokens: &[Token]) -> Result<Body, AllocError>
+    requires closed { IsTrue (closes [] tokens.now) }
+    requires within { IsTrue (list_all (lies_within 0) tokens.now) }
+{
+    let code = Expression {
+        tokens: tokens.to_vec(alloc)?,
+        targets: Vec::new(alloc),
+    };
+    Ok(Body {
+        runs: Vec::new(alloc),
+        code,
+    })
 }
 
-/// A branch table of labels with different types.
-#[test]
-fn table_of_different_labels(rt: HostRuntime) -> Result<(), Fail> {
-    let tokens = [
-        I32_BLOCK,
-        Token::Unreachable,
-        TABLE,
-        Token::End,
-        Token::Drop,
-        Token::End,
-    ];
-    assert_eq!(rt; refused_at(rt.alloc(), &tokens, &[0, 1])?, Some(2));
-    Ok(())
-}
-
-/// Code after a branch is checked, and takes what it likes.
-#[test]
-fn code_after_branch(rt: HostRuntime) -> Result<(), Fail> {
-    let tokens = [Token::Br(0), ADD, Token::Drop, Token::End];
-    assert_eq!(rt; refused_at(rt.alloc(), &tokens, &[])?, None);
-    Ok(())
-}
-
-/// What `select` gives of unknown operands is unknown.
-#[test]
-fn unknown_operand_selected(rt: HostRuntime) -> Result<(), Fail> {
-    let tokens = [
-        Token::Unreachable,
-        Token::Select,
-        EQZ,
-        Token::Drop,
-        Token::End,
-    ];
-    assert_eq!(rt; refused_at(rt.alloc(), &tokens, &[])?, None);
-    Ok(())
-}
-
-/// An instruction gives its result type, also where it cannot be reached.
-#[test]
-fn result_is_known(rt: HostRuntime) -> Result<(), Fail> {
-    let tokens = [Token::Unreachable, EQZ, LONG_EQZ, Token::Drop, Token::End];
-    assert_eq!(rt; refused_at(rt.alloc(), &tokens, &[])?, Some(2));
-    Ok(())
-}
-
-/// `select` gives the type of the operand that is known.
-#[test]
-fn one_operand_known(rt: HostRuntime) -> Result<(), Fail> {
-    let tokens = [
-        Token::Unreachable,
-        Token::I64Const(0),
-        Token::I32Const(0),
-        Token::Select,
-        EQZ,
-        Token::Drop,
-        Token::End,
-    ];
-    assert_eq!(rt; refused_at(rt.alloc(), &tokens, &[])?, Some(4));
-    Ok(())
-}
-
-/// `br_if` leaves the types of its label.
-#[test]
-fn conditional_branch_keeps(rt: HostRuntime) -> Result<(), Fail> {
-    let tokens = [
-        I32_BLOCK,
-        Token::Unreachable,
-        Token::BrIf(0),
-        LONG_EQZ,
-        Token::End,
-        Token::Drop,
-        Token::End,
-    ];
-    assert_eq!(rt; refused_at(rt.alloc(), &tokens, &[])?, Some(3));
-    Ok(())
-}
-
-/// The labels are those of the open blocks and of the function.
-#[test]
-fn label_missing(rt: HostRuntime) -> Result<(), Fail> {
-    let tokens = [
-        Token::Block(BlockType::Empty),
-        Token::Br(2),
-        Token::End,
-        Token::End,
-    ];
-    assert_eq!(rt; refused_at(rt.alloc(), &tokens, &[])?, Some(1));
-    Ok(())
-}
-
-/// Blocks inside one another need no stack of the machine.
-#[test]
-fn deep_blocks(rt: HostRuntime) -> Result<(), Fail> {
-    let alloc = rt.alloc();
-    let mut tokens = Vec::new(alloc);
-    for _ in 0..100_000 {
-        tokens.push(Token::Block(BlockType::Empty))?;
-    }
-    for _ in 0..100_001 {
-        tokens.push(Token::End)?;
-    }
-    assert_eq!(rt; refused_at(alloc, &tokens, &[])?, None);
-    Ok(())
-}
-
-/// Declared locals stand one behind another.
-#[test]
-fn locals_by_runs(rt: HostRuntime) -> Result<(), Fail> {
-    let alloc = rt.alloc();
-    let tokens = [Token::LocalGet(2), Token::LocalSet(1), Token::End];
-    assert_eq!(rt; refused_at(alloc, &tokens, &[])?, Some(1));
-    assert_eq!(rt;
-        refused_at(alloc, &[Token::LocalGet(3), Token::Drop, Token::End], &[])?,
-        Some(0)
-    );
-    Ok(())
+/// Of the side table of such a body of the module's first function: this entry, how many there are, and the height.
+fn table_of(
+    alloc: Global,
+    module: &Module<'_>,
+    tokens: &[Token],
+    place: usize,
+) -> Option<(Destination, usize, usize)>
+    requires closed { IsTrue (closes [] tokens.now) }
+    requires within { IsTrue (list_all (lies_within 0) tokens.now) }
+{
+    let context = check_module(alloc, module).ok()?;
+    context.function(0)?;
+    let body = body_of(alloc, tokens).ok()?;
+    let checked = check_body(alloc, &context, 0, body).ok()?;
+    let entries = checked.entries();
+    let entry = entries.get(place).copied()?;
+    Some((entry, entries.len(), checked.height()))
 }
 
 /// A branch back to a loop, and the entries of the side table.
 #[test]
 fn loop_with_its_table(rt: HostRuntime) -> Result<(), Fail> {
-    let alloc = rt.alloc();
-    let module = one_function(alloc)?;
-    let context = check_module(alloc, &module)?;
-    if context.function(0).is_none() {
-        return Err("the function is there".into());
-    }
-    let mut tokens = Vec::new(alloc);
-    tokens.push(Token::Loop(BlockType::Empty))?;
-    tokens.push(Token::I32Const(0))?;
-    tokens.push(Token::BrIf(0))?;
-    tokens.push(Token::End)?;
-    tokens.push(Token::End)?;
-    let body = Body {
-        runs: Vec::new(alloc),
-        code: Expression {
-            tokens,
-            targets: Vec::new(alloc),
-        },
-    };
-    let checked = check_body(alloc, &context, 0, body)?;
+    let module = one_function(rt.alloc())?;
+    let tokens = [Loop(BlockType::Empty), ZERO, BrIf(0), End, End];
+    let (entry, count, height) = table_of(rt.alloc(), &module, &tokens, 2).ok_or("a table")?;
     let back = Destination {
         target: 0,
         arity: 0,
         height: 0,
     };
-    assert_eq!(rt; checked.entries().get(2), Some(&back));
-    assert_eq!(rt; checked.entries().len(), 5);
-    assert_eq!(rt; checked.height(), 1);
-    Ok(())
-}
-
-/// A loop takes its parameters, and they lie in it.
-#[test]
-fn loop_with_parameter(rt: HostRuntime) -> Result<(), Fail> {
-    let tokens = [
-        Token::I32Const(1),
-        Token::Loop(SAME),
-        EQZ,
-        Token::End,
-        Token::Drop,
-        Token::End,
-    ];
-    assert_eq!(rt; refused_among(rt.alloc(), &tokens)?, None);
-    let lacking = [Token::Loop(SAME), Token::End, Token::Drop, Token::End];
-    assert_eq!(rt; refused_among(rt.alloc(), &lacking)?, Some(0));
-    Ok(())
-}
-
-/// A branch to a loop takes the parameters, not the results.
-#[test]
-fn branch_to_loop_with_parameter(rt: HostRuntime) -> Result<(), Fail> {
-    let tokens = [
-        Token::I32Const(1),
-        Token::Loop(WIDER),
-        Token::Br(0),
-        Token::End,
-        Token::Drop,
-        Token::End,
-    ];
-    assert_eq!(rt; refused_among(rt.alloc(), &tokens)?, None);
-    let by_results = [
-        Token::I32Const(1),
-        Token::Loop(WIDER),
-        Token::Drop,
-        Token::I64Const(0),
-        Token::Br(0),
-        Token::End,
-        Token::Drop,
-        Token::End,
-    ];
-    assert_eq!(rt; refused_among(rt.alloc(), &by_results)?, Some(4));
-    Ok(())
-}
-
-/// A block that takes an i32 and gives an i64.
-#[test]
-fn block_by_index(rt: HostRuntime) -> Result<(), Fail> {
-    let tokens = [
-        Token::I32Const(1),
-        Token::Block(WIDER),
-        Token::Drop,
-        Token::I64Const(0),
-        Token::End,
-        LONG_EQZ,
-        Token::Drop,
-        Token::End,
-    ];
-    assert_eq!(rt; refused_among(rt.alloc(), &tokens)?, None);
-    Ok(())
-}
-
-/// The block names a type that there is not.
-#[test]
-fn block_by_missing_index(rt: HostRuntime) -> Result<(), Fail> {
-    let tokens = [
-        Token::Nop,
-        Token::Block(BlockType::Index(4)),
-        Token::End,
-        Token::End,
-    ];
-    assert_eq!(rt; refused_among(rt.alloc(), &tokens)?, Some(1));
-    Ok(())
-}
-
-/// Without `else` the parameters are the results, so they have to be of the same types.
-#[test]
-fn if_by_index_without_else(rt: HostRuntime) -> Result<(), Fail> {
-    let tokens = [
-        Token::I32Const(7),
-        Token::I32Const(1),
-        Token::If(SAME),
-        EQZ,
-        Token::End,
-        Token::Drop,
-        Token::End,
-    ];
-    assert_eq!(rt; refused_among(rt.alloc(), &tokens)?, None);
-    let other_results = [
-        Token::I32Const(7),
-        Token::I32Const(1),
-        Token::If(WIDER),
-        Token::Drop,
-        Token::I64Const(1),
-        Token::End,
-        Token::Drop,
-        Token::End,
-    ];
-    assert_eq!(rt; refused_among(rt.alloc(), &other_results)?, Some(5));
-    Ok(())
-}
-
-/// Each branch of an `if` begins with the parameters.
-#[test]
-fn if_by_index_with_else(rt: HostRuntime) -> Result<(), Fail> {
-    let tokens = [
-        Token::I32Const(7),
-        Token::I32Const(1),
-        Token::If(WIDER),
-        Token::Drop,
-        Token::I64Const(1),
-        Token::Else,
-        Token::Drop,
-        Token::I64Const(2),
-        Token::End,
-        Token::Drop,
-        Token::End,
-    ];
-    assert_eq!(rt; refused_among(rt.alloc(), &tokens)?, None);
-    Ok(())
-}
-
-/// The last of the results lies on top.
-#[test]
-fn call_with_two_results(rt: HostRuntime) -> Result<(), Fail> {
-    let tokens = [Token::Call(1), LONG_EQZ, ADD, Token::Drop, Token::End];
-    assert_eq!(rt; refused_among(rt.alloc(), &tokens)?, None);
-    let turned_round = [Token::Call(1), EQZ, Token::Drop, Token::Drop, Token::End];
-    assert_eq!(rt; refused_among(rt.alloc(), &turned_round)?, Some(1));
-    Ok(())
-}
-
-/// An operator that reads the low bits with their sign keeps the type.
-#[test]
-fn sign_extension(rt: HostRuntime) -> Result<(), Fail> {
-    let narrow = Token::Numeric(Operator::I32Extend16S);
-    let wide = Token::Numeric(Operator::I64Extend32S);
-    let tokens = [Token::I32Const(1), narrow, EQZ, Token::Drop, Token::End];
-    assert_eq!(rt; refused_at(rt.alloc(), &tokens, &[])?, None);
-    let other_width = [Token::I32Const(1), narrow, wide, Token::Drop, Token::End];
-    assert_eq!(rt; refused_at(rt.alloc(), &other_width, &[])?, Some(2));
+    assert!(rt; entry == back);
+    assert!(rt; count == 5 && height == 1);
     Ok(())
 }
 
 /// A branch back to a loop keeps its parameter, above the operand that lies under the loop.
 #[test]
 fn loop_with_parameter_and_its_table(rt: HostRuntime) -> Result<(), Fail> {
-    let alloc = rt.alloc();
-    let module = several_types(alloc)?;
-    let context = check_module(alloc, &module)?;
-    if context.function(0).is_none() {
-        return Err("the function is there".into());
-    }
-    let tokens = [
-        Token::I64Const(0),
-        Token::I32Const(1),
-        Token::Loop(SAME),
-        Token::Br(0),
-        Token::End,
-        Token::Drop,
-        Token::Drop,
-        Token::End,
-    ];
-    let body = Body {
-        runs: Vec::new(alloc),
-        code: Expression {
-            tokens: tokens.to_vec(alloc)?,
-            targets: Vec::new(alloc),
-        },
-    };
-    let checked = check_body(alloc, &context, 0, body)?;
+    let module = several_types(rt.alloc())?;
+    let tokens = [LONG_ZERO, ONE, Loop(SAME), Br(0), End, Drop, Drop, End];
+    let (entry, _, height) = table_of(rt.alloc(), &module, &tokens, 3).ok_or("a table")?;
     let back = Destination {
         target: 2,
         arity: 1,
         height: 1,
     };
-    assert_eq!(rt; checked.entries().get(3), Some(&back));
-    assert_eq!(rt; checked.height(), 2);
-    Ok(())
-}
-
-/// A module with the types `[] -> []`, `[] -> [t*]`, `[t*] -> []` and `[t*] -> [t*]`, where t* is five i32 and five i64, and
-/// functions of the first three.
-fn long_lists(alloc: Global) -> Result<Module<'static>, AllocError> {
-    let long = [
-        ValType::I32,
-        ValType::I32,
-        ValType::I32,
-        ValType::I32,
-        ValType::I32,
-        ValType::I64,
-        ValType::I64,
-        ValType::I64,
-        ValType::I64,
-        ValType::I64,
-    ];
-    let mut module = some_functions(alloc, &[0, 1, 2])?;
-    module.types.push(&[], &[])?;
-    module.types.push(&[], &long)?;
-    module.types.push(&long, &[])?;
-    module.types.push(&long, &long)?;
-    Ok(module)
-}
-
-/// Where the tokens are refused in that module.
-fn refused_with_long_lists(alloc: Global, tokens: &[Token]) -> Result<Option<usize>, Fail> {
-    let module = long_lists(alloc)?;
-    refused_in(alloc, &module, tokens, &[])
-}
-
-/// A long list is taken whole, in a block and after a loop too.
-#[test]
-fn long_list_whole(rt: HostRuntime) -> Result<(), Fail> {
-    let same = BlockType::Index(3);
-    let tokens = [
-        Token::Call(1),
-        Token::Block(same),
-        Token::Loop(same),
-        Token::I32Const(0),
-        Token::BrIf(0),
-        Token::End,
-        Token::End,
-        Token::Call(2),
-        Token::End,
-    ];
-    assert_eq!(rt; refused_with_long_lists(rt.alloc(), &tokens)?, None);
-    let lacking = [Token::Call(1), Token::Call(2), Token::Call(2), Token::End];
-    assert_eq!(rt; refused_with_long_lists(rt.alloc(), &lacking)?, Some(2));
-    Ok(())
-}
-
-/// The last of a long list lies on top, and what is left of it stays where it is.
-#[test]
-fn long_list_cut(rt: HostRuntime) -> Result<(), Fail> {
-    let tokens = [
-        Token::Call(1),
-        LONG_EQZ,
-        Token::Drop,
-        Token::Drop,
-        Token::I64Const(0),
-        Token::I64Const(0),
-        Token::Call(2),
-        Token::End,
-    ];
-    assert_eq!(rt; refused_with_long_lists(rt.alloc(), &tokens)?, None);
-    let other_type = [
-        Token::Call(1),
-        Token::Drop,
-        Token::I32Const(0),
-        Token::Call(2),
-        Token::End,
-    ];
-    assert_eq!(rt; refused_with_long_lists(rt.alloc(), &other_type)?, Some(3));
-    let one_left = [Token::Call(1), Token::I32Const(0), Token::End];
-    assert_eq!(rt; refused_with_long_lists(rt.alloc(), &one_left)?, Some(2));
-    Ok(())
-}
-
-/// What is put behind a branch is known.
-#[test]
-fn long_list_in_dead_code(rt: HostRuntime) -> Result<(), Fail> {
-    let tokens = [
-        Token::Unreachable,
-        Token::Call(2),
-        Token::Call(1),
-        Token::Drop,
-        Token::Unreachable,
-        Token::Call(2),
-        Token::End,
-    ];
-    assert_eq!(rt; refused_with_long_lists(rt.alloc(), &tokens)?, None);
-    let known = [Token::Unreachable, Token::Call(1), EQZ, Token::End];
-    assert_eq!(rt; refused_with_long_lists(rt.alloc(), &known)?, Some(2));
-    Ok(())
-}
-
-/// The module with long lists, and functions of three types more: `[t*] -> []` again, `[u*] -> []`, where u* has another
-/// type in the first place, and `[v*] -> []`, where v* is t* without the first.
-fn long_lists_again(alloc: Global) -> Result<Module<'static>, AllocError> {
-    let other = [
-        ValType::F32,
-        ValType::I32,
-        ValType::I32,
-        ValType::I32,
-        ValType::I32,
-        ValType::I64,
-        ValType::I64,
-        ValType::I64,
-        ValType::I64,
-        ValType::I64,
-    ];
-    let mut same = other;
-    same[0] = ValType::I32;
-    let mut module = long_lists(alloc)?;
-    module.types.push(&same, &[])?;
-    module.types.push(&other, &[])?;
-    module.types.push(&same[1..], &[])?;
-    module.functions.push(4)?;
-    module.functions.push(5)?;
-    module.functions.push(6)?;
-    Ok(module)
-}
-
-/// A long list is taken for an equal one of another type, and for no other; a part of it too.
-#[test]
-fn long_list_of_other_type(rt: HostRuntime) -> Result<(), Fail> {
-    let alloc = rt.alloc();
-    let module = long_lists_again(alloc)?;
-    let same = [Token::Call(1), Token::Call(3), Token::End];
-    assert_eq!(rt; refused_in(alloc, &module, &same, &[])?, None);
-    let other = [Token::Call(1), Token::Call(4), Token::End];
-    assert_eq!(rt; refused_in(alloc, &module, &other, &[])?, Some(1));
-    let part = [Token::Call(1), Token::Call(5), EQZ, Token::Drop, Token::End];
-    assert_eq!(rt; refused_in(alloc, &module, &part, &[])?, None);
-    let lacking = [Token::Call(1), Token::Drop, Token::Call(5), Token::End];
-    assert_eq!(rt; refused_in(alloc, &module, &lacking, &[])?, Some(2));
-    Ok(())
-}
-
-/// An if of a long list to the same one may lack its else.
-#[test]
-fn long_list_without_else(rt: HostRuntime) -> Result<(), Fail> {
-    let same = BlockType::Index(3);
-    let tokens = [
-        Token::Call(1),
-        Token::I32Const(0),
-        Token::If(same),
-        Token::End,
-        Token::Call(2),
-        Token::End,
-    ];
-    assert_eq!(rt; refused_with_long_lists(rt.alloc(), &tokens)?, None);
+    assert!(rt; entry == back);
+    assert!(rt; height == 2);
     Ok(())
 }

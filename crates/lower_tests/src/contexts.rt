@@ -18,37 +18,57 @@ fn one_import<'a>(alloc: Global) -> Result<Module<'a>, AllocError> {
     Ok(module)
 }
 
-#[test]
-fn looks_up(rt: HostRuntime) -> Result<(), Fail> {
-    let mut module = one_import(rt.alloc())?;
+/// Why the module is refused.
+fn fault_of(alloc: Global, module: &Module<'_>) -> Option<ModuleFault> {
+    check_module(alloc, module).err()
+}
+
+/// A global whose value can be written.
+const COUNTER: GlobalType = GlobalType {
+    content: ValType::I64,
+    mutable: true,
+};
+
+/// That module, with a global that it imports and a function of its own.
+fn two_imports<'a>(alloc: Global) -> Result<Module<'a>, AllocError> {
+    let mut module = one_import(alloc)?;
     module.functions.push(0)?;
-    let content = GlobalType {
-        content: ValType::I64,
-        mutable: true,
-    };
-    let kind = ImportKind::Global(content);
+    let kind = ImportKind::Global(COUNTER);
     module.imports.push(Import {
         module: b"m",
         name: b"g",
         kind,
     })?;
-    let context = check_module(rt.alloc(), &module)?;
-    let signature = context.function(1).ok_or("no function")?;
-    assert_eq!(rt; signature.params, [ValType::I32, ValType::I64].as_slice());
-    assert_eq!(rt; signature.results, [ValType::F32, ValType::I32].as_slice());
-    assert!(rt; context.signature(1).is_none());
-    assert_eq!(rt; context.type_of(1), Some(0));
-    assert_eq!(rt; context.global(0), Some(content));
-    assert_eq!(rt; context.function_count(), 2);
-    assert_eq!(rt; context.imported_functions(), 1);
-    assert!(rt; !context.has_table());
-    assert!(rt; !context.has_memory());
-    Ok(())
+    Ok(module)
+}
+
+/// Whether the second function takes and gives what the import does.
+fn has_signature(context: &Context) -> bool {
+    match context.function(1) {
+        Some(signature) => {
+            signature.params == [ValType::I32, ValType::I64].as_slice()
+                && signature.results == [ValType::F32, ValType::I32].as_slice()
+        }
+        None => false,
+    }
 }
 
 #[test]
-fn breaks_a_rule(rt: HostRuntime) -> Result<(), Fail> {
-    let mut module = one_import(rt.alloc())?;
+fn looks_up(rt: HostRuntime) -> Result<(), Fail> {
+    let module = two_imports(rt.alloc())?;
+    let context = check_module(rt.alloc(), &module)?;
+    assert!(rt; has_signature(&context));
+    assert!(rt; context.signature(1).is_none());
+    assert!(rt; context.type_of(1) == Some(0));
+    assert!(rt; context.global(0) == Some(COUNTER));
+    assert!(rt; context.function_count() == 2 && context.imported_functions() == 1);
+    assert!(rt; !context.has_table() && !context.has_memory());
+    Ok(())
+}
+
+/// A module with one import that exports the functions 1, 2 and 1 by one name.
+fn three_exports<'a>(alloc: Global) -> Result<Module<'a>, AllocError> {
+    let mut module = one_import(alloc)?;
     for index in [1, 2, 1] {
         let kind = ExportKind::Function;
         module.exports.push(Export {
@@ -57,16 +77,24 @@ fn breaks_a_rule(rt: HostRuntime) -> Result<(), Fail> {
             index,
         })?;
     }
-    let fault = check_module(rt.alloc(), &module).err().ok_or("no fault")?;
-    assert_eq!(rt; fault, ModuleFault::Rule(9));
+    Ok(module)
+}
+
+/// Has all exports name the first function.
+fn export_the_first(module: &mut Module<'_>) {
     for export in &mut module.exports {
         export.index = 0;
     }
-    let fault = check_module(rt.alloc(), &module).err().ok_or("no fault")?;
-    assert_eq!(rt; fault, ModuleFault::Rule(10));
+}
+
+#[test]
+fn breaks_a_rule(rt: HostRuntime) -> Result<(), Fail> {
+    let mut module = three_exports(rt.alloc())?;
+    assert!(rt; fault_of(rt.alloc(), &module) == Some(ModuleFault::Rule(9)));
+    export_the_first(&mut module);
+    assert!(rt; fault_of(rt.alloc(), &module) == Some(ModuleFault::Rule(10)));
     module.start = Some(0);
     module.functions.push(7)?;
-    let fault = check_module(rt.alloc(), &module).err().ok_or("no fault")?;
-    assert_eq!(rt; fault, ModuleFault::Rule(3));
+    assert!(rt; fault_of(rt.alloc(), &module) == Some(ModuleFault::Rule(3)));
     Ok(())
 }

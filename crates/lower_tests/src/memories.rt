@@ -41,20 +41,54 @@ fn write_at(memory: &mut LinearMemory, at: u32, width: u32, bits: u64) -> bool {
     }
 }
 
-fn segment_at(memory: &mut LinearMemory, at: u32, bytes: &[u8]) {
+fn segment_at(memory: &mut LinearMemory, at: u32, bytes: &[u8]) -> bool {
     let len = memory.len();
-    if bytes.len() <= len && at as usize <= len - bytes.len() {
-        memory.overwrite(at, bytes);
+    if bytes.len() > len || at as usize > len - bytes.len() {
+        return false;
+    }
+    memory.overwrite(at, bytes);
+    true
+}
+
+/// What is done to a memory, with what it has to answer.
+#[derive(Clone, Copy)]
+enum Step {
+    /// A read from a place on, of so many bytes, and the number that they make.
+    Read(u32, u32, Option<u64>),
+    /// A write from a place on, of so many bytes of a number, and whether there was room.
+    Write(u32, u32, u64, bool),
+    /// A segment, which has room.
+    Segment(u32, &'static [u8]),
+    /// A growth by so many pages, and how many there were.
+    Grow(u32, Option<u32>),
+}
+
+use Step::{Grow, Read, Segment, Write};
+
+/// Whether the memory answers so.
+fn answers(memory: &mut LinearMemory, step: Step) -> Result<bool, Fail> {
+    match step {
+        Read(at, width, number) => Ok(read_at(memory, at, width) == number),
+        Write(at, width, bits, done) => Ok(write_at(memory, at, width, bits) == done),
+        Segment(at, bytes) => Ok(segment_at(memory, at, bytes)),
+        Grow(more, pages) => Ok(memory.grow(more)? == pages),
     }
 }
 
-fn grow_by(memory: &mut LinearMemory, more: u32) -> Result<Option<u32>, Fail> {
-    let size = memory.grow(more)?;
-    Ok(size)
+fn assert_steps<R: Abort>(rt: &R, memory: &mut LinearMemory, steps: &[Step]) -> Result<(), Fail> {
+    for (place, step) in steps.iter().enumerate() {
+        assert!(rt; answers(memory, *step)?, "step {place}");
+    }
+    Ok(())
 }
 
-fn close_memory(memory: LinearMemory) -> CleanMem {
-    memory.close()
+/// What is left of a memory of so many pages behind these steps.
+fn after<R: Abort>(rt: &R, clean: CleanMem, min: u32, steps: &[Step]) -> Result<CleanMem, Fail>
+    requires { min ≤ 3 }
+{
+    let mut memory = new_memory(clean, min)?;
+    assert_steps(rt, &mut memory, steps)?;
+    Ok(memory.close())
 }
 
 fn give_memory<R: Wait>(rt: &R, pool: &Pool, ticket: &mut Ticket, memory: CleanMem)
@@ -68,32 +102,18 @@ fn expect_lent<R: Wait + Abort>(rt: &R, pool: &Pool, ticket: &mut Ticket, bytes:
     requires { IsTicketOf pool.now ticket.old }
     ensures { IsTicketOf pool.now ticket.new }
 {
-    assert_eq!(rt; pool.lend(rt, ticket).len(), bytes);
+    assert!(rt; pool.lend(rt, ticket).len() == bytes);
 }
 
-fn expect_zeros<R: Abort>(rt: &R, memory: &LinearMemory, at: u32) {
-    assert_eq!(rt; read_at(memory, at, 8), Some(0));
-}
-
-fn touch_ends<R: Abort>(rt: &R, clean: CleanMem) -> Result<CleanMem, Fail> {
-    let mut memory = large_memory(clean)?;
-    assert_eq!(rt; read_at(&memory, 0, 1), Some(0));
-    assert_eq!(rt; read_at(&memory, 67_108_863, 1), Some(0));
-    assert!(rt; write_at(&mut memory, 0, 1, 1));
-    assert!(rt; write_at(&mut memory, 67_108_863, 1, 1));
-    assert!(rt; !write_at(&mut memory, 67_108_863, 2, 1));
-    Ok(close_memory(memory))
-}
+const TWO_PAGES: [Step; 2] = [Grow(1, Some(1)), Write(131_064, 8, u64::MAX, true)];
 
 #[test]
 fn two_tickets_share_one_pool(rt: HostRuntime) -> Result<(), Fail> {
     let (pool, mut tickets) = Pool::new(rt.alloc(), 2)?;
     let mut second = tickets.pop().ok_or("ticket")?;
     let mut first = tickets.pop().ok_or("ticket")?;
-    let mut memory = new_memory(CleanMem::empty(rt.alloc()), 1)?;
-    assert_eq!(rt; grow_by(&mut memory, 1)?, Some(1));
-    assert!(rt; write_at(&mut memory, 131_064, 8, u64::MAX));
-    give_memory(&rt, &pool, &mut first, close_memory(memory));
+    let clean = after(&rt, CleanMem::empty(rt.alloc()), 1, &TWO_PAGES)?;
+    give_memory(&rt, &pool, &mut first, clean);
     expect_lent(&rt, &pool, &mut second, 131_072);
     expect_lent(&rt, &pool, &mut second, 0);
     expect_lent(&rt, &pool, &mut first, 0);
@@ -104,80 +124,112 @@ fn two_tickets_share_one_pool(rt: HostRuntime) -> Result<(), Fail> {
 fn a_full_pool_drops_what_is_given(rt: HostRuntime) -> Result<(), Fail> {
     let (pool, mut tickets) = Pool::new(rt.alloc(), 1)?;
     let mut ticket = tickets.pop().ok_or("ticket")?;
-    let memory = new_memory(CleanMem::empty(rt.alloc()), 1)?;
-    give_memory(&rt, &pool, &mut ticket, close_memory(memory));
+    let clean = after(&rt, CleanMem::empty(rt.alloc()), 1, &[])?;
+    give_memory(&rt, &pool, &mut ticket, clean);
     give_memory(&rt, &pool, &mut ticket, CleanMem::empty(rt.alloc()));
     expect_lent(&rt, &pool, &mut ticket, 65_536);
     expect_lent(&rt, &pool, &mut ticket, 0);
     Ok(())
 }
 
+const WIDTHS: [Step; 13] = [
+    Write(8, 8, 0x8877_6655_4433_2211, true),
+    Read(8, 1, Some(0x11)),
+    Read(9, 2, Some(0x3322)),
+    Read(12, 4, Some(0x8877_6655)),
+    Read(7, 8, Some(0x7766_5544_3322_1100)),
+    Write(8, 2, 0xff_0000, true),
+    Write(11, 1, 0x199, true),
+    Write(12, 4, 0, true),
+    Read(8, 8, Some(0x9933_0000)),
+    Segment(65_533, b"end"),
+    Read(65_532, 4, Some(0x646e_6500)),
+    Read(65_533, 4, None),
+    Write(65_529, 8, 1, false),
+];
+
 #[test]
 fn every_width_reads_what_was_written(rt: HostRuntime) -> Result<(), Fail> {
-    let mut memory = new_memory(CleanMem::empty(rt.alloc()), 1)?;
-    assert!(rt; write_at(&mut memory, 8, 8, 0x8877_6655_4433_2211));
-    assert_eq!(rt; read_at(&memory, 8, 1), Some(0x11));
-    assert_eq!(rt; read_at(&memory, 9, 2), Some(0x3322));
-    assert_eq!(rt; read_at(&memory, 12, 4), Some(0x8877_6655));
-    assert_eq!(rt; read_at(&memory, 7, 8), Some(0x7766_5544_3322_1100));
-    assert!(rt; write_at(&mut memory, 8, 2, 0xff_0000));
-    assert!(rt; write_at(&mut memory, 11, 1, 0x199));
-    assert!(rt; write_at(&mut memory, 12, 4, 0));
-    assert_eq!(rt; read_at(&memory, 8, 8), Some(0x9933_0000));
-    segment_at(&mut memory, 65_533, b"end");
-    assert_eq!(rt; read_at(&memory, 65_532, 4), Some(0x646e_6500));
-    assert_eq!(rt; read_at(&memory, 65_533, 4), None);
-    assert!(rt; !write_at(&mut memory, 65_529, 8, 1));
+    after(&rt, CleanMem::empty(rt.alloc()), 1, &WIDTHS)?;
     Ok(())
 }
+
+const LENT: [Step; 2] = [Write(70_000, 4, 7, true), Write(3, 1, 7, true)];
+
+const USED_AGAIN: [Step; 6] = [
+    Read(70_000, 4, None),
+    Grow(1, Some(1)),
+    Read(70_000, 4, Some(0)),
+    Read(3, 1, Some(0)),
+    Grow(2, None),
+    Grow(1, Some(2)),
+];
 
 #[test]
 fn a_lent_memory_is_used_again(rt: HostRuntime) -> Result<(), Fail> {
-    let mut memory = new_memory(CleanMem::empty(rt.alloc()), 2)?;
-    assert!(rt; write_at(&mut memory, 70_000, 4, 7));
-    assert!(rt; write_at(&mut memory, 3, 1, 7));
-    let mut memory = new_memory(close_memory(memory), 1)?;
-    assert_eq!(rt; read_at(&memory, 70_000, 4), None);
-    assert_eq!(rt; grow_by(&mut memory, 1)?, Some(1));
-    assert_eq!(rt; read_at(&memory, 70_000, 4), Some(0));
-    assert_eq!(rt; read_at(&memory, 3, 1), Some(0));
-    assert_eq!(rt; grow_by(&mut memory, 2)?, None);
-    assert_eq!(rt; grow_by(&mut memory, 1)?, Some(2));
-    assert_eq!(rt; close_memory(memory).len(), 196_608);
+    let clean = after(&rt, CleanMem::empty(rt.alloc()), 2, &LENT)?;
+    let clean = after(&rt, clean, 1, &USED_AGAIN)?;
+    assert!(rt; clean.len() == 196_608);
     Ok(())
 }
+
+const ACROSS_BLOCKS: [Step; 7] = [
+    Write(4_095, 8, u64::MAX, true),
+    Write(12_284, 8, u64::MAX, true),
+    Write(65_529, 8, u64::MAX, true),
+    Write(131_064, 8, u64::MAX, true),
+    Segment(20_478, b"across"),
+    Read(4_099, 4, Some(0xffff_ffff)),
+    Read(20_480, 4, Some(0x7373_6f72)),
+];
+
+const NOTHING_ACROSS: [Step; 6] = [
+    Read(4_088, 8, Some(0)),
+    Read(4_096, 8, Some(0)),
+    Read(12_284, 8, Some(0)),
+    Read(65_529, 8, Some(0)),
+    Read(131_064, 8, Some(0)),
+    Read(20_478, 8, Some(0)),
+];
 
 #[test]
 fn no_other_call_sees_a_store_across_blocks(rt: HostRuntime) -> Result<(), Fail> {
-    let mut memory = new_memory(CleanMem::empty(rt.alloc()), 2)?;
-    assert!(rt; write_at(&mut memory, 4_095, 8, u64::MAX));
-    assert!(rt; write_at(&mut memory, 12_284, 8, u64::MAX));
-    assert!(rt; write_at(&mut memory, 65_529, 8, u64::MAX));
-    assert!(rt; write_at(&mut memory, 131_064, 8, u64::MAX));
-    segment_at(&mut memory, 20_478, b"across");
-    assert_eq!(rt; read_at(&memory, 4_099, 4), Some(0xffff_ffff));
-    assert_eq!(rt; read_at(&memory, 20_480, 4), Some(0x7373_6f72));
-    let memory = new_memory(close_memory(memory), 2)?;
-    expect_zeros(&rt, &memory, 4_088);
-    expect_zeros(&rt, &memory, 4_096);
-    expect_zeros(&rt, &memory, 12_284);
-    expect_zeros(&rt, &memory, 65_529);
-    expect_zeros(&rt, &memory, 131_064);
-    expect_zeros(&rt, &memory, 20_478);
+    let clean = after(&rt, CleanMem::empty(rt.alloc()), 2, &ACROSS_BLOCKS)?;
+    after(&rt, clean, 2, &NOTHING_ACROSS)?;
     Ok(())
 }
 
+const GROWN: [Step; 3] = [
+    Write(65_528, 8, u64::MAX, true),
+    Grow(2, Some(1)),
+    Write(196_607, 1, 7, true),
+];
+
+const NOTHING_GROWN: [Step; 3] = [
+    Read(65_528, 8, Some(0)),
+    Read(65_536, 8, Some(0)),
+    Read(196_600, 8, Some(0)),
+];
+
 #[test]
 fn a_growth_keeps_what_is_marked(rt: HostRuntime) -> Result<(), Fail> {
-    let mut memory = new_memory(CleanMem::empty(rt.alloc()), 1)?;
-    assert!(rt; write_at(&mut memory, 65_528, 8, u64::MAX));
-    assert_eq!(rt; grow_by(&mut memory, 2)?, Some(1));
-    assert!(rt; write_at(&mut memory, 196_607, 1, 7));
-    let memory = new_memory(close_memory(memory), 3)?;
-    expect_zeros(&rt, &memory, 65_528);
-    expect_zeros(&rt, &memory, 65_536);
-    expect_zeros(&rt, &memory, 196_600);
+    let clean = after(&rt, CleanMem::empty(rt.alloc()), 1, &GROWN)?;
+    after(&rt, clean, 3, &NOTHING_GROWN)?;
     Ok(())
+}
+
+const ENDS: [Step; 5] = [
+    Read(0, 1, Some(0)),
+    Read(67_108_863, 1, Some(0)),
+    Write(0, 1, 1, true),
+    Write(67_108_863, 1, 1, true),
+    Write(67_108_863, 2, 1, false),
+];
+
+fn touch_ends<R: Abort>(rt: &R, clean: CleanMem) -> Result<CleanMem, Fail> {
+    let mut memory = large_memory(clean)?;
+    assert_steps(rt, &mut memory, &ENDS)?;
+    Ok(memory.close())
 }
 
 #[test]
@@ -186,6 +238,6 @@ fn both_ends_of_many_pages_are_written_again_and_again(rt: HostRuntime) -> Resul
     for _ in 0..1_000 {
         clean = touch_ends(&rt, clean)?;
     }
-    assert_eq!(rt; clean.len(), 67_108_864);
+    assert!(rt; clean.len() == 67_108_864);
     Ok(())
 }

@@ -1,7 +1,7 @@
 use std::alloc::Global;
 use std::test::*;
-use wdecode::{DecodeFault, decode_module};
-use wsyntax::Module;
+use wdecode::DecodeFault::{self, Malformed, TooLarge};
+use wdecode::decode_module;
 
 /// One function that adds, exported.
 const ADDER: [u8; 41] = [
@@ -28,26 +28,27 @@ const TABLE: [u8; 64] = [
 
 const HEADER: [u8; 8] = [0x00, 0x61, 0x73, 0x6D, 0x01, 0x00, 0x00, 0x00];
 
-fn is_malformed(answer: Result<Module<'_>, DecodeFault>) -> bool {
-    matches!(answer, Err(DecodeFault::Malformed))
+/// Why the bytes are no module.
+fn fault_of(alloc: Global, bytes: &[u8]) -> Option<DecodeFault> {
+    decode_module(alloc, bytes).err()
 }
 
 /// Whether the header and these bytes are refused as malformed.
 fn is_malformed_behind_header(alloc: Global, bytes: &[u8]) -> Result<bool, Fail> {
     let mut module = HEADER.to_vec(alloc)?;
     module.extend_from_slice(bytes)?;
-    Ok(is_malformed(decode_module(alloc, &module)))
+    Ok(fault_of(alloc, &module) == Some(Malformed))
 }
 
-/// Whether of all fronts just those of the given lengths are modules.
+/// Whether of all fronts just those of the given lengths are modules, and the others malformed.
 fn accepts_just(alloc: Global, bytes: &[u8], lengths: &[usize]) -> bool {
     for len in 0..=bytes.len() {
-        let answer = decode_module(alloc, &bytes[..len]);
-        if lengths.contains(&len) {
-            if answer.is_err() {
-                return false;
-            }
-        } else if !is_malformed(answer) {
+        let wanted = if lengths.contains(&len) {
+            None
+        } else {
+            Some(Malformed)
+        };
+        if fault_of(alloc, &bytes[..len]) != wanted {
             return false;
         }
     }
@@ -64,66 +65,61 @@ fn fronts_of_modules(rt: HostRuntime) {
 #[test]
 fn a_module_is_held(rt: HostRuntime) -> Result<(), Fail> {
     let module = decode_module(rt.alloc(), &SEGMENTS).ok().ok_or("a module")?;
-    assert_eq!(rt; module.types.len(), 1);
-    assert_eq!(rt; module.memories.len(), 1);
-    assert_eq!(rt; module.exports.len(), 1);
-    assert_eq!(rt; module.data.len(), 2);
+    assert!(rt; module.types.len() == 1 && module.memories.len() == 1);
+    assert!(rt; module.exports.len() == 1 && module.data.len() == 2);
     for export in &module.exports {
-        assert_eq!(rt; export.name, b"f".as_slice());
+        assert!(rt; export.name == b"f".as_slice());
     }
     Ok(())
 }
 
+/// What stands behind the header, and whether it is malformed.
+const SECTIONS: [(&[u8], bool); 11] = [
+    // A size in five bytes, in six, and out of range.
+    (&[0x01, 0x81, 0x80, 0x80, 0x80, 0x00, 0x00], false),
+    (&[0x01, 0x81, 0x80, 0x80, 0x80, 0x80, 0x00, 0x00], true),
+    (&[0x01, 0x81, 0x80, 0x80, 0x80, 0x10, 0x00], true),
+    // Two type sections.
+    (&[0x01, 0x01, 0x00, 0x01, 0x01, 0x00], true),
+    // Custom sections: two of one name, a name that is not UTF-8, and no name.
+    (
+        &[0x00, 0x03, 0x01, 0x61, 0xFF, 0x00, 0x02, 0x01, 0x61],
+        false,
+    ),
+    (&[0x00, 0x02, 0x01, 0xFF], true),
+    (&[0x00, 0x00], true),
+    // A byte behind the contents, an id that no section has, a function with no body.
+    (&[0x01, 0x02, 0x00, 0x00], true),
+    (&[0x0C, 0x01, 0x00], true),
+    (&[0x03, 0x02, 0x01, 0x00], true),
+    // A count of 4,294,967,295 with nothing behind it.
+    (&[0x01, 0x05, 0xFF, 0xFF, 0xFF, 0xFF, 0x0F], true),
+];
+
 #[test]
 fn sizes_and_orders(rt: HostRuntime) -> Result<(), Fail> {
-    // A size in five bytes, in six, and out of range.
-    assert!(rt;
-        !is_malformed_behind_header(rt.alloc(), &[0x01, 0x81, 0x80, 0x80, 0x80, 0x00, 0x00])?
-    );
-    assert!(rt;
-        is_malformed_behind_header(
-            rt.alloc(),
-            &[0x01, 0x81, 0x80, 0x80, 0x80, 0x80, 0x00, 0x00]
-        )?
-    );
-    assert!(rt;
-        is_malformed_behind_header(rt.alloc(), &[0x01, 0x81, 0x80, 0x80, 0x80, 0x10, 0x00])?
-    );
-    // Two type sections.
-    assert!(rt; is_malformed_behind_header(rt.alloc(), &[0x01, 0x01, 0x00, 0x01, 0x01, 0x00])?);
-    // Custom sections: two of one name, a name that is not UTF-8, and no name.
-    assert!(rt;
-        !is_malformed_behind_header(
-            rt.alloc(),
-            &[0x00, 0x03, 0x01, 0x61, 0xFF, 0x00, 0x02, 0x01, 0x61]
-        )?
-    );
-    assert!(rt; is_malformed_behind_header(rt.alloc(), &[0x00, 0x02, 0x01, 0xFF])?);
-    assert!(rt; is_malformed_behind_header(rt.alloc(), &[0x00, 0x00])?);
-    // A byte behind the contents, an id that no section has, a function with no body.
-    assert!(rt; is_malformed_behind_header(rt.alloc(), &[0x01, 0x02, 0x00, 0x00])?);
-    assert!(rt; is_malformed_behind_header(rt.alloc(), &[0x0C, 0x01, 0x00])?);
-    assert!(rt; is_malformed_behind_header(rt.alloc(), &[0x03, 0x02, 0x01, 0x00])?);
-    // A count of 4,294,967,295 with nothing behind it.
-    assert!(rt;
-        is_malformed_behind_header(rt.alloc(), &[0x01, 0x05, 0xFF, 0xFF, 0xFF, 0xFF, 0x0F])?
-    );
+    for (place, case) in SECTIONS.iter().enumerate() {
+        assert!(rt;
+            is_malformed_behind_header(rt.alloc(), case.0)? == case.1,
+            "case {place}"
+        );
+    }
     Ok(())
+}
+
+/// The header, and a custom section up to the limit: 8 + 1 + 4 + 16,777,203 bytes.
+fn largest(alloc: Global) -> Result<Vec<u8>, Fail> {
+    let mut bytes = HEADER.to_vec(alloc)?;
+    bytes.extend_from_slice(&[0x00, 0xF3, 0xFF, 0xFF, 0x07, 0x00])?;
+    bytes.resize(16777216, 0x00)?;
+    Ok(bytes)
 }
 
 #[test]
 fn sizes_of_modules(rt: HostRuntime) -> Result<(), Fail> {
-    // A custom section up to the limit: 8 + 1 + 4 + 16,777,203 bytes.
-    let mut bytes = HEADER.to_vec(rt.alloc())?;
-    bytes.extend_from_slice(&[0x00, 0xF3, 0xFF, 0xFF, 0x07, 0x00])?;
-    bytes.resize(16777216, 0x00)?;
-    assert!(rt; decode_module(rt.alloc(), &bytes).is_ok());
+    let mut bytes = largest(rt.alloc())?;
+    assert!(rt; fault_of(rt.alloc(), &bytes).is_none());
     bytes.push(0x00)?;
-    assert!(rt;
-        matches!(
-            decode_module(rt.alloc(), &bytes),
-            Err(DecodeFault::TooLarge)
-        )
-    );
+    assert!(rt; fault_of(rt.alloc(), &bytes) == Some(TooLarge));
     Ok(())
 }

@@ -15,15 +15,21 @@ fn signed_numbers_are_read(rt: HostRuntime) {
     assert!(rt; read_s64(&[0x80], 0) == None);
 }
 
+const NUMBERS_OF_33_BITS: [(&[u8], Option<(i64, usize)>); 7] = [
+    (&[0x40], Some((-64, 1))),
+    (&[0x7F], Some((-1, 1))),
+    (&[0xFF, 0xFF, 0xFF, 0xFF, 0x0F], Some((4294967295, 5))),
+    (&[0x80, 0x80, 0x80, 0x80, 0x10], None),
+    (&[0x80, 0x80, 0x80, 0x80, 0x70], Some((-4294967296, 5))),
+    (&[0xFF, 0xFF, 0xFF, 0xFF, 0x6F], None),
+    (&[0x80, 0x80, 0x80, 0x80, 0x80, 0x00], None),
+];
+
 #[test]
 fn numbers_of_33_bits_are_read(rt: HostRuntime) {
-    assert!(rt; read_s33(&[0x40], 0) == Some((-64, 1)));
-    assert!(rt; read_s33(&[0x7F], 0) == Some((-1, 1)));
-    assert!(rt; read_s33(&[0xFF, 0xFF, 0xFF, 0xFF, 0x0F], 0) == Some((4294967295, 5)));
-    assert!(rt; read_s33(&[0x80, 0x80, 0x80, 0x80, 0x10], 0) == None);
-    assert!(rt; read_s33(&[0x80, 0x80, 0x80, 0x80, 0x70], 0) == Some((-4294967296, 5)));
-    assert!(rt; read_s33(&[0xFF, 0xFF, 0xFF, 0xFF, 0x6F], 0) == None);
-    assert!(rt; read_s33(&[0x80, 0x80, 0x80, 0x80, 0x80, 0x00], 0) == None);
+    for (bytes, number) in NUMBERS_OF_33_BITS {
+        assert!(rt; read_s33(bytes, 0) == number);
+    }
 }
 
 #[test]
@@ -61,14 +67,22 @@ fn words_are_converted(rt: HostRuntime) {
 
 #[test]
 fn low_bits_are_extended(rt: HostRuntime) {
-    assert!(rt; word32::extend8_s(127) == 127);
-    assert!(rt; word32::extend8_s(0xFFFF_FF80) == 0xFFFF_FF80);
-    assert!(rt; word32::extend8_s(0x1FF) == 0xFFFF_FFFF);
-    assert!(rt; word32::extend8_s(256) == 0);
+    for (word, extended) in [
+        (127, 127),
+        (0xFFFF_FF80, 0xFFFF_FF80),
+        (0x1FF, 0xFFFF_FFFF),
+        (256, 0),
+    ] {
+        assert!(rt; word32::extend8_s(word) == extended);
+    }
     assert!(rt; word32::extend16_s(0x8000) == 0xFFFF_8000);
     assert!(rt; word64::extend8_s(128) == 0xFFFF_FFFF_FFFF_FF80);
     assert!(rt; word64::extend16_s(0x1_7FFF) == 0x7FFF);
-    assert!(rt; word64::extend32_s(4294967295) == 0xFFFF_FFFF_FFFF_FFFF);
-    assert!(rt; word64::extend32_s(2147483648) == 0xFFFF_FFFF_8000_0000);
-    assert!(rt; word64::extend32_s(4294967296) == 0);
+    for (word, extended) in [
+        (4294967295, 0xFFFF_FFFF_FFFF_FFFF),
+        (2147483648, 0xFFFF_FFFF_8000_0000),
+        (4294967296, 0),
+    ] {
+        assert!(rt; word64::extend32_s(word) == extended);
+    }
 }
