@@ -40,6 +40,11 @@ def element_segments(size):
     return HEADER + section(4, b'\x01\x70\x00\x01') + section(9, vector([b'\x00\x41\x00\x0B\x00'] * (size // 5)))
 
 
+def element_segments_of_one(size):
+    count = size // 6
+    return HEADER + EMPTY + section(3, b'\x01\x00') + section(4, b'\x01\x70\x00\x01') + section(9, vector([b'\x00\x41\x00\x0B\x01\x00'] * count)) + section(10, b'\x01\x02\x00\x0B')
+
+
 def data_segments(size):
     return HEADER + section(5, b'\x01\x00\x01') + section(11, vector([b'\x00\x41\x00\x0B\x00'] * (size // 5)))
 
@@ -95,7 +100,8 @@ def branches_over_lists(size):
     return long_list(size, lambda n: b'\x02\x40\x00\x02\x01' + b'\x41\x00\x0D\x00' * (n // 4) + b'\x0B\x00\x0B', True)
 
 
-FAMILIES = [('far locals', far_locals), ('runs of no locals', empty_runs), ('element segments', element_segments), ('data segments', data_segments),
+FAMILIES = [('far locals', far_locals), ('runs of no locals', empty_runs), ('element segments', element_segments),
+            ('segments of a function', element_segments_of_one), ('data segments', data_segments),
             ('functions of two bytes', two_byte_functions), ('exports of equal fronts', exports), ('open blocks', open_blocks),
             ('ill typed at the end', ill_typed_at_the_end), ('seldom tokens', seldom_tokens), ('types alone', types_alone),
             ('calls of long results', calls_of_results), ('calls of long lists', calls_in_a_row), ('blocks of long lists', blocks_of_lists),

@@ -1,11 +1,12 @@
 -- Segments that are valid have offsets.
-use Rattle.std.proofs.Common.{◌≡◌, List, map, sym, subst, arith}
-use Rattle.std.specs.Prelude.{All}
+use Rattle.std.proofs.Common.{◌≡◌, ℕ, List, map, Some, sym, subst, arith}
+use Rattle.std.specs.Prelude.{All, slice_get}
 use Rattle.std.proofs.lemmas.List.{get_or-map, length-map}
+use Rattle.std.proofs.lemmas.Option.{slice_get_within, get_or_from_slice_get}
 use Rattle.wsyntax.specs.Modules.{ModuleShape, element_shape, data_shape}
 use Rattle.wsyntax.specs.Validation.ModuleContext.{imported_globals}
 use Rattle.wsyntax.specs.Validation.Rules.{ElementValid, DataValid}
-use Rattle.wsyntax.specs.declared.module.Element.{Element}
+use Rattle.wsyntax.specs.HeldElement.{HeldElement}
 use Rattle.wsyntax.specs.declared.module.Data.{Data}
 use Rattle.layout.specs.Segments.{IsOffset}
 
@@ -14,9 +15,13 @@ of_shapes : {X Y : Type 0} (P : Y → Type 0) (f : X → Y) (xs : List X) → Al
 of_shapes P f xs h = λ k d below. subst P (get_or-map f xs k d (f d) below) (h k (f d) (omega (arith, length-map xs f)))
 
 -- of the segments that are lent
-pub element_offsets : (m : ModuleShape) (es lent : List Element) → lent ≡ es → All (ElementValid m) (map element_shape es) → All (λ e. IsOffset e.place) lent
-element_offsets m es lent same h =
-    subst (All (λ (e : Element). IsOffset e.place)) (sym same) (λ k d below. (imported_globals m, (of_shapes (ElementValid m) element_shape es h k d below).constant))
+pub element_offsets : (m : ModuleShape) (es : List HeldElement) → All (ElementValid m) (map element_shape es) → All (λ e. IsOffset e.place) es
+element_offsets m es h = λ k d below. (imported_globals m, (of_shapes (ElementValid m) element_shape es h k d below).constant)
+
+-- of one that is read by its number
+pub element_offset : (es : List HeldElement) (i : ℕ) (e : HeldElement) → All (λ s. IsOffset s.place) es → Some e ≡ slice_get es i → IsOffset e.place
+element_offset es i e all read =
+    subst (λ (s : HeldElement). IsOffset s.place) (get_or_from_slice_get es i e e (sym read)) (all i e (slice_get_within es i e (sym read)))
 
 pub data_offsets : (m : ModuleShape) (ds lent : List Data) → lent ≡ ds → All (DataValid m) (map data_shape ds) → All (λ d. IsOffset d.place) lent
 data_offsets m ds lent same h =

@@ -1,11 +1,12 @@
 -- The first segment that lies outside, segment by segment.
 use Rattle.std.proofs.Common.{◌≡◌, ℕ, suc, ◌+◌, ◌<◌, Bool, true, false, List, ◌∷◌, length, drop, map, get_or, Some, sym, ap, ◌∙◌, cond, arith}
-use Rattle.std.specs.Prelude.{nat_lt}
+use Rattle.std.specs.Prelude.{nat_lt, slice_get}
 use lib.Dec.{leb}
 use Rattle.std.proofs.lemmas.Bool.{lt-ltb, le-ltb, leb-true, leb-false}
 use Rattle.std.proofs.lemmas.List.{drop-map, drop_more}
+use Rattle.std.proofs.lemmas.Option.{slice_get_within, get_or_from_slice_get}
 use Rattle.wsyntax.specs.Modules.{element_shape, data_shape}
-use Rattle.wsyntax.specs.declared.module.Element.{Element}
+use Rattle.wsyntax.specs.HeldElement.{HeldElement}
 use Rattle.wsyntax.specs.declared.module.Data.{Data}
 use Rattle.wsyntax.specs.Execution.Allocation.{Segment}
 use Rattle.wsyntax.specs.Execution.Start.{element_segment, data_segment, first_outside}
@@ -21,9 +22,10 @@ from_here g f xs i x is below =
     ∙ ap (λ y. g (f y) ∷ map g (map f (drop (i + 1) xs))) (sym is)
     ∙ ap (λ l. g (f x) ∷ map g l) (sym (drop-map f (i + 1) xs)) ∙ ap (λ l. g (f x) ∷ l) (sym (drop-map g (i + 1) (map f xs)))
 
-pub elements_from : (es : List Element) (i : ℕ) (e : Element) → e ≡ get_or es i e → i < length es
+pub elements_from : (es : List HeldElement) (i : ℕ) (e : HeldElement) → Some e ≡ slice_get es i
     → drop i (element_segments es) ≡ element_segment (element_shape e) ∷ drop (i + 1) (element_segments es)
-elements_from es i e is below = from_here element_segment element_shape es i e is below
+elements_from es i e read =
+    from_here element_segment element_shape es i e (sym (get_or_from_slice_get es i e e (sym read))) (slice_get_within es i e (sym read))
 
 pub data_from : (ds : List Data) (i : ℕ) (d : Data) → d ≡ get_or ds i d → i < length ds
     → drop i (data_segments ds) ≡ data_segment (data_shape d) ∷ drop (i + 1) (data_segments ds)

@@ -4,8 +4,8 @@ use Rattle.wsyntax.specs.Modules.{place_tokens, element_shape, data_shape}
 use Rattle.wsyntax.specs.Validation.Rules.{ConstantOf}
 use Rattle.wsyntax.specs.declared.types.ValType.TheVariants.{I32}
 use Rattle.wsyntax.specs.declared.types.GlobalType.{GlobalType}
+use Rattle.wsyntax.specs.HeldElement.{HeldElement}
 use Rattle.wsyntax.specs.declared.module.Place.{Place}
-use Rattle.wsyntax.specs.declared.module.Element.{Element}
 use Rattle.wsyntax.specs.declared.module.Data.{Data}
 use Rattle.wsyntax.specs.Execution.Allocation.{Segment}
 use Rattle.wsyntax.specs.Execution.Start.{element_segment, data_segment}
@@ -14,14 +14,14 @@ use Rattle.wsyntax.specs.Execution.Start.{element_segment, data_segment}
 abbrev pub IsOffset : Place → Type 0
 IsOffset p = (globals : List GlobalType) × ConstantOf globals I32 (place_tokens p)
 
-abbrev pub element_segments : List Element → List Segment
+abbrev pub element_segments : List HeldElement → List Segment
 element_segments all = map element_segment (map element_shape all)
 
 abbrev pub data_segments : List Data → List Segment
 data_segments all = map data_segment (map data_shape all)
 
 -- where a segment begins
-abbrev pub element_place : Element → ℕ
+abbrev pub element_place : HeldElement → ℕ
 element_place e = (element_segment (element_shape e)).place
 
 abbrev pub data_place : Data → ℕ

@@ -38,7 +38,7 @@ impl Layout {
         requires segments { SegmentsValid (module_shape «module».now) }
         ensures { IfOk result (IsLayoutOf (module_shape «module».now)) }
     {
-        let elements = module.elements.as_slice();
+        let elements = &module.elements;
         let segments = module.data.as_slice();
         let entries = table_size(module) as usize;
         let bytes = memory_pages(module) as usize * PAGE;

@@ -6,7 +6,7 @@ ghost use Rattle.wsyntax.specs.Execution.Start.{constant_in};
 ghost use Rattle.layout.specs.Segments.{IsOffset, element_place, data_place};
 
 use std::alloc::{AllocError, Global};
-use wsyntax::{Data, Element, Place, Token};
+use wsyntax::{Data, Elements, Place, Token};
 
 /// The number of an offset: of one `i32.const`, without sign; 0 of an offset that reads an imported global.
 pub(crate) fn place_of(place: &Place) -> u32
@@ -23,13 +23,16 @@ pub(crate) fn place_of(place: &Place) -> u32
 }
 
 /// The place of each element segment in its table.
-pub(crate) fn element_places(alloc: Global, segments: &[Element]) -> Result<Vec<u32>, AllocError>
+pub(crate) fn element_places(alloc: Global, segments: &Elements) -> Result<Vec<u32>, AllocError>
     requires { All (λ s. IsOffset s.place) segments.now }
     ensures { IfOk result (λ v. v.items ≡ map element_place segments.now) }
 {
     let mut places = Vec::new(alloc);
-    for segment in segments {
-        places.push(place_of(&segment.place))?;
+    for number in 0..segments.len() {
+        let Some(segment) = segments.get(number) else {
+            unreachable!()
+        };
+        places.push(place_of(segment.place))?;
     }
     Ok(places)
 }

@@ -5,7 +5,7 @@ ghost use Rattle.wsyntax.specs.Execution.Start.{first_outside};
 ghost use Rattle.layout.specs.Segments.{IsOffset, element_segments, data_segments};
 
 use crate::places::place_of;
-use wsyntax::{Data, Element};
+use wsyntax::{Data, Elements};
 
 /// Whether so many items from a place on end within a size. Nothing wraps.
 fn ends_within(place: u32, count: usize, size: usize) -> bool
@@ -15,13 +15,16 @@ fn ends_within(place: u32, count: usize, size: usize) -> bool
 }
 
 /// The number of the first element segment that does not end within a table of that size.
-pub(crate) fn first_element_outside(size: usize, segments: &[Element]) -> Option<u32>
+pub(crate) fn first_element_outside(size: usize, segments: &Elements) -> Option<u32>
     requires few { length segments.now < 2 ^ 32 }
     requires offsets { All (λ s. IsOffset s.place) segments.now }
     ensures { result ≡ first_outside 0 size (element_segments segments.now) }
 {
-    for (number, segment) in segments.iter().enumerate() {
-        if !ends_within(place_of(&segment.place), segment.functions.len(), size) {
+    for number in 0..segments.len() {
+        let Some(segment) = segments.get(number) else {
+            unreachable!()
+        };
+        if !ends_within(place_of(segment.place), segment.functions.len(), size) {
             return Some(number as u32);
         }
     }

@@ -1,8 +1,9 @@
 -- Lists of items, and the lists of what the items stand for.
-use Rattle.std.proofs.Common.{◌≡◌, ℕ, ◌+◌, ◌≤◌, ◌<◌, ◌↔◌, Bool, true, false, IsTrue, List, [], ◌∷◌, map, take, Option, length, refl, ap, ◌∙◌, sym, subst, ◌++◌, arith}
-use Rattle.std.specs.List.{filter_map, cons_option, All, slice_index_or, AllPairs}
+use Rattle.std.proofs.Common.{◌≡◌, ℕ, ◌+◌, ◌≤◌, ◌<◌, ◌↔◌, Bool, true, false, IsTrue, List, [], ◌∷◌, map, take, Option, Some, length, refl, ap, ◌∙◌, sym, subst, ◌++◌, arith}
+use Rattle.std.specs.List.{filter_map, cons_option, All, slice_get, slice_index_or, AllPairs}
 use Rattle.std.proofs.lemmas.List.{take_all, get_or-map, length-map}
 use Rattle.std.proofs.lemmas.List.Elements.{All-map, All-more}
+use Rattle.std.proofs.lemmas.Option.{slice_get_within, get_or_from_slice_get}
 use Rattle.std.proofs.lemmas.Simd.{map-map}
 
 -- what a filter leaves of a mapped list
@@ -42,6 +43,14 @@ fails_here P xs i x b is below test failed =
 -- this item passes
 pub passes_here : {X : Type 0} (P : X → Type 0) (xs : List X) (i : ℕ) (x : X) (b : Bool) → x ≡ slice_index_or xs i x → i < length xs → (IsTrue b ↔ P x) → b ≡ true → All P (take i xs) → All P (take (i + 1) xs)
 passes_here P xs i x b is below test holds passed = All-more P xs i x below passed (subst P is (test.0 holds))
+
+-- the item that was got fails
+pub got_fails : {X : Type 0} (P : X → Type 0) (xs : List X) (i : ℕ) (x : X) (b : Bool) → slice_get xs i ≡ Some x → (IsTrue b ↔ P x) → b ≡ false → IsTrue false ↔ All P xs
+got_fails P xs i x b got = fails_here P xs i x b (sym (get_or_from_slice_get xs i x x got)) (slice_get_within xs i x got)
+
+-- the item that was got passes
+pub got_passes : {X : Type 0} (P : X → Type 0) (xs : List X) (i : ℕ) (x : X) (b : Bool) → slice_get xs i ≡ Some x → (IsTrue b ↔ P x) → b ≡ true → All P (take i xs) → All P (take (i + 1) xs)
+got_passes P xs i x b got = passes_here P xs i x b (sym (get_or_from_slice_get xs i x x got)) (slice_get_within xs i x got)
 
 -- each has passed
 pub passes_all : {X : Type 0} (P : X → Type 0) (xs : List X) (n : ℕ) → length xs ≤ n → All P (take n xs) → IsTrue true ↔ All P xs

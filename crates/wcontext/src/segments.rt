@@ -1,20 +1,21 @@
 ghost use Rattle.std.specs.Prelude.{◌↔◌, IsTrue, All};
+ghost use Rattle.wsyntax.specs.Elements.{element_of};
 ghost use Rattle.wcontext.specs.Segments.{IsElementValid, IsDataValid};
 
 use crate::constant::is_offset;
-use wsyntax::{Data, Element, GlobalType};
+use wsyntax::{Data, Element, Elements, GlobalType};
 
 /// Whether an element segment is valid (3.4.5), where so many tables and functions exist.
 fn is_element_valid(
-    segment: &Element,
+    segment: Element<'_>,
     tables: usize,
     functions: usize,
     globals: &[GlobalType],
 ) -> bool
-    ensures { IsTrue result ↔ IsElementValid tables functions globals.now segment.now }
+    ensures { IsTrue result ↔ IsElementValid tables functions globals.now (element_of segment.entry) }
 {
     (segment.place.index() as usize) < tables
-        && is_offset(&segment.place, globals)
+        && is_offset(segment.place, globals)
         && segment
             .functions
             .iter()
@@ -30,14 +31,17 @@ fn is_data_valid(segment: &Data<'_>, memories: usize, globals: &[GlobalType]) ->
 
 /// Whether all element segments are valid.
 pub fn are_elements_valid(
-    segments: &[Element],
+    segments: &Elements,
     tables: usize,
     functions: usize,
     globals: &[GlobalType],
 ) -> bool
     ensures { IsTrue result ↔ All (IsElementValid tables functions globals.now) segments.now }
 {
-    for segment in segments {
+    for number in 0..segments.len() {
+        let Some(segment) = segments.get(number) else {
+            unreachable!()
+        };
         if !is_element_valid(segment, tables, functions, globals) {
             return false;
         }

@@ -17,3 +17,4 @@ pub mod OneLoop
 pub mod OnePush
 pub mod OneRead
 pub mod Initials
+pub mod Segments

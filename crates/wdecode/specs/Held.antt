@@ -21,6 +21,6 @@ section_shape (held.Memories v) = Memories v.items
 section_shape (held.Globals v) = Globals (map global_shape v.items)
 section_shape (held.Exports v) = Exports (map export_shape v.items)
 section_shape (held.Start x) = Start x
-section_shape (held.Elements v) = Elements (map element_shape v.items)
+section_shape (held.Elements v) = Elements (map element_shape v)
 section_shape (held.Bodies v) = Bodies (map (λ s. s.now) v.items)
 section_shape (held.Segments v) = Segments (map data_shape v.items)

@@ -3,6 +3,7 @@
 #![tactic(auto)]
 
 mod body;
+mod elements;
 mod fault;
 mod frequent;
 mod initial;

@@ -5,11 +5,12 @@ ghost use Rattle.wsyntax.specs.Binary.Production.{whole_at};
 ghost use Rattle.wsyntax.specs.Binary.Values.{vector_at as vector_of};
 ghost use Rattle.wsyntax.specs.Binary.Sections.{contents, section};
 
+use crate::elements::filled_elements;
 use crate::fault::Fault;
 use crate::types::filled_types;
 use crate::values::{Item, blob_at, name_at, u32_at, vector_at};
 use std::alloc::Global as Alloc;
-use wsyntax::{Data, Element, Export, FuncTypes, Global, Import, Limits, Table};
+use wsyntax::{Data, Elements, Export, FuncTypes, Global, Import, Limits, Table};
 
 /// What a section holds.
 #[derive(Drop)]
@@ -23,7 +24,7 @@ pub enum Section<'a> {
     Globals(Vec<Global>),
     Exports(Vec<Export<'a>>),
     Start(u32),
-    Elements(Vec<Element>),
+    Elements(Elements),
     Bodies(Vec<&'a [u8]>),
     Segments(Vec<Data<'a>>),
 }
@@ -64,7 +65,7 @@ fn contents_at(alloc: Alloc, id: u8, bytes: &[u8]) -> Result<Section<'_>, Fault>
                 Err(Fault::Malformed)
             }
         }
-        9 => Ok(Section::Elements(filled(alloc, bytes)?)),
+        9 => Ok(Section::Elements(filled_elements(alloc, bytes)?)),
         10 => Ok(Section::Bodies(filled(alloc, bytes)?)),
         11 => Ok(Section::Segments(filled(alloc, bytes)?)),
         _ => Err(Fault::Malformed),

@@ -1,15 +1,15 @@
 ghost use Rattle.std.specs.Prelude.{◌≡◌, ℕ, List, Option, Some, IfSome, map};
 ghost use Rattle.wdecode.specs.Gives.{Gives};
-ghost use Rattle.wsyntax.specs.Modules.{ImportShape, ExportShape, GlobalShape, ElementShape, DataShape, import_shape, export_shape, global_shape, element_shape, data_shape};
+ghost use Rattle.wsyntax.specs.Modules.{ImportShape, ExportShape, GlobalShape, DataShape, import_shape, export_shape, global_shape, data_shape};
 ghost use Rattle.wsyntax.specs.declared.module.LocalRun.{LocalRun as LocalRunShape};
-ghost use Rattle.wsyntax.specs.Binary.Sections.{import_kind, an_import, an_export, global, element, data_segment, run};
+ghost use Rattle.wsyntax.specs.Binary.Sections.{import_kind, an_import, an_export, global, data_segment, run};
 
 use crate::fault::Fault;
-use crate::initial::{initial_at, number_at, place_at};
+use crate::initial::{initial_at, number_at};
 use crate::types::{global_type_at, limits_at, table_type_at, val_type_at};
-use crate::values::{Item, blob_at, name_at, u32_at, vector_at};
+use crate::values::{Item, blob_at, name_at, u32_at};
 use std::alloc::Global as Alloc;
-use wsyntax::{Data, Element, Export, ExportKind, Global, Import, ImportKind, LocalRun, Place};
+use wsyntax::{Data, Export, ExportKind, Global, Import, ImportKind, LocalRun, Place};
 
 /// What an import asks for (5.5.5).
 #[tactic(auto, unfolding(wsyntax::specs::Binary::Sections::import_kind))]
@@ -73,17 +73,6 @@ fn export_at(bytes: &[u8]) -> Result<(Export<'_>, &[u8]), Fault>
     };
     let (index, rest) = u32_at(rest)?;
     Ok((Export { name, kind, index }, rest))
-}
-
-/// An element segment (5.5.12).
-#[tactic(auto, unfolding(wsyntax::specs::Binary::Sections::element))]
-fn element_at(alloc: Alloc, bytes: &[u8]) -> Result<(Element, &[u8]), Fault>
-    ensures { Gives (λ x. (element_shape x.0, x.1.now)) result (element.read bytes.now) }
-{
-    let (table, rest) = u32_at(bytes)?;
-    let (place, rest) = place_at(alloc, table, rest)?;
-    let (functions, rest) = vector_at::<u32>(alloc, rest)?;
-    Ok((Element { place, functions }, rest))
 }
 
 /// A run of declared locals (5.5.13).
@@ -174,20 +163,6 @@ impl<'a> Item<'a> for Export<'a> {
 
     fn read(_alloc: Alloc, bytes: &'a [u8]) -> Result<(Export<'a>, &'a [u8]), Fault> {
         export_at(bytes)
-    }
-}
-
-impl<'a> Item<'a> for Element {
-    ghost Shape = { ElementShape };
-
-    ghost shape = { element_shape };
-
-    ghost at = { element.read };
-
-    const LEAST: usize = 3;
-
-    fn read(alloc: Alloc, bytes: &'a [u8]) -> Result<(Element, &'a [u8]), Fault> {
-        element_at(alloc, bytes)
     }
 }
 

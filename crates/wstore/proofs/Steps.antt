@@ -1,8 +1,10 @@
 -- One step of a loop over segments and their places.
-use Rattle.std.proofs.Common.{◌≡◌, ℕ, ◌+◌, ◌<◌, ◌≤◌, List, ◌∷◌, length, drop, map, get_or, sym, ap, ◌∙◌, subst, arith}
+use Rattle.std.proofs.Common.{◌≡◌, ℕ, ◌+◌, ◌<◌, ◌≤◌, List, ◌∷◌, length, drop, map, get_or, Some, sym, ap, ◌∙◌, subst, arith}
+use Rattle.std.specs.Prelude.{slice_get}
 use Rattle.std.proofs.lemmas.List.{drop-map, drop_more, get_or-map, length-map}
+use Rattle.std.proofs.lemmas.Option.{slice_get_within, get_or_from_slice_get}
 use Rattle.wsyntax.specs.Modules.{element_shape, data_shape}
-use Rattle.wsyntax.specs.declared.module.Element.{Element}
+use Rattle.wsyntax.specs.HeldElement.{HeldElement}
 use Rattle.wsyntax.specs.declared.module.Data.{Data}
 use Rattle.wsyntax.specs.Execution.Allocation.{Segment, AllWithin, overwrite, put_elements, put_data}
 use Rattle.wsyntax.specs.Execution.Store.{Entry, SetTo}
@@ -19,9 +21,10 @@ from_here g f xs i x is below =
     ∙ ap (λ y. g (f y) ∷ map g (map f (drop (i + 1) xs))) (sym is)
     ∙ ap (λ l. g (f x) ∷ map g l) (sym (drop-map f (i + 1) xs)) ∙ ap (λ l. g (f x) ∷ l) (sym (drop-map g (i + 1) (map f xs)))
 
-pub elements_from : (es : List Element) (i : ℕ) (e : Element) → e ≡ get_or es i e → i < length es
+pub elements_from : (es : List HeldElement) (i : ℕ) (e : HeldElement) → Some e ≡ slice_get es i
     → drop i (element_segments es) ≡ element_segment (element_shape e) ∷ drop (i + 1) (element_segments es)
-elements_from es i e is below = from_here element_segment element_shape es i e is below
+elements_from es i e read =
+    from_here element_segment element_shape es i e (sym (get_or_from_slice_get es i e e (sym read))) (slice_get_within es i e (sym read))
 
 pub data_from : (ds : List Data) (i : ℕ) (d : Data) → d ≡ get_or ds i d → i < length ds
     → drop i (data_segments ds) ≡ data_segment (data_shape d) ∷ drop (i + 1) (data_segments ds)
@@ -40,8 +43,9 @@ place_at g f xs i x places all is below =
     ∙ ap (λ y. (g y).place) (get_or-map f xs i x (f x) below)
     ∙ ap (λ y. (g (f y)).place) (sym is)
 
-pub element_placed : (es : List Element) (i : ℕ) (e : Element) (places : List ℕ) → places ≡ places_of (element_segments es) → e ≡ get_or es i e → i < length es → get_or places i 0 ≡ (element_segment (element_shape e)).place
-element_placed es i e places all is below = place_at element_segment element_shape es i e places all is below
+pub element_placed : (es : List HeldElement) (i : ℕ) (e : HeldElement) (places : List ℕ) → places ≡ places_of (element_segments es) → Some e ≡ slice_get es i → get_or places i 0 ≡ (element_segment (element_shape e)).place
+element_placed es i e places all read =
+    place_at element_segment element_shape es i e places all (sym (get_or_from_slice_get es i e e (sym read))) (slice_get_within es i e (sym read))
 
 pub data_placed : (ds : List Data) (i : ℕ) (d : Data) (places : List ℕ) → places ≡ places_of (data_segments ds) → d ≡ get_or ds i d → i < length ds → get_or places i 0 ≡ (data_segment (data_shape d)).place
 data_placed ds i d places all is below = place_at data_segment data_shape ds i d places all is below

@@ -13,7 +13,7 @@ ghost use Rattle.layout.specs.Sizes.{table_size};
 use layout::Layout;
 use parts::TableEntry;
 use std::alloc::{AllocError, Global};
-use wsyntax::{Element, Module, Table};
+use wsyntax::{Elements, Module, Table};
 
 /// Sets the entries from a place on to these functions.
 fn put_functions(entries: &mut [TableEntry], place: usize, functions: &[u32])
@@ -26,13 +26,16 @@ fn put_functions(entries: &mut [TableEntry], place: usize, functions: &[u32])
 }
 
 /// Writes the element segments in order, each from its place on.
-fn put_elements(entries: &mut [TableEntry], segments: &[Element], places: &[u32])
+fn put_elements(entries: &mut [TableEntry], segments: &Elements, places: &[u32])
     requires within { AllWithin (length entries.old) (element_segments segments.now) }
     requires placed { places.now ≡ places_of (element_segments segments.now) }
     ensures { map entry_of entries.new ≡ put_elements (element_segments segments.now) (map entry_of entries.old) }
 {
-    for (number, segment) in segments.iter().enumerate() {
-        put_functions(entries, places[number] as usize, &segment.functions);
+    for number in 0..segments.len() {
+        let Some(segment) = segments.get(number) else {
+            unreachable!()
+        };
+        put_functions(entries, places[number] as usize, segment.functions);
     }
 }
 
@@ -40,7 +43,7 @@ fn put_elements(entries: &mut [TableEntry], segments: &[Element], places: &[u32]
 pub(crate) fn fresh_table(
     alloc: Global,
     table: &Table,
-    segments: &[Element],
+    segments: &Elements,
     places: &[u32],
 ) -> Result<Vec<TableEntry>, AllocError>
     requires within { AllWithin table.now.limits.min (element_segments segments.now) }

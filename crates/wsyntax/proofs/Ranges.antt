@@ -12,7 +12,7 @@ within_more : (values more : List ValType) (r : TypeRange) → IsWithin values r
 within_more values more r is = record { params = is.params; results = is.results; all = omega (arith, length-append values more, is.all) }
 
 -- a part of a list, which grows
-range_stays : (values more : List ValType) (a b : ℕ) → a ≤ b → b ≤ length values → slice_range (values ++ more) a b ≡ slice_range values a b
+pub range_stays : {A : Type 0} (values more : List A) (a b : ℕ) → a ≤ b → b ≤ length values → slice_range (values ++ more) a b ≡ slice_range values a b
 range_stays values more a b ordered within =
     let first : a ≤ length values = omega arith in
     let rest : b - a ≤ length (drop a values) = omega (arith, length-drop a values) in

@@ -1,5 +1,7 @@
 pub mod Types
 pub mod FuncTypes
+pub mod HeldElement
+pub mod Elements
 pub mod Instructions
 pub mod Brackets
 pub mod Table

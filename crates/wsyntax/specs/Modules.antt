@@ -6,6 +6,7 @@ use Rattle.wsyntax.specs.Instructions.{Token, Do, OpenBlock, OpenLoop, OpenIf, E
 use Rattle.wsyntax.specs.Table.{num_op, load_access, store_access, little_endian}
 use Rattle.wsyntax.specs.declared.instructions.Token.{Token as Flat}
 use Rattle.wsyntax.specs.declared.instructions.Token.TheVariants as flat
+use Rattle.wsyntax.specs.HeldElement.{HeldElement}
 use Rattle.wsyntax.specs.declared.module.Module.{Module}
 use Rattle.wsyntax.specs.declared.module.Expression.{Expression}
 use Rattle.wsyntax.specs.declared.module.Initial.{Initial}
@@ -14,7 +15,6 @@ use Rattle.wsyntax.specs.declared.module.Place.{Place}
 use Rattle.wsyntax.specs.declared.module.Place.TheVariants as place
 use Rattle.wsyntax.specs.declared.module.Table.{Table}
 use Rattle.wsyntax.specs.declared.module.Global.{Global}
-use Rattle.wsyntax.specs.declared.module.Element.{Element}
 use Rattle.wsyntax.specs.declared.module.Data.{Data}
 use Rattle.wsyntax.specs.declared.module.ExportKind.{ExportKind}
 use Rattle.wsyntax.specs.declared.module.Export.{Export}
@@ -143,8 +143,8 @@ pub record ElementShape : Type 0 where
   pub offset : List Token
   pub functions : List ℕ
 
-abbrev pub element_shape : Element → ElementShape
-element_shape e = record { table = place_index e.place; offset = place_tokens e.place; functions = e.functions.items }
+abbrev pub element_shape : HeldElement → ElementShape
+element_shape e = record { table = place_index e.place; offset = place_tokens e.place; functions = e.functions }
 
 -- 2.5.8 a data segment
 pub record DataShape : Type 0 where
@@ -188,7 +188,7 @@ module_shape m = record {
   globals = map global_shape m.globals.items;
   exports = map export_shape m.exports.items;
   start = m.start;
-  elements = map element_shape m.elements.items;
+  elements = map element_shape m.elements;
   bodies = map (λ s. s.now) m.bodies.items;
   segments = map data_shape m.«data».items;
 }

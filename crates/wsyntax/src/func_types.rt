@@ -1,5 +1,6 @@
 ghost use Rattle.std.specs.Prelude.{◌≡◌, IfOk};
 
+use crate::places::place_in_list;
 use crate::types::ValType;
 use std::alloc::{AllocError, Global as Alloc};
 use std::marker::Model;
@@ -38,16 +39,6 @@ impl Model for FuncTypes {
     ghost invariant = { AreWithin };
 }
 
-/// A place in the list, in few bytes; 2^32 value types are answered by want of memory.
-fn place_of(len: usize) -> Result<u32, AllocError>
-    ensures { IfOk result (λ n. n ≡ len) }
-{
-    match u32::try_from(len) {
-        Ok(place) => Ok(place),
-        Err(_) => Err(AllocError),
-    }
-}
-
 impl FuncTypes {
     ghost use Rattle.std.specs.Prelude.{[], ◌∷◌, ◌++◌, length, slice_get, option_map};
     ghost use Rattle.wsyntax.specs.FuncTypes.{func_type_of};
@@ -76,11 +67,11 @@ impl FuncTypes {
     pub fn push(&mut self, params: &[ValType], results: &[ValType]) -> Result<(), AllocError>
         ensures { IfOk result (λ _. self.new ≡ self.old ++ (record { params = params.now; results = results.now }) ∷ []) }
     {
-        let start = place_of(self.values.len())?;
+        let start = place_in_list(self.values.len())?;
         self.values.extend_from_slice(params)?;
-        let middle = place_of(self.values.len())?;
+        let middle = place_in_list(self.values.len())?;
         self.values.extend_from_slice(results)?;
-        let end = place_of(self.values.len())?;
+        let end = place_in_list(self.values.len())?;
         self.ranges.push(TypeRange { start, middle, end })?;
         Ok(())
     }

@@ -4,12 +4,14 @@
 
 mod access_rows;
 mod bounds;
+mod elements;
 mod func_types;
 mod instruction_row;
 mod instructions;
 mod module;
 mod opcode;
 mod operator_rows;
+mod places;
 mod rows;
 mod signature;
 mod types;
@@ -17,12 +19,13 @@ mod value;
 
 pub use access_rows::AccessRow;
 pub use bounds::{CALLS_LIMIT, LINE_LIMIT, LOCAL_LIMIT, MODULE_LIMIT, limits_are_defined};
+pub use elements::{Element, Elements};
 pub use func_types::{FuncType, FuncTypes};
 pub use instruction_row::{Immediates, Row};
 pub use instructions::{BlockType, Load, Operator, Store, Token};
 pub use module::{
-    Body, Data, Element, Export, ExportKind, Expression, Global, Import, ImportKind, Initial,
-    LocalRun, Module, Place, Table,
+    Body, Data, Export, ExportKind, Expression, Global, Import, ImportKind, Initial, LocalRun,
+    Module, Place, Table,
 };
 pub use opcode::Opcode;
 pub use operator_rows::{Arity, OperatorRow};

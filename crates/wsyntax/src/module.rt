@@ -2,6 +2,7 @@ ghost use Rattle.std.specs.Prelude.{IsTrue, [], length};
 ghost use Rattle.std.specs.List.{list_all};
 ghost use Rattle.wsyntax.specs.Brackets.{closes, lies_within};
 
+use crate::elements::Elements;
 use crate::func_types::FuncTypes;
 use crate::instructions::Token;
 use crate::types::{GlobalType, Limits, ValType};
@@ -147,13 +148,6 @@ pub struct Global {
     pub init: Initial,
 }
 
-/// An element segment (2.5.7).
-#[derive(Debug, Drop)]
-pub struct Element {
-    pub place: Place,
-    pub functions: Vec<u32>,
-}
-
 /// A data segment (2.5.8). Its bytes lie in the input.
 #[derive(Debug, Drop)]
 pub struct Data<'a> {
@@ -222,7 +216,7 @@ pub struct Module<'a> {
     pub globals: Vec<Global>,
     pub exports: Vec<Export<'a>>,
     pub start: Option<u32>,
-    pub elements: Vec<Element>,
+    pub elements: Elements,
     pub bodies: Vec<&'a [u8]>,
     pub data: Vec<Data<'a>>,
 }
@@ -245,7 +239,7 @@ impl<'a> Module<'a> {
             globals: Vec::new(alloc),
             exports: Vec::new(alloc),
             start: None,
-            elements: Vec::new(alloc),
+            elements: Elements::new(alloc),
             bodies: Vec::new(alloc),
             data: Vec::new(alloc),
         }

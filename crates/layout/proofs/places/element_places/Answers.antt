@@ -1,12 +1,12 @@
-use Rattle.std.proofs.Common.{sym, subst}
-use Rattle.wsyntax.specs.declared.module.Element.{Element}
-use Rattle.layout.specs.Segments.{IsOffset, element_place}
-use Rattle.layout.proofs.Words.{one_more}
+use Rattle.wsyntax.specs.Elements.{element_of}
+use Rattle.layout.specs.Segments.{element_place}
+use Rattle.layout.proofs.Offsets.{element_offset}
+use Rattle.layout.proofs.Words.{one_more_read}
 use Rattle.layout.proofs.places.element_places.Goals as goal
 
 pub place_of-requires : goal.place_of-requires
-place_of-requires c = subst (λ (s : Element). IsOffset s.place) (sym c.segment-item.is) (c.requires c.loop-segment.segment-index c.segment-item.result c.loop-segment-test.true)
+place_of-requires c = element_offset c.args.segments.now c.loop-number.number (element_of c.in-Some.segment) c.requires c.in-Some.ensures
 
-pub loop-segment-preserved : goal.loop-segment-preserved
-loop-segment-preserved c =
-    one_more element_place c.args.segments.now c.loop-segment.segment-index c.segment-item.result c.loop-segment.places.items c.push.new.self.items c.place_of.result c.segment-item.is c.loop-segment-test.true c.loop-segment.invariant c.place_of.ensures c.in_ok-push.ensures.items
+pub loop-number-preserved : goal.loop-number-preserved
+loop-number-preserved c =
+    one_more_read element_place c.args.segments.now c.loop-number.number (element_of c.in-Some.segment) c.loop-number.places.items c.push.new.self.items c.place_of.result c.in-Some.ensures c.loop-number.invariant c.place_of.ensures c.in_ok-push.ensures.items

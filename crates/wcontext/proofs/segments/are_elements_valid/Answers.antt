@@ -1,12 +1,16 @@
+use Rattle.std.proofs.Common.{◌≤◌, length, sym, arith}
+use Rattle.wsyntax.specs.Elements.{element_of}
 use Rattle.wcontext.specs.Segments.{IsElementValid}
-use Rattle.wcontext.proofs.Shapes.{fails_here, passes_here, passes_all}
+use Rattle.wcontext.proofs.Shapes.{got_fails, got_passes, passes_all}
 use Rattle.wcontext.proofs.segments.are_elements_valid.Goals as goal
 
 pub returns-then-not-is_element_valid : goal.returns-then-not-is_element_valid
-returns-then-not-is_element_valid c = fails_here (IsElementValid c.args.tables c.args.functions c.args.globals.now) c.args.segments.now _ _ _ c.segment-item.is c.loop-segment-test.true c.is_element_valid.ensures c.if-not-is_element_valid.true
+returns-then-not-is_element_valid c = got_fails (IsElementValid c.args.tables c.args.functions c.args.globals.now) c.args.segments.now c.loop-number.number (element_of c.in-Some.segment) _ (sym c.in-Some.ensures) c.is_element_valid.ensures c.if-not-is_element_valid.true
 
-pub loop-segment-preserved : goal.loop-segment-preserved
-loop-segment-preserved c = passes_here (IsElementValid c.args.tables c.args.functions c.args.globals.now) c.args.segments.now _ _ _ c.segment-item.is c.loop-segment-test.true c.is_element_valid.ensures c.if-not-is_element_valid.false c.loop-segment.invariant
+pub loop-number-preserved : goal.loop-number-preserved
+loop-number-preserved c = got_passes (IsElementValid c.args.tables c.args.functions c.args.globals.now) c.args.segments.now c.loop-number.number (element_of c.in-Some.segment) _ (sym c.in-Some.ensures) c.is_element_valid.ensures c.if-not-is_element_valid.false c.loop-number.invariant
 
 pub returns : goal.returns
-returns c = passes_all (IsElementValid c.args.tables c.args.functions c.args.globals.now) c.args.segments.now _ c.loop-segment-test.false c.loop-segment.invariant
+returns c =
+    let end : length c.args.segments.now ≤ c.loop-number.number = omega (arith, c.len-number-end.ensures) in
+    passes_all (IsElementValid c.args.tables c.args.functions c.args.globals.now) c.args.segments.now _ end c.loop-number.invariant

@@ -1,4 +1,5 @@
-use Rattle.std.proofs.Common.{◌≤◌, ◌+◌, ap, map, length, drop, get_or, arith}
+use Rattle.std.proofs.Common.{◌≤◌, ◌+◌, refl, map, length, drop, get_or, arith}
+use Rattle.wsyntax.specs.Elements.{element_of}
 use Rattle.wsyntax.specs.Modules.{element_shape}
 use Rattle.wsyntax.specs.Execution.Start.{element_segment}
 use Rattle.parts.specs.Seen.{entry_of}
@@ -9,16 +10,17 @@ use Rattle.wstore.proofs.table_part.put_elements.Goals as goal
 pub put_functions-requires : goal.put_functions-requires
 put_functions-requires c =
     let place = get_or c.args.places.now c.loop-number.number 0 in
-    let placed = element_placed c.args.segments.now c.loop-number.number c.index-segments-number.result c.args.places.now c.requires.placed c.index-segments-number.is c.loop-number-test.true in
-    let h : place + length c.deref.result.now ≤ length c.args.entries.now =
-    within_here (length c.args.entries.now) place (length c.deref.result.now) _ _ _ (elements_from c.args.segments.now c.loop-number.number c.index-segments-number.result c.index-segments-number.is c.loop-number-test.true) placed (ap length c.deref.ensures.value) c.loop-number.invariant.0
+    let placed = element_placed c.args.segments.now c.loop-number.number (element_of c.in-Some.segment) c.args.places.now c.requires.placed c.in-Some.ensures in
+    let h : place + length c.in-Some.segment.functions.now ≤ length c.args.entries.now =
+    within_here (length c.args.entries.now) place (length c.in-Some.segment.functions.now) _ _ _ (elements_from c.args.segments.now c.loop-number.number (element_of c.in-Some.segment) c.in-Some.ensures) placed refl c.loop-number.invariant.0
     in omega arith
 
 pub loop-number-preserved : goal.loop-number-preserved
 loop-number-preserved c =
     let place = get_or c.args.places.now c.loop-number.number 0 in
-    let placed = element_placed c.args.segments.now c.loop-number.number c.index-segments-number.result c.args.places.now c.requires.placed c.index-segments-number.is c.loop-number-test.true in
-    let from = elements_from c.args.segments.now c.loop-number.number c.index-segments-number.result c.index-segments-number.is c.loop-number-test.true in (
-      within_later (length c.args.entries.now) (element_segment (element_shape c.index-segments-number.result)) (drop c.loop-number.number (element_segments c.args.segments.now)) (drop (c.loop-number.number + 1) (element_segments c.args.segments.now)) from c.loop-number.invariant.0,
-      put_elements_here place c.deref.result.now (element_segment (element_shape c.index-segments-number.result)) (element_segments c.args.segments.now) (drop c.loop-number.number (element_segments c.args.segments.now)) (drop (c.loop-number.number + 1) (element_segments c.args.segments.now)) (map entry_of c.args.entries.now) (map entry_of c.loop-number.entries) (map entry_of c.put_functions.new.entries) from placed c.deref.ensures.value c.put_functions.ensures c.loop-number.invariant.1,
+    let segment = element_segment (element_shape (element_of c.in-Some.segment)) in
+    let placed = element_placed c.args.segments.now c.loop-number.number (element_of c.in-Some.segment) c.args.places.now c.requires.placed c.in-Some.ensures in
+    let from = elements_from c.args.segments.now c.loop-number.number (element_of c.in-Some.segment) c.in-Some.ensures in (
+      within_later (length c.args.entries.now) segment (drop c.loop-number.number (element_segments c.args.segments.now)) (drop (c.loop-number.number + 1) (element_segments c.args.segments.now)) from c.loop-number.invariant.0,
+      put_elements_here place c.in-Some.segment.functions.now segment (element_segments c.args.segments.now) (drop c.loop-number.number (element_segments c.args.segments.now)) (drop (c.loop-number.number + 1) (element_segments c.args.segments.now)) (map entry_of c.args.entries.now) (map entry_of c.loop-number.entries) (map entry_of c.put_functions.new.entries) from placed refl c.put_functions.ensures c.loop-number.invariant.1,
     )
