@@ -31,7 +31,7 @@ fn fault_of(error: io::Error) -> ReadFault {
 }
 
 /// What a reader has left, `most` bytes of it where there is more. Where it has as many as expected, or fewer, room is made
-/// once.
+/// once: for a byte more, since the end is found by a read that gives nothing.
 pub fn read_up_to<F: Read>(
     file: &mut F,
     alloc: Global,
@@ -41,7 +41,7 @@ pub fn read_up_to<F: Read>(
     ensures most { IfOk result (λ bytes. vec_len bytes ≤ most) }
     ensures known { IfOk result (λ bytes. IfSome (F.remaining file.old) (λ held. bytes.items ≡ take most held)) }
 {
-    let room = expected.min(most as u64) as usize;
+    let room = expected.saturating_add(1).min(most as u64) as usize;
     let mut bytes = Vec::with_capacity(alloc, room).map_err(|_| ReadFault::Memory)?;
     file.take(most as u64)
         .read_to_end(&mut bytes)

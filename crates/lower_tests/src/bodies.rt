@@ -1,9 +1,9 @@
 use std::alloc::Global;
 use std::test::*;
 use wdecode::BodyFault::{self, Malformed, TooManyLocals};
-use wdecode::decode_body;
+use wdecode::{decode_body, locals_into};
 use wsyntax::BlockType::{Empty, Index, Value};
-use wsyntax::{BlockType, Operator, Token, ValType};
+use wsyntax::{BlockType, LocalRun, Operator, Token, ValType};
 
 /// A body that opens so many blocks and holds these bytes, and closes the blocks and itself, but for the last so many.
 fn nested(alloc: Global, depth: u32, inside: &[u8], missing: u32) -> Result<Vec<u8>, Fail> {
@@ -147,5 +147,30 @@ fn deep_nesting(rt: HostRuntime) -> Result<(), Fail> {
     // A branch past all labels is well formed.
     let branch = nested(rt.alloc(), 100_000, &[0x0C, 0xA1, 0x8D, 0x06], 0)?;
     assert!(rt; fault_of(rt.alloc(), &branch).is_none());
+    Ok(())
+}
+
+const LOCALS: [LocalRun; 2] = [
+    LocalRun {
+        count: 2,
+        content: ValType::I32,
+    },
+    LocalRun {
+        count: 1,
+        content: ValType::F64,
+    },
+];
+
+#[test]
+fn locals_take_the_place_of_others(rt: HostRuntime) -> Result<(), Fail> {
+    let bytes = [0x02, 0x02, 0x7F, 0x01, 0x7C, 0x0B];
+    let mut runs = Vec::new(rt.alloc());
+    for _ in 0..2 {
+        let rest = locals_into(rt.alloc(), &mut runs, &bytes)
+            .ok()
+            .ok_or("locals")?;
+        assert!(rt; rest == [0x0B].as_slice());
+        assert!(rt; runs.as_slice() == LOCALS.as_slice());
+    }
     Ok(())
 }

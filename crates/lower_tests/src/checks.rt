@@ -109,6 +109,7 @@ fn refused_in(
     requires { 0 < length context.now.context.functions }
 {
     let mut checker = Checker::new(alloc, context);
+    checker.reserve()?;
     checker.begin(0, &RUNS)?;
     refused_by(&mut checker, tokens, targets)
 }

@@ -19,4 +19,6 @@ mod numbers;
 #[cfg(test)]
 mod rows;
 #[cfg(test)]
+mod segments;
+#[cfg(test)]
 mod types;

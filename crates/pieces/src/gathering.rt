@@ -16,11 +16,16 @@ use std::alloc::{AllocError, Global};
 use std::sync::Wait;
 use std::thread::Threads;
 
-// The workers, each with its share and its local.
+/// For how many answers each worker has room from the beginning, at most: threads that ask for memory at once wait for
+/// one another.
+const FEW_ANSWERS: u32 = 256;
+
+// The workers, each with its share, its local, and room for so many answers.
 fn new_crew<L: Drop, O: Drop, F: Drop>(
     alloc: Global,
     mut shares: Vec<Share>,
     mut locals: Vec<L>,
+    room: usize,
 ) -> Result<Vec<Member<L, O, F>>, AllocError>
     requires { vec_len shares ≡ vec_len locals }
     ensures shares { IfOk result (λ v. shares_of v.items ≡ shares.items) }
@@ -35,7 +40,7 @@ fn new_crew<L: Drop, O: Drop, F: Drop>(
         let member = Member {
             share,
             local,
-            answers: CachePadded::new(Vec::new(alloc)),
+            answers: CachePadded::new(Vec::with_capacity(alloc, room)?),
             short: false,
         };
         crew.insert(0, member)?;
@@ -104,7 +109,7 @@ pub fn gather<R: Threads + Wait + Sync, J: Job + Sync>(
     let plan = plan.narrowed(n);
     locals.truncate(plan.workers() as usize);
     let (bag, mark, shares) = open(alloc, n, plan)?;
-    let crew = new_crew(alloc, shares, locals)?;
+    let crew = new_crew(alloc, shares, locals, n.min(FEW_ANSWERS) as usize)?;
     let crew = run_crew(rt, job, &bag, &mark, crew);
     let (shares, answers) = split_crew(alloc, crew)?;
     let _settled = settle(shares);

@@ -25,7 +25,8 @@ fn new_scratches<'a>(
 {
     let mut scratches = Vec::new(alloc);
     for _ in 0..workers {
-        scratches.push(Scratch::new(alloc, context))?;
+        let scratch = Scratch::new(alloc, context)?;
+        scratches.push(scratch)?;
     }
     Ok(scratches)
 }

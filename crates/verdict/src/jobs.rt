@@ -45,7 +45,11 @@ fn judge_at(
     if scratch.passes(alloc, func, bytes) {
         return Ok(());
     }
-    let Scratch { checker, targets } = scratch;
+    let Scratch {
+        checker,
+        targets,
+        ..
+    } = scratch;
     match judge_body(alloc, checker, targets, func, bytes) {
         Ok(()) => Ok(()),
         Err(JobFault::Refused(class)) => Err(JobFault::Refused(RefusedBody { place, class })),

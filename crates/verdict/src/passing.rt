@@ -1,33 +1,44 @@
-ghost use Rattle.std.specs.Prelude.{◌≡◌, ◌<◌, List, [], ◌∷◌, None, true, length};
+ghost use Rattle.std.specs.Prelude.{◌≡◌, ◌<◌, List, [], ◌∷◌, None, true, IfOk, length};
 ghost use Rattle.wsyntax.specs.Instructions.{Token as Instruction};
 ghost use Rattle.verdict.specs.Judged.{class_of};
 ghost use Rattle.verdict.specs.OnePass.{Passes, PassesAs};
 
-use std::alloc::Global;
+use std::alloc::{AllocError, Global};
 use wcheck::Checker;
 use wcontext::Context;
 use wdecode::{
-    branch_at, call_at, constant_at, has_too_many_locals, jump_at, load_at, locals_at,
+    branch_at, call_at, constant_at, has_too_many_locals, jump_at, load_at, locals_into,
     long_constant_at, numeric_at, opening_at, store_at, token_at, variable_at,
 };
-use wsyntax::{Opcode, Token};
+use wsyntax::{LocalRun, Opcode, Token};
 
 /// What one worker keeps from body to body.
 #[derive(Drop)]
 pub(crate) struct Scratch<'a> {
     pub(crate) checker: Checker<'a>,
+    /// The runs of locals of the body at hand.
+    runs: Vec<LocalRun>,
     /// The labels of the branch table at hand.
     pub(crate) targets: Vec<u32>,
 }
 
+/// How many runs of locals, and labels of a branch table, ordinary bodies have.
+const FEW_RUNS: usize = 64;
+
+const FEW_LABELS: usize = 256;
+
 impl<'a> Scratch<'a> {
-    pub(crate) fn new(alloc: Global, context: &'a Context) -> Self
-        ensures { result.checker.outside ≡ context.now.context }
+    /// One with room for ordinary bodies, so that they ask for no memory.
+    pub(crate) fn new(alloc: Global, context: &'a Context) -> Result<Self, AllocError>
+        ensures { IfOk result (λ s. s.checker.outside ≡ context.now.context) }
     {
-        Scratch {
-            checker: Checker::new(alloc, context),
-            targets: Vec::new(alloc),
-        }
+        let mut checker = Checker::new(alloc, context);
+        checker.reserve()?;
+        Ok(Scratch {
+            checker,
+            runs: Vec::with_capacity(alloc, FEW_RUNS)?,
+            targets: Vec::with_capacity(alloc, FEW_LABELS)?,
+        })
     }
 
     /// Whether the bytes of the body of the function of that index surely pass: one loop reads and checks, and keeps no
@@ -37,13 +48,13 @@ impl<'a> Scratch<'a> {
         ensures outside { self.new.checker.outside ≡ self.old.checker.outside }
         ensures sound { result ≡ true → class_of self.old.checker.outside func bytes.now ≡ None }
     {
-        let Ok((runs, rest)) = locals_at(alloc, bytes) else {
+        let Ok(rest) = locals_into(alloc, &mut self.runs, bytes) else {
             return false;
         };
-        if has_too_many_locals(&runs) {
+        if has_too_many_locals(&self.runs) {
             return false;
         }
-        let Ok(()) = self.checker.begin(func, &runs) else {
+        let Ok(()) = self.checker.begin(func, &self.runs) else {
             return false;
         };
         tokens_pass(&mut self.checker, &mut self.targets, rest)

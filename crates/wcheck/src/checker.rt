@@ -34,6 +34,13 @@ impl<'a> Model for Checker<'a> {
     ghost invariant = { IsWhole };
 }
 
+/// How many runs of locals, operands and open blocks ordinary bodies have.
+const FEW_RUNS: usize = 64;
+
+const FEW_OPERANDS: usize = 1_024;
+
+const FEW_LEVELS: usize = 128;
+
 impl<'a> Checker<'a> {
     /// A checker for the bodies of a module, at the beginning of none.
     pub fn new(alloc: Global, context: &'a Context) -> Self
@@ -58,6 +65,16 @@ impl<'a> Checker<'a> {
             is_open: false,
         };
         Checker { scope, control }
+    }
+
+    /// Makes room for what ordinary bodies need, so that none of their tokens asks for memory: threads that ask for it
+    /// at once wait for one another.
+    pub fn reserve(&mut self) -> Result<(), AllocError>
+        ensures { self.new ≡ self.old }
+    {
+        self.scope.locals.reserve(FEW_RUNS)?;
+        self.control.operands.reserve(FEW_OPERANDS)?;
+        self.control.outer.reserve(FEW_LEVELS)
     }
 
     /// Goes to the beginning of the body of the function of that index, imported ones counted, whose declared locals

@@ -145,6 +145,15 @@ impl<'a> Locals<'a> {
         }
     }
 
+    /// Makes room for all that are written out, and for so many more runs.
+    pub(crate) fn reserve(&mut self, runs: usize) -> Result<(), AllocError>
+        ensures { self.new ≡ self.old }
+    {
+        self.runs.reserve(runs)?;
+        self.near.reserve(NEAR)?;
+        Ok(())
+    }
+
     /// Changes to these parameters and declared locals. Takes time for each run, and for the first locals, but not for each local.
     #[tactic(auto, using(crate::proofs::FirstLocals::none_first, crate::proofs::FirstLocals::same_first))]
     pub(crate) fn set(&mut self, params: &'a [ValType], runs: &[LocalRun]) -> Result<(), AllocError>

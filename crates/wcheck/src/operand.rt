@@ -174,6 +174,9 @@ impl<'a> Model for OperandList<'a> {
     ghost invariant = { λ p. IsCounted p.places.items (map (types_of_run p.context.now.context.types) p.runs.items) p.more };
 }
 
+/// How many runs ordinary bodies have at once.
+const FEW_RUNS: usize = 16;
+
 /// The most operands in runs that there can be.
 const MOST: usize = 1 << 63;
 
@@ -188,6 +191,15 @@ impl<'a> OperandList<'a> {
             runs: Vec::new(alloc),
             more: 0,
         }
+    }
+
+    /// Makes room for more operands: so many places, and some runs.
+    pub(crate) fn reserve(&mut self, places: usize) -> Result<(), AllocError>
+        ensures { self.new ≡ self.old }
+    {
+        self.places.reserve(places)?;
+        self.runs.reserve(FEW_RUNS)?;
+        Ok(())
     }
 
     #[inline]

@@ -41,6 +41,13 @@ impl<'a> OperandStack<'a> {
         }
     }
 
+    /// Makes room for so many more operands.
+    pub(crate) fn reserve(&mut self, operands: usize) -> Result<(), AllocError>
+        ensures { self.new ≡ self.old }
+    {
+        self.list.reserve(operands)
+    }
+
     /// Forgets all operands and all frames but one.
     pub(crate) fn clear(&mut self)
         ensures { self.new ≡ record { below = []; above = fresh []; types = self.old.types } }

@@ -7,7 +7,7 @@ ghost use Rattle.wsyntax.specs.Binary.Shell.{SpellsBody, FewLocals, local_limit}
 
 use crate::fault::{BodyFault, Fault};
 use crate::instructions::expression_at;
-use crate::values::vector_at;
+use crate::values::vector_into;
 use std::alloc::Global as Alloc;
 use wsyntax::{Body, LOCAL_LIMIT, LocalRun};
 
@@ -25,15 +25,29 @@ fn count_locals(runs: &[LocalRun]) -> Option<u32>
     Some(sum as u32)
 }
 
-/// The runs of declared locals (5.5.13).
+/// The runs of declared locals (5.5.13), in place of what the list held, and the bytes after them. No memory is asked
+/// for where the list has room.
 #[tactic(auto, unfolding(wsyntax::specs::Binary::Sections::locals))]
+pub fn locals_into<'a>(
+    alloc: Alloc,
+    runs: &mut Vec<LocalRun>,
+    bytes: &'a [u8],
+) -> Result<&'a [u8], Fault>
+    ensures { Gives (λ rest. (runs.new.items, rest.now)) result (locals_production.read bytes.now) }
+{
+    let rest = vector_into(alloc, runs, bytes)?;
+    if count_locals(runs).is_none() {
+        return Err(Fault::Malformed);
+    }
+    Ok(rest)
+}
+
+/// The runs of declared locals (5.5.13).
 pub fn locals_at(alloc: Alloc, bytes: &[u8]) -> Result<(Vec<LocalRun>, &[u8]), Fault>
     ensures { Gives (λ x. (x.0.items, x.1.now)) result (locals_production.read bytes.now) }
 {
-    let (runs, rest) = vector_at::<LocalRun>(alloc, bytes)?;
-    if count_locals(&runs).is_none() {
-        return Err(Fault::Malformed);
-    }
+    let mut runs = Vec::new(alloc);
+    let rest = locals_into(alloc, &mut runs, bytes)?;
     Ok((runs, rest))
 }
 

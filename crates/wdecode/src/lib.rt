@@ -16,7 +16,7 @@ mod sections;
 mod types;
 mod values;
 
-pub use body::{decode_body, has_too_many_locals, locals_at};
+pub use body::{decode_body, has_too_many_locals, locals_at, locals_into};
 pub use fault::{BodyFault, DecodeFault, Fault};
 pub use frequent::{
     branch_at, call_at, constant_at, jump_at, load_at, long_constant_at, numeric_at, opening_at,

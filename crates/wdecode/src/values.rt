@@ -1,4 +1,4 @@
-ghost use Rattle.std.specs.Prelude.{◌≡◌, ℕ, List, Option, map};
+ghost use Rattle.std.specs.Prelude.{◌≡◌, ℕ, List, [], Option, map};
 ghost use Rattle.std.specs.Str.{is_utf8};
 ghost use Rattle.wdecode.specs.Gives.{Gives};
 ghost use Rattle.wsyntax.specs.Binary.Production.{times_at as times_of};
@@ -75,27 +75,47 @@ pub trait Item<'a>: Sized + Drop {
         ensures { Gives (λ x. (shape x.0, x.1.now)) result (at bytes.now) };
 }
 
-/// So many values, one behind the other. Room is made for as many as the bytes can hold, and for no more.
+/// So many values, one behind the other, into an empty list. Room is made for as many as the bytes can hold, and for no
+/// more.
 #[inline(never)]
-fn times_at<'a, T: Item<'a>>(
+fn times_into<'a, T: Item<'a>>(
     alloc: Global,
+    items: &mut Vec<T>,
     count: u32,
     bytes: &'a [u8],
-) -> Result<(Vec<T>, &'a [u8]), Fault>
-    ensures { Gives (λ x. (map T.shape x.0.items, x.1.now)) result (times_of T.at count bytes.now) }
+) -> Result<&'a [u8], Fault>
+    requires { items.old.items ≡ [] }
+    ensures { Gives (λ rest. (map T.shape items.new.items, rest.now)) result (times_of T.at count bytes.now) }
 {
     let most = bytes.len() / T::LEAST.max(1);
-    let mut items = Vec::with_capacity(alloc, most.min(count as usize))?;
+    items.reserve_exact(most.min(count as usize))?;
     let mut rest = bytes;
     for _ in 0..count {
         let (item, after) = T::read(alloc, rest)?;
         items.push(item)?;
         rest = after;
     }
-    Ok((items, rest))
+    Ok(rest)
 }
 
-/// A vector (5.1.3). One of no values is read in place.
+/// A vector (5.1.3), in place of what the list held, and the bytes after it. One of no values is read in place.
+#[inline(always)]
+pub fn vector_into<'a, T: Item<'a>>(
+    alloc: Global,
+    items: &mut Vec<T>,
+    bytes: &'a [u8],
+) -> Result<&'a [u8], Fault>
+    ensures { Gives (λ rest. (map T.shape items.new.items, rest.now)) result (vector_of T.at bytes.now) }
+{
+    items.clear();
+    let (count, rest) = u32_at(bytes)?;
+    if count == 0 {
+        return Ok(rest);
+    }
+    times_into(alloc, items, count, rest)
+}
+
+/// A vector (5.1.3).
 #[inline(always)]
 pub fn vector_at<'a, T: Item<'a>>(
     alloc: Global,
@@ -103,11 +123,9 @@ pub fn vector_at<'a, T: Item<'a>>(
 ) -> Result<(Vec<T>, &'a [u8]), Fault>
     ensures { Gives (λ x. (map T.shape x.0.items, x.1.now)) result (vector_of T.at bytes.now) }
 {
-    let (count, rest) = u32_at(bytes)?;
-    if count == 0 {
-        return Ok((Vec::new(alloc), rest));
-    }
-    times_at(alloc, count, rest)
+    let mut items = Vec::new(alloc);
+    let rest = vector_into(alloc, &mut items, bytes)?;
+    Ok((items, rest))
 }
 
 impl<'a> Item<'a> for u32 {

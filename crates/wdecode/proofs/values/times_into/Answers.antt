@@ -3,7 +3,7 @@ use Rattle.std.proofs.lemmas.Result.{err_from_is_err_and}
 use Rattle.std.proofs.lemmas.List.{map_push}
 use Rattle.wsyntax.specs.Binary.Production.{times_at}
 use Rattle.wdecode.proofs.Loop.{goes_on, ends, is_done}
-use Rattle.wdecode.proofs.values.times_at.Goals as goal
+use Rattle.wdecode.proofs.values.times_into.Goals as goal
 
 pub returns-in_err-item : goal.returns-in_err-item
 returns-in_err-item g c =

@@ -1,0 +1,35 @@
+use std::alloc::{AllocError, Global};
+use std::test::Fail;
+use wsyntax::{Elements, Place};
+
+/// A segment of two functions, one of none, and one of one function.
+fn three_segments(alloc: Global) -> Result<Elements, AllocError> {
+    let mut segments = Elements::with_capacity(alloc, 1)?;
+    segments.push(Place::Nothing { index: 0 })?;
+    segments.push_function(7)?;
+    segments.push_function(8)?;
+    segments.push(Place::Nothing { index: 1 })?;
+    segments.push(Place::Nothing { index: 2 })?;
+    segments.push_function(9)?;
+    Ok(segments)
+}
+
+/// Whether the segment of that number goes to the table of the same number, and has these functions.
+fn is_at(segments: &Elements, number: u32, functions: &[u32]) -> bool {
+    match segments.get(number as usize) {
+        Some(segment) => segment.place.index() == number && segment.functions == functions,
+        None => false,
+    }
+}
+
+#[test]
+fn segments_are_held_by_their_numbers(rt: HostRuntime) -> Result<(), Fail> {
+    let segments = three_segments(rt.alloc())?;
+    assert!(rt; segments.len() == 3);
+    assert!(rt; is_at(&segments, 0, &[7, 8]));
+    assert!(rt; is_at(&segments, 1, &[]));
+    assert!(rt; is_at(&segments, 2, &[9]));
+    assert!(rt; segments.get(3).is_none());
+    assert!(rt; Elements::new(rt.alloc()).push_function(7).is_err());
+    Ok(())
+}
