@@ -22,10 +22,11 @@ pub(crate) struct Scratch<'a> {
     pub(crate) targets: Vec<u32>,
 }
 
-/// How many runs of locals, and labels of a branch table, ordinary bodies have.
+/// How many runs of locals ordinary bodies have, at most.
 const FEW_RUNS: usize = 64;
 
-const FEW_LABELS: usize = 256;
+/// How many labels their branch tables have.
+const FEW_LABELS: usize = 2_048;
 
 impl<'a> Scratch<'a> {
     /// One with room for ordinary bodies, so that they ask for no memory.

@@ -34,12 +34,14 @@ impl<'a> Model for Checker<'a> {
     ghost invariant = { IsWhole };
 }
 
-/// How many runs of locals, operands and open blocks ordinary bodies have.
+/// How many runs of locals ordinary bodies have, at most.
 const FEW_RUNS: usize = 64;
 
+/// How many operands they have at once.
 const FEW_OPERANDS: usize = 1_024;
 
-const FEW_LEVELS: usize = 128;
+/// How many blocks of them are open at once: Go's compiler opens one for each place where a function may go on.
+const FEW_LEVELS: usize = 1_024;
 
 impl<'a> Checker<'a> {
     /// A checker for the bodies of a module, at the beginning of none.
