@@ -1,9 +1,10 @@
 #!/usr/bin/env python3
-"""usage: check.py GATE [--plot FILE.svg] [MEGABYTES or MODULE.wasm ..]    measures `gate check` beside other validators.
+"""usage: check.py GATE [--plot FILE.svg] [--median TURNS] [MEGABYTES or MODULE.wasm ..]    measures `gate check` beside other validators.
 
 A row is a module of bench/modules.py of each of these sizes (1, 4 and 15 MB where none is given), or a module that is given
 as a file: real programs. All engines take turns, so that all meet the same load, and the best of seven counts, in MB/s of
-the file, by the clock.
+the file, by the clock. With --median it is the median of so many turns: on a machine whose processors are often away the
+best of few says little.
   gate    one worker after the file was read: a fresh process, less the same process on as many zero bytes, which are refused
           once they are read
   C       bench/peer.c, a plain decoder and checker of the same design, one pass; its own clock, the file being read
@@ -18,6 +19,7 @@ process with one worker. Last the peak memory of `gate` with one worker, by the 
 import math
 import os
 import shutil
+import statistics
 import subprocess
 import sys
 import tempfile
@@ -74,32 +76,34 @@ def engines(gate, peer, path, zeros, has_long_lists):
     return takes
 
 
-def best_times(takes, rounds=7):
-    best = {}
-    for turn in range(rounds):
+def times(takes, turns):
+    # What each engine took, turn by turn.
+    all_times = {}
+    for turn in range(turns):
         for name, take in takes.items():
             # wabt is slower by ten times, so two of its runs have to do.
-            if name == 'wabt' and turn >= 2 or turn and name not in best:
+            if name == 'wabt' and turn >= 2 or turn and name not in all_times:
                 continue
             took = take()
             if took is not None:
-                best[name] = min(took, best.get(name, took))
-    return best
+                all_times.setdefault(name, []).append(took)
+    return all_times
 
 
-def measure(gate, peer, folder, path, has_long_lists=False):
-    # The MB/s of each engine.
+def measure(gate, peer, folder, path, has_long_lists, turns, counts):
+    # The MB/s of each engine, by the time that counts of those that it took.
     length = os.path.getsize(path)
     zeros = os.path.join(folder, 'zeros')
     with open(zeros, 'wb') as file:
         file.write(bytes(length))
-    best = best_times(engines(gate, peer, path, zeros, has_long_lists))
-    if '1 workers' not in best:
+    all_times = times(engines(gate, peer, path, zeros, has_long_lists), turns)
+    if '1 workers' not in all_times:
         sys.exit(f'{path}: not accepted')
-    reading = best.pop('reading')
-    best['gate'] = best['1 workers'] - reading
-    best['gate 4'] = best['4 workers'] - reading
-    return {name: length / took / 1e6 for name, took in best.items()}
+    taken = {name: counts(took) for name, took in all_times.items()}
+    reading = taken.pop('reading')
+    taken['gate'] = taken['1 workers'] - reading
+    taken['gate 4'] = taken['4 workers'] - reading
+    return {name: length / took / 1e6 for name, took in taken.items()}
 
 
 def cell(speeds, name, base):
@@ -156,14 +160,16 @@ def modules(folder, words):
 
 def main(gate, words):
     plot = words.pop(words.index('--plot') + 1) if '--plot' in words else None
-    words = [word for word in words if word != '--plot']
+    turns = words.pop(words.index('--median') + 1) if '--median' in words else None
+    counts = statistics.median if turns else min
+    words = [word for word in words if word not in ('--plot', '--median')]
     rows = []
     with tempfile.TemporaryDirectory() as folder:
         peer = os.path.join(folder, 'peer')
         subprocess.run(['gcc', '-O2', '-o', peer, os.path.join(here, 'peer.c')], check=True)
         print('| module | gate | C | node | gate 4 | node 4 | whole | 2 workers | 4 workers | wabt | memory |\n|' + '---|' * 11)
         for label, path, has_long_lists in modules(folder, words):
-            speeds = measure(gate, peer, folder, path, has_long_lists)
+            speeds = measure(gate, peer, folder, path, has_long_lists, int(turns or 7), counts)
             report(gate, label, path, speeds)
             rows.append((label, speeds))
     print(f'In the geometric mean gate is {mean(rows, "node")}, {mean(rows, "C")}, {mean(rows, "wabt")}.')
