@@ -8,9 +8,10 @@ best of few says little.
   gate    one worker after the file was read: a fresh process, less the same process on as many zero bytes, which are refused
           once they are read
   C       bench/peer.c, a plain decoder and checker of the same design, one pass; its own clock, the file being read
-  node    WebAssembly.validate, held to one processor by taskset; its own clock, the file being read
+  node    WebAssembly.validate, held to one processor by taskset; its own clock, the file being read: the best of three in one
+          process
   gate 4  four workers after the file was read
-  node 4  WebAssembly.validate with all its threads
+  node 4  the same with all its threads, which are awake after the first of the three
   whole   the same process of gate, its start and the reading of the file included; then with 2 and 4 workers
   wabt    wasm-validate, where it is installed, a fresh process
 In brackets: of C and node the ratio to gate, of `gate 4` and `node 4` to the same engine on one, of the others to the whole
