@@ -13,6 +13,7 @@ pub mod Bounds
 pub mod ListFacts
 pub mod Cuts
 pub mod Behind
+pub mod Outside
 pub mod Declared
 pub mod Access
 pub mod Plain

@@ -2,6 +2,7 @@ pub mod Pass
 pub mod Laws
 pub mod Heights
 pub mod Runs
+pub mod Packed
 pub mod Views
 pub mod OperandRules
 pub mod Frames

@@ -6,6 +6,7 @@ ghost use Rattle.wcheck.specs.Pass.{height, below_size, label_size, in_then};
 
 use crate::control::{Control, step_control, step_known};
 use crate::frames::{Shape, label};
+use crate::levels::Levels;
 use crate::locals::Locals;
 use crate::operands::OperandStack;
 use crate::scope::{Scope, none};
@@ -63,7 +64,7 @@ impl<'a> Checker<'a> {
         let control = Control {
             operands: OperandStack::new(alloc, context),
             top,
-            outer: Vec::new(alloc),
+            outer: Levels::new(alloc),
             is_open: false,
         };
         Checker { scope, control }

@@ -8,6 +8,7 @@ ghost use Rattle.wcheck.specs.Frames.{inner_of, frames_of, IsTight};
 
 use crate::apply::{apply_known, apply_rule};
 use crate::frames::{Level, Shape};
+use crate::levels::Levels;
 use crate::operands::OperandStack;
 use crate::rule::rule_of_token;
 use crate::scope::{Scope, block_signature};
@@ -20,20 +21,16 @@ use wsyntax::{Token, ValType};
 pub(crate) struct Control<'a> {
     pub(crate) operands: OperandStack<'a>,
     pub(crate) top: Shape,
-    pub(crate) outer: Vec<Level>,
+    pub(crate) outer: Levels,
     /// False once the function is closed.
     pub(crate) is_open: bool,
 }
 
 /// Lays the innermost frame down on the others. After an error these are as before.
 #[inline(never)]
-fn push_level(
-    outer: &mut Vec<Level>,
-    top: &Shape,
-    operands: &OperandStack,
-) -> Result<(), AllocError>
-    ensures laid { IfOk result (λ _. outer.new.items ≡ outer.old.items ++ record { shape = top.now; is_dead = operands.now.above.is_dead; base = length operands.now.below } ∷ []) }
-    ensures refused { IfErr result (λ _. outer.new.items ≡ outer.old.items) }
+fn push_level(outer: &mut Levels, top: &Shape, operands: &OperandStack) -> Result<(), AllocError>
+    ensures laid { IfOk result (λ _. outer.new ≡ outer.old ++ record { shape = top.now; is_dead = operands.now.above.is_dead; base = length operands.now.below } ∷ []) }
+    ensures refused { IfErr result (λ _. outer.new ≡ outer.old) }
 {
     let level = Level {
         shape: *top,
@@ -54,7 +51,7 @@ pub(crate) fn open_level(
     params: TypeList,
     results: TypeList,
 ) -> Result<bool, AllocError>
-    ensures frames { IfOk result (λ yes. open_frame is_then (cond is_loop (reverse (list_of control.old.operands.types params)) (reverse (list_of control.old.operands.types results))) record { params = list_of control.old.operands.types params; results = list_of control.old.operands.types results } (frame_of control.old.operands.types control.old.top control.old.operands.above) (cut control.old.operands.types (reverse control.old.outer.items) control.old.operands.below) control.old.operands.above ≡ when yes (Some (inner_of control.new))) }
+    ensures frames { IfOk result (λ yes. open_frame is_then (cond is_loop (reverse (list_of control.old.operands.types params)) (reverse (list_of control.old.operands.types results))) record { params = list_of control.old.operands.types params; results = list_of control.old.operands.types results } (frame_of control.old.operands.types control.old.top control.old.operands.above) (cut control.old.operands.types (reverse control.old.outer) control.old.operands.below) control.old.operands.above ≡ when yes (Some (inner_of control.new))) }
     ensures open { IfOk result (λ yes. control.new.is_open ≡ control.old.is_open) }
     ensures tight { IsTight control.old → IsTight control.new }
     ensures types { control.new.operands.types ≡ control.old.operands.types }
@@ -76,7 +73,7 @@ pub(crate) fn open_level(
 
 /// Goes on from the first branch of an if to the second.
 pub(crate) fn other_branch(control: &mut Control) -> Result<bool, AllocError>
-    ensures frames { IfOk result (λ yes. when control.old.top.is_then (when (ends_with (reverse (list_of control.old.operands.types control.old.top.gives)) control.old.operands.above) (Some (record (frame_of control.old.operands.types control.old.top control.old.operands.above) { is_then = false; operands = fresh (reverse (list_of control.old.operands.types control.old.top.starts)) } ∷ cut control.old.operands.types (reverse control.old.outer.items) control.old.operands.below))) ≡ when yes (Some (inner_of control.new))) }
+    ensures frames { IfOk result (λ yes. when control.old.top.is_then (when (ends_with (reverse (list_of control.old.operands.types control.old.top.gives)) control.old.operands.above) (Some (record (frame_of control.old.operands.types control.old.top control.old.operands.above) { is_then = false; operands = fresh (reverse (list_of control.old.operands.types control.old.top.starts)) } ∷ cut control.old.operands.types (reverse control.old.outer) control.old.operands.below))) ≡ when yes (Some (inner_of control.new))) }
     ensures open { IfOk result (λ yes. control.new.is_open ≡ control.old.is_open) }
     ensures tight { IsTight control.old → IsTight control.new }
     ensures types { control.new.operands.types ≡ control.old.operands.types }
@@ -100,7 +97,7 @@ pub(crate) fn close_level(control: &mut Control) -> Result<bool, AllocError>
     requires { control.old.is_open ≡ true }
     ensures tight { IsTight control.old → IsTight control.new }
     ensures types { control.new.operands.types ≡ control.old.operands.types }
-    ensures frames { IfOk result (λ yes. when (ends_with (reverse (list_of control.old.operands.types control.old.top.gives)) control.old.operands.above) (when (may_lack_else (frame_of control.old.operands.types control.old.top control.old.operands.above)) (Some (pass_on (reverse (list_of control.old.operands.types control.old.top.gives)) (cut control.old.operands.types (reverse control.old.outer.items) control.old.operands.below)))) ≡ when yes (Some (frames_of control.new))) }
+    ensures frames { IfOk result (λ yes. when (ends_with (reverse (list_of control.old.operands.types control.old.top.gives)) control.old.operands.above) (when (may_lack_else (frame_of control.old.operands.types control.old.top control.old.operands.above)) (Some (pass_on (reverse (list_of control.old.operands.types control.old.top.gives)) (cut control.old.operands.types (reverse control.old.outer) control.old.operands.below)))) ≡ when yes (Some (frames_of control.new))) }
 {
     if !control.operands.ends_with(control.top.gives) {
         return Ok(false);

@@ -4,6 +4,7 @@ ghost use Rattle.wcontext.specs.Lists.{list_of};
 ghost use Rattle.wsyntax.specs.Validation.Algorithm.{all_take};
 ghost use Rattle.wcheck.specs.Views.{label_of, labels_in};
 
+use crate::levels::Levels;
 use crate::operand::is_same;
 use wcontext::{Context, TypeList};
 use wsyntax::ValType;
@@ -40,18 +41,13 @@ pub(crate) fn label(shape: Shape) -> TypeList
 
 /// What a branch to this label takes.
 #[inline]
-pub(crate) fn label_at(shape: Shape, outer: &[Level], l: u32) -> Option<TypeList>
+pub(crate) fn label_at(shape: Shape, outer: &Levels, l: u32) -> Option<TypeList>
     ensures { (types : List FuncType) → MatchOption result (slice_get (labels_in types shape outer.now) l ≡ None) (λ r. slice_get (labels_in types shape outer.now) l ≡ Some (reverse (list_of types r))) }
 {
-    let depth = l as usize;
-    if depth == 0 {
+    if l == 0 {
         return Some(label(shape));
     }
-    if depth <= outer.len() {
-        let level = &outer[outer.len() - depth];
-        return Some(label(level.shape));
-    }
-    None
+    outer.label(l as usize)
 }
 
 /// Whether two lists of types are the same.
@@ -86,7 +82,7 @@ pub(crate) fn are_same_lists(context: &Context, a: TypeList, b: TypeList) -> boo
 pub(crate) fn all_labels_take(
     context: &Context,
     shape: Shape,
-    outer: &[Level],
+    outer: &Levels,
     r: TypeList,
     ls: &[u32],
 ) -> bool

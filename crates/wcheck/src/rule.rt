@@ -8,7 +8,8 @@ ghost use Rattle.wsyntax.specs.Validation.Algorithm.{rule, Takes};
 ghost use Rattle.wcheck.specs.Views.{context_at, token_rule};
 ghost use Rattle.wcheck.specs.OperandRules.{rule_of};
 
-use crate::frames::{Level, Shape, all_labels_take, label_at};
+use crate::frames::{Shape, all_labels_take, label_at};
+use crate::levels::Levels;
 use crate::scope::Scope;
 use wcontext::{Context, ListPair, TypeList};
 use wsyntax::{AccessRow, Arity, Load, Operator, OperatorRow, Store, Token, ValType};
@@ -127,7 +128,7 @@ pub(crate) fn table_default(targets: &[u32], first: usize, count: u32) -> u32
 pub(crate) fn rule_of_token(
     scope: &Scope,
     shape: Shape,
-    outer: &[Level],
+    outer: &Levels,
     targets: &[u32],
     token: Token,
 ) -> Option<OperandRule>

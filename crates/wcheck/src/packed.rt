@@ -1,0 +1,127 @@
+ghost use Rattle.std.specs.Prelude.{◌≡◌, IfSome};
+ghost use Rattle.wcheck.specs.Packed.{list_from};
+
+use crate::frames::{Level, Shape};
+use std::marker::Model;
+use wcontext::TypeList;
+use wsyntax::ValType;
+
+/// How a frame begins.
+#[derive(Clone, Copy)]
+pub(crate) enum Way {
+    Plain,
+    Loop,
+    /// An if whose else may still come.
+    Then,
+}
+
+/// What a list of types is: none, one type, or that of a function type's index.
+#[derive(Clone, Copy)]
+pub(crate) enum Kind {
+    Nothing,
+    I32,
+    I64,
+    F32,
+    F64,
+    Params,
+    Results,
+}
+
+/// A level in 12 bytes in place of 32.
+#[derive(Drop)]
+pub(crate) struct PackedLevel {
+    base: u32,
+    starts_at: u16,
+    gives_at: u16,
+    starts: Kind,
+    gives: Kind,
+    way: Way,
+    is_dead: bool,
+}
+
+impl Model for PackedLevel {
+    ghost use Rattle.wcheck.specs.declared.frames.Level.{Level};
+    ghost use Rattle.wcheck.specs.Packed.{list_from, is_then, is_loop};
+
+    ghost Value = { Level };
+
+    ghost view = { λ p. record { shape = record { is_then = is_then p.way; is_loop = is_loop p.way; starts = list_from p.starts p.starts_at; gives = list_from p.gives p.gives_at }; is_dead = p.is_dead; base = p.base } };
+}
+
+/// The kind of a list, and the index where it has one. `None`: the index is too great.
+fn kind_of(list: TypeList) -> Option<(Kind, u16)>
+    ensures { IfSome result (λ x. list_from x.0 x.1 ≡ list) }
+{
+    match list {
+        TypeList::Nothing => Some((Kind::Nothing, 0)),
+        TypeList::One(ValType::I32) => Some((Kind::I32, 0)),
+        TypeList::One(ValType::I64) => Some((Kind::I64, 0)),
+        TypeList::One(ValType::F32) => Some((Kind::F32, 0)),
+        TypeList::One(ValType::F64) => Some((Kind::F64, 0)),
+        TypeList::Params(index) => Some((Kind::Params, u16::try_from(index).ok()?)),
+        TypeList::Results(index) => Some((Kind::Results, u16::try_from(index).ok()?)),
+    }
+}
+
+fn list_of(kind: Kind, index: u16) -> TypeList
+    ensures { result ≡ list_from kind index }
+{
+    match kind {
+        Kind::Nothing => TypeList::Nothing,
+        Kind::I32 => TypeList::One(ValType::I32),
+        Kind::I64 => TypeList::One(ValType::I64),
+        Kind::F32 => TypeList::One(ValType::F32),
+        Kind::F64 => TypeList::One(ValType::F64),
+        Kind::Params => TypeList::Params(u32::from(index)),
+        Kind::Results => TypeList::Results(u32::from(index)),
+    }
+}
+
+impl PackedLevel {
+    /// The level in few bytes. `None`: a number of it is too great for them.
+    pub(crate) fn of(level: Level) -> Option<PackedLevel>
+        ensures { IfSome result (λ p. p ≡ level) }
+    {
+        let Shape {
+            is_then,
+            is_loop,
+            starts,
+            gives,
+        } = level.shape;
+        let way = match (is_then, is_loop) {
+            (false, false) => Way::Plain,
+            (false, true) => Way::Loop,
+            (true, false) => Way::Then,
+            (true, true) => return None,
+        };
+        let (starts, starts_at) = kind_of(starts)?;
+        let (gives, gives_at) = kind_of(gives)?;
+        let base = u32::try_from(level.base).ok()?;
+        Some(PackedLevel {
+            base,
+            starts_at,
+            gives_at,
+            starts,
+            gives,
+            way,
+            is_dead: level.is_dead,
+        })
+    }
+
+    /// The level as it was.
+    pub(crate) fn level(&self) -> Level
+        ensures { result ≡ self.now }
+    {
+        let shape = Shape {
+            is_then: matches!(self.way, Way::Then),
+            is_loop: matches!(self.way, Way::Loop),
+            starts: list_of(self.starts, self.starts_at),
+            gives: list_of(self.gives, self.gives_at),
+        };
+        Level {
+            shape,
+            is_dead: self.is_dead,
+            base: self.base as usize,
+        }
+    }
+}
