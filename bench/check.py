@@ -4,15 +4,14 @@
 A row is a module of bench/modules.py of each of these sizes (1, 4 and 15 MB where none is given), or a module that is given
 as a file: real programs. All engines take turns, so that all meet the same load, and the best of seven counts, in MB/s of
 the file, by the clock. With --median it is the median of so many turns: on a machine whose processors are often away the
-best of few says little.
-  gate    one worker after the file was read: a fresh process, less the same process on as many zero bytes, which are refused
-          once they are read
-  C       bench/peer.c, a plain decoder and checker of the same design, one pass; its own clock, the file being read
-  node    WebAssembly.validate, held to one processor by taskset; its own clock, the file being read: the best of three in one
-          process
-  gate 4  four workers after the file was read
-  node 4  the same with all its threads, which are awake after the first of the three
-  whole   the same process of gate, its start and the reading of the file included; then with 2 and 4 workers
+best of few says little. Three are measured alike: by their own clocks, the file being read, the best of three in one process,
+on one processor by taskset.
+  gate    crates/bench_check with one worker, which is proved and built where it is missing
+  C       bench/peer.c, a plain decoder and checker of the same design, one pass
+  node    WebAssembly.validate
+  gate 4  the same as `gate` with four workers, on all processors
+  node 4  the same as `node` with all its threads
+  whole   a fresh process of gate, its start and the reading of the file included; then with 2 and 4 workers
   wabt    wasm-validate, where it is installed, a fresh process
 In brackets: of C and node the ratio to gate, of `gate 4` and `node 4` to the same engine on one, of the others to the whole
 process with one worker. Last the peak memory of `gate` with one worker, by the module's size. `--plot` draws the rows as bars.
@@ -34,6 +33,7 @@ KINDS = {'many': 'many functions', 'tiny': 'functions of ten bytes', 'large': 'l
 LONG_LISTS = ('lists', 'labels')
 NODE = """const b=require('fs').readFileSync(process.argv[1]);let best=1e9;for(let i=0;i<3;i++){const s=process.hrtime.bigint();
 if(!WebAssembly.validate(b))throw 'refused';const t=Number(process.hrtime.bigint()-s)/1e9;if(t<best)best=t}console.log(best)"""
+JUDGE = os.path.join(here, '..', 'crates', 'bench_check', 'out', 'bench_check')
 COLOURS = {'gate': '#1b6ca8', 'C': '#8a8a8a', 'node': '#d9822b', 'wabt': '#7a9e3b'}
 
 
@@ -45,13 +45,15 @@ def process(words, wanted):
     return took if child.stdout == wanted else None
 
 
-def own_clock(words):
-    # The seconds that a program prints; nothing where it refuses the module or takes more than a minute.
+def own_clock(words, unit=1):
+    # The least of the times in this unit that a program prints, one a line, in seconds; nothing where it refuses the module or
+    # takes more than a minute.
     try:
         child = subprocess.run(words, capture_output=True, timeout=60)
     except subprocess.TimeoutExpired:
         return None
-    return float(child.stdout.split()[0]) if child.returncode == 0 and child.stdout else None
+    times = [float(line.split()[0]) * unit for line in child.stdout.splitlines()]
+    return min(times) if child.returncode == 0 and times else None
 
 
 def peak(words):
@@ -60,17 +62,20 @@ def peak(words):
     return int(ran.stderr.split()[-1]) * 1024
 
 
-def engines(gate, peer, path, zeros, has_long_lists):
+def engines(gate, peer, path, has_long_lists):
     # Of each engine that is there, what measures one run.
+    alone = ['taskset', '-c', '0']
+
     def check(n):
         return lambda: process([gate, 'check', path, '--workers', str(n)], b'accepted\n')
 
     takes = {f'{n} workers': check(n) for n in (1, 2, 4)}
-    takes['reading'] = lambda: process([gate, 'check', zeros, '--workers', '1'], b'refused malformed\n')
+    takes['gate'] = lambda: own_clock(alone + [JUDGE, path, '1'], 1e-9)
+    takes['gate 4'] = lambda: own_clock([JUDGE, path, '4'], 1e-9)
     if not has_long_lists:
-        takes['C'] = lambda: own_clock([peer, 'check', path, '1'])
+        takes['C'] = lambda: own_clock(alone + [peer, 'check', path, '3'])
     if shutil.which('node'):
-        takes['node'] = lambda: own_clock(['taskset', '-c', '0', 'node', '-e', NODE, path])
+        takes['node'] = lambda: own_clock(alone + ['node', '-e', NODE, path])
         takes['node 4'] = lambda: own_clock(['node', '-e', NODE, path])
     if shutil.which('wasm-validate') and not has_long_lists:
         takes['wabt'] = lambda: process(['wasm-validate', path], b'')
@@ -91,20 +96,12 @@ def times(takes, turns):
     return all_times
 
 
-def measure(gate, peer, folder, path, has_long_lists, turns, counts):
+def measure(gate, peer, path, has_long_lists, turns, counts):
     # The MB/s of each engine, by the time that counts of those that it took.
-    length = os.path.getsize(path)
-    zeros = os.path.join(folder, 'zeros')
-    with open(zeros, 'wb') as file:
-        file.write(bytes(length))
-    all_times = times(engines(gate, peer, path, zeros, has_long_lists), turns)
-    if '1 workers' not in all_times:
+    all_times = times(engines(gate, peer, path, has_long_lists), turns)
+    if '1 workers' not in all_times or 'gate' not in all_times:
         sys.exit(f'{path}: not accepted')
-    taken = {name: counts(took) for name, took in all_times.items()}
-    reading = taken.pop('reading')
-    taken['gate'] = taken['1 workers'] - reading
-    taken['gate 4'] = taken['4 workers'] - reading
-    return {name: length / took / 1e6 for name, took in taken.items()}
+    return {name: os.path.getsize(path) / counts(took) / 1e6 for name, took in all_times.items()}
 
 
 def cell(speeds, name, base):
@@ -165,12 +162,14 @@ def main(gate, words):
     counts = statistics.median if turns else min
     words = [word for word in words if word not in ('--plot', '--median')]
     rows = []
+    if not os.path.exists(JUDGE):
+        subprocess.run([sys.executable, os.path.join(here, '..', 'prove.py'), 'bench_check'], check=True)
     with tempfile.TemporaryDirectory() as folder:
         peer = os.path.join(folder, 'peer')
         subprocess.run(['gcc', '-O2', '-o', peer, os.path.join(here, 'peer.c')], check=True)
         print('| module | gate | C | node | gate 4 | node 4 | whole | 2 workers | 4 workers | wabt | memory |\n|' + '---|' * 11)
         for label, path, has_long_lists in modules(folder, words):
-            speeds = measure(gate, peer, folder, path, has_long_lists, int(turns or 7), counts)
+            speeds = measure(gate, peer, path, has_long_lists, int(turns or 7), counts)
             report(gate, label, path, speeds)
             rows.append((label, speeds))
     print(f'In the geometric mean gate is {mean(rows, "node")}, {mean(rows, "C")}, {mean(rows, "wabt")}.')

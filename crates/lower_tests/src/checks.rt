@@ -224,6 +224,30 @@ fn deep_blocks(rt: HostRuntime) -> Result<(), Fail> {
     assert_cases(&rt, rt.alloc(), &module, &[(&tokens, &[], None)])
 }
 
+/// So many blocks inside one that gives an i32, and a branch out of them all with this operand.
+fn branch_out(alloc: Global, depth: u32, operand: Token) -> Result<Vec<Token>, AllocError> {
+    let mut tokens = [I32_BLOCK].to_vec(alloc)?;
+    for _ in 0..depth {
+        tokens.push(BLOCK)?;
+    }
+    tokens.extend_from_slice(&[operand, Br(depth)])?;
+    for _ in 0..depth {
+        tokens.push(End)?;
+    }
+    tokens.extend_from_slice(&[ONE, End, Drop, End])?;
+    Ok(tokens)
+}
+
+/// A branch out of more blocks than are kept unpacked takes what the outermost gives.
+#[test]
+fn branches_out_of_many_blocks(rt: HostRuntime) -> Result<(), Fail> {
+    let module = one_function(rt.alloc())?;
+    let right = branch_out(rt.alloc(), 3_000, ONE)?;
+    let wrong = branch_out(rt.alloc(), 3_000, LONG_ZERO)?;
+    let cases: [Case<'_>; 2] = [(&right, &[], None), (&wrong, &[], Some(3_002))];
+    assert_cases(&rt, rt.alloc(), &module, &cases)
+}
+
 /// `[i32] -> [i32]` and `[i32] -> [i64]`, of the module with several types.
 const SAME: BlockType = BlockType::Index(0);
 

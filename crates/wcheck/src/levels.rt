@@ -7,8 +7,8 @@ use std::alloc::{AllocError, Global};
 use std::marker::Model;
 use wcontext::TypeList;
 
-/// The frames outside the innermost one, the outermost first. Where more are open than in any ordinary body, the
-/// outermost of them are kept in few bytes.
+/// The frames outside the innermost one, the outermost first. Where more are open than there is room for, which are more
+/// than in any ordinary body, all of them are packed, and others come behind.
 #[derive(Drop)]
 pub(crate) struct Levels {
     outermost: Vec<PackedLevel>,
@@ -24,8 +24,8 @@ impl Model for Levels {
     ghost view = { λ p. p.outermost.items ++ p.innermost.items };
 }
 
-/// One fewer than so many frames are packed at a time.
-const PORTION: usize = 1_024;
+/// Fewer than so many are not packed.
+const MANY: usize = 1_024;
 
 /// Packs levels behind others. `false`: one of them cannot be packed, or memory was refused.
 fn pack_each(packed: &mut Vec<PackedLevel>, levels: &[Level]) -> bool
@@ -91,11 +91,13 @@ impl Levels {
         self.innermost.clear();
     }
 
-    /// Packs those that are not, where all of them can be.
-    #[inline(never)]
+    /// Packs those that are not, where they are many and all of them can be.
     fn pack(&mut self)
         ensures { self.new ≡ self.old }
     {
+        if self.innermost.len() < MANY {
+            return;
+        }
         let before = self.outermost.len();
         if pack_each(&mut self.outermost, &self.innermost) {
             self.innermost.clear();
@@ -104,13 +106,23 @@ impl Levels {
         }
     }
 
+    /// The same as `push`, where there is no room.
+    #[inline(never)]
+    fn push_beyond(&mut self, level: Level) -> Result<(), AllocError>
+        ensures { MatchResult result (λ _. self.new ≡ self.old ++ level ∷ []) (λ _. self.new ≡ self.old) }
+    {
+        self.pack();
+        self.innermost.push(level)?;
+        Ok(())
+    }
+
     /// After an error they are as before.
     #[inline(always)]
     pub(crate) fn push(&mut self, level: Level) -> Result<(), AllocError>
         ensures { MatchResult result (λ _. self.new ≡ self.old ++ level ∷ []) (λ _. self.new ≡ self.old) }
     {
-        if self.innermost.len() % PORTION == PORTION - 1 {
-            self.pack();
+        if self.innermost.len() == self.innermost.capacity() {
+            return self.push_beyond(level);
         }
         self.innermost.push(level)?;
         Ok(())
