@@ -1,11 +1,11 @@
 #!/usr/bin/env python3
-"""usage: check.py GATE [--plot FILE.svg] [--median TURNS] [MEGABYTES or MODULE.wasm ..]    measures `gate check` beside other validators.
+"""usage: check.py GATE [--plot FILE.svg] [--median TURNS] [--first] [MEGABYTES or MODULE.wasm ..]    measures `gate check` beside other validators.
 
 A row is a module of bench/modules.py of each of these sizes (1, 4 and 15 MB where none is given), or a module that is given
 as a file: real programs. All engines take turns, so that all meet the same load, and the best of seven counts, in MB/s of
 the file, by the clock. With --median it is the median of so many turns: on a machine whose processors are often away the
-best of few says little. Three are measured alike: by their own clocks, the file being read, the best of three in one process,
-on one processor by taskset.
+best of few says little. Three are measured alike: by their own clocks, the file being read, the best of three in one process
+(with --first, the first of the three), with one worker on one processor by taskset.
   gate    crates/bench_check with one worker, which is proved and built where it is missing
   C       bench/peer.c, a plain decoder and checker of the same design, one pass
   node    WebAssembly.validate
@@ -24,6 +24,7 @@ import subprocess
 import sys
 import tempfile
 import time
+from operator import itemgetter
 
 here = os.path.dirname(os.path.abspath(__file__))
 KINDS = {'many': 'many functions', 'tiny': 'functions of ten bytes', 'large': 'large functions', 'one': 'one function',
@@ -31,8 +32,8 @@ KINDS = {'many': 'many functions', 'tiny': 'functions of ten bytes', 'large': 'l
 # The peer in C compares lists of types item by item each time, which takes minutes on these, and wabt's validator asks for
 # more memory than the machine has.
 LONG_LISTS = ('lists', 'labels')
-NODE = """const b=require('fs').readFileSync(process.argv[1]);let best=1e9;for(let i=0;i<3;i++){const s=process.hrtime.bigint();
-if(!WebAssembly.validate(b))throw 'refused';const t=Number(process.hrtime.bigint()-s)/1e9;if(t<best)best=t}console.log(best)"""
+NODE = """const b=require('fs').readFileSync(process.argv[1]);for(let i=0;i<3;i++){const s=process.hrtime.bigint();
+if(!WebAssembly.validate(b))throw 'refused';console.log(Number(process.hrtime.bigint()-s))}"""
 JUDGE = os.path.join(here, '..', 'crates', 'bench_check', 'out', 'bench_check')
 COLOURS = {'gate': '#1b6ca8', 'C': '#8a8a8a', 'node': '#d9822b', 'wabt': '#7a9e3b'}
 
@@ -45,15 +46,15 @@ def process(words, wanted):
     return took if child.stdout == wanted else None
 
 
-def own_clock(words, unit=1):
-    # The least of the times in this unit that a program prints, one a line, in seconds; nothing where it refuses the module or
-    # takes more than a minute.
+def own_clock(words, counts, unit=1e-9):
+    # Of the times in this unit that a program prints, one a line, the one that counts, in seconds; nothing where it refuses the
+    # module or takes more than a minute.
     try:
         child = subprocess.run(words, capture_output=True, timeout=60)
     except subprocess.TimeoutExpired:
         return None
     times = [float(line.split()[0]) * unit for line in child.stdout.splitlines()]
-    return min(times) if child.returncode == 0 and times else None
+    return counts(times) if child.returncode == 0 and times else None
 
 
 def peak(words):
@@ -62,7 +63,7 @@ def peak(words):
     return int(ran.stderr.split()[-1]) * 1024
 
 
-def engines(gate, peer, path, has_long_lists):
+def engines(gate, peer, path, has_long_lists, counts):
     # Of each engine that is there, what measures one run.
     alone = ['taskset', '-c', '0']
 
@@ -70,13 +71,13 @@ def engines(gate, peer, path, has_long_lists):
         return lambda: process([gate, 'check', path, '--workers', str(n)], b'accepted\n')
 
     takes = {f'{n} workers': check(n) for n in (1, 2, 4)}
-    takes['gate'] = lambda: own_clock(alone + [JUDGE, path, '1'], 1e-9)
-    takes['gate 4'] = lambda: own_clock([JUDGE, path, '4'], 1e-9)
+    takes['gate'] = lambda: own_clock(alone + [JUDGE, path, '1'], counts)
+    takes['gate 4'] = lambda: own_clock([JUDGE, path, '4'], counts)
     if not has_long_lists:
-        takes['C'] = lambda: own_clock(alone + [peer, 'check', path, '3'])
+        takes['C'] = lambda: own_clock(alone + [peer, 'check', path, '3'], counts, 1)
     if shutil.which('node'):
-        takes['node'] = lambda: own_clock(alone + ['node', '-e', NODE, path])
-        takes['node 4'] = lambda: own_clock(['node', '-e', NODE, path])
+        takes['node'] = lambda: own_clock(alone + ['node', '-e', NODE, path], counts)
+        takes['node 4'] = lambda: own_clock(['node', '-e', NODE, path], counts)
     if shutil.which('wasm-validate') and not has_long_lists:
         takes['wabt'] = lambda: process(['wasm-validate', path], b'')
     return takes
@@ -96,9 +97,9 @@ def times(takes, turns):
     return all_times
 
 
-def measure(gate, peer, path, has_long_lists, turns, counts):
+def measure(takes, path, turns, counts):
     # The MB/s of each engine, by the time that counts of those that it took.
-    all_times = times(engines(gate, peer, path, has_long_lists), turns)
+    all_times = times(takes, turns)
     if '1 workers' not in all_times or 'gate' not in all_times:
         sys.exit(f'{path}: not accepted')
     return {name: os.path.getsize(path) / counts(took) / 1e6 for name, took in all_times.items()}
@@ -160,7 +161,8 @@ def main(gate, words):
     plot = words.pop(words.index('--plot') + 1) if '--plot' in words else None
     turns = words.pop(words.index('--median') + 1) if '--median' in words else None
     counts = statistics.median if turns else min
-    words = [word for word in words if word not in ('--plot', '--median')]
+    first = '--first' in words
+    words = [word for word in words if word not in ('--plot', '--median', '--first')]
     rows = []
     if not os.path.exists(JUDGE):
         subprocess.run([sys.executable, os.path.join(here, '..', 'prove.py'), 'bench_check'], check=True)
@@ -169,7 +171,8 @@ def main(gate, words):
         subprocess.run(['gcc', '-O2', '-o', peer, os.path.join(here, 'peer.c')], check=True)
         print('| module | gate | C | node | gate 4 | node 4 | whole | 2 workers | 4 workers | wabt | memory |\n|' + '---|' * 11)
         for label, path, has_long_lists in modules(folder, words):
-            speeds = measure(gate, peer, path, has_long_lists, int(turns or 7), counts)
+            takes = engines(gate, peer, path, has_long_lists, itemgetter(0) if first else min)
+            speeds = measure(takes, path, int(turns or 7), counts)
             report(gate, label, path, speeds)
             rows.append((label, speeds))
     print(f'In the geometric mean gate is {mean(rows, "node")}, {mean(rows, "C")}, {mean(rows, "wabt")}.')
