@@ -3,7 +3,7 @@ ghost use Rattle.wcontext.specs.Lists.{list_of};
 ghost use Rattle.wsyntax.specs.Instructions.{Op, Do};
 ghost use Rattle.wsyntax.specs.Modules.{seen};
 ghost use Rattle.wsyntax.specs.Validation.Algorithm.{on, when, apply, open_frame, ends_with, may_lack_else, pass_on, fresh, step};
-ghost use Rattle.wcheck.specs.Views.{scope_context, context_at, token_rule, cut, frame_of};
+ghost use Rattle.wcheck.specs.Views.{scope_context, context_at, token_rule, cut, frame_of, under_all};
 ghost use Rattle.wcheck.specs.Frames.{inner_of, frames_of, IsTight};
 
 use crate::apply::{apply_known, apply_rule};
@@ -90,9 +90,39 @@ pub(crate) fn other_branch(control: &mut Control) -> Result<bool, AllocError>
     Ok(true)
 }
 
+/// Goes back to the frame outside the innermost one, and leaves there what this one gives.
+#[inline(always)]
+fn go_back(control: &mut Control, level: Level) -> Result<(), AllocError>
+    ensures frames { IfOk result (λ _. inner_of control.new ≡ pass_on (reverse (list_of control.old.operands.types control.old.top.gives)) (cut control.old.operands.types (level ∷ reverse control.old.outer) control.old.operands.below)) }
+    ensures tight { under_all (level ∷ reverse control.old.outer) control.old.operands.below ≡ [] → IsTight control.new }
+    ensures open { control.new.is_open ≡ control.old.is_open }
+    ensures types { control.new.operands.types ≡ control.old.operands.types }
+{
+    control.operands.close(level.base, level.is_dead);
+    control.operands.put(control.top.gives)?;
+    control.top = level.shape;
+    Ok(())
+}
+
+/// Leaves the innermost frame, where it is the function's own or the one outside it is packed.
+#[inline(never)]
+#[tactic(auto, using(crate::proofs::Cuts::closed_under, crate::proofs::Behind::reversed_last))]
+fn leave_far(control: &mut Control) -> Result<bool, AllocError>
+    requires { control.old.is_open ≡ true }
+    ensures tight { IsTight control.old → IsTight control.new }
+    ensures types { control.new.operands.types ≡ control.old.operands.types }
+    ensures frames { IfOk result (λ yes. Some (pass_on (reverse (list_of control.old.operands.types control.old.top.gives)) (cut control.old.operands.types (reverse control.old.outer) control.old.operands.below)) ≡ when yes (Some (frames_of control.new))) }
+{
+    match control.outer.pop() {
+        Some(level) => go_back(control, level)?,
+        None => control.is_open = false,
+    }
+    Ok(true)
+}
+
 /// Closes the innermost frame.
 #[inline(always)]
-#[tactic(auto, using(crate::proofs::Cuts::closed_under))]
+#[tactic(auto, using(crate::proofs::Cuts::closed_under, crate::proofs::Behind::reversed_last))]
 pub(crate) fn close_level(control: &mut Control) -> Result<bool, AllocError>
     requires { control.old.is_open ≡ true }
     ensures tight { IsTight control.old → IsTight control.new }
@@ -109,15 +139,9 @@ pub(crate) fn close_level(control: &mut Control) -> Result<bool, AllocError>
             return Ok(false);
         }
     }
-    match control.outer.pop() {
-        Some(level) => {
-            control.operands.close(level.base, level.is_dead);
-            control.operands.put(control.top.gives)?;
-            control.top = level.shape;
-        }
-        None => {
-            control.is_open = false;
-        }
+    match control.outer.pop_near() {
+        Some(level) => go_back(control, level)?,
+        None => return leave_far(control),
     }
     Ok(true)
 }

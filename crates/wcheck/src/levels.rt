@@ -44,7 +44,6 @@ fn pack_each(packed: &mut Vec<PackedLevel>, levels: &[Level]) -> bool
 }
 
 /// Takes the last of packed levels.
-#[inline(never)]
 fn pop_packed(packed: &mut Vec<PackedLevel>) -> Option<Level>
     ensures { MatchOption result ((packed.old.items ≡ []) × (packed.new.items ≡ [])) (λ x. packed.old.items ≡ packed.new.items ++ x ∷ []) }
 {
@@ -128,7 +127,15 @@ impl Levels {
         Ok(())
     }
 
+    /// Takes the last, if it is not packed.
     #[inline(always)]
+    pub(crate) fn pop_near(&mut self) -> Option<Level>
+        ensures { MatchOption result (self.new ≡ self.old) (λ x. self.old ≡ self.new ++ x ∷ []) }
+    {
+        self.innermost.pop()
+    }
+
+    /// Takes the last.
     pub(crate) fn pop(&mut self) -> Option<Level>
         ensures { MatchOption result ((self.old ≡ []) × (self.new ≡ [])) (λ x. self.old ≡ self.new ++ x ∷ []) }
     {
