@@ -1,5 +1,6 @@
 #!/usr/bin/env python3
-"""usage: memory.py GATE    refuses each request for memory in turn while GATE judges and runs some rows of the tables.
+"""usage: memory.py GATE    refuses each request for memory in turn while GATE judges and runs some rows of the tables, and
+judges a module of many open blocks.
 
 Each check must end in want of memory, with nothing on standard output, or with the row's line. Each run must end the same
 way, or with the row's report in which calls that were run may end in no-memory, the total counted anew. It stops where 25
@@ -17,6 +18,7 @@ import rows
 CHECKED = ['add', 'bodies 3 and 900 of 1,000 ill typed', 'memory, loads and division', 'call through the table', 'float constant']
 RAN = ['the sum passes the greatest i32', 'a store that no other call sees, and divisions', 'calls through a table', 'growth up to the declared maximum']
 LIMIT = 5000
+DEPTH = 3000
 
 
 def total_of(lines):
@@ -82,6 +84,17 @@ def named(table, names):
     return [found[name] for name in names]
 
 
+def leb(number):
+    return bytes([number]) if number < 128 else bytes([number % 128 + 128]) + leb(number // 128)
+
+
+def deep_module():
+    # A function with DEPTH blocks inside one that gives an i32, more than lie unpacked, and a branch out of them all.
+    code = b'\x02\x7f' + b'\x02\x40' * DEPTH + b'\x41\x01\x0c' + leb(DEPTH) + b'\x0b' * DEPTH + b'\x41\x01\x0b\x1a\x0b'
+    body = leb(len(code) + 1) + b'\x00' + code
+    return b'\0asm\1\0\0\0\x01\x04\x01\x60\x00\x00\x03\x02\x01\x00\x0a' + leb(len(body) + 1) + b'\x01' + body
+
+
 def main(gate):
     with tempfile.TemporaryDirectory() as folder:
         sweep = Sweep(gate, folder)
@@ -90,6 +103,9 @@ def main(gate):
             rows.write(module, rows.bytes_of(spelled))
             for workers in ('1', '4'):
                 sweep.refuse_each(name, ['check', module, '--workers', workers], line + '\n', int(status), lambda wanted, got: False)
+        rows.write(module, deep_module())
+        for workers in ('1', '4'):
+            sweep.refuse_each('deep blocks', ['check', module, '--workers', workers], 'accepted\n', 0, lambda wanted, got: False)
         for name, spelled, calls, options, text, status in named('run.tsv', RAN):
             rows.write(module, rows.bytes_of(spelled))
             rows.write(calls_path, rows.text_of(calls))
