@@ -5,7 +5,7 @@ A row is a module of bench/modules.py of each of these sizes (1, 4 and 15 MB whe
 as a file: real programs. All engines take turns, so that all meet the same load, and the best of seven counts, in MB/s of
 the file, by the clock. With --median it is the median of so many turns: on a machine whose processors are often away the
 best of few says little. Three are measured alike: by their own clocks, the file being read, the best of three in one process
-(with --first, the first of the three), with one worker on one processor by taskset.
+(with --first, the first of the three, but for C), with one worker on one processor by taskset.
   gate    crates/bench_check with one worker, which is proved and built where it is missing
   C       bench/peer.c, a plain decoder and checker of the same design, one pass
   node    WebAssembly.validate
