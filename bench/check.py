@@ -165,7 +165,7 @@ def main(gate, words):
     words = [word for word in words if word not in ('--plot', '--median', '--first')]
     rows = []
     if not os.path.exists(JUDGE):
-        subprocess.run([sys.executable, os.path.join(here, '..', 'prove.py'), 'bench_check'], check=True)
+        subprocess.run(['rt', 'run'], cwd=os.path.join(here, '..', 'crates', 'bench_check'), stdout=sys.stderr, check=True)
     with tempfile.TemporaryDirectory() as folder:
         peer = os.path.join(folder, 'peer')
         subprocess.run(['gcc', '-O2', '-o', peer, os.path.join(here, 'peer.c')], check=True)
