@@ -1,6 +1,6 @@
 #!/usr/bin/env python3
 """usage: memory.py GATE    refuses each request for memory in turn while GATE judges and runs some rows of the tables, and
-judges a module of many open blocks.
+judges a module of many open blocks; then has it judge a million of them in little memory, which no contract promises.
 
 Each check must end in want of memory, with nothing on standard output, or with the row's line. Each run must end the same
 way, or with the row's report in which calls that were run may end in no-memory, the total counted anew. It stops where 25
@@ -9,6 +9,7 @@ refused, and one that asks more than LIMIT times, count as failures.
 """
 import os
 import re
+import resource
 import subprocess
 import sys
 import tempfile
@@ -19,6 +20,8 @@ CHECKED = ['add', 'bodies 3 and 900 of 1,000 ill typed', 'memory, loads and divi
 RAN = ['the sum passes the greatest i32', 'a store that no other call sees, and divisions', 'calls through a table', 'growth up to the declared maximum']
 LIMIT = 5000
 DEPTH = 3000
+# In so many megabytes of addresses a million open blocks fit where they are packed (24 do), and not else (40 do).
+ROOM = 32
 
 
 def total_of(lines):
@@ -79,6 +82,16 @@ class Sweep:
             self.fail(f'{name}: {refused} requests refused, {number} tried')
 
 
+    def judge_within(self, name, module, megabytes):
+        limit = megabytes << 20
+        ran = subprocess.run([self.gate, 'check', module, '--workers', '1'], capture_output=True, timeout=60,
+                             preexec_fn=lambda: resource.setrlimit(resource.RLIMIT_AS, (limit, limit)))
+        if (ran.returncode, ran.stdout, ran.stderr) == (0, b'accepted\n', b''):
+            self.passed += 1
+        else:
+            self.fail(f'{name}, {megabytes} MB: {ran.returncode}, {ran.stdout!r}, {ran.stderr!r}')
+
+
 def named(table, names):
     found = {row[0]: row for row in rows.rows(table)}
     return [found[name] for name in names]
@@ -88,11 +101,15 @@ def leb(number):
     return bytes([number]) if number < 128 else bytes([number % 128 + 128]) + leb(number // 128)
 
 
-def deep_module():
-    # A function with DEPTH blocks inside one that gives an i32, more than lie unpacked, and a branch out of them all.
-    code = b'\x02\x7f' + b'\x02\x40' * DEPTH + b'\x41\x01\x0c' + leb(DEPTH) + b'\x0b' * DEPTH + b'\x41\x01\x0b\x1a\x0b'
+def one_body(code):
+    # A module of one function `[] -> []` with no locals and this body.
     body = leb(len(code) + 1) + b'\x00' + code
     return b'\0asm\1\0\0\0\x01\x04\x01\x60\x00\x00\x03\x02\x01\x00\x0a' + leb(len(body) + 1) + b'\x01' + body
+
+
+def open_blocks(depth):
+    # So many blocks inside one that gives an i32, and a branch out of them all.
+    return one_body(b'\x02\x7f' + b'\x02\x40' * depth + b'\x41\x01\x0c' + leb(depth) + b'\x0b' * depth + b'\x41\x01\x0b\x1a\x0b')
 
 
 def main(gate):
@@ -103,7 +120,7 @@ def main(gate):
             rows.write(module, rows.bytes_of(spelled))
             for workers in ('1', '4'):
                 sweep.refuse_each(name, ['check', module, '--workers', workers], line + '\n', int(status), lambda wanted, got: False)
-        rows.write(module, deep_module())
+        rows.write(module, open_blocks(DEPTH))
         for workers in ('1', '4'):
             sweep.refuse_each('deep blocks', ['check', module, '--workers', workers], 'accepted\n', 0, lambda wanted, got: False)
         for name, spelled, calls, options, text, status in named('run.tsv', RAN):
@@ -112,6 +129,8 @@ def main(gate):
             for workers in ('1', '4'):
                 words = ['run', module, calls_path, '--workers', workers, '--piece', '1'] + options.split()
                 sweep.refuse_each(name, words, rows.text_of(text).decode(), int(status), may_report)
+        rows.write(module, open_blocks(1_000_000))
+        sweep.judge_within('a million open blocks', module, ROOM)
     print(f'{sweep.refusals} of {sweep.passed} runs met want of memory')
     print(f'{sweep.passed} passed, {sweep.failed} failed')
     return 1 if sweep.failed or not sweep.passed else 0
