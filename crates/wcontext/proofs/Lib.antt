@@ -1,6 +1,7 @@
 pub mod Shapes
 pub mod Constants
-pub mod Counts
+pub mod Counted
 pub mod Distinct
 pub mod FirstPlaces
 pub mod Made
+pub mod Kept

@@ -3,3 +3,4 @@ pub mod Indexed
 pub mod Constants
 pub mod Spaces
 pub mod Segments
+pub mod Counted

@@ -1,4 +1,4 @@
--- 3.4.5 and 3.4.6 Segments that are valid, by the numbers of items and the imported globals.
+-- 3.4.4 and 3.4.5 Globals and element segments that are valid, by the numbers of items and the imported globals.
 use Rattle.std.specs.Prelude.{ℕ, ◌<◌, List, All}
 use Rattle.wsyntax.specs.HeldElement.{HeldElement}
 use Rattle.wsyntax.specs.Modules.{initial_tokens, place_index, place_tokens}
@@ -6,7 +6,6 @@ use Rattle.wsyntax.specs.Validation.Rules.{ConstantOf}
 use Rattle.wsyntax.specs.declared.ValType.TheVariants.{I32}
 use Rattle.wsyntax.specs.declared.GlobalType.{GlobalType}
 use Rattle.wsyntax.specs.declared.Global.{Global}
-use Rattle.wsyntax.specs.declared.Data.{Data}
 
 -- 3.4.4 the global's first value is a constant expression of its type
 abbrev pub IsGlobalConstant : List GlobalType → Global → Type 0
@@ -16,7 +15,3 @@ IsGlobalConstant globals g = ConstantOf globals g.content.content (initial_token
 abbrev pub IsElementValid : ℕ → ℕ → List GlobalType → HeldElement → Type 0
 IsElementValid tables functions globals s =
     (place_index s.place < tables) × ConstantOf globals I32 (place_tokens s.place) × All (λ f. f < functions) s.functions
-
--- 3.4.6 where so many memories exist
-abbrev pub IsDataValid : ℕ → List GlobalType → Data → Type 0
-IsDataValid memories globals s = (place_index s.place < memories) × ConstantOf globals I32 (place_tokens s.place)

@@ -1,41 +1,100 @@
-ghost use Rattle.std.specs.Prelude.{◌≡◌, ◌↔◌, ◌≤◌, ℕ, IsTrue, IfOk, OnOk, IfErr};
+ghost use Rattle.std.specs.Prelude.{◌≡◌, ◌↔◌, ◌≤◌, ◌<◌, ℕ, IsTrue, IfOk, OnOk, IfErr};
 ghost use Rattle.wsyntax.specs.Modules.{module_shape};
 ghost use Rattle.wsyntax.specs.Validation.ModuleContext.{indexed_context};
 ghost use Rattle.wsyntax.specs.Validation.Rules.{Keeps, LeastBroken, NoneBroken};
 ghost use Rattle.wcontext.specs.Spaces.{AreSpacesOf};
+ghost use Rattle.wcontext.specs.Counted.{AreCountsOf};
 
 use crate::context::Context;
+use crate::counts::Counts;
 use crate::fault::ModuleFault;
 use crate::rules;
 use crate::spaces::Spaces;
 use std::alloc::{AllocError, Global};
 use wsyntax::Module;
 
-/// The greatest number of a rule. Rule 1 of Core 1.0 is no longer asked.
-const RULES: u32 = 13;
+/// The number of the first rule that is asked late: the bodies may be checked before.
+const LATE: u32 = 9;
 
-/// Whether a module keeps the rule of that number.
-fn keeps(alloc: Global, module: &Module<'_>, spaces: &Spaces, rule: u32) -> Result<bool, AllocError>
+/// The number of the last rule, which is asked of one data segment at a time.
+const SEGMENTS: u32 = 13;
+
+/// Whether a module keeps the early rule of that number. Rule 1 of Core 1.0 is no longer asked.
+fn keeps_early(module: &Module<'_>, spaces: &Spaces, rule: u32) -> bool
     requires spaces { AreSpacesOf (module_shape «module».now) spaces.now }
     requires least { 1 ≤ rule }
-    requires most { rule ≤ RULES }
+    requires most { rule < LATE }
+    ensures { IsTrue result ↔ Keeps (module_shape «module».now) rule }
+{
+    match rule {
+        1 => true,
+        2 => rules::imports_typed(module, spaces),
+        3 => rules::functions_typed(module),
+        4 => rules::tables_limited(module, spaces),
+        5 => rules::memories_limited(module, spaces),
+        6 => rules::one_table(module, spaces),
+        7 => rules::one_memory(module, spaces),
+        _ => rules::globals_constant(module, spaces),
+    }
+}
+
+/// Whether a module keeps the late rule of that number.
+fn keeps_late<'a>(
+    names: &mut Vec<&'a [u8]>,
+    module: &Module<'a>,
+    counts: &Counts,
+    rule: u32,
+) -> Result<bool, AllocError>
+    requires counts { AreCountsOf (module_shape «module».now) counts.now }
+    requires least { LATE ≤ rule }
+    requires most { rule < SEGMENTS }
     ensures { IfOk result (λ b. IsTrue b ↔ Keeps (module_shape «module».now) rule) }
 {
     match rule {
-        1 => Ok(true),
-        2 => Ok(rules::imports_typed(module, spaces)),
-        3 => Ok(rules::functions_typed(module)),
-        4 => Ok(rules::tables_limited(module, spaces)),
-        5 => Ok(rules::memories_limited(module, spaces)),
-        6 => Ok(rules::one_table(module, spaces)),
-        7 => Ok(rules::one_memory(module, spaces)),
-        8 => Ok(rules::globals_constant(module, spaces)),
-        9 => Ok(rules::exports_exist(module, spaces)),
-        10 => rules::exports_distinct(alloc, module),
-        11 => Ok(rules::starts_plainly(module, spaces)),
-        12 => Ok(rules::elements_valid(module, spaces)),
-        _ => Ok(rules::segments_valid(module, spaces)),
+        9 => Ok(rules::exports_exist(module, counts)),
+        10 => rules::exports_distinct(names, module),
+        11 => Ok(counts.starts_plainly),
+        _ => Ok(rules::elements_valid(module, counts)),
     }
+}
+
+/// What bodies are checked under (3.4) and what the late rules look up, of a module that keeps rules 1 to 8; or the
+/// least of these that it breaks.
+pub fn check_early(alloc: Global, module: &Module<'_>) -> Result<(Context, Counts), ModuleFault>
+    ensures context { IfOk result (λ x. x.0 ≡ indexed_context (module_shape «module».now)) }
+    ensures counts { IfOk result (λ x. AreCountsOf (module_shape «module».now) x.1) }
+    ensures valid { OnOk result ((k : ℕ) → k < 9 → Keeps (module_shape «module».now) k) }
+    ensures broken { IfErr result (λ e. (k : ℕ) → e ≡ ModuleFault.Rule k → (k < 9) × LeastBroken (module_shape «module».now) k) }
+{
+    let spaces = Spaces::new(alloc, module)?;
+    for rule in 1..LATE {
+        if !keeps_early(module, &spaces, rule) {
+            return Err(ModuleFault::Rule(rule));
+        }
+    }
+    let counts = Counts::of(alloc, module, &spaces)?;
+    let context = Context::new(alloc, module, spaces)?;
+    Ok((context, counts))
+}
+
+/// Whether a module that keeps rules 1 to 8 keeps rules 9 to 12 too, or the least of these that it breaks. The list is
+/// room for the names of its exports, and what it held is gone.
+pub fn check_late<'a>(
+    names: &mut Vec<&'a [u8]>,
+    module: &Module<'a>,
+    counts: &Counts,
+) -> Result<(), ModuleFault>
+    requires counts { AreCountsOf (module_shape «module».now) counts.now }
+    requires early { (k : ℕ) → k < 9 → Keeps (module_shape «module».now) k }
+    ensures valid { OnOk result ((k : ℕ) → k < 13 → Keeps (module_shape «module».now) k) }
+    ensures broken { IfErr result (λ e. (k : ℕ) → e ≡ ModuleFault.Rule k → (k < 13) × LeastBroken (module_shape «module».now) k) }
+{
+    for rule in LATE..SEGMENTS {
+        if !keeps_late(names, module, counts, rule)? {
+            return Err(ModuleFault::Rule(rule));
+        }
+    }
+    Ok(())
 }
 
 /// The context of a module that keeps all rules (3.4), or the least rule that it breaks. The bodies of its functions
@@ -45,11 +104,11 @@ pub fn check_module(alloc: Global, module: &Module<'_>) -> Result<Context, Modul
     ensures valid { OnOk result (NoneBroken (module_shape «module».now)) }
     ensures broken { IfErr result (λ e. (k : ℕ) → e ≡ ModuleFault.Rule k → LeastBroken (module_shape «module».now) k) }
 {
-    let spaces = Spaces::new(alloc, module)?;
-    for rule in 1..RULES + 1 {
-        if !keeps(alloc, module, &spaces, rule)? {
-            return Err(ModuleFault::Rule(rule));
-        }
+    let (context, counts) = check_early(alloc, module)?;
+    let mut names = Vec::new(alloc);
+    check_late(&mut names, module, &counts)?;
+    if !rules::segments_valid(module, &counts) {
+        return Err(ModuleFault::Rule(SEGMENTS));
     }
-    Ok(Context::new(alloc, module, spaces)?)
+    Ok(context)
 }

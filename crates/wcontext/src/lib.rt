@@ -4,6 +4,7 @@
 mod check;
 mod constant;
 mod context;
+mod counts;
 mod fault;
 mod imports;
 mod limits;
@@ -15,7 +16,8 @@ mod segments;
 mod spaces;
 mod start;
 
-pub use check::check_module;
+pub use check::{check_early, check_late, check_module};
 pub use context::Context;
+pub use counts::Counts;
 pub use fault::ModuleFault;
 pub use lists::{ListPair, TypeList};

@@ -1,14 +1,18 @@
-ghost use Rattle.std.specs.Prelude.{◌≡◌, ◌↔◌, ◌≢◌, IsTrue, IfOk, AllPairs, length, map};
+ghost use Rattle.std.specs.Prelude.{◌≡◌, ◌↔◌, ◌≢◌, IsTrue, IfOk, OnOk, AllPairs, length, map};
 ghost use Rattle.std.specs.List.{AllAdjacentBelow};
 
-use std::alloc::{AllocError, Global};
+use std::alloc::AllocError;
 use wsyntax::Export;
 
-/// The names of exports, in order.
-fn names_of<'a>(alloc: Global, exports: &[Export<'a>]) -> Result<Vec<&'a [u8]>, AllocError>
-    ensures { IfOk result (λ v. v.items ≡ map (λ e. e.name) exports.now) }
+/// Puts the names of exports, in order, in place of what the list held.
+fn put_names<'a>(names: &mut Vec<&'a [u8]>, exports: &[Export<'a>]) -> Result<(), AllocError>
+    ensures { OnOk result (names.new.items ≡ map (λ e. e.name) exports.now) }
 {
-    exports.iter().map(|export| export.name).collect(alloc)
+    names.clear();
+    for export in exports {
+        names.push(export.name)?;
+    }
+    Ok(())
 }
 
 /// Whether each name differs from the next.
@@ -23,12 +27,15 @@ fn differ_from_next(names: &[&[u8]]) -> bool
     true
 }
 
-/// Whether the names of exports are distinct. The names are sorted, so that the time is near linear in their length
-/// whatever they are.
-pub fn are_distinct(alloc: Global, exports: &[Export<'_>]) -> Result<bool, AllocError>
+/// Whether the names of exports are distinct. The list is room for the names, and what it held is gone. They are
+/// sorted, so that the time is near linear in their length whatever they are.
+pub fn are_distinct<'a>(
+    names: &mut Vec<&'a [u8]>,
+    exports: &[Export<'a>],
+) -> Result<bool, AllocError>
     ensures { IfOk result (λ b. IsTrue b ↔ AllPairs (λ x y. x.name.now ≢ y.name.now) exports.now) }
 {
-    let mut names = names_of(alloc, exports)?;
+    put_names(names, exports)?;
     names.sort_unstable();
-    Ok(differ_from_next(&names))
+    Ok(differ_from_next(names))
 }

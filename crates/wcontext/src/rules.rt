@@ -4,14 +4,16 @@ ghost use Rattle.std.specs.Prelude.{◌↔◌, IsTrue, IfOk};
 ghost use Rattle.wsyntax.specs.Modules.{module_shape};
 ghost use Rattle.wsyntax.specs.Validation.Rules.{ImportsTyped, FunctionsTyped, TablesLimited, MemoriesLimited, OneTable, OneMemory, GlobalsConstant, ExportsExist, ExportsDistinct, StartsPlainly, ElementsValid, SegmentsValid};
 ghost use Rattle.wcontext.specs.Spaces.{AreSpacesOf};
+ghost use Rattle.wcontext.specs.Counted.{AreCountsOf};
 
 use crate::constant::are_constant;
+use crate::counts::Counts;
 use crate::limits::{are_in_order, are_within_pages};
 use crate::names::are_distinct;
-use crate::segments::{are_data_valid, are_elements_valid};
+use crate::segments::are_elements_valid;
 use crate::spaces::Spaces;
 use crate::start::has_empty_type;
-use std::alloc::{AllocError, Global};
+use std::alloc::AllocError;
 use wsyntax::Module;
 
 /// Rule 2: the type of each imported function exists.
@@ -80,18 +82,21 @@ pub fn globals_constant(module: &Module<'_>, spaces: &Spaces) -> bool
 }
 
 /// Rule 9: each exported index exists in its space.
-pub fn exports_exist(module: &Module<'_>, spaces: &Spaces) -> bool
-    requires { AreSpacesOf (module_shape «module».now) spaces.now }
+pub fn exports_exist(module: &Module<'_>, counts: &Counts) -> bool
+    requires { AreCountsOf (module_shape «module».now) counts.now }
     ensures { IsTrue result ↔ ExportsExist (module_shape «module».now) }
 {
-    module.exports.iter().all(|export| (export.index as usize) < spaces.count(export.kind))
+    module.exports.iter().all(|export| (export.index as usize) < counts.count(export.kind))
 }
 
-/// Rule 10: export names are distinct.
-pub fn exports_distinct(alloc: Global, module: &Module<'_>) -> Result<bool, AllocError>
+/// Rule 10: export names are distinct. The list is room for them, and what it held is gone.
+pub fn exports_distinct<'a>(
+    names: &mut Vec<&'a [u8]>,
+    module: &Module<'a>,
+) -> Result<bool, AllocError>
     ensures { IfOk result (λ b. IsTrue b ↔ ExportsDistinct (module_shape «module».now)) }
 {
-    are_distinct(alloc, &module.exports)
+    are_distinct(names, &module.exports)
 }
 
 /// Rule 11: the start function exists and has type `[] -> []`.
@@ -107,26 +112,27 @@ pub fn starts_plainly(module: &Module<'_>, spaces: &Spaces) -> bool
 
 /// Rule 12: of each element segment the table exists, the offset is a constant expression of type i32, the functions
 /// exist.
-pub fn elements_valid(module: &Module<'_>, spaces: &Spaces) -> bool
-    requires { AreSpacesOf (module_shape «module».now) spaces.now }
+pub fn elements_valid(module: &Module<'_>, counts: &Counts) -> bool
+    requires { AreCountsOf (module_shape «module».now) counts.now }
     ensures { IsTrue result ↔ ElementsValid (module_shape «module».now) }
 {
     are_elements_valid(
         &module.elements,
-        spaces.tables.len(),
-        spaces.functions.len(),
-        spaces.constant_globals(),
+        counts.tables,
+        counts.functions,
+        &counts.constant_globals,
     )
 }
 
 /// Rule 13: of each data segment the memory exists, the offset is a constant expression of type i32.
-pub fn segments_valid(module: &Module<'_>, spaces: &Spaces) -> bool
-    requires { AreSpacesOf (module_shape «module».now) spaces.now }
+pub fn segments_valid(module: &Module<'_>, counts: &Counts) -> bool
+    requires { AreCountsOf (module_shape «module».now) counts.now }
     ensures { IsTrue result ↔ SegmentsValid (module_shape «module».now) }
 {
-    are_data_valid(
-        &module.data,
-        spaces.memories.len(),
-        spaces.constant_globals(),
-    )
+    for segment in &module.data {
+        if !counts.takes_segment(segment) {
+            return false;
+        }
+    }
+    true
 }

@@ -1,8 +1,16 @@
-use Rattle.std.proofs.Common.{arith}
+use Rattle.std.proofs.lemmas.Result.{err_from_is_err_and}
+use Rattle.wsyntax.specs.Modules.{module_shape}
+use Rattle.wcontext.proofs.Kept.{none_broken}
 use Rattle.wcontext.proofs.check.check_module.Goals as goal
 
-pub new-requires-2-clause-imports : goal.new-requires-2-clause-imports
-new-requires-2-clause-imports c = c.loop-rule.invariant 2 (omega arith)
+pub returns-in_err-context-clause-broken : goal.returns-in_err-context-clause-broken
+returns-in_err-context-clause-broken c =
+    let p = err_from_is_err_and c.from_residual.result c.from_residual.ensures.1 in rw (p.1, p.2) (λ k is. (c.in_err-context.ensures.broken k is).1)
 
-pub new-requires-2-clause-functions : goal.new-requires-2-clause-functions
-new-requires-2-clause-functions c = c.loop-rule.invariant 3 (omega arith)
+pub returns-in_err-check_late-clause-broken : goal.returns-in_err-check_late-clause-broken
+returns-in_err-check_late-clause-broken c =
+    let p = err_from_is_err_and c.from_residual-in_err-check_late.result c.from_residual-in_err-check_late.ensures.1 in rw (p.1, p.2) (λ k is. (c.in_err-check_late.ensures.broken k is).1)
+
+pub returns-clause-valid : goal.returns-clause-valid
+returns-clause-valid c =
+    none_broken (module_shape c.args.module.now) c.in_ok-check_late.ensures.valid (c.segments_valid.ensures.0 c.if-not-segments_valid.false)

@@ -1,27 +1,24 @@
-use Rattle.std.proofs.Common.{◌≡◌, ◌<◌, length, subst, sym, ◌∙◌}
+use Rattle.std.proofs.Common.{◌<◌, subst, sym, ◌∙◌}
 use Rattle.std.specs.List.{All}
 use Rattle.wsyntax.specs.Modules.{module_shape, element_shape, place_index, place_tokens}
-use Rattle.wsyntax.specs.Validation.ModuleContext.{tables_of, functions_of}
 use Rattle.wsyntax.specs.Validation.Rules.{ConstantOf, ElementValid}
 use Rattle.wsyntax.specs.declared.ValType.TheVariants.{I32}
 use Rattle.wcontext.specs.Segments.{IsElementValid}
-use Rattle.wcontext.proofs.Counts.{imported_is}
 use Rattle.wcontext.proofs.Shapes.{all_shapes_by}
 use Rattle.wcontext.proofs.rules.elements_valid.Goals as goal
 
 pub returns : goal.returns
 returns c =
-    let known = c.constant_globals.ensures ∙ imported_is c.requires in
-    let tables : c.len.result ≡ length (tables_of (module_shape c.args.module.now)) = cc in
-    let functions : c.len-2.result ≡ length (functions_of (module_shape c.args.module.now)) = cc in
+    let are = c.requires in
+    let known = c.deref.ensures.value ∙ are.constants in
     all_shapes_by element_shape (ElementValid (module_shape c.args.module.now))
-    (IsElementValid c.len.result c.len-2.result c.constant_globals.result.now)
+    (IsElementValid c.args.counts.now.tables c.args.counts.now.functions c.deref.result.now)
     c.args.module.now.elements
     _
     (λ s is. record {
-      in_table = subst (λ n. place_index s.place < n) tables is.0;
+      in_table = subst (λ n. place_index s.place < n) are.tables is.0;
       constant = subst (λ gs. ConstantOf gs I32 (place_tokens s.place)) known is.1;
-      functions = subst (λ n. All (λ f. f < n) s.functions) functions is.2;
+      functions = subst (λ n. All (λ f. f < n) s.functions) are.functions is.2;
     })
-    (λ s is. (subst (λ n. place_index s.place < n) (sym tables) is.in_table, subst (λ gs. ConstantOf gs I32 (place_tokens s.place)) (sym known) is.constant, subst (λ n. All (λ f. f < n) s.functions) (sym functions) is.functions))
+    (λ s is. (subst (λ n. place_index s.place < n) (sym are.tables) is.in_table, subst (λ gs. ConstantOf gs I32 (place_tokens s.place)) (sym known) is.constant, subst (λ n. All (λ f. f < n) s.functions) (sym are.functions) is.functions))
     c.are_elements_valid.ensures

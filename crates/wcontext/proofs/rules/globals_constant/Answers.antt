@@ -3,7 +3,7 @@ use Rattle.wsyntax.specs.Modules.{module_shape, global_shape, initial_tokens}
 use Rattle.wsyntax.specs.Validation.ModuleContext.{imported_globals}
 use Rattle.wsyntax.specs.Validation.Rules.{ConstantOf}
 use Rattle.wcontext.specs.Segments.{IsGlobalConstant}
-use Rattle.wcontext.proofs.Counts.{imported_is}
+use Rattle.wcontext.proofs.Counted.{imported_is}
 use Rattle.wcontext.proofs.Shapes.{all_shapes_of}
 use Rattle.wcontext.proofs.rules.globals_constant.Goals as goal
 

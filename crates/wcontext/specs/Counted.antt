@@ -1,0 +1,29 @@
+-- 2.5.1 How much the index spaces of a module hold, and 3.4 what is asked by it.
+use Rattle.std.specs.Prelude.{◌≡◌, ◌↔◌, ℕ, ◌<◌, length, IsTrue}
+use Rattle.wsyntax.specs.Modules.{ModuleShape, DataShape}
+use Rattle.wsyntax.specs.Validation.ModuleContext.{imported_globals, functions_of, tables_of, memories_of, globals_of}
+use Rattle.wsyntax.specs.Validation.Rules.{ConstantOf, StartsPlainly}
+use Rattle.wsyntax.specs.declared.ValType.TheVariants.{I32}
+use Rattle.wsyntax.specs.declared.ExportKind.{ExportKind}
+use Rattle.wsyntax.specs.declared.ExportKind.TheVariants.{Function, Table, Memory, Global}
+use Rattle.wcontext.specs.declared.counts.Counts.{Counts}
+
+-- they are the counts of that module
+pub record AreCountsOf (m : ModuleShape) (c : Counts) : Type 0 where
+  pub functions : c.functions ≡ length (functions_of m)
+  pub tables : c.tables ≡ length (tables_of m)
+  pub memories : c.memories ≡ length (memories_of m)
+  pub globals : c.globals ≡ length (globals_of m)
+  pub constants : c.constant_globals.items ≡ imported_globals m
+  pub start : IsTrue c.starts_plainly ↔ StartsPlainly m
+
+-- the number of items in the space of that kind
+abbrev pub counted : Counts → ExportKind → ℕ
+counted c Function = c.functions
+counted c Table = c.tables
+counted c Memory = c.memories
+counted c Global = c.globals
+
+-- 3.4.6 the segment's memory exists, its offset is a constant expression of type i32
+abbrev pub IsSegmentValid : Counts → DataShape → Type 0
+IsSegmentValid c s = (s.memory < c.memories) × ConstantOf c.constant_globals.items I32 s.offset

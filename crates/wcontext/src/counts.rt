@@ -1,0 +1,67 @@
+use crate::constant::is_offset;
+use crate::rules::starts_plainly;
+use crate::spaces::Spaces;
+use std::alloc::{AllocError, Global};
+use wsyntax::{Data, ExportKind, GlobalType, Module};
+
+/// How much each index space of a module holds (2.5.1), and what else its exports, its start function and its segments
+/// are looked at by. It does not borrow the module.
+#[derive(Debug, Drop)]
+pub struct Counts {
+    pub(crate) functions: usize,
+    pub(crate) tables: usize,
+    memories: usize,
+    globals: usize,
+    /// The types of the imported globals, which alone a constant expression may read.
+    pub(crate) constant_globals: Vec<GlobalType>,
+    /// Whether the start function, where there is one, exists and has type `[] -> []` (3.4.7).
+    pub(crate) starts_plainly: bool,
+}
+
+impl Counts {
+    ghost use Rattle.std.specs.Prelude.{◌≡◌, ◌↔◌, IsTrue, IfOk};
+    ghost use Rattle.wsyntax.specs.Modules.{module_shape, data_shape};
+    ghost use Rattle.wsyntax.specs.Validation.Rules.{StartsPlainly};
+    ghost use Rattle.wcontext.specs.Spaces.{AreSpacesOf};
+    ghost use Rattle.wcontext.specs.Counted.{AreCountsOf, IsSegmentValid, counted};
+
+    /// How much the index spaces of that module hold.
+    pub(crate) fn of(
+        alloc: Global,
+        module: &Module<'_>,
+        spaces: &Spaces,
+    ) -> Result<Counts, AllocError>
+        requires { AreSpacesOf (module_shape «module».now) spaces.now }
+        ensures { IfOk result (AreCountsOf (module_shape «module».now)) }
+    {
+        Ok(Counts {
+            functions: spaces.functions.len(),
+            tables: spaces.tables.len(),
+            memories: spaces.memories.len(),
+            globals: spaces.globals.len(),
+            constant_globals: spaces.constant_globals().to_vec(alloc)?,
+            starts_plainly: starts_plainly(module, spaces),
+        })
+    }
+
+    /// The number of items in the space of that kind.
+    pub(crate) fn count(&self, kind: ExportKind) -> usize
+        ensures { result ≡ counted self.now kind }
+    {
+        match kind {
+            ExportKind::Function => self.functions,
+            ExportKind::Table => self.tables,
+            ExportKind::Memory => self.memories,
+            ExportKind::Global => self.globals,
+        }
+    }
+
+    /// Whether a data segment is valid (3.4.6), as rule 13 asks of each.
+    #[inline(always)]
+    pub fn takes_segment(&self, segment: &Data<'_>) -> bool
+        ensures { IsTrue result ↔ IsSegmentValid self.now (data_shape segment.now) }
+    {
+        (segment.place.index() as usize) < self.memories
+            && is_offset(&segment.place, &self.constant_globals)
+    }
+}
