@@ -90,12 +90,15 @@ first_stop C i j bodies place c is lt e before = (
 at_most : (a b : ℕ) → (a < b → ⊥) → b ≤ a
 at_most a b never = omega (arith, never)
 
--- a module that is decoded is within the limit
-pub decoded : {T : Type 0} (bytes : List ℕ) (m : ModuleShape) (x : T) → Shell bytes m → (IsErrOf {T = T} (Ok x) decoding.TooLarge ↔ (module_limit < length bytes)) → IsModule bytes m
-decoded {T} bytes m x s large = record { small = at_most module_limit (length bytes) (λ lt. fault (large.1 lt)); shell = s }
+-- what is decoded is within the limit
+pub within_limit : {T : Type 0} (bytes : List ℕ) (x : T) → (IsErrOf {T = T} (Ok x) decoding.TooLarge ↔ (module_limit < length bytes)) → length bytes ≤ module_limit
+within_limit {T} bytes x large = at_most module_limit (length bytes) (λ lt. fault (large.1 lt))
   where
     fault : IsErrOf {T = T} (Ok x) decoding.TooLarge → ⊥
     fault e = cc
+
+pub decoded : {T : Type 0} (bytes : List ℕ) (m : ModuleShape) (x : T) → Shell bytes m → (IsErrOf {T = T} (Ok x) decoding.TooLarge ↔ (module_limit < length bytes)) → IsModule bytes m
+decoded bytes m x s large = record { small = within_limit bytes x large; shell = s }
 
 -- a module that is not decoded
 pub not_decoded : {T : Type 0} (bytes : List ℕ) (e : DecodeFault) → (IsErrOf {T = T} (Err e) decoding.Malformed → (m : ModuleShape) → Shell bytes m → ⊥) → (IsErrOf {T = T} (Err e) decoding.TooLarge ↔ (module_limit < length bytes)) → IfSome (verdict_of (of_decoding e)) (IsVerdict bytes)

@@ -4,10 +4,9 @@ use Rattle.std.specs.Prelude.{option_map}
 use Rattle.std.specs.Int.{div_ceil}
 use Rattle.std.proofs.Math.Nat.{div-mul-le_self, mul-le-mul_right, suc-mul, lt-div-mul-add, div-lt_iff_lt-mul}
 use Rattle.std.proofs.lemmas.Grind.{div_ceil_times}
-use Rattle.std.proofs.lemmas.Option.{slice_get_cases, slice_get-map, slice_get-get_or}
+use Rattle.std.proofs.lemmas.Option.{slice_get-map, slice_get-get_or}
 use mathlib.Core.Logic.{dite}
 use native.Mathlib.Decide.{dec_lt}
-use Rattle.pieces.specs.TryAll.{AllPass}
 use Rattle.wsyntax.specs.Validation.Context.{Context}
 use Rattle.verdict.specs.declared.refusal.Refusal.TheVariants.{Body}
 use Rattle.verdict.specs.declared.refused_body.RefusedBody.{RefusedBody}
@@ -39,18 +38,11 @@ group_below n size k some below =
 -- ---- the run over all groups
 
 -- each group passes, so each body does
-pub groups_pass : {O : Type 0} (gives : ℕ → O → Type 0) (C : Context) (i j : ℕ) (bodies : List (List ℕ)) (size n m : ℕ) (outs : List O) → j ≡ i → 0 < size → length bodies ≡ n → m ≡ div_ceil n size → AllPass m (GroupPasses C j bodies size) gives outs → PassBefore C i bodies n
-groups_pass gives C i j bodies size n m outs is some count groups all k lt =
-    elim (slice_get_cases outs (k / size)).1 [
-      | inl h ↦
-          ap (λ (x : ℕ). class_at C x bodies k) (sym is)
-          ∙ (all.each (k / size) h.0 h.2).0 k (in_group (length bodies) size k some (omega arith))
-      | inr h ↦
-          let len : length outs ≡ m = all.len in
-          let past : length outs ≤ k / size = h.0 in
-          let below : k / size < div_ceil n size = group_below n size k some lt in
-          absurd (omega arith)
-    ]
+pub groups_pass : (C : Context) (i j : ℕ) (bodies : List (List ℕ)) (size n m : ℕ) → j ≡ i → 0 < size → length bodies ≡ n → m ≡ div_ceil n size → ((g : ℕ) → g < m → GroupPasses C j bodies size g) → PassBefore C i bodies n
+groups_pass C i j bodies size n m is some count groups all k lt =
+    let below : k / size < div_ceil n size = group_below n size k some lt in
+    ap (λ (x : ℕ). class_at C x bodies k) (sym is)
+    ∙ all (k / size) (omega arith) k (in_group (length bodies) size k some (omega arith))
 
 -- the bodies before the first refused one of the first refused group
 pass_before : (C : Context) (j : ℕ) (bodies : List (List ℕ)) (size g : ℕ) (r : RefusedBody) → 0 < size → IsFirstOfGroup C j bodies size g r → ((h : ℕ) → h < g → GroupPasses C j bodies size h) → PassBefore C j bodies r.place

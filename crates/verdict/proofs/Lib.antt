@@ -5,6 +5,8 @@ pub mod SegmentBytes
 pub mod Bodies
 pub mod Firsts
 pub mod Groups
+pub mod Rests
+pub mod Parts
 pub mod OnePass
 pub mod WholeBodies
 pub mod Checks

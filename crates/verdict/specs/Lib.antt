@@ -1,6 +1,7 @@
 pub mod Refusals
 pub mod Judged
 pub mod Groups
+pub mod Parts
 pub mod OnePass
 pub mod WholeBodies
 pub mod Laws

@@ -1,23 +1,27 @@
-ghost use Rattle.std.specs.Prelude.{◌≡◌, ◌+◌, ◌<◌, ◌^◌, ℕ, MatchResult, IfOk, IfSome, All, length, map, vec_len};
+ghost use Rattle.std.specs.Prelude.{◌≡◌, ◌+◌, MatchResult, IfOk, IfSome, All, length, vec_len};
+ghost use Rattle.wsyntax.specs.Modules.{module_shape};
 ghost use Rattle.wsyntax.specs.Validation.Verdict.{IsVerdict, Accepted};
-ghost use Rattle.verdict.specs.Judged.{PassBefore, IsFirstBody};
+ghost use Rattle.verdict.specs.Judged.{PassBefore};
+ghost use Rattle.verdict.specs.Parts.{RestPasses, IsFirstPart, FitsIn, refusal_for, IsEarly};
 ghost use Rattle.verdict.specs.Refusals.{verdict_of};
 
-use crate::jobs::GroupedBodies;
+use crate::jobs::{GroupedBodies, PartFault, Parts};
 use crate::passing::Scratch;
 use crate::refusal::Refusal;
+use crate::rest::{Rest, RestFault};
 use pieces::{Plan, TryFault, Watch, try_all};
 use soundness::validation::{accepted_is_typed, refused_at_first_fault};
 use std::alloc::{AllocError, Global};
 use std::sync::Wait;
 use std::thread::Threads;
-use wcontext::{Context, check_module};
-use wdecode::{decode_module, grammar_is_read};
+use wcontext::{Context, ModuleFault, check_early};
+use wdecode::{Fault, Front, decode_front, grammar_is_read, shells_are_determined};
 
 /// A scratch for each worker.
 fn new_scratches<'a>(
     alloc: Global,
     context: &'a Context,
+    exports: usize,
     workers: u32,
 ) -> Result<Vec<Scratch<'a>>, AllocError>
     ensures count { IfOk result (λ v. vec_len v ≡ workers) }
@@ -25,7 +29,7 @@ fn new_scratches<'a>(
 {
     let mut scratches = Vec::new(alloc);
     for _ in 0..workers {
-        let scratch = Scratch::new(alloc, context)?;
+        let scratch = Scratch::new(alloc, context, exports)?;
         scratches.push(scratch)?;
     }
     Ok(scratches)
@@ -45,44 +49,83 @@ fn grouping(plan: Plan, bodies: u32, bytes: usize) -> Plan
     plan.grouping(bodies, wanted.min(bytes / SHORTEST_GROUP) as u32)
 }
 
-/// Judges the bodies of a module of so many bytes in groups, up to the first that is refused.
-fn examine_bodies<R: Threads + Wait + Sync, W: Watch + Sync>(
+/// More functions than any module has that is not too large.
+const MOST_FUNCTIONS: usize = u32::MAX as usize;
+
+/// The plan itself, or that of one worker where there is one group at most: to start threads for less takes longer.
+fn narrowed(plan: Plan, groups: u32) -> Plan {
+    match Plan::new(1, 1) {
+        Some(alone) if groups < 2 => alone,
+        _ => plan,
+    }
+}
+
+/// The refusal of a part.
+fn refusal_of(fault: PartFault, imported: u32) -> Refusal
+    requires { FitsIn imported fault }
+    ensures { result ≡ refusal_for imported fault }
+{
+    match fault {
+        PartFault::Rest(RestFault::Malformed) => Refusal::Malformed,
+        PartFault::Rest(RestFault::Rule(rule)) => Refusal::Rule(rule),
+        PartFault::Body(body) => Refusal::Body {
+            func: imported + body.place,
+            class: body.class,
+        },
+    }
+}
+
+/// Judges the parts of a module of so many bytes, up to the first that is refused.
+fn examine_parts<'a, R: Threads + Wait + Sync, W: Watch + Sync>(
     rt: &R,
     alloc: Global,
-    context: &Context,
-    bodies: &[&[u8]],
+    rest: Rest<'a>,
+    context: &'a Context,
     bytes: usize,
     plan: Plan,
-    watch: &W,
+    watch: &'a W,
 ) -> Result<(), Refusal>
-    requires each_has_type { context.now.imported + length bodies.now ≡ length context.now.context.functions }
-    requires few { context.now.imported + length bodies.now < 2 ^ 32 }
+    requires each_has_type { context.now.imported + length (module_shape rest.front.now.module).bodies ≡ length context.now.context.functions }
     ensures { MatchResult result
-        (λ _. PassBefore context.now.context context.now.imported (map (λ b. b.now) bodies.now) (length bodies.now))
-        (IsFirstBody context.now.context context.now.imported (map (λ b. b.now) bodies.now)) }
+        (λ _. RestPasses rest.front.now × PassBefore context.now.context context.now.imported (module_shape rest.front.now.module).bodies (length (module_shape rest.front.now.module).bodies))
+        (IsFirstPart rest.front.now context.now.context context.now.imported (module_shape rest.front.now.module).bodies) }
 {
-    let Ok(scratches) = new_scratches(alloc, context, plan.workers()) else {
+    if context.function_count() >= MOST_FUNCTIONS {
+        return Err(Refusal::Memory);
+    }
+    let module = &rest.front.module;
+    let plan = grouping(plan, module.bodies.len() as u32, bytes);
+    let size = plan.piece();
+    let groups = plan.count_groups(module.bodies.len() as u32);
+    let plan = narrowed(plan.one_group_each(), groups);
+    let Ok(scratches) = new_scratches(alloc, context, module.exports.len(), plan.workers()) else {
         return Err(Refusal::Memory);
     };
     let imported = context.imported_functions() as u32;
-    let plan = grouping(plan, bodies.len() as u32, bytes);
-    let size = plan.piece();
-    let job = GroupedBodies {
+    let bodies = GroupedBodies {
         alloc,
         context,
-        bodies,
+        bodies: &module.bodies,
         imported,
         size,
         watch,
     };
-    let groups = plan.count_groups(bodies.len() as u32);
-    match try_all(rt, alloc, &job, scratches, groups, plan.one_group_each()) {
+    let parts = Parts { rest, bodies };
+    match try_all(rt, alloc, &parts, scratches, groups + 1, plan) {
         Ok(_) => Ok(()),
-        Err(TryFault::Stopped { fault, .. }) => Err(Refusal::Body {
-            func: imported + fault.place,
-            class: fault.class,
-        }),
+        Err(TryFault::Stopped { fault, .. }) => Err(refusal_of(fault, imported)),
         Err(TryFault::Memory) => Err(Refusal::Memory),
+    }
+}
+
+/// The refusal of a module that breaks an early rule. That its bytes spell no module goes before.
+fn refused_early(alloc: Global, front: Front<'_>, fault: ModuleFault) -> Refusal
+    ensures { IsEarly front fault result }
+{
+    match front.whole(alloc) {
+        Ok(_) => fault.into(),
+        Err(Fault::Malformed) => Refusal::Malformed,
+        Err(Fault::Memory) => Refusal::Memory,
     }
 }
 
@@ -99,15 +142,15 @@ pub fn examine<R: Threads + Wait + Sync, W: Watch + Sync>(
     grammar_is_read();
     accepted_is_typed();
     refused_at_first_fault();
-    let module = decode_module(alloc, bytes)?;
-    let context = check_module(alloc, &module)?;
-    examine_bodies(
-        rt,
-        alloc,
-        &context,
-        &module.bodies,
-        bytes.len(),
-        plan,
-        watch,
-    )
+    shells_are_determined();
+    let front = decode_front(alloc, bytes)?;
+    let (context, counts) = match check_early(alloc, &front.module) {
+        Ok(both) => both,
+        Err(fault) => return Err(refused_early(alloc, front, fault)),
+    };
+    let rest = Rest {
+        front: &front,
+        counts: &counts,
+    };
+    examine_parts(rt, alloc, rest, &context, bytes.len(), plan, watch)
 }

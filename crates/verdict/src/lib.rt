@@ -11,6 +11,7 @@ mod laws;
 mod passing;
 mod refusal;
 mod refused_body;
+mod rest;
 
 pub use accepted::Accepted;
 pub use examining::examine;

@@ -20,6 +20,8 @@ pub(crate) struct Scratch<'a> {
     runs: Vec<LocalRun>,
     /// The labels of the branch table at hand.
     pub(crate) targets: Vec<u32>,
+    /// Room for the names of exports.
+    pub(crate) names: Vec<&'a [u8]>,
 }
 
 /// How many runs of locals ordinary bodies have, at most.
@@ -28,9 +30,16 @@ const FEW_RUNS: usize = 64;
 /// How many labels their branch tables have.
 const FEW_LABELS: usize = 2_048;
 
+/// How many exports ordinary modules have, at most.
+const FEW_NAMES: usize = 4_096;
+
 impl<'a> Scratch<'a> {
-    /// One with room for ordinary bodies, so that they ask for no memory.
-    pub(crate) fn new(alloc: Global, context: &'a Context) -> Result<Self, AllocError>
+    /// One with room for ordinary bodies and for so many exports, so that they ask for no memory.
+    pub(crate) fn new(
+        alloc: Global,
+        context: &'a Context,
+        exports: usize,
+    ) -> Result<Self, AllocError>
         ensures { IfOk result (λ s. s.checker.outside ≡ context.now.context) }
     {
         let mut checker = Checker::new(alloc, context);
@@ -39,6 +48,7 @@ impl<'a> Scratch<'a> {
             checker,
             runs: Vec::with_capacity(alloc, FEW_RUNS)?,
             targets: Vec::with_capacity(alloc, FEW_LABELS)?,
+            names: Vec::with_capacity(alloc, exports.min(FEW_NAMES))?,
         })
     }
 

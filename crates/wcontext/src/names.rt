@@ -9,6 +9,7 @@ fn put_names<'a>(names: &mut Vec<&'a [u8]>, exports: &[Export<'a>]) -> Result<()
     ensures { OnOk result (names.new.items ≡ map (λ e. e.name) exports.now) }
 {
     names.clear();
+    names.reserve_exact(exports.len())?;
     for export in exports {
         names.push(export.name)?;
     }

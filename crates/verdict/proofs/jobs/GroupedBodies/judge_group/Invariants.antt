@@ -1,6 +1,6 @@
 use Rattle.std.proofs.Common.{◌≡◌, ℕ, ◌<◌, ◌≤◌, None, map}
 use Rattle.verdict.specs.Judged.{class_at}
-use Rattle.verdict.proofs.jobs.GroupedBodiesJob.run.Given as goal
+use Rattle.verdict.proofs.jobs.GroupedBodies.judge_group.Given as goal
 
 abbrev pub invariant-loop-place : goal.invariant-loop-place
 invariant-loop-place g l = record {

@@ -1,7 +1,7 @@
 use Rattle.std.proofs.Common.{◌≡◌, ◌<◌, ◌∙◌, None, length, map, arith}
 use Rattle.verdict.specs.Judged.{class_at}
 use Rattle.verdict.proofs.Groups.{accepted_at, one_more}
-use Rattle.verdict.proofs.jobs.GroupedBodiesJob.run.Goals as goal
+use Rattle.verdict.proofs.jobs.GroupedBodies.judge_group.Goals as goal
 
 pub loop-place-preserved : goal.loop-place-preserved
 loop-place-preserved g c =

@@ -1,0 +1,113 @@
+-- The parts of a module that workers judge: first what is left of it once its bodies can be judged, and then its bodies in groups.
+use Rattle.std.specs.Prelude.{◌≡◌, ◌+◌, ◌<◌, ◌^◌, ℕ, zero, suc, List, refl}
+use Rattle.std.proofs.Common.{sym, ap, subst, arith, inl, inr}
+use Rattle.std.proofs.lemmas.Bool.{cases_lt}
+use Rattle.wsyntax.specs.Modules.{ModuleShape, DataShape, module_shape}
+use Rattle.wsyntax.specs.Validation.Context.{Context}
+use Rattle.wsyntax.specs.Validation.Rules.{Keeps, NoneBroken, LeastBroken}
+use Rattle.wcontext.specs.declared.fault.ModuleFault.{ModuleFault}
+use Rattle.wcontext.specs.declared.fault.ModuleFault.TheVariants as rules
+use Rattle.wdecode.specs.declared.front.Front.{Front}
+use Rattle.wdecode.specs.Fronts.{EndsFront, with_segments}
+use Rattle.verdict.specs.declared.refusal.Refusal.{Refusal}
+use Rattle.verdict.specs.declared.refusal.Refusal.TheVariants as refusal
+use Rattle.verdict.specs.declared.rest.RestFault.{RestFault}
+use Rattle.verdict.specs.declared.rest.RestFault.TheVariants.{Malformed, Rule}
+use Rattle.verdict.specs.declared.jobs.PartFault.{PartFault}
+use Rattle.verdict.specs.declared.jobs.PartFault.TheVariants as part
+use Rattle.verdict.specs.declared.refused_body.RefusedBody.{RefusedBody}
+use Rattle.verdict.specs.Judged.{IsFirstBody}
+use Rattle.verdict.specs.Groups.{GroupPasses, IsFirstOfGroup, passes_or_refused, one_first}
+
+-- the module whose front it is: the same, with the data segments that end it
+abbrev pub IsWhole : Front → ModuleShape → Type 0
+IsWhole f m = (segments : List DataShape) × EndsFront f segments × (m ≡ with_segments (module_shape f.module) segments)
+
+-- there is one at most
+abbrev pub OneWhole : Front → Type 0
+OneWhole f = (m n : ModuleShape) → IsWhole f m → IsWhole f n → m ≡ n
+
+-- it is a module, and keeps all rules
+abbrev pub RestPasses : Front → Type 0
+RestPasses f = (m : ModuleShape) × IsWhole f m × NoneBroken m
+
+-- it is none, or that is the least rule that it breaks
+abbrev pub RestRefused : Front → RestFault → Type 0
+RestRefused f Malformed = (m : ModuleShape) → IsWhole f m → ⊥
+RestRefused f (Rule k) = (m : ModuleShape) × IsWhole f m × LeastBroken m k
+
+-- part 0 is the rest, and part g + 1 is group g of the bodies
+abbrev pub PartPasses : Front → Context → ℕ → List (List ℕ) → ℕ → ℕ → Type 0
+PartPasses f C imported bodies size zero = RestPasses f
+PartPasses f C imported bodies size (suc g) = GroupPasses C imported bodies size g
+
+abbrev pub PartRefused : Front → Context → ℕ → List (List ℕ) → ℕ → ℕ → PartFault → Type 0
+PartRefused f C imported bodies size zero (part.Rest r) = RestRefused f r
+PartRefused f C imported bodies size zero (part.Body r) = ⊥
+PartRefused f C imported bodies size (suc g) (part.Rest r) = ⊥
+PartRefused f C imported bodies size (suc g) (part.Body r) = IsFirstOfGroup C imported bodies size g r
+
+-- the refusal is that of the rest, or the rest passes and it is that of the first body that is refused
+abbrev pub IsFirstPart : Front → Context → ℕ → List (List ℕ) → Refusal → Type 0
+IsFirstPart f C imported bodies refusal.Malformed = RestRefused f Malformed
+IsFirstPart f C imported bodies (refusal.Rule k) = RestRefused f (Rule k)
+IsFirstPart f C imported bodies (refusal.Body func c) = RestPasses f × IsFirstBody C imported bodies (refusal.Body func c)
+IsFirstPart f C imported bodies refusal.Memory = Unit {0}
+IsFirstPart f C imported bodies refusal.TooLarge = ⊥
+
+-- the refusal of a part
+abbrev pub refusal_for : ℕ → PartFault → Refusal
+refusal_for imported (part.Rest Malformed) = refusal.Malformed
+refusal_for imported (part.Rest (Rule k)) = refusal.Rule k
+refusal_for imported (part.Body r) = refusal.Body (imported + r.place) r.class
+
+-- the function's index is a number of 32 bits
+abbrev pub FitsIn : ℕ → PartFault → Type 0
+FitsIn imported (part.Rest r) = Unit {0}
+FitsIn imported (part.Body r) = imported + r.place < 2 ^ 32
+
+-- where an early rule is broken: that of the rule, or, since that goes before, that the front is that of no module
+abbrev pub IsEarly : Front → ModuleFault → Refusal → Type 0
+IsEarly f e refusal.Malformed = RestRefused f Malformed
+IsEarly f e (refusal.Rule k) = (e ≡ rules.Rule k) × (m : ModuleShape) × IsWhole f m
+IsEarly f e refusal.Memory = Unit {0}
+IsEarly f e refusal.TooLarge = ⊥
+IsEarly f e (refusal.Body func c) = ⊥
+
+-- ---- no part both passes and is refused, nor is refused for two reasons
+
+kept : (f : Front) (k : ℕ) → OneWhole f → RestPasses f → RestRefused f (Rule k) → ⊥
+kept f k one p r = r.2.broken (subst (λ (m : ModuleShape). Keeps m k) (one p.0 r.0 p.1 r.1) (p.2 k))
+
+rest_passes_or_refused : (f : Front) (r : RestFault) → OneWhole f → RestPasses f → RestRefused f r → ⊥
+rest_passes_or_refused f Malformed one p r = r p.0 p.1
+rest_passes_or_refused f (Rule k) one p r = kept f k one p r
+
+not_sooner : (f : Front) (j k : ℕ) → OneWhole f → RestRefused f (Rule j) → RestRefused f (Rule k) → j < k → ⊥
+not_sooner f j k one r s lt = r.2.broken (subst (λ (m : ModuleShape). Keeps m j) (one s.0 r.0 s.1 r.1) (s.2.before j lt))
+
+one_rest : (f : Front) (r s : RestFault) → OneWhole f → RestRefused f r → RestRefused f s → r ≡ s
+one_rest f Malformed Malformed one r s = refl
+one_rest f Malformed (Rule k) one r s = absurd (r s.0 s.1)
+one_rest f (Rule j) Malformed one r s = absurd (s r.0 r.1)
+one_rest f (Rule j) (Rule k) one r s =
+    elim (cases_lt j k) [
+      | inl h ↦ absurd (not_sooner f j k one r s h)
+      | inr h ↦ elim (cases_lt k j) [ inl l ↦ absurd (not_sooner f k j one s r l) | inr l ↦ ap Rule (let same : j ≡ k = omega arith in same) ]
+    ]
+
+pub part_passes_or_refused : (f : Front) (C : Context) (imported : ℕ) (bodies : List (List ℕ)) (size i : ℕ) (r : PartFault) → OneWhole f → PartPasses f C imported bodies size i → PartRefused f C imported bodies size i r → ⊥
+part_passes_or_refused f C imported bodies size zero (part.Rest r) one p h = rest_passes_or_refused f r one p h
+part_passes_or_refused f C imported bodies size zero (part.Body r) one p h = h
+part_passes_or_refused f C imported bodies size (suc g) (part.Rest r) one p h = h
+part_passes_or_refused f C imported bodies size (suc g) (part.Body r) one p h = passes_or_refused C imported bodies size g r p h
+
+pub one_part : (f : Front) (C : Context) (imported : ℕ) (bodies : List (List ℕ)) (size i : ℕ) (r s : PartFault) → OneWhole f → PartRefused f C imported bodies size i r → PartRefused f C imported bodies size i s → r ≡ s
+one_part f C imported bodies size zero (part.Rest r) (part.Rest s) one a b = ap part.Rest (one_rest f r s one a b)
+one_part f C imported bodies size zero (part.Rest r) (part.Body s) one a b = absurd b
+one_part f C imported bodies size zero (part.Body r) (part.Rest s) one a b = absurd a
+one_part f C imported bodies size zero (part.Body r) (part.Body s) one a b = absurd a
+one_part f C imported bodies size (suc g) (part.Rest r) (part.Rest s) one a b = absurd a
+one_part f C imported bodies size (suc g) (part.Rest r) (part.Body s) one a b = absurd a
+one_part f C imported bodies size (suc g) (part.Body r) (part.Rest s) one a b = absurd b
+one_part f C imported bodies size (suc g) (part.Body r) (part.Body s) one a b = ap part.Body (one_first C imported bodies size g r s a b)
