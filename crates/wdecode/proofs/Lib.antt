@@ -9,6 +9,7 @@ pub mod Targets
 pub mod FlatLoop
 pub mod SectionLaws
 pub mod SectionList
+pub mod FrontLaws
 pub mod OneTreeLaws
 pub mod Determined
 pub mod Closed

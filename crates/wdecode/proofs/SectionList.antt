@@ -109,14 +109,14 @@ followed_list : (t : Bool) (r : Option (List ℕ)) (y : List ℕ) → cond t r N
 followed_list true r y e = (refl, e)
 followed_list false r y e = absurd cc
 
-strip_sound : (h bytes tail : List ℕ) → strip h bytes ≡ Some tail → bytes ≡ h ++ tail
+pub strip_sound : (h bytes tail : List ℕ) → strip h bytes ≡ Some tail → bytes ≡ h ++ tail
 strip_sound [] bytes tail e = list_same bytes tail e
 strip_sound (h ∷ hs) [] tail e = absurd cc
 strip_sound (h ∷ hs) (b ∷ bs) tail e =
     let g = followed_list (eqb b h) (strip hs bs) tail e in
     ap (λ (x : ℕ). x ∷ bs) (eqb-true b h g.0) ∙ ap (λ (r : List ℕ). h ∷ r) (strip_sound hs bs tail g.1)
 
-strip_complete : (h tail : List ℕ) → strip h (h ++ tail) ≡ Some tail
+pub strip_complete : (h tail : List ℕ) → strip h (h ++ tail) ≡ Some tail
 strip_complete [] tail = refl
 strip_complete (h ∷ hs) tail = rw (eq-eqb h h refl) (strip_complete hs tail)
 

@@ -6,11 +6,13 @@ mod body;
 mod elements;
 mod fault;
 mod frequent;
+mod front;
 mod initial;
 mod instructions;
 mod laws;
 mod module;
 mod pushing;
+mod rule;
 mod section;
 mod sections;
 mod types;
@@ -22,9 +24,11 @@ pub use frequent::{
     branch_at, call_at, constant_at, jump_at, load_at, long_constant_at, numeric_at, opening_at,
     store_at, variable_at,
 };
+pub use front::Front;
 pub use instructions::{enter, expression_at, token_at};
 pub use laws::{
     bodies_are_determined, grammar_is_read, modules_are_determined, shells_are_determined,
     tokens_have_one_tree,
 };
-pub use module::decode_module;
+pub use module::{decode_front, decode_module};
+pub use rule::SegmentRule;

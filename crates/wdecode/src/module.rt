@@ -1,10 +1,11 @@
-ghost use Rattle.std.specs.Prelude.{◌≡◌, ◌≤◌, ◌<◌, length, ◌↔◌, IfOk, IsErrOf, Option, option_map};
-ghost use Rattle.wdecode.specs.Gives.{Gives};
+ghost use Rattle.std.specs.Prelude.{◌≡◌, ◌≤◌, ◌<◌, true, List, length, ◌↔◌, IfOk, IsErrOf, option_map};
 ghost use Rattle.wdecode.specs.Held.{section_shape};
-ghost use Rattle.wsyntax.specs.Modules.{ModuleShape, module_shape};
-ghost use Rattle.wsyntax.specs.Binary.Shell.{rank as rank_of, put as put_section, sections_at as sections_of, empty_module as empty_shape, shell_of, strip, header, Shell, module_limit};
+ghost use Rattle.wdecode.specs.Fronts.{with_segments, EndsAs, EndsFront, EndsProgress, IsEarly, stops};
+ghost use Rattle.wsyntax.specs.Modules.{ModuleShape, DataShape, module_shape};
+ghost use Rattle.wsyntax.specs.Binary.Shell.{rank as rank_of, put as put_section, empty_module as empty_shape, strip, header, Shell, module_limit};
 
 use crate::fault::{DecodeFault, Fault};
+use crate::front::Front;
 use crate::section::{Section, section_at};
 use std::alloc::Global as Alloc;
 use wsyntax::{MODULE_LIMIT, Module};
@@ -52,14 +53,43 @@ fn put<'a>(whole: Module<'a>, section: Section<'a>) -> Module<'a>
     }
 }
 
-/// Sections up to the end of the bytes, in order.
-fn sections_at(alloc: Alloc, bytes: &[u8]) -> Result<Module<'_>, Fault>
-    ensures { Gives module_shape result (sections_of (length bytes.now) 0 empty_shape bytes.now) }
+/// What the sections up to some place say.
+#[derive(Drop)]
+pub(crate) struct Progress<'a> {
+    pub(crate) module: Module<'a>,
+    /// The id of the last section, custom ones aside.
+    pub(crate) last: u8,
+    /// The bytes behind them.
+    pub(crate) rest: &'a [u8],
+}
+
+/// Whether no section is left to be read, or that of the data segments is next and not wanted.
+fn is_over(rest: &[u8], before_segments: bool) -> bool
+    ensures { result ≡ stops before_segments rest.now }
 {
-    let mut module = Module::empty(alloc);
-    let mut last = 0;
-    let mut rest = bytes;
-    'each: while !rest.is_empty() {
+    match rest {
+        [] => true,
+        [id, ..] => before_segments && *id == 11,
+    }
+}
+
+/// Reads sections, in order: up to the end of the bytes, or only those before the one of the data segments.
+pub(crate) fn advance<'a>(
+    alloc: Alloc,
+    start: Progress<'a>,
+    before_segments: bool,
+) -> Result<Progress<'a>, Fault>
+    ensures same { IfOk result (λ p. (whole : ModuleShape) → EndsProgress start.entry whole ↔ EndsProgress p whole) }
+    ensures over { IfOk result (λ p. stops before_segments p.rest.now ≡ true) }
+    ensures early { IfOk result (λ p. before_segments ≡ true → IsEarly start.entry.last (module_shape start.entry.module) → IsEarly p.last (module_shape p.module)) }
+    ensures malformed { IsErrOf result Fault.Malformed → (whole : ModuleShape) → EndsProgress start.entry whole → ⊥ }
+{
+    let Progress {
+        mut module,
+        mut last,
+        mut rest,
+    } = start;
+    'each: while !is_over(rest, before_segments) {
         let (section, after) = section_at(alloc, rest)?;
         let id = rank(&section);
         if id != 0 {
@@ -71,7 +101,21 @@ fn sections_at(alloc: Alloc, bytes: &[u8]) -> Result<Module<'_>, Fault>
         module = put(module, section);
         rest = after;
     }
-    Ok(module)
+    Ok(Progress { module, last, rest })
+}
+
+/// Refuses bytes that are not sections behind the one of the data segments, which custom ones alone can be.
+pub(crate) fn only_customs(alloc: Alloc, bytes: &[u8]) -> Result<(), Fault>
+    ensures found { IfOk result (λ _. EndsAs 11 empty_shape bytes.now empty_shape) }
+    ensures malformed { IsErrOf result Fault.Malformed → EndsAs 11 empty_shape bytes.now empty_shape → ⊥ }
+{
+    let start = Progress {
+        module: Module::empty(alloc),
+        last: 11,
+        rest: bytes,
+    };
+    let _end = advance(alloc, start, false)?;
+    Ok(())
 }
 
 /// The bytes behind the magic and the version (5.5.15); `None` where they are not at the front.
@@ -84,18 +128,49 @@ fn behind_header(bytes: &[u8]) -> Option<&[u8]>
     }
 }
 
-/// A module, its bodies left as bytes (5.5.15).
-fn shell_at(alloc: Alloc, bytes: &[u8]) -> Result<Module<'_>, Fault>
-    ensures { Gives module_shape result (shell_of bytes.now) }
+/// All that stands before the data segments of a module, its bodies left as bytes (5.5.15).
+fn front_at(alloc: Alloc, bytes: &[u8]) -> Result<Front<'_>, Fault>
+    ensures whole { IfOk result (λ f. (m : ModuleShape) → Shell bytes.now m ↔ ((segments : List DataShape) × EndsFront f segments × (m ≡ with_segments (module_shape f.module) segments))) }
+    ensures paired { IfOk result (λ f. length (module_shape f.module).functions ≡ length (module_shape f.module).bodies) }
+    ensures malformed { IsErrOf result Fault.Malformed → (m : ModuleShape) → Shell bytes.now m → ⊥ }
 {
     let Some(tail) = behind_header(bytes) else {
         return Err(Fault::Malformed);
     };
-    let module = sections_at(alloc, tail)?;
+    let start = Progress {
+        module: Module::empty(alloc),
+        last: 0,
+        rest: tail,
+    };
+    let Progress { module, last, rest } = advance(alloc, start, true)?;
     if module.functions.len() == module.bodies.len() {
-        Ok(module)
+        Ok(Front { module, last, rest })
     } else {
         Err(Fault::Malformed)
+    }
+}
+
+/// All that stands before the data segments of the module that the bytes spell (5.5.15), but for the insides of its bodies,
+/// which stay slices of the input. The bytes of the data segments are not looked at.
+///
+/// The work is linear in the bytes before them, and nothing is allocated by a count that the bytes left cannot fill.
+pub fn decode_front(alloc: Alloc, bytes: &[u8]) -> Result<Front<'_>, DecodeFault>
+    // The bytes spell the module that is this one with the data segments that end it, and no other.
+    ensures whole { IfOk result (λ f. (m : ModuleShape) → Shell bytes.now m ↔ ((segments : List DataShape) × EndsFront f segments × (m ≡ with_segments (module_shape f.module) segments))) }
+    // It has a body for each function.
+    ensures paired { IfOk result (λ f. length (module_shape f.module).functions ≡ length (module_shape f.module).bodies) }
+    // Malformed are bytes that spell no module.
+    ensures malformed { IsErrOf result DecodeFault.Malformed → (m : ModuleShape) → Shell bytes.now m → ⊥ }
+    // Too large goes before all else.
+    ensures too_large { IsErrOf result DecodeFault.TooLarge ↔ (module_limit < length bytes.now) }
+{
+    if bytes.len() > MODULE_LIMIT {
+        return Err(DecodeFault::TooLarge);
+    }
+    match front_at(alloc, bytes) {
+        Ok(front) => Ok(front),
+        Err(Fault::Malformed) => Err(DecodeFault::Malformed),
+        Err(Fault::Memory) => Err(DecodeFault::Memory),
     }
 }
 
@@ -112,10 +187,8 @@ pub fn decode_module(alloc: Alloc, bytes: &[u8]) -> Result<Module<'_>, DecodeFau
     // Too large goes before all else.
     ensures too_large { IsErrOf result DecodeFault.TooLarge ↔ (module_limit < length bytes.now) }
 {
-    if bytes.len() > MODULE_LIMIT {
-        return Err(DecodeFault::TooLarge);
-    }
-    match shell_at(alloc, bytes) {
+    let front = decode_front(alloc, bytes)?;
+    match front.whole(alloc) {
         Ok(module) => Ok(module),
         Err(Fault::Malformed) => Err(DecodeFault::Malformed),
         Err(Fault::Memory) => Err(DecodeFault::Memory),

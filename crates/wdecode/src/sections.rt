@@ -115,7 +115,7 @@ fn seldom_data_at(alloc: Alloc, bytes: &[u8]) -> Result<(Data<'_>, &[u8]), Fault
 
 /// A data segment (5.5.14).
 #[inline(always)]
-fn data_at(alloc: Alloc, bytes: &[u8]) -> Result<(Data<'_>, &[u8]), Fault>
+pub(crate) fn data_at(alloc: Alloc, bytes: &[u8]) -> Result<(Data<'_>, &[u8]), Fault>
     ensures { Gives (λ x. (data_shape x.0, x.1.now)) result (data_segment.read bytes.now) }
 {
     match frequent_data_at(bytes) {
