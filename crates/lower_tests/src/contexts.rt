@@ -1,7 +1,9 @@
 use std::alloc::{AllocError, Global};
 use std::test::Fail;
 use wcontext::*;
-use wsyntax::{Export, ExportKind, GlobalType, Import, ImportKind, Module, ValType};
+use wsyntax::{
+    Data, Export, ExportKind, GlobalType, Import, ImportKind, Limits, Module, Place, ValType,
+};
 
 /// A module that imports one function of type `[i32 i64] -> [f32 i32]`.
 fn one_import<'a>(alloc: Global) -> Result<Module<'a>, AllocError> {
@@ -96,5 +98,49 @@ fn breaks_a_rule(rt: HostRuntime) -> Result<(), Fail> {
     module.start = Some(0);
     module.functions.push(7)?;
     assert!(rt; fault_of(rt.alloc(), &module) == Some(ModuleFault::Rule(3)));
+    Ok(())
+}
+
+/// Why the module is refused by the early rules, or by the late ones of those that exports, the start function and
+/// element segments keep.
+fn fault_in_parts(alloc: Global, module: &Module<'_>) -> Option<ModuleFault> {
+    let mut names = Vec::new(alloc);
+    match check_early(alloc, module) {
+        Ok((_, counts)) => check_late(&mut names, module, &counts).err(),
+        Err(fault) => Some(fault),
+    }
+}
+
+#[test]
+fn breaks_a_rule_of_either_part(rt: HostRuntime) -> Result<(), Fail> {
+    let mut module = three_exports(rt.alloc())?;
+    assert!(rt; fault_in_parts(rt.alloc(), &module) == Some(ModuleFault::Rule(9)));
+    export_the_first(&mut module);
+    assert!(rt; fault_in_parts(rt.alloc(), &module) == Some(ModuleFault::Rule(10)));
+    module.exports.truncate(1);
+    assert!(rt; fault_in_parts(rt.alloc(), &module).is_none());
+    module.start = Some(0);
+    assert!(rt; fault_in_parts(rt.alloc(), &module) == Some(ModuleFault::Rule(11)));
+    module.functions.push(7)?;
+    assert!(rt; fault_in_parts(rt.alloc(), &module) == Some(ModuleFault::Rule(3)));
+    Ok(())
+}
+
+/// A data segment at address 0 of the memory of that index.
+fn segment_of<'a>(index: u32) -> Data<'a> {
+    Data {
+        place: Place::I32Const { index, number: 0 },
+        bytes: b"abc",
+    }
+}
+
+#[test]
+fn takes_segments_of_its_memory(rt: HostRuntime) -> Result<(), Fail> {
+    let mut module = one_import(rt.alloc())?;
+    let (_, none) = check_early(rt.alloc(), &module)?;
+    module.memories.push(Limits { min: 1, max: None })?;
+    let (_, one) = check_early(rt.alloc(), &module)?;
+    assert!(rt; !none.takes_segment(&segment_of(0)));
+    assert!(rt; one.takes_segment(&segment_of(0)) && !one.takes_segment(&segment_of(1)));
     Ok(())
 }

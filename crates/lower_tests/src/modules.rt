@@ -1,7 +1,8 @@
 use std::alloc::Global;
 use std::test::*;
 use wdecode::DecodeFault::{self, Malformed, TooLarge};
-use wdecode::decode_module;
+use wdecode::{Fault, SegmentRule, decode_front, decode_module};
+use wsyntax::Data;
 
 /// One function that adds, exported.
 const ADDER: [u8; 41] = [
@@ -33,6 +34,35 @@ fn fault_of(alloc: Global, bytes: &[u8]) -> Option<DecodeFault> {
     decode_module(alloc, bytes).err()
 }
 
+/// A data segment has no more bytes than that.
+#[derive(Drop)]
+struct Short {
+    most: usize,
+}
+
+impl SegmentRule for Short {
+    ghost use Rattle.std.specs.Prelude.{◌≤◌, length};
+
+    ghost holds = { λ r d. length d.bytes ≤ r.most };
+
+    fn accepts(&self, segment: &Data<'_>) -> bool {
+        segment.bytes.len() <= self.most
+    }
+}
+
+/// Why the bytes are no module, read in two parts.
+fn fault_in_parts(alloc: Global, bytes: &[u8]) -> Option<DecodeFault> {
+    let front = match decode_front(alloc, bytes) {
+        Ok(front) => front,
+        Err(fault) => return Some(fault),
+    };
+    match front.segments_pass(alloc, &Short { most: 0 }) {
+        Ok(_) => None,
+        Err(Fault::Malformed) => Some(Malformed),
+        Err(Fault::Memory) => Some(DecodeFault::Memory),
+    }
+}
+
 /// Whether the header and these bytes are refused as malformed.
 fn is_malformed_behind_header(alloc: Global, bytes: &[u8]) -> Result<bool, Fail> {
     let mut module = HEADER.to_vec(alloc)?;
@@ -40,7 +70,8 @@ fn is_malformed_behind_header(alloc: Global, bytes: &[u8]) -> Result<bool, Fail>
     Ok(fault_of(alloc, &module) == Some(Malformed))
 }
 
-/// Whether of all fronts just those of the given lengths are modules, and the others malformed.
+/// Whether of all fronts just those of the given lengths are modules, and the others malformed, at once and in two
+/// parts.
 fn accepts_just(alloc: Global, bytes: &[u8], lengths: &[usize]) -> bool {
     for len in 0..=bytes.len() {
         let wanted = if lengths.contains(&len) {
@@ -48,7 +79,8 @@ fn accepts_just(alloc: Global, bytes: &[u8], lengths: &[usize]) -> bool {
         } else {
             Some(Malformed)
         };
-        if fault_of(alloc, &bytes[..len]) != wanted {
+        let front = &bytes[..len];
+        if fault_of(alloc, front) != wanted || fault_in_parts(alloc, front) != wanted {
             return false;
         }
     }
@@ -70,6 +102,18 @@ fn a_module_is_held(rt: HostRuntime) -> Result<(), Fail> {
     for export in &module.exports {
         assert!(rt; export.name == b"f".as_slice());
     }
+    Ok(())
+}
+
+#[test]
+fn segments_one_by_one(rt: HostRuntime) -> Result<(), Fail> {
+    let alloc = rt.alloc();
+    let front = decode_front(alloc, &SEGMENTS).ok().ok_or("a front")?;
+    assert!(rt; front.module.exports.len() == 1 && front.module.data.is_empty());
+    assert!(rt; front.segments_pass(alloc, &Short { most: 1 }) == Ok(true));
+    assert!(rt; front.segments_pass(alloc, &Short { most: 0 }) == Ok(false));
+    let module = front.whole(alloc).ok().ok_or("a module")?;
+    assert!(rt; module.exports.len() == 1 && module.data.len() == 2);
     Ok(())
 }
 

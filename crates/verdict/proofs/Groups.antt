@@ -1,5 +1,5 @@
 -- From what is known of each group to what is known of the bodies.
-use Rattle.std.proofs.Common.{Bor, ◌≡◌, ℕ, suc, ◌+◌, ◌*◌, ◌/◌, ◌<◌, ◌≤◌, List, length, map, get_or, None, sym, ap, subst, ◌∙◌, arith, inl, inr}
+use Rattle.std.proofs.Common.{Bor, ◌≡◌, ℕ, suc, ◌+◌, ◌*◌, ◌/◌, ◌<◌, ◌≤◌, List, length, map, get_or, Option, sym, ap, subst, ◌∙◌, arith}
 use Rattle.std.specs.Prelude.{option_map}
 use Rattle.std.specs.Int.{div_ceil}
 use Rattle.std.proofs.Math.Nat.{div-mul-le_self, mul-le-mul_right, suc-mul, lt-div-mul-add, div-lt_iff_lt-mul}
@@ -8,6 +8,7 @@ use Rattle.std.proofs.lemmas.Option.{slice_get-map, slice_get-get_or}
 use mathlib.Core.Logic.{dite}
 use native.Mathlib.Decide.{dec_lt}
 use Rattle.wsyntax.specs.Validation.Context.{Context}
+use Rattle.verdict.specs.declared.refusal.Class.{Class}
 use Rattle.verdict.specs.declared.refusal.Refusal.TheVariants.{Body}
 use Rattle.verdict.specs.declared.refused_body.RefusedBody.{RefusedBody}
 use Rattle.verdict.specs.Judged.{class_of, given_class, class_at, PassBefore, IsFirstBody}
@@ -60,9 +61,9 @@ first_group_stop C i j bodies size g r is some first earlier =
 
 -- ---- one body more
 
--- the body at a place is accepted
-pub accepted_at : (C D : Context) (imported place : ℕ) (bodies : List (Bor (List ℕ))) (d : Bor (List ℕ)) → D ≡ C → place < length bodies → class_of D (imported + place) (get_or bodies place d).now ≡ None → class_at C imported (map (λ b. b.now) bodies) place ≡ None
-accepted_at C D imported place bodies d same lt e =
+-- the class of the body at a place
+pub class_there : (C D : Context) (imported place : ℕ) (bodies : List (Bor (List ℕ))) (d : Bor (List ℕ)) (o : Option Class) → D ≡ C → place < length bodies → class_of D (imported + place) (get_or bodies place d).now ≡ o → class_at C imported (map (λ b. b.now) bodies) place ≡ o
+class_there C D imported place bodies d o same lt e =
     ap (given_class C (imported + place)) (slice_get-map (λ (b : Bor (List ℕ)). b.now) bodies place ∙ ap (option_map (λ (b : Bor (List ℕ)). b.now)) (slice_get-get_or bodies place d lt))
     ∙ ap (λ (x : Context). class_of x (imported + place) (get_or bodies place d).now) (sym same)
     ∙ e

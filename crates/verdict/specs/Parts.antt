@@ -1,31 +1,38 @@
 -- The parts of a module that workers judge: first what is left of it once its bodies can be judged, and then its bodies in groups.
-use Rattle.std.specs.Prelude.{◌≡◌, ◌+◌, ◌<◌, ◌^◌, ℕ, zero, suc, List, refl}
-use Rattle.std.proofs.Common.{sym, ap, subst, arith, inl, inr}
+use Rattle.std.specs.Prelude.{◌≡◌, ◌+◌, ◌<◌, ◌^◌, ℕ, zero, suc, List, Option, Some}
+use Rattle.std.proofs.Common.{refl, ap, subst, arith, inl, inr}
 use Rattle.std.proofs.lemmas.Bool.{cases_lt}
 use Rattle.wsyntax.specs.Modules.{ModuleShape, DataShape, module_shape}
 use Rattle.wsyntax.specs.Validation.Context.{Context}
 use Rattle.wsyntax.specs.Validation.Rules.{Keeps, NoneBroken, LeastBroken}
+use Rattle.wcontext.specs.declared.counts.Counts.{Counts}
+use Rattle.wcontext.specs.Counted.{AreCountsOf}
 use Rattle.wcontext.specs.declared.fault.ModuleFault.{ModuleFault}
 use Rattle.wcontext.specs.declared.fault.ModuleFault.TheVariants as rules
 use Rattle.wdecode.specs.declared.front.Front.{Front}
 use Rattle.wdecode.specs.Fronts.{EndsFront, with_segments}
+use Rattle.verdict.specs.declared.refusal.Class.{Class}
 use Rattle.verdict.specs.declared.refusal.Refusal.{Refusal}
 use Rattle.verdict.specs.declared.refusal.Refusal.TheVariants as refusal
 use Rattle.verdict.specs.declared.rest.RestFault.{RestFault}
 use Rattle.verdict.specs.declared.rest.RestFault.TheVariants.{Malformed, Rule}
 use Rattle.verdict.specs.declared.jobs.PartFault.{PartFault}
 use Rattle.verdict.specs.declared.jobs.PartFault.TheVariants as part
-use Rattle.verdict.specs.declared.refused_body.RefusedBody.{RefusedBody}
 use Rattle.verdict.specs.Judged.{IsFirstBody}
 use Rattle.verdict.specs.Groups.{GroupPasses, IsFirstOfGroup, passes_or_refused, one_first}
 
 -- the module whose front it is: the same, with the data segments that end it
 abbrev pub IsWhole : Front → ModuleShape → Type 0
-IsWhole f m = (segments : List DataShape) × EndsFront f segments × (m ≡ with_segments (module_shape f.module) segments)
+IsWhole f m = (segments : List DataShape) × EndsFront f segments × (m ≡ with_segments (module_shape f.«module») segments)
 
 -- there is one at most
 abbrev pub OneWhole : Front → Type 0
 OneWhole f = (m n : ModuleShape) → IsWhole f m → IsWhole f n → m ≡ n
+
+-- what is known before the rest is judged: the early rules are kept, and these are the module's counts
+pub record IsAwaited (f : Front) (c : Counts) : Type 0 where
+  pub counted : AreCountsOf (module_shape f.«module») c
+  pub early : (k : ℕ) → k < 9 → Keeps (module_shape f.«module») k
 
 -- it is a module, and keeps all rules
 abbrev pub RestPasses : Front → Type 0
@@ -35,6 +42,16 @@ RestPasses f = (m : ModuleShape) × IsWhole f m × NoneBroken m
 abbrev pub RestRefused : Front → RestFault → Type 0
 RestRefused f Malformed = (m : ModuleShape) → IsWhole f m → ⊥
 RestRefused f (Rule k) = (m : ModuleShape) × IsWhole f m × LeastBroken m k
+
+-- the same of a part
+abbrev pub IsOfRest : Front → PartFault → Type 0
+IsOfRest f (part.Rest r) = RestRefused f r
+IsOfRest f (part.Body r) = ⊥
+
+-- the body at that place is refused, of that class
+abbrev pub IsBodyAt : ℕ → Option Class → PartFault → Type 0
+IsBodyAt place o (part.Body r) = (r.place ≡ place) × (o ≡ Some r.class)
+IsBodyAt place o (part.Rest r) = ⊥
 
 -- part 0 is the rest, and part g + 1 is group g of the bodies
 abbrev pub PartPasses : Front → Context → ℕ → List (List ℕ) → ℕ → ℕ → Type 0

@@ -2,28 +2,28 @@ ghost use Rattle.std.specs.Prelude.{◌≡◌, ◌+◌, MatchResult, IfOk, IfSom
 ghost use Rattle.wsyntax.specs.Modules.{module_shape};
 ghost use Rattle.wsyntax.specs.Validation.Verdict.{IsVerdict, Accepted};
 ghost use Rattle.verdict.specs.Judged.{PassBefore};
-ghost use Rattle.verdict.specs.Parts.{RestPasses, IsFirstPart, FitsIn, refusal_for, IsEarly};
+ghost use Rattle.verdict.specs.Parts.{OneWhole, IsAwaited, RestPasses, IsFirstPart, FitsIn, refusal_for, IsEarly};
 ghost use Rattle.verdict.specs.Refusals.{verdict_of};
 
-use crate::jobs::{GroupedBodies, PartFault, Parts};
+use crate::jobs::{PartFault, Parts};
 use crate::passing::Scratch;
 use crate::refusal::Refusal;
-use crate::rest::{Rest, RestFault};
+use crate::rest::RestFault;
 use pieces::{Plan, TryFault, Watch, try_all};
 use soundness::validation::{accepted_is_typed, refused_at_first_fault};
 use std::alloc::{AllocError, Global};
 use std::sync::Wait;
 use std::thread::Threads;
-use wcontext::{Context, ModuleFault, check_early};
+use wcontext::{Context, Counts, ModuleFault, check_early};
 use wdecode::{Fault, Front, decode_front, grammar_is_read, shells_are_determined};
 
 /// A scratch for each worker.
-fn new_scratches<'a>(
+fn new_scratches<'a, 'b>(
     alloc: Global,
     context: &'a Context,
     exports: usize,
     workers: u32,
-) -> Result<Vec<Scratch<'a>>, AllocError>
+) -> Result<Vec<Scratch<'a, 'b>>, AllocError>
     ensures count { IfOk result (λ v. vec_len v ≡ workers) }
     ensures outside { IfOk result (λ v. All (λ s. s.checker.outside ≡ context.now.context) v.items) }
 {
@@ -76,42 +76,47 @@ fn refusal_of(fault: PartFault, imported: u32) -> Refusal
 }
 
 /// Judges the parts of a module of so many bytes, up to the first that is refused.
-fn examine_parts<'a, R: Threads + Wait + Sync, W: Watch + Sync>(
+fn examine_parts<R: Threads + Wait + Sync, W: Watch + Sync>(
     rt: &R,
     alloc: Global,
-    rest: Rest<'a>,
-    context: &'a Context,
+    front: &Front<'_>,
+    counts: &Counts,
+    context: &Context,
     bytes: usize,
     plan: Plan,
-    watch: &'a W,
+    watch: &W,
 ) -> Result<(), Refusal>
-    requires each_has_type { context.now.imported + length (module_shape rest.front.now.module).bodies ≡ length context.now.context.functions }
+    requires each_has_type { context.now.imported + length (module_shape front.now.module).bodies ≡ length context.now.context.functions }
+    requires awaited { IsAwaited front.now counts.now }
+    requires one { OneWhole front.now }
     ensures { MatchResult result
-        (λ _. RestPasses rest.front.now × PassBefore context.now.context context.now.imported (module_shape rest.front.now.module).bodies (length (module_shape rest.front.now.module).bodies))
-        (IsFirstPart rest.front.now context.now.context context.now.imported (module_shape rest.front.now.module).bodies) }
+        (λ _. RestPasses front.now × PassBefore context.now.context context.now.imported (module_shape front.now.module).bodies (length (module_shape front.now.module).bodies))
+        (IsFirstPart front.now context.now.context context.now.imported (module_shape front.now.module).bodies) }
 {
     if context.function_count() >= MOST_FUNCTIONS {
         return Err(Refusal::Memory);
     }
-    let module = &rest.front.module;
-    let plan = grouping(plan, module.bodies.len() as u32, bytes);
+    let bodies = front.module.bodies.as_slice();
+    let exports = front.module.exports.len();
+    let plan = grouping(plan, bodies.len() as u32, bytes);
     let size = plan.piece();
-    let groups = plan.count_groups(module.bodies.len() as u32);
+    let groups = plan.count_groups(bodies.len() as u32);
     let plan = narrowed(plan.one_group_each(), groups);
-    let Ok(scratches) = new_scratches(alloc, context, module.exports.len(), plan.workers()) else {
+    let Ok(scratches) = new_scratches(alloc, context, exports, plan.workers()) else {
         return Err(Refusal::Memory);
     };
     let imported = context.imported_functions() as u32;
-    let bodies = GroupedBodies {
+    let job = Parts {
         alloc,
+        front,
+        counts,
         context,
-        bodies: &module.bodies,
+        bodies,
         imported,
         size,
         watch,
     };
-    let parts = Parts { rest, bodies };
-    match try_all(rt, alloc, &parts, scratches, groups + 1, plan) {
+    match try_all(rt, alloc, &job, scratches, groups + 1, plan) {
         Ok(_) => Ok(()),
         Err(TryFault::Stopped { fault, .. }) => Err(refusal_of(fault, imported)),
         Err(TryFault::Memory) => Err(Refusal::Memory),
@@ -120,7 +125,7 @@ fn examine_parts<'a, R: Threads + Wait + Sync, W: Watch + Sync>(
 
 /// The refusal of a module that breaks an early rule. That its bytes spell no module goes before.
 fn refused_early(alloc: Global, front: Front<'_>, fault: ModuleFault) -> Refusal
-    ensures { IsEarly front fault result }
+    ensures { IsEarly front.entry fault result }
 {
     match front.whole(alloc) {
         Ok(_) => fault.into(),
@@ -148,9 +153,14 @@ pub fn examine<R: Threads + Wait + Sync, W: Watch + Sync>(
         Ok(both) => both,
         Err(fault) => return Err(refused_early(alloc, front, fault)),
     };
-    let rest = Rest {
-        front: &front,
-        counts: &counts,
-    };
-    examine_parts(rt, alloc, rest, &context, bytes.len(), plan, watch)
+    examine_parts(
+        rt,
+        alloc,
+        &front,
+        &counts,
+        &context,
+        bytes.len(),
+        plan,
+        watch,
+    )
 }

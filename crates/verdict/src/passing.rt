@@ -14,14 +14,14 @@ use wsyntax::{LocalRun, Opcode, Token};
 
 /// What one worker keeps from body to body.
 #[derive(Drop)]
-pub(crate) struct Scratch<'a> {
+pub(crate) struct Scratch<'a, 'b> {
     pub(crate) checker: Checker<'a>,
     /// The runs of locals of the body at hand.
     runs: Vec<LocalRun>,
     /// The labels of the branch table at hand.
     pub(crate) targets: Vec<u32>,
     /// Room for the names of exports.
-    pub(crate) names: Vec<&'a [u8]>,
+    pub(crate) names: Vec<&'b [u8]>,
 }
 
 /// How many runs of locals ordinary bodies have, at most.
@@ -33,7 +33,7 @@ const FEW_LABELS: usize = 2_048;
 /// How many exports ordinary modules have, at most.
 const FEW_NAMES: usize = 4_096;
 
-impl<'a> Scratch<'a> {
+impl<'a, 'b> Scratch<'a, 'b> {
     /// One with room for ordinary bodies and for so many exports, so that they ask for no memory.
     pub(crate) fn new(
         alloc: Global,

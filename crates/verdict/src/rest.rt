@@ -1,10 +1,7 @@
 //! What is asked of a module beside its bodies, once these can be judged.
-ghost use Rattle.std.specs.Prelude.{◌<◌, ℕ, MatchResult};
+ghost use Rattle.std.specs.Prelude.{MatchResult};
 ghost use Rattle.pieces.specs.Faults.{AllowsFault};
-ghost use Rattle.wsyntax.specs.Modules.{ModuleShape, module_shape};
-ghost use Rattle.wsyntax.specs.Validation.Rules.{Keeps};
-ghost use Rattle.wcontext.specs.Counted.{AreCountsOf};
-ghost use Rattle.verdict.specs.Parts.{OneWhole, RestPasses, RestRefused};
+ghost use Rattle.verdict.specs.Parts.{IsAwaited, RestPasses, RestRefused};
 
 use pieces::JobFault;
 use std::alloc::Global;
@@ -25,6 +22,7 @@ pub(crate) enum RestFault {
 }
 
 /// A data segment is valid (3.4.6) in a module of these counts.
+#[derive(Drop)]
 struct ValidSegment<'a> {
     counts: &'a Counts,
 }
@@ -39,39 +37,26 @@ impl SegmentRule for ValidSegment<'_> {
     }
 }
 
-/// A module that keeps the early rules, whose data segments are not yet decoded and whose late rules are not yet asked.
-#[derive(Drop)]
-pub(crate) struct Rest<'a> {
-    pub(crate) front: &'a Front<'a>,
-    pub(crate) counts: &'a Counts,
-    ghost counted: { AreCountsOf (module_shape front.now.module) counts.now },
-    ghost early: { (k : ℕ) → k < 9 → Keeps (module_shape front.now.module) k },
-    ghost one: { OneWhole front.now },
-}
-
-impl<'a> Rest<'a> {
-    /// Decodes the data segments and asks the late rules. That the bytes spell no module goes before every rule. The list
-    /// is room for the names of exports.
-    pub(crate) fn judge(
-        &self,
-        alloc: Global,
-        names: &mut Vec<&'a [u8]>,
-    ) -> Result<(), JobFault<RestFault>>
-        ensures { MatchResult result (λ _. RestPasses self.front.now) (AllowsFault (RestRefused self.front.now)) }
-    {
-        let rule = ValidSegment {
-            counts: self.counts,
-        };
-        let segments = match self.front.segments_pass(alloc, &rule) {
-            Ok(segments) => segments,
-            Err(Fault::Malformed) => return Err(JobFault::Refused(RestFault::Malformed)),
-            Err(Fault::Memory) => return Err(JobFault::Memory),
-        };
-        match check_late(names, &self.front.module, self.counts) {
-            Err(ModuleFault::Rule(rule)) => Err(JobFault::Refused(RestFault::Rule(rule))),
-            Err(ModuleFault::Memory) => Err(JobFault::Memory),
-            Ok(()) if segments => Ok(()),
-            Ok(()) => Err(JobFault::Refused(RestFault::Rule(SEGMENTS_RULE))),
-        }
+/// Judges what is left of a module that keeps the early rules: decodes its data segments, and asks the late rules. That
+/// the bytes spell no module goes before every rule. The list is room for the names of exports.
+pub(crate) fn judge_rest<'a>(
+    alloc: Global,
+    front: &Front<'a>,
+    counts: &Counts,
+    names: &mut Vec<&'a [u8]>,
+) -> Result<(), JobFault<RestFault>>
+    requires { IsAwaited front.now counts.now }
+    ensures { MatchResult result (λ _. RestPasses front.now) (AllowsFault (RestRefused front.now)) }
+{
+    let segments = match front.segments_pass(alloc, &ValidSegment { counts }) {
+        Ok(segments) => segments,
+        Err(Fault::Malformed) => return Err(JobFault::Refused(RestFault::Malformed)),
+        Err(Fault::Memory) => return Err(JobFault::Memory),
+    };
+    match check_late(names, &front.module, counts) {
+        Err(ModuleFault::Rule(rule)) => Err(JobFault::Refused(RestFault::Rule(rule))),
+        Err(ModuleFault::Memory) => Err(JobFault::Memory),
+        Ok(()) if segments => Ok(()),
+        Ok(()) => Err(JobFault::Refused(RestFault::Rule(SEGMENTS_RULE))),
     }
 }

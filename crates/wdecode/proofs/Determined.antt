@@ -2,19 +2,16 @@
 use Rattle.std.proofs.Common.{◌≡◌, ℕ, List, [], ◌∷◌, Some, refl, sym, ap, subst, ◌∙◌}
 use Rattle.wsyntax.specs.Modules.{ModuleShape, BodyShape}
 use Rattle.wsyntax.specs.Binary.Sections.{body}
-use Rattle.wsyntax.specs.Binary.Shell.{Shell, SpellsBody, SpellsBodies, Spells}
+use Rattle.wsyntax.specs.Binary.Shell.{SpellsBody, SpellsBodies, Spells}
 use Rattle.wdecode.proofs.Agree.{whole_complete}
 use Rattle.wdecode.proofs.SectionLaws.{body_agrees}
-use Rattle.wdecode.proofs.SectionList.{shell_complete, some_same}
+use Rattle.wdecode.proofs.SectionList.{one_shell}
 
 body_same : (a c : BodyShape) → Some a ≡ Some c → a ≡ c
 body_same a c e = cc
 
 pub one_body : (bytes : List ℕ) (b d : BodyShape) → SpellsBody bytes b → SpellsBody bytes d → b ≡ d
 one_body bytes b d s t = body_same b d (sym (whole_complete body body_agrees bytes b s) ∙ whole_complete body body_agrees bytes d t)
-
-pub one_shell : (bytes : List ℕ) (m n : ModuleShape) → Shell bytes m → Shell bytes n → m ≡ n
-one_shell bytes m n s t = some_same m n (sym (shell_complete bytes m s) ∙ shell_complete bytes n t)
 
 one_bodies : (all : List (List ℕ)) (bs ds : List BodyShape) → SpellsBodies all bs → SpellsBodies all ds → bs ≡ ds
 one_bodies [] [] [] s t = refl

@@ -1,165 +1,28 @@
 -- Sections that are read step by step, up to the data segments and from there on, agree with the grammar of a module.
-use Rattle.std.proofs.Common.{◌≡◌, ℕ, ◌-◌, ◌<◌, ◌≤◌, Bool, true, false, cond, eqb, ltb, eq-eqb, List, [], ◌∷◌, ◌++◌, length, take, drop, Option, Some, None, Result, Err, ◌≢◌, ◌↔◌, refl, sym, ap, subst, ◌∙◌, arith}
+use Rattle.std.proofs.Common.{◌≡◌, ℕ, ◌-◌, ◌<◌, Bool, true, false, eqb, eq-eqb, List, [], ◌∷◌, ◌++◌, length, take, drop, Some, None, Result, Err, ◌≢◌, ◌↔◌, refl, sym, ap, subst, ◌∙◌, arith}
 use Rattle.std.specs.Prelude.{IsTrue, All}
 use Rattle.std.proofs.lemmas.List.{take_all}
 use Rattle.std.proofs.lemmas.List.Elements.{All-nil, All-cons, All-head, All-tail, All-push}
-use Rattle.std.proofs.lemmas.Bool.{eqb-true, lt-ltb, le-ltb, ne_eqb}
+use Rattle.std.proofs.lemmas.Bool.{eqb-true, lt-ltb}
 use Rattle.wsyntax.specs.Modules.{ModuleShape, DataShape}
 use Rattle.wsyntax.specs.Binary.Production.{SpellsAll, whole_at}
 use Rattle.wsyntax.specs.Binary.Values.{blob, vector_at}
-use Rattle.wsyntax.specs.Binary.Sections.{SectionShape, Custom, Types, Imports, Functions, Tables, Memories, Globals, Exports, Start, Elements, Bodies, Segments, SectionKind, CustomSection, TypeSection, ImportSection, FunctionSection, TableSection, MemorySection, GlobalSection, ExportSection, StartSection, ElementSection, CodeSection, DataSection, kind_of, contents_of, contents, section, data_segment}
+use Rattle.wsyntax.specs.Binary.Sections.{SectionShape, Custom, Types, Imports, Functions, Tables, Memories, Globals, Exports, Start, Elements, Bodies, Segments, contents, section, data_segment}
 use Rattle.wsyntax.specs.Binary.Shell.{rank, may_follow, last_after, IsOrdered, put, put_all, empty_module, strip, header, Shell}
 use Rattle.wdecode.specs.declared.fault.Fault.{Fault}
 use Rattle.wdecode.specs.declared.fault.Fault.TheVariants.{Malformed, Memory}
 use Rattle.wdecode.specs.Gives.{Fails}
 use Rattle.wdecode.specs.Fronts.{with_segments, EndsAs, Ends, IsEarly, stops}
-use Rattle.wdecode.proofs.Agree.{pair_is}
-use Rattle.wdecode.proofs.SectionLaws.{section_agrees}
-use Rattle.wdecode.proofs.SectionList.{strip_sound, strip_complete}
+use Rattle.wdecode.proofs.SectionList.{read_rank, spelled_rank, one_more, unread, shell_ends, ends_shell}
 
 -- what a `?` hands on is that fault only where its fault is
 pub fault_is : {T E : Type 0} (r : Result T E) (y e fault : E) → r ≡ Err y → y ≡ e → r ≡ Err fault → e ≡ fault
 fault_is r y e fault a b h = cc
 
--- ---- the id of a section is its first byte
-
-number : SectionKind → ℕ
-number CustomSection = 0
-number TypeSection = 1
-number ImportSection = 2
-number FunctionSection = 3
-number TableSection = 4
-number MemorySection = 5
-number GlobalSection = 6
-number ExportSection = 7
-number StartSection = 8
-number ElementSection = 9
-number CodeSection = 10
-number DataSection = 11
-
-section_is : (a c : SectionShape) → Some a ≡ Some c → a ≡ c
-section_is a c e = cc
-
-kind_is : (a c : SectionKind) → Some a ≡ Some c → a ≡ c
-kind_is a c e = cc
-
-split : (t : Bool) (a k : SectionKind) (other : Option SectionKind) (P : Type 0) → cond t (Some a) other ≡ Some k → (t ≡ true → a ≡ k → P) → (other ≡ Some k → P) → P
-split true a k other P e hit missed = hit refl (kind_is a k e)
-split false a k other P e hit missed = missed e
-
-kind_number : (id : ℕ) (k : SectionKind) → kind_of id ≡ Some k → id ≡ number k
-unfolding number
-kind_number id k e =
-    let P : Type 0 = id ≡ number k in
-    let hit : (a : SectionKind) → eqb id (number a) ≡ true → a ≡ k → P = λ a t is. eqb-true id (number a) t ∙ ap number is in
-    split (eqb id 0) CustomSection k _ P e (hit CustomSection) λ e.
-    split (eqb id 1) TypeSection k _ P e (hit TypeSection) λ e.
-    split (eqb id 2) ImportSection k _ P e (hit ImportSection) λ e.
-    split (eqb id 3) FunctionSection k _ P e (hit FunctionSection) λ e.
-    split (eqb id 4) TableSection k _ P e (hit TableSection) λ e.
-    split (eqb id 5) MemorySection k _ P e (hit MemorySection) λ e.
-    split (eqb id 6) GlobalSection k _ P e (hit GlobalSection) λ e.
-    split (eqb id 7) ExportSection k _ P e (hit ExportSection) λ e.
-    split (eqb id 8) StartSection k _ P e (hit StartSection) λ e.
-    split (eqb id 9) ElementSection k _ P e (hit ElementSection) λ e.
-    split (eqb id 10) CodeSection k _ P e (hit CodeSection) λ e.
-    split (eqb id 11) DataSection k _ P e (hit DataSection) λ e. absurd cc
-
-made_rank : (a s : SectionShape) (n : ℕ) → rank a ≡ n → Some a ≡ Some s → rank s ≡ n
-made_rank a s n r e = ap rank (sym (section_is a s e)) ∙ r
-
-contents_rank : (k : SectionKind) (b bytes : List ℕ) (s : SectionShape) → (contents_of k b).spells bytes s → rank s ≡ number k
-unfolding number
-contents_rank CustomSection b bytes s sp = made_rank Custom s 0 refl sp.5.1
-contents_rank TypeSection b bytes s sp = made_rank (Types sp.2) s 1 refl sp.5.1
-contents_rank ImportSection b bytes s sp = made_rank (Imports sp.2) s 2 refl sp.5.1
-contents_rank FunctionSection b bytes s sp = made_rank (Functions sp.2) s 3 refl sp.5.1
-contents_rank TableSection b bytes s sp = made_rank (Tables sp.2) s 4 refl sp.5.1
-contents_rank MemorySection b bytes s sp = made_rank (Memories sp.2) s 5 refl sp.5.1
-contents_rank GlobalSection b bytes s sp = made_rank (Globals sp.2) s 6 refl sp.5.1
-contents_rank ExportSection b bytes s sp = made_rank (Exports sp.2) s 7 refl sp.5.1
-contents_rank StartSection b bytes s sp = made_rank (Start sp.2) s 8 refl sp.5.1
-contents_rank ElementSection b bytes s sp = made_rank (Elements sp.2) s 9 refl sp.5.1
-contents_rank CodeSection b bytes s sp = made_rank (Bodies sp.2) s 10 refl sp.5.1
-contents_rank DataSection b bytes s sp = made_rank (Segments sp.2) s 11 refl sp.5.1
-
-contents_id : (id : ℕ) (b bytes : List ℕ) (s : SectionShape) → (contents id b).spells bytes s → id ≡ rank s
-contents_id id b bytes s sp = kind_number id sp.2 sp.4.1 ∙ sym (contents_rank sp.2 b sp.1 s sp.5)
-
--- bytes that spell a section begin with its id
-spelled_rank : (x : List ℕ) (s : SectionShape) → section.spells x s → (h : List ℕ) × (x ≡ rank s ∷ h)
-unfolding section
-spelled_rank x s sp =
-    let inner = sp.5 in
-    let id : sp.2 ≡ rank s = contents_id sp.2 inner.2 inner.1 s inner.5 in
-    (sp.1, sp.3 ∙ ap (λ (w : List ℕ). w ++ sp.1) sp.4 ∙ ap (λ (n : ℕ). n ∷ sp.1) id)
-
-read_rank : (bytes after : List ℕ) (s : SectionShape) → section.read bytes ≡ Some (s, after) → (h : List ℕ) × (bytes ≡ rank s ∷ h)
-read_rank bytes after s r =
-    let f = section_agrees.sound bytes s after r in
-    let first = spelled_rank f.0 s f.1 in
-    (first.0 ++ after, f.2 ∙ ap (λ (w : List ℕ). w ++ after) first.1)
-
--- ---- one section more
-
-first_same : (bytes after x y : List ℕ) (s t : SectionShape) → section.read bytes ≡ Some (s, after) → bytes ≡ x ++ y → section.spells x t → (s ≡ t) × (after ≡ y)
-first_same bytes after x y s t r is sp = pair_is s t after y (sym r ∙ ap section.read is ∙ section_agrees.complete x t y sp)
-
-into : (last : ℕ) (m to : ModuleShape) (bytes after : List ℕ) (s : SectionShape) (ss : List SectionShape) → section.read bytes ≡ Some (s, after)
-    → SpellsAll section.spells bytes ss → IsOrdered last ss → put_all m ss ≡ to → EndsAs (last_after last s) (put m s) after to
-into last m to bytes after s [] r sp ordered is =
-    let first = read_rank bytes after s r in
-    let clash : ◌≡◌ {A = List ℕ} [] (rank s ∷ first.0) = sym sp ∙ first.1 in
-    absurd cc
-into last m to bytes after s (t ∷ ss) r sp ordered is =
-    let same = first_same bytes after sp.0 sp.1 s t r sp.2 sp.3 in (
-      ss,
-      subst (λ (w : List ℕ). SpellsAll section.spells w ss) (sym same.1) sp.4,
-      subst (λ (w : SectionShape). IsOrdered (last_after last w) ss) (sym same.0) ordered.1,
-      ap (λ (w : SectionShape). put_all (put m w) ss) same.0 ∙ is,
-    )
-
-pub one_more : (last : ℕ) (m : ModuleShape) (bytes after : List ℕ) (s : SectionShape) → section.read bytes ≡ Some (s, after) → may_follow last s ≡ true
-    → (to : ModuleShape) → EndsAs last m bytes to ↔ EndsAs (last_after last s) (put m s) after to
-one_more last m bytes after s r ok to = (there, back)
-  where
-    there : EndsAs last m bytes to → EndsAs (last_after last s) (put m s) after to
-    there e = into last m to bytes after s e.0 r e.1 e.2 e.3
-
-    back : EndsAs (last_after last s) (put m s) after to → EndsAs last m bytes to
-    back e = let f = section_agrees.sound bytes s after r in (s ∷ e.0, (f.0, after, f.2, f.1, e.1), (ok, e.2), e.3)
-
-unread : (last : ℕ) (bytes : List ℕ) (ss : List SectionShape) → 0 < length bytes → section.read bytes ≡ None → SpellsAll section.spells bytes ss → ⊥
-unread last bytes [] some r sp = let l = ap length sp in absurd (omega arith)
-unread last bytes (t ∷ ss) some r sp =
-    let clash : ◌≡◌ {A = Option (SectionShape × List ℕ)} None (Some (t, sp.1)) = sym r ∙ ap section.read sp.2 ∙ section_agrees.complete sp.0 t sp.1 sp.3 in
-    absurd cc
-
-pub not_read : (e : Fault) (last : ℕ) (m : ModuleShape) (bytes : List ℕ) → 0 < length bytes → Fails e (section.read bytes) → e ≡ Malformed → (to : ModuleShape) → EndsAs last m bytes to → ⊥
-not_read Malformed last m bytes some r e to ends = unread last bytes ends.0 some r ends.1
-not_read Memory last m bytes some r e to ends = absurd cc
-
-unordered : (last : ℕ) (bytes after : List ℕ) (s : SectionShape) (ss : List SectionShape) → 0 < length bytes → section.read bytes ≡ Some (s, after) → may_follow last s ≡ false → SpellsAll section.spells bytes ss → IsOrdered last ss → ⊥
-unordered last bytes after s [] some r bad sp ordered = let l = ap length sp in absurd (omega arith)
-unordered last bytes after s (t ∷ ss) some r bad sp ordered =
-    let same = first_same bytes after sp.0 sp.1 s t r sp.2 sp.3 in
-    let clash : false ≡ true = sym bad ∙ ap (may_follow last) same.0 ∙ ordered.0 in
-    absurd cc
-
-pub not_ordered : (last : ℕ) (m : ModuleShape) (bytes after : List ℕ) (s : SectionShape) → 0 < length bytes → section.read bytes ≡ Some (s, after) → may_follow last s ≡ false → (to : ModuleShape) → EndsAs last m bytes to → ⊥
-not_ordered last m bytes after s some r bad to ends = unordered last bytes after s ends.0 some r bad ends.1 ends.2
-
 -- bytes are left where reading goes on
 pub goes_on : (before : Bool) (bytes : List ℕ) → stops before bytes ≡ false → 0 < length bytes
 goes_on before [] goes = absurd cc
 goes_on before (b ∷ bytes) goes = omega arith
-
--- a section whose id is not above that of the last one
-pub misplaced : (s : SectionShape) (last id : ℕ) → id ≡ rank s → id ≢ 0 → id ≤ last → may_follow last s ≡ false
-misplaced s last id r ne le =
-    let named : eqb (rank s) 0 ≡ false = ne_eqb (rank s) 0 (λ e. ne (r ∙ e)) in
-    let behind : ltb last (rank s) ≡ false = le-ltb last (rank s) (omega (arith, r)) in
-    rw (named, behind) refl
 
 -- what was so up to one section more
 pub carried : (start : ModuleShape → Type 0) (last now : ℕ) (m n : ModuleShape) (bytes after : List ℕ) (s : SectionShape) → section.read bytes ≡ Some (s, after) → may_follow last s ≡ true → last_after last s ≡ now → n ≡ put m s
@@ -312,25 +175,9 @@ no_customs last m rest contents after segments early b w none to ends =
 
 -- ---- the whole
 
-list_is : (a c : List ℕ) → Some a ≡ Some c → a ≡ c
-list_is a c e = cc
-
-pub no_header : (bytes : List ℕ) → strip header bytes ≡ None → (m : ModuleShape) → Shell bytes m → ⊥
-no_header bytes none m s =
-    let clash : ◌≡◌ {A = Option (List ℕ)} None (Some s.tail) = sym none ∙ ap (strip header) s.begins ∙ strip_complete header s.tail in
-    absurd cc
-
-pub shell_ends : (bytes tail : List ℕ) (m : ModuleShape) → strip header bytes ≡ Some tail → Shell bytes m → EndsAs 0 empty_module tail m
-shell_ends bytes tail m stripped s =
-    let same : tail ≡ s.tail = list_is tail s.tail (sym stripped ∙ ap (strip header) s.begins ∙ strip_complete header s.tail) in
-    subst (λ (t : List ℕ). EndsAs 0 empty_module t m) (sym same) (s.sections, s.spelled, s.ordered, s.says)
-
 -- nothing ends so, where the sections behind the header do not
 pub no_shell : (bytes tail : List ℕ) (start : ModuleShape) → strip header bytes ≡ Some tail → start ≡ empty_module → ((to : ModuleShape) → EndsAs 0 start tail to → ⊥) → (m : ModuleShape) → Shell bytes m → ⊥
 no_shell bytes tail start stripped empty none m s = none m (subst (λ (e : ModuleShape). EndsAs 0 e tail m) (sym empty) (shell_ends bytes tail m stripped s))
-
-pub ends_shell : (bytes tail : List ℕ) (m : ModuleShape) → strip header bytes ≡ Some tail → EndsAs 0 empty_module tail m → length m.functions ≡ length m.bodies → Shell bytes m
-ends_shell bytes tail m stripped e paired = record { tail = tail; sections = e.0; begins = strip_sound header bytes tail stripped; spelled = e.1; ordered = e.2; says = e.3; paired = paired }
 
 -- what stands before the data segments is a front of what the bytes spell
 abbrev pub IsFrontOf : List ℕ → ℕ → ModuleShape → List ℕ → Type 0

@@ -1,91 +1,171 @@
--- Reading sections one behind the other agrees with the grammar of a module.
-use Rattle.std.proofs.Common.{◌≡◌, ℕ, zero, suc, ◌+◌, ◌<◌, ◌≤◌, Bool, true, false, cond, List, [], ◌∷◌, ◌++◌, length, Option, Some, None, refl, sym, ap, subst, ◌∙◌, arith}
+-- Sections one behind the other, and the header before them, as the grammar of a module has them.
+use Rattle.std.proofs.Common.{◌≡◌, ℕ, ◌<◌, ◌≤◌, Bool, true, false, cond, eqb, ltb, eq-eqb, List, [], ◌∷◌, ◌++◌, length, Option, Some, None, ◌≢◌, ◌↔◌, refl, sym, ap, subst, ◌∙◌, arith}
 use Rattle.std.proofs.lemmas.List.{length-append}
-use Rattle.std.specs.Prelude.{◌≢◌}
-use Rattle.std.proofs.Common.{eqb, ltb, eq-eqb}
-use Rattle.std.proofs.lemmas.Bool.{eqb-true, lt-ltb, ne_eqb}
-use Rattle.wnum.specs.Reading.{◌>>=◌}
-use Rattle.wnum.proofs.Numbers.{bind_some, guard_some}
-use Rattle.wsyntax.specs.Binary.Production.{SpellsAll}
-use Rattle.wsyntax.specs.Binary.Sections.{section}
+use Rattle.std.proofs.lemmas.Bool.{eqb-true, lt-ltb, le-ltb, ne_eqb}
 use Rattle.wsyntax.specs.Modules.{ModuleShape}
-use Rattle.wsyntax.specs.Binary.Sections.{SectionShape}
-use Rattle.wsyntax.specs.Binary.Shell.{rank, may_follow, last_after, IsOrdered, put, put_all, sections_at, Shell, empty_module, header, strip, shell_of}
+use Rattle.wsyntax.specs.Binary.Production.{SpellsAll}
+use Rattle.wsyntax.specs.Binary.Sections.{SectionShape, Custom, Types, Imports, Functions, Tables, Memories, Globals, Exports, Start, Elements, Bodies, Segments, SectionKind, CustomSection, TypeSection, ImportSection, FunctionSection, TableSection, MemorySection, GlobalSection, ExportSection, StartSection, ElementSection, CodeSection, DataSection, kind_of, contents_of, contents, section}
+use Rattle.wsyntax.specs.Binary.Shell.{rank, may_follow, last_after, IsOrdered, put, put_all, empty_module, strip, header, Shell}
 use Rattle.wdecode.specs.declared.fault.Fault.{Fault}
 use Rattle.wdecode.specs.declared.fault.Fault.TheVariants.{Malformed, Memory}
 use Rattle.wdecode.specs.Gives.{Fails}
+use Rattle.wdecode.specs.Fronts.{EndsAs}
+use Rattle.wdecode.proofs.Agree.{pair_is}
 use Rattle.wdecode.proofs.SectionLaws.{section_agrees}
 
-pub some_same : (a c : ModuleShape) → Some a ≡ Some c → a ≡ c
-some_same a c e = cc
+-- ---- the id of a section is its first byte
 
-abbrev pub IsTail : ℕ → ModuleShape → List ℕ → ModuleShape → Type 0
-IsTail last m bytes to = (ss : List SectionShape) × SpellsAll section.spells bytes ss × IsOrdered last ss × (put_all m ss ≡ to)
+number : SectionKind → ℕ
+number CustomSection = 0
+number TypeSection = 1
+number ImportSection = 2
+number FunctionSection = 3
+number TableSection = 4
+number MemorySection = 5
+number GlobalSection = 6
+number ExportSection = 7
+number StartSection = 8
+number ElementSection = 9
+number CodeSection = 10
+number DataSection = 11
 
-pub sections_sound : (n last : ℕ) (m : ModuleShape) (bytes : List ℕ) (to : ModuleShape) → sections_at n last m bytes ≡ Some to → IsTail last m bytes to
-sections_sound n last m [] to e = ([], refl, tt, some_same m to e)
-sections_sound zero last m (b ∷ bytes) to e = absurd cc
-sections_sound (suc n) last m (b ∷ bytes) to e =
-    let a = bind_some (section.read (b ∷ bytes)) (λ x. cond (may_follow last x.0) (sections_at n (last_after last x.0) (put m x.0) x.1) None) to e in
-    let g = followed (may_follow last a.0.0) (sections_at n (last_after last a.0.0) (put m a.0.0) a.0.1) to a.2 in
-    let f = section_agrees.sound (b ∷ bytes) a.0.0 a.0.1 a.1 in
-    let more = sections_sound n (last_after last a.0.0) (put m a.0.0) a.0.1 to g.1 in
-    (a.0.0 ∷ more.0, (f.0, a.0.1, f.2, f.1, more.1), (g.0, more.2), more.3)
-  where
-    followed : (t : Bool) (r : Option ModuleShape) (y : ModuleShape) → cond t r None ≡ Some y → (t ≡ true) × (r ≡ Some y)
-    followed true r y e = (refl, e)
-    followed false r y e = absurd cc
+section_is : (a c : SectionShape) → Some a ≡ Some c → a ≡ c
+section_is a c e = cc
 
-section_some : (x : List ℕ) (s : SectionShape) → section.spells x s → (b : ℕ) × (h : List ℕ) × (x ≡ b ∷ h)
+kind_is : (a c : SectionKind) → Some a ≡ Some c → a ≡ c
+kind_is a c e = cc
+
+split : (t : Bool) (a k : SectionKind) (other : Option SectionKind) (P : Type 0) → cond t (Some a) other ≡ Some k → (t ≡ true → a ≡ k → P) → (other ≡ Some k → P) → P
+split true a k other P e hit missed = hit refl (kind_is a k e)
+split false a k other P e hit missed = missed e
+
+kind_number : (id : ℕ) (k : SectionKind) → kind_of id ≡ Some k → id ≡ number k
+unfolding number
+kind_number id k e =
+    let P : Type 0 = id ≡ number k in
+    let hit : (a : SectionKind) → eqb id (number a) ≡ true → a ≡ k → P = λ a t is. eqb-true id (number a) t ∙ ap number is in
+    split (eqb id 0) CustomSection k _ P e (hit CustomSection) λ e.
+    split (eqb id 1) TypeSection k _ P e (hit TypeSection) λ e.
+    split (eqb id 2) ImportSection k _ P e (hit ImportSection) λ e.
+    split (eqb id 3) FunctionSection k _ P e (hit FunctionSection) λ e.
+    split (eqb id 4) TableSection k _ P e (hit TableSection) λ e.
+    split (eqb id 5) MemorySection k _ P e (hit MemorySection) λ e.
+    split (eqb id 6) GlobalSection k _ P e (hit GlobalSection) λ e.
+    split (eqb id 7) ExportSection k _ P e (hit ExportSection) λ e.
+    split (eqb id 8) StartSection k _ P e (hit StartSection) λ e.
+    split (eqb id 9) ElementSection k _ P e (hit ElementSection) λ e.
+    split (eqb id 10) CodeSection k _ P e (hit CodeSection) λ e.
+    split (eqb id 11) DataSection k _ P e (hit DataSection) λ e. absurd cc
+
+made_rank : (a s : SectionShape) (n : ℕ) → rank a ≡ n → Some a ≡ Some s → rank s ≡ n
+made_rank a s n r e = ap rank (sym (section_is a s e)) ∙ r
+
+contents_rank : (k : SectionKind) (b bytes : List ℕ) (s : SectionShape) → (contents_of k b).spells bytes s → rank s ≡ number k
+unfolding number
+contents_rank CustomSection b bytes s sp = made_rank Custom s 0 refl sp.5.1
+contents_rank TypeSection b bytes s sp = made_rank (Types sp.2) s 1 refl sp.5.1
+contents_rank ImportSection b bytes s sp = made_rank (Imports sp.2) s 2 refl sp.5.1
+contents_rank FunctionSection b bytes s sp = made_rank (Functions sp.2) s 3 refl sp.5.1
+contents_rank TableSection b bytes s sp = made_rank (Tables sp.2) s 4 refl sp.5.1
+contents_rank MemorySection b bytes s sp = made_rank (Memories sp.2) s 5 refl sp.5.1
+contents_rank GlobalSection b bytes s sp = made_rank (Globals sp.2) s 6 refl sp.5.1
+contents_rank ExportSection b bytes s sp = made_rank (Exports sp.2) s 7 refl sp.5.1
+contents_rank StartSection b bytes s sp = made_rank (Start sp.2) s 8 refl sp.5.1
+contents_rank ElementSection b bytes s sp = made_rank (Elements sp.2) s 9 refl sp.5.1
+contents_rank CodeSection b bytes s sp = made_rank (Bodies sp.2) s 10 refl sp.5.1
+contents_rank DataSection b bytes s sp = made_rank (Segments sp.2) s 11 refl sp.5.1
+
+contents_id : (id : ℕ) (b bytes : List ℕ) (s : SectionShape) → (contents id b).spells bytes s → id ≡ rank s
+contents_id id b bytes s sp = kind_number id sp.2 sp.4.1 ∙ sym (contents_rank sp.2 b sp.1 s sp.5)
+
+-- bytes that spell a section begin with its id
+pub spelled_rank : (x : List ℕ) (s : SectionShape) → section.spells x s → (h : List ℕ) × (x ≡ rank s ∷ h)
 unfolding section
-section_some x s sp = (sp.2, sp.1, sp.3 ∙ ap (λ (w : List ℕ). w ++ sp.1) sp.4)
+spelled_rank x s sp =
+    let inner = sp.5 in
+    let id : sp.2 ≡ rank s = contents_id sp.2 inner.2 inner.1 s inner.5 in
+    (sp.1, sp.3 ∙ ap (λ (w : List ℕ). w ++ sp.1) sp.4 ∙ ap (λ (n : ℕ). n ∷ sp.1) id)
 
-pub sections_complete : (ss : List SectionShape) (n last : ℕ) (m : ModuleShape) (bytes : List ℕ) → SpellsAll section.spells bytes ss → IsOrdered last ss → length bytes ≤ n → sections_at n last m bytes ≡ Some (put_all m ss)
-sections_complete [] n last m bytes sp ordered le = ap (sections_at n last m) sp
-sections_complete (s ∷ ss) zero last m bytes sp ordered le =
-    let first = section_some sp.0 s sp.3 in
-    let l : length bytes ≡ suc (length first.1) + length sp.1 = ap length sp.2 ∙ length-append sp.0 sp.1 ∙ ap (λ (r : List ℕ). length r + length sp.1) first.2 in
-    absurd (omega arith)
-sections_complete (s ∷ ss) (suc n) last m bytes sp ordered le =
-    let first = section_some sp.0 s sp.3 in
-    let l : length bytes ≡ suc (length first.1) + length sp.1 = ap length sp.2 ∙ length-append sp.0 sp.1 ∙ ap (λ (r : List ℕ). length r + length sp.1) first.2 in
-    let is : bytes ≡ (first.0 ∷ first.1) ++ sp.1 = sp.2 ∙ ap (λ (r : List ℕ). r ++ sp.1) first.2 in
-    let read : section.read ((first.0 ∷ first.1) ++ sp.1) ≡ Some (s, sp.1) = ap (λ (r : List ℕ). section.read (r ++ sp.1)) (sym first.2) ∙ section_agrees.complete sp.0 s sp.1 sp.3 in
-    let follows = ordered.0 in
-    let one : sections_at (suc n) last m ((first.0 ∷ first.1) ++ sp.1) ≡ sections_at n (last_after last s) (put m s) sp.1 = rw (read, follows) refl in
-    ap (sections_at (suc n) last m) is ∙ one ∙ sections_complete ss n (last_after last s) (put m s) sp.1 sp.4 ordered.1 (omega arith)
+pub read_rank : (bytes after : List ℕ) (s : SectionShape) → section.read bytes ≡ Some (s, after) → (h : List ℕ) × (bytes ≡ rank s ∷ h)
+read_rank bytes after s r =
+    let f = section_agrees.sound bytes s after r in
+    let first = spelled_rank f.0 s f.1 in
+    (first.0 ++ after, f.2 ∙ ap (λ (w : List ℕ). w ++ after) first.1)
 
-pub goes_on : (fuel last : ℕ) (m : ModuleShape) (bytes after : List ℕ) (s : SectionShape) (total : Option ModuleShape) → 0 < length bytes → length bytes ≤ fuel → section.read bytes ≡ Some (s, after) → may_follow last s ≡ true
-    → sections_at fuel last m bytes ≡ total → (k : ℕ) × (length after ≤ k) × (sections_at k (last_after last s) (put m s) after ≡ total)
-goes_on fuel last m [] after s total some le h ok so_far = absurd (omega arith)
-goes_on zero last m (b ∷ bytes) after s total some le h ok so_far = absurd (omega arith)
-goes_on (suc n) last m (b ∷ bytes) after s total some le h ok so_far =
-    let f = section_agrees.sound (b ∷ bytes) s after h in
-    let first = section_some f.0 s f.1 in
-    let l : suc (length bytes) ≡ suc (length first.1) + length after = ap length f.2 ∙ length-append f.0 after ∙ ap (λ (r : List ℕ). length r + length after) first.2 in
-    let one : sections_at (suc n) last m (b ∷ bytes) ≡ sections_at n (last_after last s) (put m s) after = rw (h, ok) refl in
-    (n, omega arith, sym one ∙ so_far)
-
-pub read_fails : (e : Fault) (fuel last : ℕ) (m : ModuleShape) (bytes : List ℕ) (total : Option ModuleShape) → 0 < length bytes → Fails e (section.read bytes) → sections_at fuel last m bytes ≡ total → Fails e total
-read_fails Memory fuel last m bytes total some h so_far = tt
-read_fails Malformed fuel last m [] total some h so_far = absurd (omega arith)
-read_fails Malformed zero last m (b ∷ bytes) total some h so_far = sym so_far
-read_fails Malformed (suc n) last m (b ∷ bytes) total some h so_far =
-    let one : sections_at (suc n) last m (b ∷ bytes) ≡ None = rw h refl in
-    sym so_far ∙ one
-
-pub order_fails : (fuel last : ℕ) (m : ModuleShape) (bytes after : List ℕ) (s : SectionShape) (total : Option ModuleShape) → 0 < length bytes → section.read bytes ≡ Some (s, after) → may_follow last s ≡ false → sections_at fuel last m bytes ≡ total → total ≡ None
-order_fails fuel last m [] after s total some h bad so_far = absurd (omega arith)
-order_fails zero last m (b ∷ bytes) after s total some h bad so_far = sym so_far
-order_fails (suc n) last m (b ∷ bytes) after s total some h bad so_far =
-    let one : sections_at (suc n) last m (b ∷ bytes) ≡ None = rw (h, bad) refl in
-    sym so_far ∙ one
-
+-- so it leaves fewer bytes
 pub section_shorter : (bytes after : List ℕ) (s : SectionShape) → section.read bytes ≡ Some (s, after) → length after < length bytes
 section_shorter bytes after s h =
     let f = section_agrees.sound bytes s after h in
-    let first = section_some f.0 s f.1 in
-    omega (arith, ap length f.2, length-append f.0 after, ap length first.2)
+    let first = spelled_rank f.0 s f.1 in
+    omega (arith, ap length f.2, length-append f.0 after, ap length first.1)
+
+-- ---- one section more
+
+first_same : (bytes after x y : List ℕ) (s t : SectionShape) → section.read bytes ≡ Some (s, after) → bytes ≡ x ++ y → section.spells x t → (s ≡ t) × (after ≡ y)
+first_same bytes after x y s t r is sp = pair_is s t after y (sym r ∙ ap section.read is ∙ section_agrees.complete x t y sp)
+
+not_empty : (bytes x y : List ℕ) (s : SectionShape) → bytes ≡ [] → bytes ≡ x ++ y → section.spells x s → ⊥
+not_empty bytes x y s none is sp =
+    let first = spelled_rank x s sp in
+    let clash : ◌≡◌ {A = List ℕ} [] (rank s ∷ (first.0 ++ y)) = sym none ∙ is ∙ ap (λ (w : List ℕ). w ++ y) first.1 in
+    absurd cc
+
+into : (last : ℕ) (m to : ModuleShape) (bytes after : List ℕ) (s : SectionShape) (ss : List SectionShape) → section.read bytes ≡ Some (s, after)
+    → SpellsAll section.spells bytes ss → IsOrdered last ss → put_all m ss ≡ to → EndsAs (last_after last s) (put m s) after to
+into last m to bytes after s [] r sp ordered is =
+    let first = read_rank bytes after s r in
+    let clash : ◌≡◌ {A = List ℕ} [] (rank s ∷ first.0) = sym sp ∙ first.1 in
+    absurd cc
+into last m to bytes after s (t ∷ ss) r sp ordered is =
+    let same = first_same bytes after sp.0 sp.1 s t r sp.2 sp.3 in (
+      ss,
+      subst (λ (w : List ℕ). SpellsAll section.spells w ss) (sym same.1) sp.4,
+      subst (λ (w : SectionShape). IsOrdered (last_after last w) ss) (sym same.0) ordered.1,
+      ap (λ (w : SectionShape). put_all (put m w) ss) same.0 ∙ is,
+    )
+
+pub one_more : (last : ℕ) (m : ModuleShape) (bytes after : List ℕ) (s : SectionShape) → section.read bytes ≡ Some (s, after) → may_follow last s ≡ true
+    → (to : ModuleShape) → EndsAs last m bytes to ↔ EndsAs (last_after last s) (put m s) after to
+one_more last m bytes after s r ok to = (there, back)
+  where
+    there : EndsAs last m bytes to → EndsAs (last_after last s) (put m s) after to
+    there e = into last m to bytes after s e.0 r e.1 e.2 e.3
+
+    back : EndsAs (last_after last s) (put m s) after to → EndsAs last m bytes to
+    back e = let f = section_agrees.sound bytes s after r in (s ∷ e.0, (f.0, after, f.2, f.1, e.1), (ok, e.2), e.3)
+
+pub unread : (last : ℕ) (bytes : List ℕ) (ss : List SectionShape) → 0 < length bytes → section.read bytes ≡ None → SpellsAll section.spells bytes ss → ⊥
+unread last bytes [] some r sp = let l = ap length sp in absurd (omega arith)
+unread last bytes (t ∷ ss) some r sp =
+    let clash : ◌≡◌ {A = Option (SectionShape × List ℕ)} None (Some (t, sp.1)) = sym r ∙ ap section.read sp.2 ∙ section_agrees.complete sp.0 t sp.1 sp.3 in
+    absurd cc
+
+pub not_read : (e : Fault) (last : ℕ) (m : ModuleShape) (bytes : List ℕ) → 0 < length bytes → Fails e (section.read bytes) → e ≡ Malformed → (to : ModuleShape) → EndsAs last m bytes to → ⊥
+not_read Malformed last m bytes some r e to ends = unread last bytes ends.0 some r ends.1
+not_read Memory last m bytes some r e to ends = absurd cc
+
+unordered : (last : ℕ) (bytes after : List ℕ) (s : SectionShape) (ss : List SectionShape) → 0 < length bytes → section.read bytes ≡ Some (s, after) → may_follow last s ≡ false → SpellsAll section.spells bytes ss → IsOrdered last ss → ⊥
+unordered last bytes after s [] some r bad sp ordered = let l = ap length sp in absurd (omega arith)
+unordered last bytes after s (t ∷ ss) some r bad sp ordered =
+    let same = first_same bytes after sp.0 sp.1 s t r sp.2 sp.3 in
+    let clash : false ≡ true = sym bad ∙ ap (may_follow last) same.0 ∙ ordered.0 in
+    absurd cc
+
+pub not_ordered : (last : ℕ) (m : ModuleShape) (bytes after : List ℕ) (s : SectionShape) → 0 < length bytes → section.read bytes ≡ Some (s, after) → may_follow last s ≡ false → (to : ModuleShape) → EndsAs last m bytes to → ⊥
+not_ordered last m bytes after s some r bad to ends = unordered last bytes after s ends.0 some r bad ends.1 ends.2
+
+-- bytes spell one list of sections at most
+one_list : (ss ts : List SectionShape) (bytes : List ℕ) → SpellsAll section.spells bytes ss → SpellsAll section.spells bytes ts → ss ≡ ts
+one_list [] [] bytes a b = refl
+one_list [] (t ∷ ts) bytes a b = absurd (not_empty bytes b.0 b.1 t a b.2 b.3)
+one_list (s ∷ ss) [] bytes a b = absurd (not_empty bytes a.0 a.1 s b a.2 a.3)
+one_list (s ∷ ss) (t ∷ ts) bytes a b =
+    let read = ap section.read a.2 ∙ section_agrees.complete a.0 s a.1 a.3 in
+    let same = first_same bytes a.1 b.0 b.1 s t read b.2 b.3 in
+    let others = one_list ss ts b.1 (subst (λ (w : List ℕ). SpellsAll section.spells w ss) same.1 a.4) b.4 in
+    ap (λ (w : SectionShape). w ∷ ss) same.0 ∙ ap (λ (w : List SectionShape). t ∷ w) others
+
+-- ---- the order of sections
 
 abbrev pub Follows : ℕ → SectionShape → ℕ → Type 0
 Follows last s now = (may_follow last s ≡ true) × (last_after last s ≡ now)
@@ -101,7 +181,14 @@ follows_custom s last id now r zeroed is =
     let e : rank s ≡ 0 = sym r ∙ zeroed in
     (rw e refl, rw e (sym is))
 
--- the header
+-- a section whose id is not above that of the last one
+pub misplaced : (s : SectionShape) (last id : ℕ) → id ≡ rank s → id ≢ 0 → id ≤ last → may_follow last s ≡ false
+misplaced s last id r ne le =
+    let named : eqb (rank s) 0 ≡ false = ne_eqb (rank s) 0 (λ e. ne (r ∙ e)) in
+    let behind : ltb last (rank s) ≡ false = le-ltb last (rank s) (omega (arith, r)) in
+    rw (named, behind) refl
+
+-- ---- the header, and the whole
 list_same : (a c : List ℕ) → Some a ≡ Some c → a ≡ c
 list_same a c e = cc
 
@@ -109,29 +196,28 @@ followed_list : (t : Bool) (r : Option (List ℕ)) (y : List ℕ) → cond t r N
 followed_list true r y e = (refl, e)
 followed_list false r y e = absurd cc
 
-pub strip_sound : (h bytes tail : List ℕ) → strip h bytes ≡ Some tail → bytes ≡ h ++ tail
+strip_sound : (h bytes tail : List ℕ) → strip h bytes ≡ Some tail → bytes ≡ h ++ tail
 strip_sound [] bytes tail e = list_same bytes tail e
 strip_sound (h ∷ hs) [] tail e = absurd cc
 strip_sound (h ∷ hs) (b ∷ bs) tail e =
     let g = followed_list (eqb b h) (strip hs bs) tail e in
     ap (λ (x : ℕ). x ∷ bs) (eqb-true b h g.0) ∙ ap (λ (r : List ℕ). h ∷ r) (strip_sound hs bs tail g.1)
 
-pub strip_complete : (h tail : List ℕ) → strip h (h ++ tail) ≡ Some tail
+strip_complete : (h tail : List ℕ) → strip h (h ++ tail) ≡ Some tail
 strip_complete [] tail = refl
 strip_complete (h ∷ hs) tail = rw (eq-eqb h h refl) (strip_complete hs tail)
 
-pub shell_sound : (bytes : List ℕ) (m : ModuleShape) → shell_of bytes ≡ Some m → Shell bytes m
-shell_sound bytes m e =
-    let a = bind_some (strip header bytes) (λ tail. sections_at (length tail) 0 empty_module tail >>= λ x. cond (eqb (length x.functions) (length x.bodies)) (Some x) None) m e in
-    let b = bind_some (sections_at (length a.0) 0 empty_module a.0) (λ x. cond (eqb (length x.functions) (length x.bodies)) (Some x) None) m a.2 in
-    let g = guard_some (eqb (length b.0.functions) (length b.0.bodies)) b.0 m b.2 in
-    let t = sections_sound (length a.0) 0 empty_module a.0 b.0 b.1 in
-    subst (Shell bytes) g.1 (record { tail = a.0; sections = t.0; begins = strip_sound header bytes a.0 a.1; spelled = t.1; ordered = t.2; says = t.3; paired = eqb-true _ _ g.0 })
+pub shell_ends : (bytes tail : List ℕ) (m : ModuleShape) → strip header bytes ≡ Some tail → Shell bytes m → EndsAs 0 empty_module tail m
+shell_ends bytes tail m stripped s =
+    let same : tail ≡ s.tail = list_same tail s.tail (sym stripped ∙ ap (strip header) s.begins ∙ strip_complete header s.tail) in
+    subst (λ (t : List ℕ). EndsAs 0 empty_module t m) (sym same) (s.sections, s.spelled, s.ordered, s.says)
 
-pub shell_complete : (bytes : List ℕ) (m : ModuleShape) → Shell bytes m → shell_of bytes ≡ Some m
-shell_complete bytes m s =
-    let front : strip header bytes ≡ Some s.tail = ap (strip header) s.begins ∙ strip_complete header s.tail in
-    let all : sections_at (length s.tail) 0 empty_module s.tail ≡ Some m = sections_complete s.sections (length s.tail) 0 empty_module s.tail s.spelled s.ordered (omega arith) ∙ ap (λ (x : ModuleShape). Some x) s.says in
-    let paired = s.paired in
-    let same : eqb (length m.functions) (length m.bodies) ≡ true = eq-eqb _ _ paired in
-    rw (front, all, same) refl
+pub ends_shell : (bytes tail : List ℕ) (m : ModuleShape) → strip header bytes ≡ Some tail → EndsAs 0 empty_module tail m → length m.functions ≡ length m.bodies → Shell bytes m
+ends_shell bytes tail m stripped e paired = record { tail = tail; sections = e.0; begins = strip_sound header bytes tail stripped; spelled = e.1; ordered = e.2; says = e.3; paired = paired }
+
+-- bytes spell one module at most
+pub one_shell : (bytes : List ℕ) (m n : ModuleShape) → Shell bytes m → Shell bytes n → m ≡ n
+one_shell bytes m n s t =
+    let tails : s.tail ≡ t.tail = list_same s.tail t.tail (sym (strip_complete header s.tail) ∙ ap (strip header) (sym s.begins ∙ t.begins) ∙ strip_complete header t.tail) in
+    let sections : s.sections ≡ t.sections = one_list s.sections t.sections t.tail (subst (λ (w : List ℕ). SpellsAll section.spells w s.sections) tails s.spelled) t.spelled in
+    sym s.says ∙ ap (put_all empty_module) sections ∙ t.says

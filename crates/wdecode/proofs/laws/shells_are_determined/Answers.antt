@@ -1,4 +1,4 @@
-use Rattle.wdecode.proofs.Determined.{one_shell}
+use Rattle.wdecode.proofs.SectionList.{one_shell}
 use Rattle.wdecode.proofs.laws.shells_are_determined.Goals as goal
 
 pub returns : goal.returns

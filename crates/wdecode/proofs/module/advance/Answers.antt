@@ -4,8 +4,8 @@ use Rattle.wsyntax.specs.Modules.{module_shape}
 use Rattle.wdecode.specs.declared.fault.Fault.TheVariants.{Malformed}
 use Rattle.wdecode.specs.Held.{section_shape}
 use Rattle.wdecode.specs.Fronts.{EndsProgress, stops}
-use Rattle.wdecode.proofs.SectionList.{section_shorter, Follows, follows_next, follows_custom}
-use Rattle.wdecode.proofs.FrontLaws.{fault_is, not_read, not_ordered, goes_on, misplaced, carried, early_next}
+use Rattle.wdecode.proofs.SectionList.{section_shorter, Follows, follows_next, follows_custom, not_read, not_ordered, misplaced}
+use Rattle.wdecode.proofs.FrontLaws.{fault_is, goes_on, carried, early_next}
 use Rattle.wdecode.proofs.module.advance.Goals as goal
 use Rattle.wdecode.proofs.module.advance.Goals.{then-id-ne0+else-id-last, else-id-ne0}
 

@@ -4,7 +4,7 @@ use Rattle.wsyntax.specs.Modules.{module_shape}
 use Rattle.wdecode.specs.declared.fault.Fault.{Fault}
 use Rattle.wdecode.specs.declared.fault.DecodeFault.{DecodeFault}
 use Rattle.wdecode.specs.declared.fault.DecodeFault.TheVariants.{Malformed}
-use Rattle.wdecode.proofs.Determined.{one_shell}
+use Rattle.wdecode.proofs.SectionList.{one_shell}
 use Rattle.wdecode.proofs.FrontLaws.{fault_is}
 use Rattle.wdecode.proofs.module.decode_module.Goals as goal
 
