@@ -21,9 +21,9 @@ use Rattle.wdecode.specs.declared.front.Front.{Front}
 use Rattle.verdict.specs.declared.refusal.Class.{Class}
 use Rattle.verdict.specs.declared.refusal.Refusal.{Refusal}
 use Rattle.verdict.specs.declared.refusal.Refusal.TheVariants.{TooLarge, Malformed, Rule, Body, Memory}
-use Rattle.verdict.specs.declared.rest.RestFault.TheVariants as rest
-use Rattle.verdict.specs.declared.jobs.PartFault.{PartFault}
-use Rattle.verdict.specs.declared.jobs.PartFault.TheVariants as part
+use Rattle.verdict.specs.declared.part_fault.RestFault.TheVariants as rest
+use Rattle.verdict.specs.declared.part_fault.PartFault.{PartFault}
+use Rattle.verdict.specs.declared.part_fault.PartFault.TheVariants as part
 use Rattle.verdict.specs.declared.refused_body.RefusedBody.{RefusedBody}
 use Rattle.verdict.specs.Judged.{class_at, PassBefore}
 use Rattle.verdict.specs.Groups.{IsInGroup, GroupPasses, IsFirstOfGroup}

@@ -14,10 +14,10 @@ use Rattle.wdecode.specs.Fronts.{EndsFront, with_segments}
 use Rattle.verdict.specs.declared.refusal.Class.{Class}
 use Rattle.verdict.specs.declared.refusal.Refusal.{Refusal}
 use Rattle.verdict.specs.declared.refusal.Refusal.TheVariants as refusal
-use Rattle.verdict.specs.declared.rest.RestFault.{RestFault}
-use Rattle.verdict.specs.declared.rest.RestFault.TheVariants.{Malformed, Rule}
-use Rattle.verdict.specs.declared.jobs.PartFault.{PartFault}
-use Rattle.verdict.specs.declared.jobs.PartFault.TheVariants as part
+use Rattle.verdict.specs.declared.part_fault.RestFault.{RestFault}
+use Rattle.verdict.specs.declared.part_fault.RestFault.TheVariants.{Malformed, Rule}
+use Rattle.verdict.specs.declared.part_fault.PartFault.{PartFault}
+use Rattle.verdict.specs.declared.part_fault.PartFault.TheVariants as part
 use Rattle.verdict.specs.Judged.{IsFirstBody}
 use Rattle.verdict.specs.Groups.{GroupPasses, IsFirstOfGroup, passes_or_refused, one_first}
 

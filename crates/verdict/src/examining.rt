@@ -5,10 +5,10 @@ ghost use Rattle.verdict.specs.Judged.{PassBefore};
 ghost use Rattle.verdict.specs.Parts.{OneWhole, IsAwaited, RestPasses, IsFirstPart, FitsIn, refusal_for, IsEarly};
 ghost use Rattle.verdict.specs.Refusals.{verdict_of};
 
-use crate::jobs::{PartFault, Parts};
+use crate::jobs::Parts;
+use crate::part_fault::{PartFault, RestFault};
 use crate::passing::Scratch;
 use crate::refusal::Refusal;
-use crate::rest::RestFault;
 use pieces::{Plan, TryFault, Watch, try_all};
 use soundness::validation::{accepted_is_typed, refused_at_first_fault};
 use std::alloc::{AllocError, Global};
@@ -39,7 +39,7 @@ fn new_scratches<'a, 'b>(
 const SHORTEST_GROUP: usize = 4_096;
 
 /// How many groups there are for each worker at least, where they are long enough.
-const FEWEST_GROUPS: u32 = 16;
+const FEWEST_GROUPS: u32 = 32;
 
 /// The plan whose pieces are the groups of the bodies of a module of so many bytes.
 fn grouping(plan: Plan, bodies: u32, bytes: usize) -> Plan

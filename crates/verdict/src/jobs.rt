@@ -2,24 +2,18 @@ ghost use Rattle.std.specs.Prelude.{◌≡◌, ◌+◌, ◌<◌, ◌^◌, suc, S
 ghost use Rattle.std.specs.Int.{div_ceil};
 ghost use Rattle.pieces.specs.Faults.{AllowsFault};
 ghost use Rattle.verdict.specs.Judged.{class_of};
-ghost use Rattle.verdict.specs.Parts.{OneWhole, IsAwaited, RestPasses, IsOfRest, IsBodyAt};
+ghost use Rattle.verdict.specs.Parts.{OneWhole, IsAwaited, IsBodyAt};
 
 use crate::body::judge_body;
+use crate::part_fault::PartFault;
 use crate::passing::Scratch;
 use crate::refused_body::RefusedBody;
-use crate::rest::{RestFault, judge_rest};
+use crate::rest::judge_rest;
 use pieces::{Job, JobFault, Stage, Watch};
 use std::alloc::Global;
 use std::sync::Wait;
 use wcontext::{Context, Counts};
 use wdecode::Front;
-
-/// Why a part of a module is refused.
-#[derive(Clone, Copy, Debug)]
-pub(crate) enum PartFault {
-    Rest(RestFault),
-    Body(RefusedBody),
-}
 
 /// The parts of a module that can be judged side by side, of which nothing is kept. Index 0 of the job is the rest of the
 /// module, since a refusal of that goes before one of a body; each index behind is one group of consecutive bodies, to be
@@ -74,23 +68,6 @@ fn judge_at(
     }
 }
 
-/// Judges the rest of a module, as a part of it.
-fn judge_first<'a>(
-    alloc: Global,
-    front: &Front<'a>,
-    counts: &Counts,
-    names: &mut Vec<&'a [u8]>,
-) -> Result<(), JobFault<PartFault>>
-    requires { IsAwaited front.now counts.now }
-    ensures { MatchResult result (λ _. RestPasses front.now) (AllowsFault (IsOfRest front.now)) }
-{
-    match judge_rest(alloc, front, counts, names) {
-        Ok(()) => Ok(()),
-        Err(JobFault::Refused(fault)) => Err(JobFault::Refused(PartFault::Rest(fault))),
-        Err(JobFault::Memory) => Err(JobFault::Memory),
-    }
-}
-
 impl<'a, 'b, W: Watch> Job for Parts<'a, 'b, W> {
     type Local = Scratch<'a, 'b>;
 
@@ -117,7 +94,7 @@ impl<'a, 'b, W: Watch> Job for Parts<'a, 'b, W> {
         index: u32,
     ) -> Result<(), JobFault<PartFault>> {
         if index == 0 {
-            return judge_first(self.alloc, self.front, self.counts, &mut scratch.names);
+            return judge_rest(self.alloc, self.front, self.counts, &mut scratch.names);
         }
         let first = (index - 1) * self.size;
         let end = first + self.size.min(self.bodies.len() as u32 - first);

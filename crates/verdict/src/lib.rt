@@ -8,6 +8,7 @@ mod judging;
 mod keeping;
 mod keeping_jobs;
 mod laws;
+mod part_fault;
 mod passing;
 mod refusal;
 mod refused_body;

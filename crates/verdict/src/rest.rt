@@ -1,8 +1,10 @@
 //! What is asked of a module beside its bodies, once these can be judged.
-ghost use Rattle.std.specs.Prelude.{MatchResult};
+ghost use Rattle.std.specs.Prelude.{◌≡◌, MatchResult};
+ghost use Rattle.pieces.specs.declared.job.JobFault.TheVariants.{Refused};
 ghost use Rattle.pieces.specs.Faults.{AllowsFault};
-ghost use Rattle.verdict.specs.Parts.{IsAwaited, RestPasses, RestRefused};
+ghost use Rattle.verdict.specs.Parts.{IsAwaited, RestPasses, IsOfRest};
 
+use crate::part_fault::{PartFault, RestFault};
 use pieces::JobFault;
 use std::alloc::Global;
 use wcontext::{Counts, ModuleFault, check_late};
@@ -11,15 +13,6 @@ use wsyntax::Data;
 
 /// The rule on data segments.
 const SEGMENTS_RULE: u32 = 13;
-
-/// Why what is left of a module is refused.
-#[derive(Clone, Copy, Debug)]
-pub(crate) enum RestFault {
-    /// The bytes behind spell no data segments, or something stands behind them.
-    Malformed,
-    /// The least broken rule, one from 9 to 13.
-    Rule(u32),
-}
 
 /// A data segment is valid (3.4.6) in a module of these counts.
 #[derive(Drop)]
@@ -37,6 +30,13 @@ impl SegmentRule for ValidSegment<'_> {
     }
 }
 
+/// The rest is refused.
+fn refused(fault: RestFault) -> JobFault<PartFault>
+    ensures { result ≡ Refused (PartFault.Rest fault) }
+{
+    JobFault::Refused(PartFault::Rest(fault))
+}
+
 /// Judges what is left of a module that keeps the early rules: decodes its data segments, and asks the late rules. That
 /// the bytes spell no module goes before every rule. The list is room for the names of exports.
 pub(crate) fn judge_rest<'a>(
@@ -44,19 +44,19 @@ pub(crate) fn judge_rest<'a>(
     front: &Front<'a>,
     counts: &Counts,
     names: &mut Vec<&'a [u8]>,
-) -> Result<(), JobFault<RestFault>>
+) -> Result<(), JobFault<PartFault>>
     requires { IsAwaited front.now counts.now }
-    ensures { MatchResult result (λ _. RestPasses front.now) (AllowsFault (RestRefused front.now)) }
+    ensures { MatchResult result (λ _. RestPasses front.now) (AllowsFault (IsOfRest front.now)) }
 {
     let segments = match front.segments_pass(alloc, &ValidSegment { counts }) {
         Ok(segments) => segments,
-        Err(Fault::Malformed) => return Err(JobFault::Refused(RestFault::Malformed)),
+        Err(Fault::Malformed) => return Err(refused(RestFault::Malformed)),
         Err(Fault::Memory) => return Err(JobFault::Memory),
     };
     match check_late(names, &front.module, counts) {
-        Err(ModuleFault::Rule(rule)) => Err(JobFault::Refused(RestFault::Rule(rule))),
+        Err(ModuleFault::Rule(rule)) => Err(refused(RestFault::Rule(rule))),
         Err(ModuleFault::Memory) => Err(JobFault::Memory),
         Ok(()) if segments => Ok(()),
-        Ok(()) => Err(JobFault::Refused(RestFault::Rule(SEGMENTS_RULE))),
+        Ok(()) => Err(refused(RestFault::Rule(SEGMENTS_RULE))),
     }
 }

@@ -6,14 +6,14 @@ use Rattle.verdict.proofs.Rests.{least_of_whole, none_of_whole, segments_broken}
 use Rattle.verdict.proofs.rest.judge_rest.Goals as goal
 
 pub returns-in-Err-Malformed : goal.returns-in-Err-Malformed
-returns-in-Err-Malformed c = λ m is. c.in-Err-Malformed.ensures.malformed (ap (λ (f : Fault). Err f) c.in-Err-Malformed.field-0-is) is.0 is.1
+returns-in-Err-Malformed c = rw c.refused.ensures (λ m is. c.in-Err-Malformed.ensures.malformed (ap (λ (f : Fault). Err f) c.in-Err-Malformed.field-0-is) is.0 is.1)
 
 pub returns-in-Err-Rule : goal.returns-in-Err-Rule
 returns-in-Err-Rule c =
     let m = module_shape c.args.front.now.«module» in
     let ends = c.in-Ok.ensures.found in
     let b = c.in-Err-Rule.ensures.broken c.in-Err-Rule.rule c.in-Err-Rule.field-0-is in
-    (with_segments m ends.0, (ends.0, ends.1, refl), least_of_whole m ends.0 c.in-Err-Rule.rule b.0 b.1)
+    rw c.refused-in-Err-Rule.ensures (with_segments m ends.0, (ends.0, ends.1, refl), least_of_whole m ends.0 c.in-Err-Rule.rule b.0 b.1)
 
 pub returns-in-Ok-check_late : goal.returns-in-Ok-check_late
 returns-in-Ok-check_late c =
@@ -25,4 +25,4 @@ pub returns-in-Ok-2 : goal.returns-in-Ok-2
 returns-in-Ok-2 c =
     let m = module_shape c.args.front.now.«module» in
     let ends = c.in-Ok.ensures.found in
-    (with_segments m ends.0, (ends.0, ends.1, refl), segments_broken m ends.0 c.args.counts.now c.in-Ok.segments c.requires.counted c.in-Ok-2.ensures.valid ends.2 c.if-segments.false)
+    rw c.refused-in-Ok-2.ensures (with_segments m ends.0, (ends.0, ends.1, refl), segments_broken m ends.0 c.args.counts.now c.in-Ok.segments c.requires.counted c.in-Ok-2.ensures.valid ends.2 c.if-segments.false)

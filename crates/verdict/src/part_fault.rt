@@ -1,0 +1,17 @@
+use crate::refused_body::RefusedBody;
+
+/// Why what is left of a module is refused.
+#[derive(Clone, Copy, Debug)]
+pub(crate) enum RestFault {
+    /// The bytes behind spell no data segments, or something stands behind them.
+    Malformed,
+    /// The least broken rule, one from 9 to 13.
+    Rule(u32),
+}
+
+/// Why a part of a module is refused.
+#[derive(Clone, Copy, Debug)]
+pub(crate) enum PartFault {
+    Rest(RestFault),
+    Body(RefusedBody),
+}
