@@ -27,7 +27,7 @@ use Rattle.verdict.specs.declared.part_fault.PartFault.TheVariants as part
 use Rattle.verdict.specs.declared.refused_body.RefusedBody.{RefusedBody}
 use Rattle.verdict.specs.Judged.{class_at, PassBefore}
 use Rattle.verdict.specs.Groups.{IsInGroup, GroupPasses, IsFirstOfGroup}
-use Rattle.verdict.specs.Parts.{IsWhole, OneWhole, RestPasses, RestRefused, PartPasses, PartRefused, IsBodyAt, IsFirstPart, IsEarly, refusal_for, FitsIn}
+use Rattle.verdict.specs.Parts.{IsWhole, OneWhole, RestPasses, RestRefused, PartPasses, PartRefused, IsBodyAt, IsFirstPart, IsEarlyRefusal, refusal_for, FitsIn}
 use Rattle.verdict.specs.Refusals.{verdict_of, of_rules}
 use Rattle.verdict.proofs.Firsts.{Known, judged}
 use Rattle.verdict.proofs.Groups.{first_group_stop}
@@ -140,11 +140,11 @@ parts_judged T bytes f x (Err Memory) d is h = tt
 
 -- ---- an early rule is broken
 
-pub early_for : (f : Front) (m : ModuleShape) (e : ModuleFault) → IsWhole f m → IsEarly f e (of_rules e)
+pub early_for : (f : Front) (m : ModuleShape) (e : ModuleFault) → IsWhole f m → IsEarlyRefusal f e (of_rules e)
 early_for f m (rules.Rule k) is = (refl, m, is)
 early_for f m rules.Memory is = tt
 
-pub is_early : (f : Front) (bytes : List ℕ) (e : ModuleFault) (r : Refusal) → Decoded bytes f → ((k : ℕ) → e ≡ rules.Rule k → (k < 9) × LeastBroken (module_shape f.«module») k) → IsEarly f e r → IfSome (verdict_of r) (IsVerdict bytes)
+pub is_early : (f : Front) (bytes : List ℕ) (e : ModuleFault) (r : Refusal) → Decoded bytes f → ((k : ℕ) → e ≡ rules.Rule k → (k < 9) × LeastBroken (module_shape f.«module») k) → IsEarlyRefusal f e r → IfSome (verdict_of r) (IsVerdict bytes)
 unfolding IsVerdict
 is_early f bytes e TooLarge d broken h = absurd h
 is_early f bytes e Malformed d broken h = (d.small, λ m s. h m ((d.whole m).0 s))

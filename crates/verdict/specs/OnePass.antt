@@ -1,7 +1,7 @@
 -- Reading and checking in one pass.
 use Rattle.std.specs.Prelude.{◌≡◌, ◌<◌, ℕ, List, [], ◌∷◌, length, Some}
-use Rattle.verdict.specs.declared.passing.Front.{Front}
-use Rattle.verdict.specs.declared.passing.Front.TheVariants.{Taken, Refused, Other}
+use Rattle.verdict.specs.declared.passing.FirstToken.{FirstToken}
+use Rattle.verdict.specs.declared.passing.FirstToken.TheVariants.{Taken, Refused, Other}
 use Rattle.wcheck.specs.Checking.{Checking, with_frames}
 use Rattle.wsyntax.specs.Instructions.{Token}
 use Rattle.wsyntax.specs.Binary.Nesting.{token_at}
@@ -21,7 +21,7 @@ Takes bytes old new rest =
     (t : Token) × (token_at bytes ≡ Some (t, rest)) × (length rest < length bytes) × (step old.inside t old.frames ≡ Some new.frames) × (new ≡ with_frames old new.frames)
 
 -- what became of the token at the front: where it is another, nothing was done
-abbrev pub Passes : List ℕ → Checking → Checking → Front → Type 0
+abbrev pub Passes : List ℕ → Checking → Checking → FirstToken → Type 0
 Passes bytes old new (Taken rest) = Takes bytes old new rest.now
 Passes bytes old new Refused = Unit {0}
 Passes bytes old new Other = new ≡ old

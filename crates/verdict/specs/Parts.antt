@@ -84,12 +84,12 @@ FitsIn imported (part.Rest r) = Unit {0}
 FitsIn imported (part.Body r) = imported + r.place < 2 ^ 32
 
 -- where an early rule is broken: that of the rule, or, since that goes before, that the front is that of no module
-abbrev pub IsEarly : Front → ModuleFault → Refusal → Type 0
-IsEarly f e refusal.Malformed = RestRefused f Malformed
-IsEarly f e (refusal.Rule k) = (e ≡ rules.Rule k) × (m : ModuleShape) × IsWhole f m
-IsEarly f e refusal.Memory = Unit {0}
-IsEarly f e refusal.TooLarge = ⊥
-IsEarly f e (refusal.Body func c) = ⊥
+abbrev pub IsEarlyRefusal : Front → ModuleFault → Refusal → Type 0
+IsEarlyRefusal f e refusal.Malformed = RestRefused f Malformed
+IsEarlyRefusal f e (refusal.Rule k) = (e ≡ rules.Rule k) × (m : ModuleShape) × IsWhole f m
+IsEarlyRefusal f e refusal.Memory = Unit {0}
+IsEarlyRefusal f e refusal.TooLarge = ⊥
+IsEarlyRefusal f e (refusal.Body func c) = ⊥
 
 -- ---- no part both passes and is refused, nor is refused for two reasons
 

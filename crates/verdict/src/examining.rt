@@ -2,7 +2,7 @@ ghost use Rattle.std.specs.Prelude.{◌≡◌, ◌+◌, MatchResult, IfOk, IfSom
 ghost use Rattle.wsyntax.specs.Modules.{module_shape};
 ghost use Rattle.wsyntax.specs.Validation.Verdict.{IsVerdict, Accepted};
 ghost use Rattle.verdict.specs.Judged.{PassBefore};
-ghost use Rattle.verdict.specs.Parts.{OneWhole, IsAwaited, RestPasses, IsFirstPart, FitsIn, refusal_for, IsEarly};
+ghost use Rattle.verdict.specs.Parts.{OneWhole, IsAwaited, RestPasses, IsFirstPart, FitsIn, refusal_for, IsEarlyRefusal};
 ghost use Rattle.verdict.specs.Refusals.{verdict_of};
 
 use crate::jobs::Parts;
@@ -125,7 +125,7 @@ fn examine_parts<R: Threads + Wait + Sync, W: Watch + Sync>(
 
 /// The refusal of a module that breaks an early rule. That its bytes spell no module goes before.
 fn refused_early(alloc: Global, front: Front<'_>, fault: ModuleFault) -> Refusal
-    ensures { IsEarly front.entry fault result }
+    ensures { IsEarlyRefusal front.entry fault result }
 {
     match front.whole(alloc) {
         Ok(_) => fault.into(),

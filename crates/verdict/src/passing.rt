@@ -73,7 +73,7 @@ impl<'a, 'b> Scratch<'a, 'b> {
 }
 
 /// What became of the instruction at the front.
-enum Front<'a> {
+enum FirstToken<'a> {
     /// It was taken, and these are the bytes after it.
     Taken(&'a [u8]),
     /// It was not taken, or memory was refused.
@@ -86,8 +86,8 @@ enum Front<'a> {
 macro_rules! look {
     ($checker:expr, $token:expr, $after:expr) => {
         match $checker.step($token, &[]) {
-            Ok(true) => Front::Taken($after),
-            _ => Front::Refused,
+            Ok(true) => FirstToken::Taken($after),
+            _ => FirstToken::Refused,
         }
     };
 }
@@ -96,7 +96,7 @@ macro_rules! look {
 macro_rules! look_at {
     ($checker:expr, $read:expr) => {
         match $read {
-            None => Front::Other,
+            None => FirstToken::Other,
             Some((token, after)) => look!($checker, token, after),
         }
     };
@@ -106,12 +106,12 @@ macro_rules! look_at {
 macro_rules! look_known {
     ($checker:expr, $read:expr) => {
         match $read {
-            None => Front::Other,
+            None => FirstToken::Other,
             Some((token, after)) => {
                 if $checker.step_known(token) {
-                    Front::Taken(after)
+                    FirstToken::Taken(after)
                 } else {
-                    Front::Other
+                    FirstToken::Other
                 }
             }
         }
@@ -121,7 +121,7 @@ macro_rules! look_known {
 /// Reads and checks an instruction behind its opcode that is numeric, or a load or a store. Each opcode is told apart
 /// from all others at once, so that the compiler makes one table of all arms.
 #[inline(always)]
-fn number_passes<'a>(checker: &mut Checker<'_>, byte: u8, rest: &'a [u8]) -> Front<'a>
+fn number_passes<'a>(checker: &mut Checker<'_>, byte: u8, rest: &'a [u8]) -> FirstToken<'a>
     requires { checker.old.frames ≡ [] → ⊥ }
     ensures outside { checker.new.outside ≡ checker.old.outside }
     ensures passes { Passes (byte ∷ rest.now) checker.old checker.new result }
@@ -130,14 +130,14 @@ fn number_passes<'a>(checker: &mut Checker<'_>, byte: u8, rest: &'a [u8]) -> Fro
         Some(Opcode::Numeric(_)) => look_known!(checker, numeric_at(byte, rest)),
         Some(Opcode::Load(_)) => look_known!(checker, load_at(byte, rest)),
         Some(Opcode::Store(_)) => look_known!(checker, store_at(byte, rest)),
-        _ => Front::Other,
+        _ => FirstToken::Other,
     }
 }
 
 /// Reads and checks an instruction behind its opcode that looks at a global, a frequent load or store, or one of the
 /// others of `number_passes`.
 #[inline(always)]
-fn access_passes<'a>(checker: &mut Checker<'_>, byte: u8, rest: &'a [u8]) -> Front<'a>
+fn access_passes<'a>(checker: &mut Checker<'_>, byte: u8, rest: &'a [u8]) -> FirstToken<'a>
     requires { checker.old.frames ≡ [] → ⊥ }
     ensures outside { checker.new.outside ≡ checker.old.outside }
     ensures passes { Passes (byte ∷ rest.now) checker.old checker.new result }
@@ -162,13 +162,13 @@ fn access_passes<'a>(checker: &mut Checker<'_>, byte: u8, rest: &'a [u8]) -> Fro
 /// Reads and checks the instruction at the front, where it is one of those that bodies are mostly made of. Each way
 /// checks by itself, so that what it read need not be told apart again.
 #[inline(always)]
-fn frequent_passes<'a>(checker: &mut Checker<'_>, bytes: &'a [u8]) -> Front<'a>
+fn frequent_passes<'a>(checker: &mut Checker<'_>, bytes: &'a [u8]) -> FirstToken<'a>
     requires { checker.old.frames ≡ [] → ⊥ }
     ensures outside { checker.new.outside ≡ checker.old.outside }
     ensures passes { Passes bytes.now checker.old checker.new result }
 {
     let [byte, rest @ ..] = bytes else {
-        return Front::Other;
+        return FirstToken::Other;
     };
     match *byte {
         0x0B => look!(checker, Token::End, rest),
@@ -201,12 +201,12 @@ fn tokens_pass(checker: &mut Checker<'_>, targets: &mut Vec<u32>, bytes: &[u8]) 
     let mut rest = bytes;
     'each: while !checker.finish() {
         match frequent_passes(checker, rest) {
-            Front::Taken(after) => {
+            FirstToken::Taken(after) => {
                 rest = after;
                 continue 'each;
             }
-            Front::Refused => return false,
-            Front::Other => (),
+            FirstToken::Refused => return false,
+            FirstToken::Other => (),
         }
         targets.clear();
         let Ok((token, after)) = token_at(targets, rest) else {

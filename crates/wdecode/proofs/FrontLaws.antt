@@ -12,7 +12,7 @@ use Rattle.wsyntax.specs.Binary.Shell.{rank, may_follow, last_after, IsOrdered, 
 use Rattle.wdecode.specs.declared.fault.Fault.{Fault}
 use Rattle.wdecode.specs.declared.fault.Fault.TheVariants.{Malformed, Memory}
 use Rattle.wdecode.specs.Gives.{Fails}
-use Rattle.wdecode.specs.Fronts.{with_segments, EndsAs, Ends, IsEarly, stops}
+use Rattle.wdecode.specs.Fronts.{with_segments, EndsAs, Ends, IsBeforeSegments, stops}
 use Rattle.wdecode.proofs.SectionList.{read_rank, spelled_rank, one_more, unread, shell_ends, ends_shell}
 
 -- what a `?` hands on is that fault only where its fault is
@@ -35,7 +35,7 @@ carried start last now m n bytes after s r ok is made so_far whole =
 
 -- ---- before the data segments
 
-early_put : (last : ℕ) (m : ModuleShape) (s : SectionShape) → rank s ≢ 11 → IsEarly last m → IsEarly (last_after last s) (put m s)
+early_put : (last : ℕ) (m : ModuleShape) (s : SectionShape) → rank s ≢ 11 → IsBeforeSegments last m → IsBeforeSegments (last_after last s) (put m s)
 early_put last m Custom other e = e
 early_put last m (Types v) other e = (omega arith, e.1)
 early_put last m (Imports v) other e = (omega arith, e.1)
@@ -49,13 +49,13 @@ early_put last m (Elements v) other e = (omega arith, e.1)
 early_put last m (Bodies v) other e = (omega arith, e.1)
 early_put last m (Segments v) other e = absurd (other refl)
 
-pub early_next : (before : Bool) (last now : ℕ) (m n : ModuleShape) (bytes after : List ℕ) (s : SectionShape) → section.read bytes ≡ Some (s, after) → last_after last s ≡ now → n ≡ put m s → stops before bytes ≡ false → before ≡ true → IsEarly last m → IsEarly now n
+pub early_next : (before : Bool) (last now : ℕ) (m n : ModuleShape) (bytes after : List ℕ) (s : SectionShape) → section.read bytes ≡ Some (s, after) → last_after last s ≡ now → n ≡ put m s → stops before bytes ≡ false → before ≡ true → IsBeforeSegments last m → IsBeforeSegments now n
 early_next before last now m n bytes after s r is made goes_before wanted e =
     let goes : stops true bytes ≡ false = subst (λ (b : Bool). stops b bytes ≡ false) wanted goes_before in
     let first = read_rank bytes after s r in
     let other : eqb (rank s) 11 ≡ false = sym (ap (stops true) first.1) ∙ goes in
     let put_early = early_put last m s (λ same. let clash : true ≡ false = sym (eq-eqb (rank s) 11 same) ∙ other in absurd cc) e in
-    subst (λ (l : ℕ). IsEarly l n) is (subst (λ (k : ModuleShape). IsEarly (last_after last s) k) (sym made) put_early)
+    subst (λ (l : ℕ). IsBeforeSegments l n) is (subst (λ (k : ModuleShape). IsBeforeSegments (last_after last s) k) (sym made) put_early)
 
 -- what is left where reading stops before the data segments
 pub next_is : (bytes : List ℕ) → stops true bytes ≡ true → (id : ℕ) (tail : List ℕ) → bytes ≡ id ∷ tail → id ≡ 11

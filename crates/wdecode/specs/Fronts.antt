@@ -35,5 +35,5 @@ stops before_segments [] = true
 stops before_segments (id ∷ rest) = before_segments && id == 11
 
 -- no section of data segments was read
-abbrev pub IsEarly : ℕ → ModuleShape → Type 0
-IsEarly last m = (last < 11) × (length m.segments ≡ 0)
+abbrev pub IsBeforeSegments : ℕ → ModuleShape → Type 0
+IsBeforeSegments last m = (last < 11) × (length m.segments ≡ 0)

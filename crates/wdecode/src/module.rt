@@ -1,6 +1,6 @@
 ghost use Rattle.std.specs.Prelude.{◌≡◌, ◌≤◌, ◌<◌, true, List, length, ◌↔◌, IfOk, IsErrOf, option_map};
 ghost use Rattle.wdecode.specs.Held.{section_shape};
-ghost use Rattle.wdecode.specs.Fronts.{with_segments, EndsAs, EndsFront, EndsProgress, IsEarly, stops};
+ghost use Rattle.wdecode.specs.Fronts.{with_segments, EndsAs, EndsFront, EndsProgress, IsBeforeSegments, stops};
 ghost use Rattle.wsyntax.specs.Modules.{ModuleShape, DataShape, module_shape};
 ghost use Rattle.wsyntax.specs.Binary.Shell.{rank as rank_of, put as put_section, empty_module as empty_shape, strip, header, Shell, module_limit};
 
@@ -81,7 +81,7 @@ pub(crate) fn advance<'a>(
 ) -> Result<Progress<'a>, Fault>
     ensures same { IfOk result (λ p. (whole : ModuleShape) → EndsProgress start.entry whole ↔ EndsProgress p whole) }
     ensures over { IfOk result (λ p. stops before_segments p.rest.now ≡ true) }
-    ensures early { IfOk result (λ p. before_segments ≡ true → IsEarly start.entry.last (module_shape start.entry.module) → IsEarly p.last (module_shape p.module)) }
+    ensures early { IfOk result (λ p. before_segments ≡ true → IsBeforeSegments start.entry.last (module_shape start.entry.module) → IsBeforeSegments p.last (module_shape p.module)) }
     ensures malformed { IsErrOf result Fault.Malformed → (whole : ModuleShape) → EndsProgress start.entry whole → ⊥ }
 {
     let Progress {

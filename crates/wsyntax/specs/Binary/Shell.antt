@@ -1,6 +1,5 @@
 -- 5.5.15 Modules: which bytes spell a module with its bodies left as bytes, which spell a body, and which spell the whole.
-use Rattle.std.specs.Prelude.{◌≡◌, ℕ, zero, suc, ◌≤◌, Bool, true, ◌||◌, List, [], ◌∷◌, ◌++◌, length, Option, Some, None, nat_lt, ◌==◌, if◌then◌else◌}
-use Rattle.wnum.specs.Reading.{◌>>=◌}
+use Rattle.std.specs.Prelude.{◌≡◌, ℕ, ◌≤◌, Bool, true, ◌||◌, List, [], ◌∷◌, ◌++◌, length, Option, Some, None, nat_lt, ◌==◌, if◌then◌else◌}
 use Rattle.wsyntax.specs.Modules.{ModuleShape, BodyShape}
 use Rattle.wsyntax.specs.Binary.Production.{SpellsAll}
 use Rattle.wsyntax.specs.Binary.Sections.{SectionShape, Custom, Types, Imports, Functions, Tables, Memories, Globals, Exports, Start, Elements, Bodies, Segments, section, body, locals_of}
@@ -98,18 +97,8 @@ FewLocals b = locals_of b.runs ≤ local_limit
 
 -- ---- reading
 
--- sections read one behind the other, at most n of them
-abbrev pub sections_at : ℕ → ℕ → ModuleShape → List ℕ → Option ModuleShape
-sections_at n last m [] = Some m
-sections_at zero last m (b ∷ bytes) = None
-sections_at (suc n) last m (b ∷ bytes) = section.read (b ∷ bytes) >>= λ x. if may_follow last x.0 then sections_at n (last_after last x.0) (put m x.0) x.1 else None
-
 -- the bytes behind a front
 abbrev pub strip : List ℕ → List ℕ → Option (List ℕ)
 strip [] bytes = Some bytes
 strip (h ∷ hs) [] = None
 strip (h ∷ hs) (b ∷ bs) = if b == h then strip hs bs else None
-
--- the module that the bytes spell
-abbrev pub shell_of : List ℕ → Option ModuleShape
-shell_of bytes = strip header bytes >>= λ tail. sections_at (length tail) 0 empty_module tail >>= λ m. if length m.functions == length m.bodies then Some m else None
