@@ -7,12 +7,9 @@ ghost use Rattle.verdict.specs.Parts.{IsAwaited, RestPasses, IsOfRest};
 use crate::part_fault::{PartFault, RestFault};
 use pieces::JobFault;
 use std::alloc::Global;
-use wcontext::{Counts, ModuleFault, check_late};
+use wcontext::{Counts, ModuleFault, SEGMENTS_RULE, check_late};
 use wdecode::{Fault, Front, SegmentRule};
 use wsyntax::Data;
-
-/// The rule on data segments.
-const SEGMENTS_RULE: u32 = 13;
 
 /// A data segment is valid (3.4.6) in a module of these counts.
 #[derive(Drop)]

@@ -6,6 +6,12 @@ use std::marker::Model;
 use wcontext::TypeList;
 use wsyntax::ValType;
 
+/// How many numbers a `u16` has.
+const U16_NUMBERS: u32 = 65_536;
+
+/// How many numbers a `u32` has.
+const U32_NUMBERS: usize = 4_294_967_296;
+
 /// How a frame begins.
 #[derive(Clone, Copy)]
 pub(crate) enum Way {
@@ -56,8 +62,8 @@ impl Model for PackedLevel {
 fn parts_of(index: u32) -> Option<(u16, u8)>
     ensures { IfSome result (λ x. x.0 + 65536 * x.1 ≡ index) }
 {
-    let above = u8::try_from(index / 65536).ok()?;
-    Some(((index % 65536) as u16, above))
+    let above = u8::try_from(index / U16_NUMBERS).ok()?;
+    Some(((index % U16_NUMBERS) as u16, above))
 }
 
 /// The kind of a list, and the index where it has one, in two parts. `None`: the index is too great.
@@ -84,7 +90,7 @@ fn kind_of(list: TypeList) -> Option<(Kind, u16, u8)>
 fn list_of(kind: Kind, at: u16, above: u8) -> TypeList
     ensures { result ≡ list_from kind (at + 65536 * above) }
 {
-    let index = u32::from(at) + 65536 * u32::from(above);
+    let index = u32::from(at) + U16_NUMBERS * u32::from(above);
     match kind {
         Kind::Nothing => TypeList::Nothing,
         Kind::I32 => TypeList::One(ValType::I32),
@@ -115,9 +121,9 @@ impl PackedLevel {
         };
         let (starts, starts_at, starts_above) = kind_of(starts)?;
         let (gives, gives_at, gives_above) = kind_of(gives)?;
-        let base_above = u16::try_from(level.base / 4294967296).ok()?;
+        let base_above = u16::try_from(level.base / U32_NUMBERS).ok()?;
         Some(PackedLevel {
-            base: (level.base % 4294967296) as u32,
+            base: (level.base % U32_NUMBERS) as u32,
             base_above,
             starts_at,
             gives_at,
@@ -143,7 +149,7 @@ impl PackedLevel {
         Level {
             shape,
             is_dead: self.is_dead,
-            base: self.base as usize + 4294967296 * self.base_above as usize,
+            base: self.base as usize + U32_NUMBERS * self.base_above as usize,
         }
     }
 }

@@ -16,8 +16,8 @@ use wsyntax::Module;
 /// The number of the first rule that is asked late: the bodies may be checked before.
 const LATE: u32 = 9;
 
-/// The number of the last rule, which is asked of one data segment at a time.
-const SEGMENTS: u32 = 13;
+/// The number of the last rule, that on data segments (3.4.6), which may be asked of one segment at a time.
+pub const SEGMENTS_RULE: u32 = 13;
 
 /// Whether a module keeps the early rule of that number. Rule 1 of Core 1.0 is no longer asked.
 fn keeps_early(module: &Module<'_>, spaces: &Spaces, rule: u32) -> bool
@@ -47,7 +47,7 @@ fn keeps_late<'a>(
 ) -> Result<bool, AllocError>
     requires counts { AreCountsOf (module_shape «module».now) counts.now }
     requires least { LATE ≤ rule }
-    requires most { rule < SEGMENTS }
+    requires most { rule < SEGMENTS_RULE }
     ensures { IfOk result (λ b. IsTrue b ↔ Keeps (module_shape «module».now) rule) }
 {
     match rule {
@@ -89,7 +89,7 @@ pub fn check_late<'a>(
     ensures valid { OnOk result ((k : ℕ) → k < 13 → Keeps (module_shape «module».now) k) }
     ensures broken { IfErr result (λ e. (k : ℕ) → e ≡ ModuleFault.Rule k → (k < 13) × LeastBroken (module_shape «module».now) k) }
 {
-    for rule in LATE..SEGMENTS {
+    for rule in LATE..SEGMENTS_RULE {
         if !keeps_late(names, module, counts, rule)? {
             return Err(ModuleFault::Rule(rule));
         }
@@ -108,7 +108,7 @@ pub fn check_module(alloc: Global, module: &Module<'_>) -> Result<Context, Modul
     let mut names = Vec::new(alloc);
     check_late(&mut names, module, &counts)?;
     if !rules::segments_valid(module, &counts) {
-        return Err(ModuleFault::Rule(SEGMENTS));
+        return Err(ModuleFault::Rule(SEGMENTS_RULE));
     }
     Ok(context)
 }

@@ -16,7 +16,7 @@ mod segments;
 mod spaces;
 mod start;
 
-pub use check::{check_early, check_late, check_module};
+pub use check::{SEGMENTS_RULE, check_early, check_late, check_module};
 pub use context::Context;
 pub use counts::Counts;
 pub use fault::ModuleFault;
