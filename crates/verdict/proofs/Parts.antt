@@ -1,11 +1,15 @@
 -- From what is known of each part of a module to the verdict on it.
-use Rattle.std.proofs.Common.{◌≡◌, ◌≢◌, ℕ, zero, suc, ◌+◌, ◌-◌, ◌*◌, ◌<◌, ◌≤◌, List, length, Option, Some, None, refl, sym, ap, subst, ◌∙◌, arith, inl, inr}
+use Rattle.std.proofs.Common.{◌≡◌, ◌≢◌, ℕ, zero, suc, ◌+◌, ◌^◌, ◌-◌, ◌<◌, ◌≤◌, List, length, Option, Some, None, refl, sym, ap, subst, ◌∙◌, arith, inl, inr}
 use Rattle.std.specs.Prelude.{Result, Ok, Err, MatchResult, IfSome, IsErrAnd, ◌↔◌}
+use Rattle.std.specs.Int.{div_ceil}
 use Rattle.std.proofs.lemmas.Option.{slice_get_cases}
 use Rattle.pieces.specs.declared.job.JobFault.{JobFault}
 use Rattle.pieces.specs.declared.job.JobFault.TheVariants as fault
 use Rattle.pieces.specs.Faults.{AllowsFault}
-use Rattle.pieces.specs.TryAll.{AllPass}
+use Rattle.pieces.specs.TryAll.{AllPass, StopsAt}
+use Rattle.pieces.specs.declared.trying.TryFault.{TryFault}
+use Rattle.pieces.specs.declared.trying.TryFault.TheVariants.{Stopped}
+use Rattle.pieces.specs.declared.trying.TryFault.TheVariants as trying
 use Rattle.wsyntax.specs.Modules.{ModuleShape, module_shape}
 use Rattle.wsyntax.specs.Binary.Production.{Agrees}
 use Rattle.wsyntax.specs.Binary.Sections.{body}
@@ -21,16 +25,19 @@ use Rattle.wdecode.specs.declared.front.Front.{Front}
 use Rattle.verdict.specs.declared.refusal.Class.{Class}
 use Rattle.verdict.specs.declared.refusal.Refusal.{Refusal}
 use Rattle.verdict.specs.declared.refusal.Refusal.TheVariants.{TooLarge, Malformed, Rule, Body, Memory}
+use Rattle.verdict.specs.declared.part_fault.RestFault.{RestFault}
 use Rattle.verdict.specs.declared.part_fault.RestFault.TheVariants as rest
 use Rattle.verdict.specs.declared.part_fault.PartFault.{PartFault}
 use Rattle.verdict.specs.declared.part_fault.PartFault.TheVariants as part
 use Rattle.verdict.specs.declared.refused_body.RefusedBody.{RefusedBody}
 use Rattle.verdict.specs.Judged.{class_at, PassBefore}
-use Rattle.verdict.specs.Groups.{IsInGroup, GroupPasses, IsFirstOfGroup}
-use Rattle.verdict.specs.Parts.{IsWhole, OneWhole, RestPasses, RestRefused, PartPasses, PartRefused, IsBodyAt, IsFirstPart, IsEarlyRefusal, refusal_for, FitsIn}
+use Rattle.verdict.specs.declared.cut.Cut.{Cut}
+use Rattle.verdict.specs.declared.cut.Span.{Span}
+use Rattle.verdict.specs.Cuts.{IsInSpan, SpanPasses, IsFirstOfSpan, span_at, IsCutOf}
+use Rattle.verdict.specs.Parts.{IsWhole, OneWhole, RestPasses, RestRefused, PartPasses, PartRefused, IsBodyAt, StopsAtPart, IsFirstFault, IsFirstPart, IsEarlyRefusal}
 use Rattle.verdict.specs.Refusals.{verdict_of, of_rules}
 use Rattle.verdict.proofs.Firsts.{Known, judged}
-use Rattle.verdict.proofs.Groups.{first_group_stop}
+use Rattle.verdict.proofs.Cuts.{below_count, parts_pass, pass_before}
 use Rattle.verdict.proofs.Rests.{least_of_whole}
 
 -- ---- parts
@@ -39,67 +46,113 @@ pub behind_the_first : (i : ℕ) → i ≢ 0 → suc (i - 1) ≡ i
 behind_the_first zero ne = absurd (ne refl)
 behind_the_first (suc i) ne = omega arith
 
--- a body is refused, and those of its group before it are accepted
-pub body_part : {T : Type 0} (f : Front) (C : Context) (imported : ℕ) (bodies : List (List ℕ)) (size i place : ℕ) (o : Option Class) (r : Result T (JobFault PartFault)) (x : JobFault PartFault) → IsErrAnd r (λ y. y ≡ x) → i ≢ 0
-    → IsInGroup (length bodies) size (i - 1) place → ((k : ℕ) → (i - 1) * size ≤ k → k < place → class_at C imported bodies k ≡ None) → ((c : Option Class) → o ≡ c → class_at C imported bodies place ≡ c) → AllowsFault (IsBodyAt place o) x
-    → MatchResult r (λ _. PartPasses f C imported bodies size i × Unit {0}) (AllowsFault (PartRefused f C imported bodies size i))
-body_part f C imported bodies size i place o (Ok t) x is ne inside before stands h = absurd is
-body_part f C imported bodies size i place o (Err y) x is ne inside before stands h = subst (AllowsFault (PartRefused f C imported bodies size i)) (sym is) (allowed x h)
+-- a body is refused, and those of its span before it are accepted
+pub body_part : {T : Type 0} (f : Front) (C : Context) (imported : ℕ) (bodies : List (List ℕ)) (cut : Cut) (i place : ℕ) (s : Span) (o : Option Class) (r : Result T (JobFault PartFault)) (x : JobFault PartFault) → IsErrAnd r (λ y. y ≡ x) → i ≢ 0 → s ≡ span_at cut (i - 1)
+    → IsInSpan bodies s place → ((k : ℕ) → IsInSpan bodies s k → k < place → class_at C imported bodies k ≡ None) → ((c : Option Class) → o ≡ c → class_at C imported bodies place ≡ c) → AllowsFault (IsBodyAt place o) x
+    → MatchResult r (λ _. PartPasses f C imported bodies cut i × Unit {0}) (AllowsFault (PartRefused f C imported bodies cut i))
+body_part f C imported bodies cut i place s o (Ok t) x is ne same inside before stands h = absurd is
+body_part f C imported bodies cut i place s o (Err y) x is ne same inside before stands h = subst (AllowsFault (PartRefused f C imported bodies cut i)) (sym is) (allowed x h)
   where
-    allowed : (x : JobFault PartFault) → AllowsFault (IsBodyAt place o) x → AllowsFault (PartRefused f C imported bodies size i) x
+    first : (r : RefusedBody) → r.place ≡ place → o ≡ Some r.class → IsFirstOfSpan C imported bodies s r
+    first r at class = record {
+      inside = subst (IsInSpan bodies s) (sym at) inside;
+      refused = ap (class_at C imported bodies) at ∙ stands (Some r.class) class;
+      before = λ k within lt. before k within (omega (arith, lt, at));
+    }
+
+    allowed : (x : JobFault PartFault) → AllowsFault (IsBodyAt place o) x → AllowsFault (PartRefused f C imported bodies cut i) x
     allowed (fault.Refused (part.Rest r)) h = absurd h
     allowed (fault.Refused (part.Body r)) h =
-        subst (λ (k : ℕ). PartRefused f C imported bodies size k (part.Body r)) (behind_the_first i ne)
-        record {
-          inside = subst (IsInGroup (length bodies) size (i - 1)) (sym h.0) inside;
-          refused = ap (class_at C imported bodies) h.0 ∙ stands (Some r.class) h.1;
-          before = λ k within lt. before k within.from (omega (arith, lt, h.0));
-        }
+        subst (λ (k : ℕ). PartRefused f C imported bodies cut k (part.Body r)) (behind_the_first i ne)
+        (subst (λ (t : Span). IsFirstOfSpan C imported bodies t r) same (first r h.0 h.1))
     allowed fault.Memory h = tt
 
--- each body of a group is accepted
-pub group_part : (f : Front) (C : Context) (imported : ℕ) (bodies : List (List ℕ)) (size i end : ℕ) → i ≢ 0 → ((k : ℕ) → k < length bodies → k < (i - 1) * size + size → k < end) → ((k : ℕ) → (i - 1) * size ≤ k → k < end → class_at C imported bodies k ≡ None) → PartPasses f C imported bodies size i
-group_part f C imported bodies size i end ne whole before =
-    subst (PartPasses f C imported bodies size) (behind_the_first i ne) (λ place inside. before place inside.from (whole place inside.within inside.to))
+-- each body of a span is accepted
+pub span_part : (f : Front) (C : Context) (imported : ℕ) (bodies : List (List ℕ)) (cut : Cut) (i end : ℕ) (s : Span) → i ≢ 0 → s ≡ span_at cut (i - 1) → s.to ≤ end → ((k : ℕ) → IsInSpan bodies s k → k < end → class_at C imported bodies k ≡ None) → PartPasses f C imported bodies cut i
+span_part f C imported bodies cut i end s ne same whole before =
+    subst (PartPasses f C imported bodies cut) (behind_the_first i ne)
+    (subst (SpanPasses C imported bodies) same (λ place inside. before place inside (let to = inside.to in omega (arith, whole, to))))
 
 -- ---- the run over all parts
 
-pub each_passes : {O : Type 0} (passes : ℕ → Type 0) (gives : ℕ → O → Type 0) (n i : ℕ) (outs : List O) → AllPass n passes gives outs → i < n → passes i
+each_passes : {O : Type 0} (passes : ℕ → Type 0) (gives : ℕ → O → Type 0) (n i : ℕ) (outs : List O) → AllPass n passes gives outs → i < n → passes i
 each_passes passes gives n i outs all lt =
     elim (slice_get_cases outs i).1 [
       | inl h ↦ (all.each i h.0 h.2).0
       | inr h ↦ let len : length outs ≡ n = all.len in let past : length outs ≤ i = h.0 in absurd (omega arith)
     ]
 
--- the rest is the first part
-pub rest_refused : (f : Front) (C : Context) (imported : ℕ) (bodies : List (List ℕ)) (size i : ℕ) (r : _) → PartRefused f C imported bodies size i (part.Rest r) → RestRefused f r
-rest_refused f C imported bodies size zero r h = h
-rest_refused f C imported bodies size (suc g) r h = absurd h
-
--- each other part is a group, and the rest is before it
-pub record Later (f : Front) (C : Context) (imported : ℕ) (bodies : List (List ℕ)) (size : ℕ) (r : RefusedBody) : Type 0 where
-  pub group : ℕ
-  pub rest : RestPasses f
-  pub first : IsFirstOfGroup C imported bodies size group r
-  pub before : (h : ℕ) → h < group → GroupPasses C imported bodies size h
-
-pub body_refused : (f : Front) (C : Context) (imported : ℕ) (bodies : List (List ℕ)) (size i : ℕ) (r : RefusedBody) → PartRefused f C imported bodies size i (part.Body r) → ((h : ℕ) → h < i → PartPasses f C imported bodies size h) → Later f C imported bodies size r
-body_refused f C imported bodies size zero r h before = absurd h
-body_refused f C imported bodies size (suc g) r h before = record { group = g; rest = before 0 (omega arith); first = h; before = λ k lt. before (suc k) (omega arith) }
-
--- the index of a refused body's function is a number of 32 bits
-pub fits : (f : Front) (C : Context) (imported : ℕ) (bodies : List (List ℕ)) (size i : ℕ) (r : PartFault) → PartRefused f C imported bodies size i r → imported + length bodies < 4294967296 → FitsIn imported r
-fits f C imported bodies size i (part.Rest r) h few = tt
-fits f C imported bodies size zero (part.Body r) h few = absurd h
-fits f C imported bodies size (suc g) (part.Body r) h few = let within : r.place < length bodies = h.inside.within in omega arith
+-- each part passes
+pub all_passed : {O : Type 0} (f : Front) (C : Context) (imported : ℕ) (bodies : List (List ℕ)) (cut : Cut) (gives : ℕ → O → Type 0) (n : ℕ) (outs : List O) → 0 < cut.size → IsCutOf bodies cut → n ≡ suc (length cut.long.items + div_ceil cut.count cut.size) → AllPass n (PartPasses f C imported bodies cut) gives outs → RestPasses f × PassBefore C imported bodies cut.count
+all_passed f C imported bodies cut gives n outs some of count all =
+    let passes = λ (i : ℕ) (lt : i < n). each_passes (PartPasses f C imported bodies cut) gives n i outs all lt in
+    (passes 0 (omega (arith, count)), parts_pass C imported bodies cut some of (λ i lt. passes (suc i) (omega (arith, count, lt))))
 
 -- the run stops at a part
-pub first_part_stop : (f : Front) (C : Context) (i j : ℕ) (bodies : List (List ℕ)) (size k : ℕ) (r : PartFault) → j ≡ i → 0 < size → PartRefused f C j bodies size k r → ((h : ℕ) → h < k → PartPasses f C j bodies size h) → IsFirstPart f C i bodies (refusal_for j r)
-first_part_stop f C i j bodies size k (part.Rest rest.Malformed) is some h before = rest_refused f C j bodies size k rest.Malformed h
-first_part_stop f C i j bodies size k (part.Rest (rest.Rule n)) is some h before = rest_refused f C j bodies size k (rest.Rule n) h
-first_part_stop f C i j bodies size k (part.Body r) is some h before =
-    let l = body_refused f C j bodies size k r h before in
-    (l.rest, first_group_stop C i j bodies size l.group r is some l.first l.before)
+pub stopped_at : (f : Front) (C : Context) (imported : ℕ) (bodies : List (List ℕ)) (cut : Cut) (n : ℕ) (e : TryFault PartFault) → StopsAt n (PartPasses f C imported bodies cut) (PartRefused f C imported bodies cut) e → StopsAtPart f C imported bodies cut e
+stopped_at f C imported bodies cut n (Stopped i r) h = (h.1, h.2)
+stopped_at f C imported bodies cut n trying.Memory h = tt
+
+-- the rest is the first part
+rest_refused : (f : Front) (C : Context) (imported : ℕ) (bodies : List (List ℕ)) (cut : Cut) (i : ℕ) (r : RestFault) → PartRefused f C imported bodies cut i (part.Rest r) → RestRefused f r
+rest_refused f C imported bodies cut zero r h = h
+rest_refused f C imported bodies cut (suc i) r h = absurd h
+
+-- a body is of a part behind the rest
+record Later (f : Front) (C : Context) (imported : ℕ) (bodies : List (List ℕ)) (cut : Cut) (i : ℕ) (r : RefusedBody) : Type 0 where
+  pub at : ℕ
+  pub next : i ≡ suc at
+  pub rest : RestPasses f
+  pub below : r.place < cut.count
+  pub first : IsFirstOfSpan C imported bodies (span_at cut at) r
+  pub before : (h : ℕ) → h < at → SpanPasses C imported bodies (span_at cut h)
+
+body_refused : (f : Front) (C : Context) (imported : ℕ) (bodies : List (List ℕ)) (cut : Cut) (i : ℕ) (r : RefusedBody) → StopsAtPart f C imported bodies cut (Stopped i (part.Body r)) → Later f C imported bodies cut i r
+body_refused f C imported bodies cut zero r stop = absurd stop.0
+body_refused f C imported bodies cut (suc i) r stop =
+    let h : IsFirstOfSpan C imported bodies (span_at cut i) r = stop.0 in
+    let inside = h.inside in
+    record {
+      at = i;
+      next = refl;
+      rest = stop.1 0 (omega arith);
+      below = below_count cut i r.place cut.each inside.from inside.to;
+      first = h;
+      before = λ k lt. stop.1 (suc k) (omega (arith, lt));
+    }
+
+pub refused_within : (f : Front) (C : Context) (imported : ℕ) (bodies : List (List ℕ)) (cut : Cut) (i : ℕ) (r : RefusedBody) → StopsAtPart f C imported bodies cut (Stopped i (part.Body r)) → r.place ≤ cut.count
+refused_within f C imported bodies cut i r stop = let below : r.place < cut.count = (body_refused f C imported bodies cut i r stop).below in omega (arith, below)
+
+-- a body is refused, and all before it are accepted
+first_body : (f : Front) (C : Context) (imported : ℕ) (bodies : List (List ℕ)) (cut : Cut) (i : ℕ) (r : RefusedBody) → imported + length bodies < 2 ^ 32 → IsCutOf bodies cut → Later f C imported bodies cut i r → PassBefore C imported bodies r.place → IsFirstFault f C imported bodies (part.Body r)
+first_body f C imported bodies cut i r few of l before =
+    let below : r.place < cut.count = l.below in
+    let within : cut.count ≤ length bodies = of.within in
+    (omega (arith, few, below, within), (l.rest, (r.place, omega (arith, below, within), refl, l.first.refused, before)))
+
+-- it is a long one
+pub long_first : (f : Front) (C : Context) (imported : ℕ) (bodies : List (List ℕ)) (cut : Cut) (i : ℕ) (r : RefusedBody) → imported + length bodies < 2 ^ 32 → IsCutOf bodies cut → StopsAtPart f C imported bodies cut (Stopped i (part.Body r)) → PassBefore C imported bodies r.place → IsFirstFault f C imported bodies (part.Body r)
+long_first f C imported bodies cut i r few of stop before = first_body f C imported bodies cut i r few of (body_refused f C imported bodies cut i r stop) before
+
+-- it is one of a group
+pub group_first : (f : Front) (C : Context) (imported : ℕ) (bodies : List (List ℕ)) (cut : Cut) (i : ℕ) (r : RefusedBody) → imported + length bodies < 2 ^ 32 → IsCutOf bodies cut → StopsAtPart f C imported bodies cut (Stopped i (part.Body r)) → length cut.long.items < i → IsFirstFault f C imported bodies (part.Body r)
+group_first f C imported bodies cut i r few of stop past =
+    let l = body_refused f C imported bodies cut i r stop in
+    let next = l.next in
+    first_body f C imported bodies cut i r few of l (pass_before C imported bodies cut l.at r cut.sized of (omega (arith, past, next)) l.below l.first l.before)
+
+-- the rest is refused
+pub rest_first : (f : Front) (C : Context) (imported : ℕ) (bodies : List (List ℕ)) (cut : Cut) (i : ℕ) (r : RestFault) → StopsAtPart f C imported bodies cut (Stopped i (part.Rest r)) → IsFirstFault f C imported bodies (part.Rest r)
+rest_first f C imported bodies cut i rest.Malformed stop = (tt, rest_refused f C imported bodies cut i rest.Malformed stop.0)
+rest_first f C imported bodies cut i (rest.Rule n) stop = (tt, rest_refused f C imported bodies cut i (rest.Rule n) stop.0)
+
+-- no body is cut off as a long one
+pub part_first : (f : Front) (C : Context) (imported : ℕ) (bodies : List (List ℕ)) (cut : Cut) (i : ℕ) (r : PartFault) → imported + length bodies < 2 ^ 32 → IsCutOf bodies cut → length cut.long.items ≡ 0 → StopsAtPart f C imported bodies cut (Stopped i r) → IsFirstFault f C imported bodies r
+part_first f C imported bodies cut i (part.Rest r) few of none stop = rest_first f C imported bodies cut i r stop
+part_first f C imported bodies cut i (part.Body r) few of none stop =
+    let next = (body_refused f C imported bodies cut i r stop).next in
+    group_first f C imported bodies cut i r few of stop (omega (arith, none, next))
 
 -- ---- the verdict
 

@@ -1,6 +1,6 @@
 pub mod Refusals
 pub mod Judged
-pub mod Groups
+pub mod Cuts
 pub mod Parts
 pub mod OnePass
 pub mod WholeBodies

@@ -1,7 +1,10 @@
--- The parts of a module that workers judge: first what is left of it once its bodies can be judged, and then its bodies in groups.
+-- The parts of a module that workers judge: first what is left of it once its bodies can be judged, and then its bodies as they are cut.
 use Rattle.std.specs.Prelude.{◌≡◌, ◌+◌, ◌<◌, ◌^◌, ℕ, zero, suc, List, Option, Some}
 use Rattle.std.proofs.Common.{refl, ap, subst, arith, inl, inr}
 use Rattle.std.proofs.lemmas.Bool.{cases_lt}
+use Rattle.pieces.specs.declared.trying.TryFault.{TryFault}
+use Rattle.pieces.specs.declared.trying.TryFault.TheVariants.{Stopped}
+use Rattle.pieces.specs.declared.trying.TryFault.TheVariants as trying
 use Rattle.wsyntax.specs.Modules.{ModuleShape, DataShape, module_shape}
 use Rattle.wsyntax.specs.Validation.Context.{Context}
 use Rattle.wsyntax.specs.Validation.Rules.{Keeps, NoneBroken, LeastBroken}
@@ -19,7 +22,8 @@ use Rattle.verdict.specs.declared.part_fault.RestFault.TheVariants.{Malformed, R
 use Rattle.verdict.specs.declared.part_fault.PartFault.{PartFault}
 use Rattle.verdict.specs.declared.part_fault.PartFault.TheVariants as part
 use Rattle.verdict.specs.Judged.{IsFirstBody}
-use Rattle.verdict.specs.Groups.{GroupPasses, IsFirstOfGroup, passes_or_refused, one_first}
+use Rattle.verdict.specs.declared.cut.Cut.{Cut}
+use Rattle.verdict.specs.Cuts.{SpanPasses, IsFirstOfSpan, span_at, passes_or_refused, one_first}
 
 -- the module whose front it is: the same, with the data segments that end it
 abbrev pub IsWhole : Front → ModuleShape → Type 0
@@ -53,16 +57,21 @@ abbrev pub IsBodyAt : ℕ → Option Class → PartFault → Type 0
 IsBodyAt place o (part.Body r) = (r.place ≡ place) × (o ≡ Some r.class)
 IsBodyAt place o (part.Rest r) = ⊥
 
--- part 0 is the rest, and part g + 1 is group g of the bodies
-abbrev pub PartPasses : Front → Context → ℕ → List (List ℕ) → ℕ → ℕ → Type 0
-PartPasses f C imported bodies size zero = RestPasses f
-PartPasses f C imported bodies size (suc g) = GroupPasses C imported bodies size g
+-- part 0 is the rest, and part i + 1 is part i of the bodies
+abbrev pub PartPasses : Front → Context → ℕ → List (List ℕ) → Cut → ℕ → Type 0
+PartPasses f C imported bodies cut zero = RestPasses f
+PartPasses f C imported bodies cut (suc i) = SpanPasses C imported bodies (span_at cut i)
 
-abbrev pub PartRefused : Front → Context → ℕ → List (List ℕ) → ℕ → ℕ → PartFault → Type 0
-PartRefused f C imported bodies size zero (part.Rest r) = RestRefused f r
-PartRefused f C imported bodies size zero (part.Body r) = ⊥
-PartRefused f C imported bodies size (suc g) (part.Rest r) = ⊥
-PartRefused f C imported bodies size (suc g) (part.Body r) = IsFirstOfGroup C imported bodies size g r
+abbrev pub PartRefused : Front → Context → ℕ → List (List ℕ) → Cut → ℕ → PartFault → Type 0
+PartRefused f C imported bodies cut zero (part.Rest r) = RestRefused f r
+PartRefused f C imported bodies cut zero (part.Body r) = ⊥
+PartRefused f C imported bodies cut (suc i) (part.Rest r) = ⊥
+PartRefused f C imported bodies cut (suc i) (part.Body r) = IsFirstOfSpan C imported bodies (span_at cut i) r
+
+-- a part is refused, and each before it passes; of want of memory nothing is said
+abbrev pub StopsAtPart : Front → Context → ℕ → List (List ℕ) → Cut → TryFault PartFault → Type 0
+StopsAtPart f C imported bodies cut (Stopped i r) = PartRefused f C imported bodies cut i r × ((h : ℕ) → h < i → PartPasses f C imported bodies cut h)
+StopsAtPart f C imported bodies cut trying.Memory = Unit {0}
 
 -- the refusal is that of the rest, or the rest passes and it is that of the first body that is refused
 abbrev pub IsFirstPart : Front → Context → ℕ → List (List ℕ) → Refusal → Type 0
@@ -82,6 +91,10 @@ refusal_for imported (part.Body r) = refusal.Body (imported + r.place) r.class
 abbrev pub FitsIn : ℕ → PartFault → Type 0
 FitsIn imported (part.Rest r) = Unit {0}
 FitsIn imported (part.Body r) = imported + r.place < 2 ^ 32
+
+-- no refusal of the module goes before that of this part
+abbrev pub IsFirstFault : Front → Context → ℕ → List (List ℕ) → PartFault → Type 0
+IsFirstFault f C imported bodies r = FitsIn imported r × IsFirstPart f C imported bodies (refusal_for imported r)
 
 -- where an early rule is broken: that of the rule, or, since that goes before, that the front is that of no module
 abbrev pub IsEarlyRefusal : Front → ModuleFault → Refusal → Type 0
@@ -113,18 +126,18 @@ one_rest f (Rule j) (Rule k) one r s =
       | inr h ↦ elim (cases_lt k j) [ inl l ↦ absurd (not_sooner f k j one s r l) | inr l ↦ ap Rule (let same : j ≡ k = omega arith in same) ]
     ]
 
-pub part_passes_or_refused : (f : Front) (C : Context) (imported : ℕ) (bodies : List (List ℕ)) (size i : ℕ) (r : PartFault) → OneWhole f → PartPasses f C imported bodies size i → PartRefused f C imported bodies size i r → ⊥
-part_passes_or_refused f C imported bodies size zero (part.Rest r) one p h = rest_passes_or_refused f r one p h
-part_passes_or_refused f C imported bodies size zero (part.Body r) one p h = h
-part_passes_or_refused f C imported bodies size (suc g) (part.Rest r) one p h = h
-part_passes_or_refused f C imported bodies size (suc g) (part.Body r) one p h = passes_or_refused C imported bodies size g r p h
+pub part_passes_or_refused : (f : Front) (C : Context) (imported : ℕ) (bodies : List (List ℕ)) (cut : Cut) (i : ℕ) (r : PartFault) → OneWhole f → PartPasses f C imported bodies cut i → PartRefused f C imported bodies cut i r → ⊥
+part_passes_or_refused f C imported bodies cut zero (part.Rest r) one p h = rest_passes_or_refused f r one p h
+part_passes_or_refused f C imported bodies cut zero (part.Body r) one p h = h
+part_passes_or_refused f C imported bodies cut (suc i) (part.Rest r) one p h = h
+part_passes_or_refused f C imported bodies cut (suc i) (part.Body r) one p h = passes_or_refused C imported bodies (span_at cut i) r p h
 
-pub one_part : (f : Front) (C : Context) (imported : ℕ) (bodies : List (List ℕ)) (size i : ℕ) (r s : PartFault) → OneWhole f → PartRefused f C imported bodies size i r → PartRefused f C imported bodies size i s → r ≡ s
-one_part f C imported bodies size zero (part.Rest r) (part.Rest s) one a b = ap part.Rest (one_rest f r s one a b)
-one_part f C imported bodies size zero (part.Rest r) (part.Body s) one a b = absurd b
-one_part f C imported bodies size zero (part.Body r) (part.Rest s) one a b = absurd a
-one_part f C imported bodies size zero (part.Body r) (part.Body s) one a b = absurd a
-one_part f C imported bodies size (suc g) (part.Rest r) (part.Rest s) one a b = absurd a
-one_part f C imported bodies size (suc g) (part.Rest r) (part.Body s) one a b = absurd a
-one_part f C imported bodies size (suc g) (part.Body r) (part.Rest s) one a b = absurd b
-one_part f C imported bodies size (suc g) (part.Body r) (part.Body s) one a b = ap part.Body (one_first C imported bodies size g r s a b)
+pub one_part : (f : Front) (C : Context) (imported : ℕ) (bodies : List (List ℕ)) (cut : Cut) (i : ℕ) (r s : PartFault) → OneWhole f → PartRefused f C imported bodies cut i r → PartRefused f C imported bodies cut i s → r ≡ s
+one_part f C imported bodies cut zero (part.Rest r) (part.Rest s) one a b = ap part.Rest (one_rest f r s one a b)
+one_part f C imported bodies cut zero (part.Rest r) (part.Body s) one a b = absurd b
+one_part f C imported bodies cut zero (part.Body r) (part.Rest s) one a b = absurd a
+one_part f C imported bodies cut zero (part.Body r) (part.Body s) one a b = absurd a
+one_part f C imported bodies cut (suc i) (part.Rest r) (part.Rest s) one a b = absurd a
+one_part f C imported bodies cut (suc i) (part.Rest r) (part.Body s) one a b = absurd a
+one_part f C imported bodies cut (suc i) (part.Body r) (part.Rest s) one a b = absurd b
+one_part f C imported bodies cut (suc i) (part.Body r) (part.Body s) one a b = ap part.Body (one_first C imported bodies (span_at cut i) r s a b)

@@ -1,10 +1,13 @@
-ghost use Rattle.std.specs.Prelude.{◌≡◌, ◌+◌, MatchResult, IfOk, IfSome, All, length, vec_len};
+ghost use Rattle.std.specs.Prelude.{◌≡◌, ◌+◌, MatchResult, IfOk, IfSome, All, length, map, vec_len};
+ghost use Rattle.pieces.specs.declared.trying.TryFault.TheVariants.{Stopped};
 ghost use Rattle.wsyntax.specs.Modules.{module_shape};
 ghost use Rattle.wsyntax.specs.Validation.Verdict.{IsVerdict, Accepted};
+ghost use Rattle.verdict.specs.Cuts.{IsCutOf};
 ghost use Rattle.verdict.specs.Judged.{PassBefore};
-ghost use Rattle.verdict.specs.Parts.{OneWhole, IsAwaited, RestPasses, IsFirstPart, FitsIn, refusal_for, IsEarlyRefusal};
+ghost use Rattle.verdict.specs.Parts.{OneWhole, IsAwaited, RestPasses, StopsAtPart, IsFirstFault, IsFirstPart, FitsIn, refusal_for, IsEarlyRefusal};
 ghost use Rattle.verdict.specs.Refusals.{verdict_of};
 
+use crate::cut::Cut;
 use crate::jobs::Parts;
 use crate::part_fault::{PartFault, RestFault};
 use crate::passing::Scratch;
@@ -50,7 +53,7 @@ fn grouping(plan: Plan, bodies: u32, bytes: usize) -> Plan
 }
 
 /// More functions than any module has that is not too large.
-const MOST_FUNCTIONS: usize = u32::MAX as usize;
+const MOST_FUNCTIONS: usize = 1 << 31;
 
 /// The plan itself, or that of one worker where there is one group at most: to start threads for less takes longer.
 fn narrowed(plan: Plan, groups: u32) -> Plan {
@@ -58,6 +61,26 @@ fn narrowed(plan: Plan, groups: u32) -> Plan {
         Some(alone) if groups < 2 => alone,
         _ => plan,
     }
+}
+
+/// How many groups are as long as the shortest long body, in the mean.
+const GROUPS_IN_A_LONG_BODY: usize = 2;
+
+/// How many bytes make a body long: where a worker began with it last, all others would wait for it. `None`: no body is
+/// long, or one worker judges all in their order.
+fn long_from(plan: Plan, bodies: &[&[u8]], groups: u32) -> Option<usize> {
+    if plan.workers() < 2 {
+        return None;
+    }
+    let mut bytes = 0usize;
+    let mut longest = 0;
+    for body in bodies {
+        bytes = bytes.saturating_add(body.len());
+        longest = longest.max(body.len());
+    }
+    let mean = bytes / groups.max(1) as usize;
+    let least = mean.saturating_mul(GROUPS_IN_A_LONG_BODY);
+    (least <= longest).then_some(least)
 }
 
 /// The refusal of a part.
@@ -72,6 +95,56 @@ fn refusal_of(fault: PartFault, imported: u32) -> Refusal
             func: imported + body.place,
             class: body.class,
         },
+    }
+}
+
+/// Judges these parts of a module, up to the least index that is refused.
+fn judge_parts<R: Threads + Wait + Sync, W: Watch + Sync>(
+    rt: &R,
+    parts: &Parts<'_, '_, W>,
+    plan: Plan,
+) -> Result<(), TryFault<PartFault>>
+    requires awaited { IsAwaited parts.now.front.now parts.now.counts.now }
+    requires cut { IsCutOf (map (λ b. b.now) parts.now.bodies.now) parts.now.cut }
+    ensures { MatchResult result
+        (λ _. RestPasses parts.now.front.now × PassBefore parts.now.context.now.context parts.now.imported (map (λ b. b.now) parts.now.bodies.now) parts.now.cut.count)
+        (StopsAtPart parts.now.front.now parts.now.context.now.context parts.now.imported (map (λ b. b.now) parts.now.bodies.now) parts.now.cut) }
+{
+    let exports = parts.front.module.exports.len();
+    let Ok(scratches) = new_scratches(parts.alloc, parts.context, exports, plan.workers()) else {
+        return Err(TryFault::Memory);
+    };
+    let count = 1 + parts.cut.count_parts();
+    match try_all(rt, parts.alloc, parts, scratches, count, plan) {
+        Ok(_) => Ok(()),
+        Err(fault) => Err(fault),
+    }
+}
+
+/// The fault that is the first one in a module whose least refused part has that index and fault. Before a long body, which
+/// is judged early, others may be refused too.
+fn first_fault<R: Threads + Wait + Sync, W: Watch + Sync>(
+    rt: &R,
+    parts: &Parts<'_, '_, W>,
+    plan: Plan,
+    index: u32,
+    fault: PartFault,
+) -> Result<PartFault, AllocError>
+    requires awaited { IsAwaited parts.now.front.now parts.now.counts.now }
+    requires cut { IsCutOf (map (λ b. b.now) parts.now.bodies.now) parts.now.cut }
+    requires stopped { StopsAtPart parts.now.front.now parts.now.context.now.context parts.now.imported (map (λ b. b.now) parts.now.bodies.now) parts.now.cut (Stopped index fault) }
+    ensures { IfOk result (IsFirstFault parts.now.front.now parts.now.context.now.context parts.now.imported (map (λ b. b.now) parts.now.bodies.now)) }
+{
+    let PartFault::Body(body) = fault else {
+        return Ok(fault);
+    };
+    if index > parts.cut.count_long() {
+        return Ok(fault);
+    }
+    match judge_parts(rt, &parts.before(body.place), plan) {
+        Ok(()) => Ok(fault),
+        Err(TryFault::Stopped { fault, .. }) => Ok(fault),
+        Err(TryFault::Memory) => Err(AllocError),
     }
 }
 
@@ -97,29 +170,31 @@ fn examine_parts<R: Threads + Wait + Sync, W: Watch + Sync>(
         return Err(Refusal::Memory);
     }
     let bodies = front.module.bodies.as_slice();
-    let exports = front.module.exports.len();
     let plan = grouping(plan, bodies.len() as u32, bytes);
     let size = plan.piece();
     let groups = plan.count_groups(bodies.len() as u32);
     let plan = narrowed(plan.one_group_each(), groups);
-    let Ok(scratches) = new_scratches(alloc, context, exports, plan.workers()) else {
+    let Ok(cut) = Cut::of(alloc, bodies, size, long_from(plan, bodies, groups)) else {
         return Err(Refusal::Memory);
     };
-    let imported = context.imported_functions() as u32;
-    let job = Parts {
+    let parts = Parts {
         alloc,
         front,
         counts,
         context,
         bodies,
-        imported,
-        size,
+        imported: context.imported_functions() as u32,
+        cut,
         watch,
     };
-    match try_all(rt, alloc, &job, scratches, groups + 1, plan) {
-        Ok(_) => Ok(()),
-        Err(TryFault::Stopped { fault, .. }) => Err(refusal_of(fault, imported)),
-        Err(TryFault::Memory) => Err(Refusal::Memory),
+    let (index, fault) = match judge_parts(rt, &parts, plan) {
+        Ok(()) => return Ok(()),
+        Err(TryFault::Stopped { index, fault }) => (index, fault),
+        Err(TryFault::Memory) => return Err(Refusal::Memory),
+    };
+    match first_fault(rt, &parts, plan, index, fault) {
+        Ok(fault) => Err(refusal_of(fault, parts.imported)),
+        Err(AllocError) => Err(Refusal::Memory),
     }
 }
 

@@ -1,10 +1,12 @@
-ghost use Rattle.std.specs.Prelude.{◌≡◌, ◌+◌, ◌<◌, ◌^◌, suc, Some, None, MatchResult, length, map};
+ghost use Rattle.std.specs.Prelude.{◌≡◌, ◌+◌, ◌<◌, ◌≤◌, ◌^◌, ℕ, List, suc, Some, None, MatchResult, length, map, vec_len};
 ghost use Rattle.std.specs.Int.{div_ceil};
 ghost use Rattle.pieces.specs.Faults.{AllowsFault};
+ghost use Rattle.verdict.specs.Cuts.{IsCutOf};
 ghost use Rattle.verdict.specs.Judged.{class_of};
 ghost use Rattle.verdict.specs.Parts.{OneWhole, IsAwaited, IsBodyAt};
 
 use crate::body::judge_body;
+use crate::cut::Cut;
 use crate::part_fault::PartFault;
 use crate::passing::Scratch;
 use crate::refused_body::RefusedBody;
@@ -16,8 +18,8 @@ use wcontext::{Context, Counts};
 use wdecode::Front;
 
 /// The parts of a module that can be judged side by side, of which nothing is kept. Index 0 of the job is the rest of the
-/// module, since a refusal of that goes before one of a body; each index behind is one group of consecutive bodies, to be
-/// judged under the module's context.
+/// module, since a refusal of that goes before one of a body; each index behind is a long body or a group of consecutive
+/// ones, to be judged under the module's context.
 #[derive(Drop)]
 pub(crate) struct Parts<'a, 'b, W> {
     pub(crate) alloc: Global,
@@ -27,13 +29,12 @@ pub(crate) struct Parts<'a, 'b, W> {
     pub(crate) bodies: &'a [&'a [u8]],
     /// How many functions are imported: the index of the first body's function.
     pub(crate) imported: u32,
-    /// How many bodies a group has. The last group may have fewer.
-    pub(crate) size: u32,
+    pub(crate) cut: Cut,
     pub(crate) watch: &'a W,
     ghost one: { OneWhole front.now },
     ghost each_has_type: { imported + length bodies.now ≡ length context.now.context.functions },
     ghost few: { imported + length bodies.now < 2 ^ 32 },
-    ghost sized: { 0 < size },
+    ghost within: { cut.count ≤ length bodies.now },
 }
 
 /// Judges the bytes of the body at that place, which is that of the function of that index, imported ones counted.
@@ -68,6 +69,32 @@ fn judge_at(
     }
 }
 
+impl<'a, 'b, W> Parts<'a, 'b, W> {
+    /// The parts of the same module with the bodies before a place alone, none of which is judged apart.
+    pub(crate) fn before(&self, place: u32) -> Parts<'a, 'b, W>
+        requires { place ≤ self.now.cut.count }
+        ensures front { result.front.now ≡ self.now.front.now }
+        ensures counts { result.counts.now ≡ self.now.counts.now }
+        ensures context { result.context.now ≡ self.now.context.now }
+        ensures imported { result.imported ≡ self.now.imported }
+        ensures bodies { result.bodies.now ≡ self.now.bodies.now }
+        ensures count { result.cut.count ≡ place }
+        ensures cut { (bodies : List (List ℕ)) → IsCutOf bodies self.now.cut → IsCutOf bodies result.cut }
+        ensures together { vec_len result.cut.long ≡ 0 }
+    {
+        Parts {
+            alloc: self.alloc,
+            front: self.front,
+            counts: self.counts,
+            context: self.context,
+            bodies: self.bodies,
+            imported: self.imported,
+            cut: self.cut.before(self.alloc, place),
+            watch: self.watch,
+        }
+    }
+}
+
 impl<'a, 'b, W: Watch> Job for Parts<'a, 'b, W> {
     type Local = Scratch<'a, 'b>;
 
@@ -77,15 +104,15 @@ impl<'a, 'b, W: Watch> Job for Parts<'a, 'b, W> {
 
     ghost use Rattle.verdict.specs.Parts.{PartPasses, PartRefused, part_passes_or_refused, one_part};
 
-    ghost limit = { λ j. suc (div_ceil (length j.bodies.now) j.size) };
+    ghost limit = { λ j. suc (vec_len j.cut.long + div_ceil j.cut.count j.cut.size) };
 
     ghost belongs = { λ j s. (s.checker.outside ≡ j.context.now.context) × IsAwaited j.front.now j.counts.now };
 
-    ghost passes = { λ j i. PartPasses j.front.now j.context.now.context j.imported (map (λ b. b.now) j.bodies.now) j.size i };
+    ghost passes = { λ j i. PartPasses j.front.now j.context.now.context j.imported (map (λ b. b.now) j.bodies.now) j.cut i };
 
     ghost gives = { λ j i out. Unit {0} };
 
-    ghost refuses = { λ j i r. PartRefused j.front.now j.context.now.context j.imported (map (λ b. b.now) j.bodies.now) j.size i r };
+    ghost refuses = { λ j i r. PartRefused j.front.now j.context.now.context j.imported (map (λ b. b.now) j.bodies.now) j.cut i r };
 
     fn run<R: Wait>(
         &self,
@@ -96,17 +123,18 @@ impl<'a, 'b, W: Watch> Job for Parts<'a, 'b, W> {
         if index == 0 {
             return judge_rest(self.alloc, self.front, self.counts, &mut scratch.names);
         }
-        let first = (index - 1) * self.size;
-        let end = first + self.size.min(self.bodies.len() as u32 - first);
-        for place in first..end {
-            self.watch.note(Stage::Body, place);
+        let span = self.cut.span(index - 1);
+        for place in span.from..span.to {
             let bytes = self.bodies[place as usize];
-            judge_at(self.alloc, scratch, place, self.imported + place, bytes)?;
+            if !span.leaves_out(bytes) {
+                self.watch.note(Stage::Body, place);
+                judge_at(self.alloc, scratch, place, self.imported + place, bytes)?;
+            }
         }
         Ok(())
     }
 
-    ghost never_both = { λ j i r. part_passes_or_refused j.front.now j.context.now.context j.imported (map (λ b. b.now) j.bodies.now) j.size i r j.one };
+    ghost never_both = { λ j i r. part_passes_or_refused j.front.now j.context.now.context j.imported (map (λ b. b.now) j.bodies.now) j.cut i r j.one };
 
-    ghost one_fault = { λ j i r s. one_part j.front.now j.context.now.context j.imported (map (λ b. b.now) j.bodies.now) j.size i r s j.one };
+    ghost one_fault = { λ j i r s. one_part j.front.now j.context.now.context j.imported (map (λ b. b.now) j.bodies.now) j.cut i r s j.one };
 }

@@ -2,6 +2,8 @@
 #![tactic(auto)]
 
 mod body;
+mod cut;
+mod cutting;
 mod examining;
 mod jobs;
 mod judging;
