@@ -4,6 +4,7 @@ ghost use Rattle.std.specs.Int.{div_ceil};
 ghost use Rattle.verdict.specs.Cuts.{is_long, span_at, AreLong, IsCutOf};
 
 use crate::cut::{Cut, Span};
+use pieces::Plan;
 use std::alloc::{AllocError, Global};
 
 impl Span {
@@ -109,4 +110,65 @@ impl Cut {
             }
         }
     }
+}
+
+/// A module of at least so many bytes makes a group worth its while.
+const SHORTEST_GROUP: usize = 4_096;
+
+/// How many groups there are for each worker at least, where they are long enough.
+const FEWEST_GROUPS: u32 = 32;
+
+/// The plan whose pieces are the groups of the bodies of a module of so many bytes.
+fn grouping(plan: Plan, bodies: u32, bytes: usize) -> Plan
+    ensures { result.workers ≡ plan.workers }
+{
+    let wanted = plan.workers().saturating_mul(FEWEST_GROUPS) as usize;
+    plan.grouping(bodies, wanted.min(bytes / SHORTEST_GROUP) as u32)
+}
+
+/// The plan itself, or that of one worker where there is one group at most: to start threads for less takes longer.
+fn narrowed(plan: Plan, groups: u32) -> Plan {
+    match Plan::new(1, 1) {
+        Some(alone) if groups < 2 => alone,
+        _ => plan,
+    }
+}
+
+/// How many groups are as long as the shortest long body, in the mean.
+const GROUPS_IN_A_LONG_BODY: usize = 2;
+
+/// How many bytes make a body long: where a worker began with it last, all others would wait for it. `None`: no body is
+/// long, or one worker judges all in their order.
+fn long_from(plan: Plan, bodies: &[&[u8]], groups: u32) -> Option<usize> {
+    if plan.workers() < 2 {
+        return None;
+    }
+    let mut bytes = 0usize;
+    let mut longest = 0;
+    for body in bodies {
+        bytes = bytes.saturating_add(body.len());
+        longest = longest.max(body.len());
+    }
+    let mean = bytes / groups.max(1) as usize;
+    let least = mean.saturating_mul(GROUPS_IN_A_LONG_BODY);
+    (least <= longest).then_some(least)
+}
+
+/// How the bodies of a module of so many bytes are cut, and the plan of those who judge the parts, one at a time.
+pub(crate) fn cut_for(
+    alloc: Global,
+    bodies: &[&[u8]],
+    bytes: usize,
+    plan: Plan,
+) -> Result<(Cut, Plan), AllocError>
+    requires { length bodies.now < 2 ^ 31 }
+    ensures count { IfOk result (λ x. x.0.count ≡ length bodies.now) }
+    ensures cut { IfOk result (λ x. IsCutOf (map (λ b. b.now) bodies.now) x.0) }
+{
+    let plan = grouping(plan, bodies.len() as u32, bytes);
+    let groups = plan.count_groups(bodies.len() as u32);
+    let size = plan.piece();
+    let plan = narrowed(plan.one_group_each(), groups);
+    let cut = Cut::of(alloc, bodies, size, long_from(plan, bodies, groups))?;
+    Ok((cut, plan))
 }

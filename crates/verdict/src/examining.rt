@@ -7,7 +7,7 @@ ghost use Rattle.verdict.specs.Judged.{PassBefore};
 ghost use Rattle.verdict.specs.Parts.{OneWhole, IsAwaited, RestPasses, StopsAtPart, IsFirstFault, IsFirstPart, FitsIn, refusal_for, IsEarlyRefusal};
 ghost use Rattle.verdict.specs.Refusals.{verdict_of};
 
-use crate::cut::Cut;
+use crate::cutting::cut_for;
 use crate::jobs::Parts;
 use crate::part_fault::{PartFault, RestFault};
 use crate::passing::Scratch;
@@ -38,50 +38,8 @@ fn new_scratches<'a, 'b>(
     Ok(scratches)
 }
 
-/// A module of at least so many bytes makes a group worth its while.
-const SHORTEST_GROUP: usize = 4_096;
-
-/// How many groups there are for each worker at least, where they are long enough.
-const FEWEST_GROUPS: u32 = 32;
-
-/// The plan whose pieces are the groups of the bodies of a module of so many bytes.
-fn grouping(plan: Plan, bodies: u32, bytes: usize) -> Plan
-    ensures { result.workers ≡ plan.workers }
-{
-    let wanted = plan.workers().saturating_mul(FEWEST_GROUPS) as usize;
-    plan.grouping(bodies, wanted.min(bytes / SHORTEST_GROUP) as u32)
-}
-
 /// More functions than any module has that is not too large.
 const MOST_FUNCTIONS: usize = 1 << 31;
-
-/// The plan itself, or that of one worker where there is one group at most: to start threads for less takes longer.
-fn narrowed(plan: Plan, groups: u32) -> Plan {
-    match Plan::new(1, 1) {
-        Some(alone) if groups < 2 => alone,
-        _ => plan,
-    }
-}
-
-/// How many groups are as long as the shortest long body, in the mean.
-const GROUPS_IN_A_LONG_BODY: usize = 2;
-
-/// How many bytes make a body long: where a worker began with it last, all others would wait for it. `None`: no body is
-/// long, or one worker judges all in their order.
-fn long_from(plan: Plan, bodies: &[&[u8]], groups: u32) -> Option<usize> {
-    if plan.workers() < 2 {
-        return None;
-    }
-    let mut bytes = 0usize;
-    let mut longest = 0;
-    for body in bodies {
-        bytes = bytes.saturating_add(body.len());
-        longest = longest.max(body.len());
-    }
-    let mean = bytes / groups.max(1) as usize;
-    let least = mean.saturating_mul(GROUPS_IN_A_LONG_BODY);
-    (least <= longest).then_some(least)
-}
 
 /// The refusal of a part.
 fn refusal_of(fault: PartFault, imported: u32) -> Refusal
@@ -170,11 +128,7 @@ fn examine_parts<R: Threads + Wait + Sync, W: Watch + Sync>(
         return Err(Refusal::Memory);
     }
     let bodies = front.module.bodies.as_slice();
-    let plan = grouping(plan, bodies.len() as u32, bytes);
-    let size = plan.piece();
-    let groups = plan.count_groups(bodies.len() as u32);
-    let plan = narrowed(plan.one_group_each(), groups);
-    let Ok(cut) = Cut::of(alloc, bodies, size, long_from(plan, bodies, groups)) else {
+    let Ok((cut, plan)) = cut_for(alloc, bodies, bytes, plan) else {
         return Err(Refusal::Memory);
     };
     let parts = Parts {
