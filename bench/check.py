@@ -28,7 +28,7 @@ from operator import itemgetter
 
 here = os.path.dirname(os.path.abspath(__file__))
 KINDS = {'many': 'many functions', 'tiny': 'functions of ten bytes', 'large': 'large functions', 'one': 'one function',
-         'lists': 'half a type', 'labels': 'half a branch table'}
+         'lists': 'a type of half as many parameters', 'labels': 'branch tables of half as many labels'}
 # The peer in C compares lists of types item by item each time, which takes minutes on these, and wabt's validator asks for
 # more memory than the machine has.
 LONG_LISTS = ('lists', 'labels')
@@ -126,7 +126,7 @@ def mean(rows, name):
 def bars(rows):
     # The rows as bars, a group for each module, in MB/s; the text is drawn in the reader's own colour.
     most = max(speed for _, speeds in rows for name, speed in speeds.items() if name in COLOURS)
-    left, width, high, gap = 230, 560, 11, 12
+    left, width, high, gap = 300, 560, 11, 12
     parts, y = [], 34
     for x, name in enumerate(COLOURS):
         parts.append(f'<rect x="{left + 110 * x}" y="8" width="12" height="12" fill="{COLOURS[name]}"/>')
