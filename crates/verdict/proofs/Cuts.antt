@@ -2,7 +2,7 @@
 use Rattle.std.proofs.Common.{Bor, ◌≡◌, ℕ, zero, suc, ◌+◌, ◌-◌, ◌*◌, ◌/◌, ◌<◌, ◌≤◌, min, Bool, true, false, List, [], ◌∷◌, ◌++◌, length, map, get_or, Option, Some, None, refl, sym, ap, subst, ◌∙◌, arith, inl, inr}
 use Rattle.std.specs.Prelude.{option_map, slice_get, All}
 use Rattle.std.specs.Int.{div_ceil}
-use Rattle.std.proofs.Math.Nat.{div-mul-le_self, mul-le-mul_right, mul-le-mul_left, suc-mul, lt-div-mul-add, div-lt_iff_lt-mul, min-le_left, min-le_right}
+use Rattle.std.proofs.Math.Nat.{div-mul-le_self, mul-le-mul_right, lt-div-mul-add, div-lt_iff_lt-mul, min-le_left, min-le_right}
 use Rattle.std.proofs.lemmas.Bool.{lt-leb}
 use Rattle.std.proofs.lemmas.Grind.{div_ceil_times}
 use Rattle.std.proofs.lemmas.List.Elements.{All-get_or}
@@ -19,14 +19,6 @@ use Rattle.verdict.specs.Cuts.{given_long, IsInSpan, SpanPasses, IsFirstOfSpan, 
 
 -- ---- groups
 
--- no group is empty
-pub first_below : (n size g : ℕ) → 0 < size → g < div_ceil n size → g * size < n
-first_below n size g some below =
-    let t = div_ceil_times n size some in
-    let b : suc g * size ≤ div_ceil n size * size = mul-le-mul_right size below in
-    let c = suc-mul g size in
-    omega arith
-
 -- each place is one of a group
 group_below : (n size k : ℕ) → 0 < size → k < n → k / size < div_ceil n size
 group_below n size k some below =
@@ -34,16 +26,6 @@ group_below n size k some below =
     let t = div_ceil_times n size some in
     dite (dec_lt (k / size) (div_ceil n size)) (λ y. y)
     (λ no. absurd (let c : div_ceil n size * size ≤ k / size * size = mul-le-mul_right size (omega arith) in omega arith))
-
--- no more groups than things
-pub few_groups : (n size : ℕ) → 0 < size → div_ceil n size ≤ n
-few_groups n size some =
-    dite (dec_lt n (div_ceil n size))
-    (λ y. absurd (let b : n * size < n = first_below n size n some y in let c : n * 1 ≤ n * size = mul_le n size some in omega (arith, b, c)))
-    (λ no. omega (arith, no))
-  where
-    mul_le : (n size : ℕ) → 0 < size → n * 1 ≤ n * size
-    mul_le n size some = mul-le-mul_left n some
 
 in_group : (bodies : List (List ℕ)) (cut : Cut) (g place : ℕ) → g * cut.size ≤ place → place < g * cut.size + cut.size → place < cut.count → given_long cut.long_from (slice_get bodies place) ≡ false → IsInSpan bodies (group cut g) place
 in_group bodies cut g place from to below short = record { from = from; to = omega (arith, from, to, below); taken = short }

@@ -75,16 +75,6 @@ all_pass gives C i j bodies n outs is all k lt =
       | inr h ↦ let len : length outs ≡ n = all.len in let past : length outs ≤ k = h.0 in absurd (omega arith)
     ]
 
--- the run stops at a body
-pub first_stop : (C : Context) (i j : ℕ) (bodies : List (List ℕ)) (place : ℕ) (c : Class) → j ≡ i → place < length bodies → class_at C j bodies place ≡ Some c → PassBefore C j bodies place → IsFirstBody C i bodies (Body (j + place) c)
-first_stop C i j bodies place c is lt e before = (
-  place,
-  lt,
-  ap (λ (x : ℕ). x + place) is,
-  ap (λ (x : ℕ). class_at C x bodies place) (sym is) ∙ e,
-  λ k h. ap (λ (x : ℕ). class_at C x bodies k) (sym is) ∙ before k h,
-)
-
 -- ---- the verdicts of the judge
 
 at_most : (a b : ℕ) → (a < b → ⊥) → b ≤ a

@@ -22,8 +22,7 @@ use Rattle.wsyntax.specs.Validation.Verdict.{result_of}
 use Rattle.wcheck.specs.Checking.{Checking, begun, with_frames}
 use Rattle.wdecode.specs.Gives.{ReadsPlain, ReadsBracket}
 use Rattle.verdict.specs.Judged.{typing_class, read_class, class_of}
-use Rattle.verdict.specs.OnePass.{Takes, Passes, PassesAs}
-use Rattle.verdict.specs.declared.passing.FirstToken.{FirstToken}
+use Rattle.verdict.specs.OnePass.{Takes, PassesAs}
 use Rattle.verdict.specs.declared.refusal.Class.{Class}
 use Rattle.verdict.specs.declared.refusal.Class.TheVariants.{TooManyLocals}
 
@@ -229,10 +228,6 @@ looked_open old new bytes after lent b token ok some is read step_is taken same 
 pub looked_behind : (old new : Checking) (bytes after : List ℕ) (token : Held) → ReadsPlain bytes token after → step old.inside (seen [] token) old.frames ≡ Some new.frames → new ≡ with_frames old new.frames → Takes bytes old new after
 looked_behind old new bytes after token read step_is same =
     let i = read.2 [] in (Do i.0, i.2, read.0, ap (λ (t : Token). step old.inside t old.frames) (sym i.1) ∙ step_is, same)
-
--- the same of the bytes as they lie
-pub passed_behind : (bytes : List ℕ) (old new : Checking) (front : FirstToken) → 1 ≤ length bytes → Passes (get_or bytes 0 0 ∷ take (length bytes - 1) (drop 1 bytes)) old new front → Passes bytes old new front
-passed_behind bytes old new front some p = subst (λ (x : List ℕ). Passes x old new front) (in_front bytes some) p
 
 -- a token of one byte that is taken
 pub looked_one : (old new : Checking) (bytes : List ℕ) (b : ℕ) (t : Token) (ok : Bool) → 1 ≤ length bytes → get_or bytes 0 0 ≡ b → ((rest : List ℕ) → token_at (b ∷ rest) ≡ Some (t, rest)) → step old.inside t old.frames ≡ when ok (Some new.frames) → ok ≡ true → new ≡ with_frames old new.frames → Takes bytes old new (take (length bytes - 1) (drop 1 bytes))

@@ -42,7 +42,7 @@ use Rattle.verdict.proofs.Rests.{least_of_whole}
 
 -- ---- parts
 
-pub behind_the_first : (i : ℕ) → i ≢ 0 → suc (i - 1) ≡ i
+behind_the_first : (i : ℕ) → i ≢ 0 → suc (i - 1) ≡ i
 behind_the_first zero ne = absurd (ne refl)
 behind_the_first (suc i) ne = omega arith
 
@@ -143,7 +143,7 @@ group_first f C imported bodies cut i r few of stop past =
     first_body f C imported bodies cut i r few of l (pass_before C imported bodies cut l.at r cut.sized of (omega (arith, past, next)) l.below l.first l.before)
 
 -- the rest is refused
-pub rest_first : (f : Front) (C : Context) (imported : ℕ) (bodies : List (List ℕ)) (cut : Cut) (i : ℕ) (r : RestFault) → StopsAtPart f C imported bodies cut (Stopped i (part.Rest r)) → IsFirstFault f C imported bodies (part.Rest r)
+rest_first : (f : Front) (C : Context) (imported : ℕ) (bodies : List (List ℕ)) (cut : Cut) (i : ℕ) (r : RestFault) → StopsAtPart f C imported bodies cut (Stopped i (part.Rest r)) → IsFirstFault f C imported bodies (part.Rest r)
 rest_first f C imported bodies cut i rest.Malformed stop = (tt, rest_refused f C imported bodies cut i rest.Malformed stop.0)
 rest_first f C imported bodies cut i (rest.Rule n) stop = (tt, rest_refused f C imported bodies cut i (rest.Rule n) stop.0)
 
