@@ -66,6 +66,19 @@ fn long_lists_again(alloc: Global) -> Result<Module<'static>, AllocError> {
     Ok(module)
 }
 
+/// So many types that what was compared is kept.
+const LONGER: [ValType; 300] = [I32; 300];
+
+/// A module with the types `[] -> []`, `[] -> [t*]` and `[u*] -> []`, where t* is 300 times i32 and u* one less, and functions
+/// of these types.
+fn ends_of_lists(alloc: Global) -> Result<Module<'static>, AllocError> {
+    let mut module = some_functions(alloc, &[0, 1, 2])?;
+    module.types.push(&[], &[])?;
+    module.types.push(&[], &LONGER)?;
+    module.types.push(&LONGER[1..], &[])?;
+    Ok(module)
+}
+
 /// The locals f32, f32 and i64.
 const RUNS: [LocalRun; 2] = [
     LocalRun {
@@ -404,6 +417,41 @@ const AGAIN: [Case<'static>; 4] = [
 fn long_lists_of_other_types(rt: HostRuntime) -> Result<(), Fail> {
     let module = long_lists_again(rt.alloc())?;
     assert_cases(&rt, rt.alloc(), &module, &AGAIN)
+}
+
+/// The end of a long list is taken again and again, and only where so many operands are left of the list.
+const ENDS: [Case<'static>; 3] = [
+    (
+        &[
+            Call(1),
+            Call(2),
+            Call(1),
+            Call(2),
+            EQZ,
+            Drop,
+            EQZ,
+            Drop,
+            End,
+        ],
+        &[],
+        None,
+    ),
+    (
+        &[Call(1), Call(2), Drop, Call(1), Drop, Call(2), End],
+        &[],
+        None,
+    ),
+    (
+        &[Call(1), Call(2), Drop, Call(1), Drop, Drop, Call(2), End],
+        &[],
+        Some(6),
+    ),
+];
+
+#[test]
+fn ends_of_long_lists(rt: HostRuntime) -> Result<(), Fail> {
+    let module = ends_of_lists(rt.alloc())?;
+    assert_cases(&rt, rt.alloc(), &module, &ENDS)
 }
 
 /// The tokens as a body with no locals.

@@ -32,3 +32,4 @@ pub mod KnownSteps
 pub mod Singles
 pub mod Putting
 pub mod Taking
+pub mod Repeating

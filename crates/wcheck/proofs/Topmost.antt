@@ -59,27 +59,29 @@ a_several F64 e = absurd cc
 a_several Unknown e = absurd cc
 a_several Several e = refl
 
--- the last operands, where the run on top is the first so many of a list
-pub last_of_list : (types u : List FuncType) (xs : List Operand) (rs : List Run) (v : List (Option ValType)) (x : Operand) (run : Run) (list : TypeList) (count : ℕ) → types_in xs (map (types_of_run types) rs) ≡ v → Some x ≡ slice_get xs (length xs - 1) → is_several x ≡ true → Some run ≡ slice_get rs (length rs - 1) → run.left ≡ count → run.list ≡ list → types ≡ u → 0 < count → count ≤ length (list_of u list) → (rest : List (Option ValType)) × (v ≡ rest ++ map Some (take count (list_of u list)))
-last_of_list types u xs rs v x run list count w e several q l n same lt le =
-    let r : List ValType = take count (list_of u list) in
-    let stands : types_of_run types run ≡ r = ap (λ k. take k (list_of types run.list)) l ∙ ap (λ z. take count (list_of types z)) n ∙ ap (λ z. take count (list_of z list)) same in
-    let size : length (map (types_of_run types) rs) - 1 ≡ length rs - 1 = ap (λ k. k - 1) (length-map rs (types_of_run types)) in
-    let top : run_at Several (map (types_of_run types) rs) ≡ Some r =
-    ap (slice_get (map (types_of_run types) rs)) size
-    ∙ slice_get-map (types_of_run types) rs (length rs - 1)
-    ∙ ap (option_map (types_of_run types)) (sym q)
-    ∙ ap Some stands in
-    let some : 0 < length r = omega (arith, length-take count (list_of u list)) in (
-      types_in (take (length xs - 1) xs) (take (length (map (types_of_run types) rs) - 1) (map (types_of_run types) rs)),
-      split_run xs (map (types_of_run types) rs) Several v (length xs - 1) w (is_there xs Several (sym (ap Some (sym (a_several x several)) ∙ e))) r top
-          ∙ ap (λ z. types_in (take (length xs - 1) xs) (take (length (map (types_of_run types) rs) - 1) (map (types_of_run types) rs)) ++ z) (whole_run r some),
-    )
-
 -- the last operands, where the run on top has some
 pub last_of_run_on_top : (xs : List Operand) (rs : List (List ValType)) (v : List (Option ValType)) (x : Operand) (r : List ValType) → types_in xs rs ≡ v → Some x ≡ slice_get xs (length xs - 1) → run_at x rs ≡ Some r → 0 < length r → (rest : List (Option ValType)) × (v ≡ rest ++ map Some r)
 last_of_run_on_top xs rs v x r w e q some =
     (types_in (take (length xs - 1) xs) (take (length rs - 1) rs), split_run xs rs x v (length xs - 1) w (is_there xs x (sym e)) r q ∙ ap (λ z. types_in (take (length xs - 1) xs) (take (length rs - 1) rs) ++ z) (whole_run r some))
+
+-- the last operands, where this run is on top
+pub last_of_front : (types u : List FuncType) (xs : List Operand) (rs : List Run) (v : List (Option ValType)) (x : Operand) (run : Run) → types_in xs (map (types_of_run types) rs) ≡ v → Some x ≡ slice_get xs (length xs - 1) → is_several x ≡ true → Some run ≡ slice_get rs (length rs - 1) → types ≡ u → 0 < length (types_of_run u run) → (rest : List (Option ValType)) × (v ≡ rest ++ map Some (types_of_run u run))
+last_of_front types u xs rs v x run w e several q same some =
+    let size : length (map (types_of_run types) rs) - 1 ≡ length rs - 1 = ap (λ k. k - 1) (length-map rs (types_of_run types)) in
+    let top : run_at Several (map (types_of_run types) rs) ≡ Some (types_of_run u run) =
+    ap (slice_get (map (types_of_run types) rs)) size
+    ∙ slice_get-map (types_of_run types) rs (length rs - 1)
+    ∙ ap (option_map (types_of_run types)) (sym q)
+    ∙ ap (λ z. Some (types_of_run z run)) same in
+    last_of_run_on_top xs (map (types_of_run types) rs) v Several (types_of_run u run) w (ap Some (sym (a_several x several)) ∙ e) top some
+
+-- the same, where the run is the first so many of a list
+pub last_of_list : (types u : List FuncType) (xs : List Operand) (rs : List Run) (v : List (Option ValType)) (x : Operand) (run : Run) (list : TypeList) (count : ℕ) → types_in xs (map (types_of_run types) rs) ≡ v → Some x ≡ slice_get xs (length xs - 1) → is_several x ≡ true → Some run ≡ slice_get rs (length rs - 1) → run.left ≡ count → run.list ≡ list → types ≡ u → 0 < count → count ≤ length (list_of u list) → (rest : List (Option ValType)) × (v ≡ rest ++ map Some (take count (list_of u list)))
+last_of_list types u xs rs v x run list count w e several q l n same lt le =
+    let stands : types_of_run u run ≡ take count (list_of u list) = ap (λ k. take k (list_of u run.list)) l ∙ ap (λ z. take count (list_of u z)) n in
+    let some : 0 < length (types_of_run u run) = omega (arith, lt, le, ap length stands, length-take count (list_of u list)) in
+    let last = last_of_front types u xs rs v x run w e several q same some in
+    (last.0, last.1 ∙ ap (λ z. last.0 ++ map Some z) stands)
 
 pub has_some : (xs : List ValType) (b : Bool) → b ≡ (length xs == 0) → b ≡ false → 0 < length xs
 has_some [] b e f = absurd (let h : true ≡ false = sym e ∙ f in cc)

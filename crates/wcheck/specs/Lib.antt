@@ -2,6 +2,8 @@ pub mod Pass
 pub mod Laws
 pub mod Heights
 pub mod Runs
+pub mod Periods
+pub mod Compared
 pub mod Packed
 pub mod Views
 pub mod OperandRules

@@ -449,19 +449,22 @@ impl<'a> OperandList<'a> {
         run.left as usize == count && run.list.is_at(list)
     }
 
-    /// The types of the run on top, if one stands there.
-    pub(crate) fn top_types(&self) -> Option<&'a [ValType]>
-        ensures { IfSome result (λ r. (rest : List (Option ValType)) × (self.now.items ≡ rest ++ map Some r.now)) }
+    /// The front of a list that the run on top is, if one stands there.
+    pub(crate) fn top_front(&self) -> Option<Run>
+        ensures { IfSome result (λ r. (rest : List (Option ValType)) × (self.now.items ≡ rest ++ map Some (types_of_run self.now.types r))) }
     {
         let Some(place) = self.places.last() else {
             return None;
         };
-        let Some(types) = top_run(self.context, *place, &self.runs) else {
+        let Some(run) = self.runs.last() else {
             return None;
         };
-        if types.is_empty() {
+        if !is_run(*place) {
             return None;
         }
-        Some(types)
+        if first_of(self.context.list(run.list), run.left as usize).is_empty() {
+            return None;
+        }
+        Some(*run)
     }
 }

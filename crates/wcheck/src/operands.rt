@@ -2,7 +2,8 @@ ghost use Rattle.std.specs.Prelude.{◌≡◌, ◌<◌, ◌≤◌, ◌+◌, ◌-
 ghost use Rattle.wcontext.specs.Lists.{list_of};
 ghost use Rattle.wsyntax.specs.Validation.Algorithm.{Takes, Drops, when, apply, take_any, take_one, take_all, put, fresh, is_nil, ends_with};
 
-use crate::operand::{OperandList, common_end, is_same};
+use crate::compared::Compared;
+use crate::operand::{OperandList, Run, is_same};
 use std::alloc::{AllocError, Global};
 use std::marker::Model;
 use wcontext::{Context, TypeList};
@@ -14,17 +15,18 @@ pub(crate) struct OperandStack<'a> {
     list: OperandList<'a>,
     base: usize,
     is_dead: bool,
+    compared: Compared<'a>,
 }
 
 impl<'a> Model for OperandStack<'a> {
-    ghost use Rattle.std.specs.Prelude.{reverse, take, drop, length, ◌≤◌};
+    ghost use Rattle.std.specs.Prelude.{reverse, take, drop, length, ◌≡◌, ◌≤◌};
     ghost use Rattle.wcheck.specs.Heights.{Stacked};
 
     ghost Value = { Stacked };
 
     ghost view = { λ p. record { below = take p.base p.list.items; above = record { known = reverse (drop p.base p.list.items); is_dead = p.is_dead }; types = p.list.types } };
 
-    ghost invariant = { λ p. p.base ≤ length p.list.items };
+    ghost invariant = { λ p. (p.base ≤ length p.list.items) × (p.compared ≡ p.list.types) };
 }
 
 /// A list of more types than this is put as a run.
@@ -38,6 +40,7 @@ impl<'a> OperandStack<'a> {
             list: OperandList::new(alloc, context),
             base: 0,
             is_dead: false,
+            compared: Compared::new(alloc, context),
         }
     }
 
@@ -305,23 +308,26 @@ impl<'a> OperandStack<'a> {
         }
     }
 
-    /// Takes operands of the last of these types, as many as stand in the run on top.
-    fn take_part(&mut self, ts: &[ValType]) -> usize
-        ensures count { result ≤ length ts.now }
-        ensures taken { take_all (reverse ts.now) self.old.above ≡ take_all (reverse (take (length ts.now - result) ts.now)) self.new.above }
+    /// Takes operands of the last of the first so many types of a list, as many as stand in the run on top.
+    fn take_part(&mut self, list: TypeList, count: usize) -> usize
+        ensures count { result ≤ length (take count (list_of self.old.types list)) }
+        ensures taken { take_all (reverse (take count (list_of self.old.types list))) self.old.above ≡ take_all (reverse (take (length (take count (list_of self.old.types list)) - result) (take count (list_of self.old.types list)))) self.new.above }
         ensures below { self.new.below ≡ self.old.below }
         ensures types { self.new.types ≡ self.old.types }
     {
-        let Some(run) = self.list.top_types() else {
+        let Some(top) = self.list.top_front() else {
+            return 0;
+        };
+        let Ok(left) = u32::try_from(count) else {
             return 0;
         };
         let height = self.list.len();
-        let count = common_end(ts, run);
-        if height - self.base < count {
+        let part = self.compared.common_end(Run { list, left }, top);
+        if height - self.base < part {
             return 0;
         }
-        self.list.truncate(height - count);
-        count
+        self.list.truncate(height - part);
+        part
     }
 
     /// Takes operands of these types at once, where each is known.
@@ -393,7 +399,7 @@ impl<'a> OperandStack<'a> {
                 return true;
             }
             let part = if i > SHORT {
-                self.take_part(&ts[..i])
+                self.take_part(list, i)
             } else {
                 0
             };
