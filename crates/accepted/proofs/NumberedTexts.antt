@@ -55,9 +55,6 @@ number_insert (e ∷ es) k v bs =
 
 -- ---- what became of the texts
 
-pub numbers_known : (entries : List (Vec ℕ Global × ℕ)) (key : List ℕ) (next n : ℕ) → number_at entries key ≡ Some n → Numbers entries entries key next n
-numbers_known entries key next n e = record { has = e; keeps = λ other k is. is; only = λ other k is. inl is }
-
 chosen : (t : Bool) (next k : ℕ) (o : Option ℕ) → cond t (Some next) o ≡ Some k → (o ≡ Some k) ⊎ ((t ≡ true) × (k ≡ next))
 chosen true next k o e = inr (refl, cc)
 chosen false next k o e = inl e

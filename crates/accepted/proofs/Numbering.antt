@@ -132,9 +132,6 @@ front_is numbers k y lt =
     let within : y < length (numbers ++ k ∷ []) = omega (arith, length-append numbers (k ∷ [])) in
     slice_get-get_or (numbers ++ k ∷ []) y 0 within ∙ ap (λ (x : ℕ). Some x) (get_or-append numbers (k ∷ []) 0 y lt) ∙ sym (slice_get-get_or numbers y 0 lt)
 
-pub numbered_none : (types : List FuncType) → AreNumbered types 0 [] []
-numbered_none types = record { count = refl; known = λ y t lt is. absurd (omega arith); said = λ key k e. absurd cc }
-
 pub numbered_more : (types : List FuncType) (n : ℕ) (old new : List (Vec ℕ Global × ℕ)) (numbers : List ℕ) (t : FuncType) (k : ℕ) → AreNumbered types n old numbers → slice_get types n ≡ Some t → Numbers old new (key_of t) n k → AreNumbered types (n + 1) new (numbers ++ k ∷ [])
 numbered_more types n old new numbers t k before is step =
     record { count = omega (arith, length-append numbers (k ∷ []), before.count); known = known; said = said }

@@ -71,9 +71,6 @@ fits_yes C f given args b same is_true h = subst (HasParams C f) same (h is_true
 pub callee_of : (m : ModuleShape) (c : Call) (f : ℕ) → IsExported m c.name Function f → HasParams (module_context m) f c.args → IsCallee m c f
 callee_of m c f e h = (h.sig, record { exported = e; typed = h.function }, h.params)
 
-pub has_params : (m : ModuleShape) (c : Call) (f : ℕ) → IsCallee m c f → HasParams (module_context m) f c.args
-has_params m c f (sig, names, same) = record { sig = sig; function = names.typed; params = same }
-
 -- ---- its end
 
 -- the end alone is that of the call

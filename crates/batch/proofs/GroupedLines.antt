@@ -51,10 +51,6 @@ part_given a s g i lines given p all h same part = (
 
 -- ---- groups
 
--- none yet
-pub none_added : (n : ℕ) (groups : List Group) → AddsGroups n [] groups groups
-none_added n groups = ([], sym (append-nil groups), refl)
-
 -- groups, and others behind them
 are_both : (n m : ℕ) (calls others : List Call) (groups more : List Group) → AreGroups n calls groups → m ≡ n + length calls → AreGroups m others more → AreGroups n (calls ++ others) (groups ++ more)
 are_both n m calls others [] more h at g =

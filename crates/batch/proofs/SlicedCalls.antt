@@ -1,9 +1,8 @@
 -- The calls of a text, from those of its slices.
 use denote.Ref.{Bor}
-use Rattle.std.proofs.Common.{◌≡◌, ℕ, suc, ◌≤◌, List, [], ◌∷◌, Some, Ok, Vec, length, flat_map, refl, sym, ap, subst, ◌∙◌, arith}
+use Rattle.std.proofs.Common.{◌≡◌, ℕ, suc, ◌≤◌, List, [], ◌∷◌, Some, Ok, Vec, length, flat_map, refl, sym, subst, ◌∙◌, arith}
 use Rattle.std.specs.Prelude.{slice_get}
 use Rattle.std.specs.declared.alloc.Global.{Global}
-use Rattle.std.proofs.lemmas.List.{append-nil}
 use Rattle.std.proofs.lemmas.Option.{same_Some}
 use Rattle.wsyntax.specs.Texts.Calls.{Good, IsCalls, calls_limit, line_limit}
 use Rattle.pieces.specs.TryAll.{AllPass}
@@ -30,9 +29,3 @@ text_read text size n count slices given read counted small cuts same many all i
     let fits : length (flat_map (λ s. s) (slices_of slices)) ≤ calls_limit = subst (λ (l : List ℕ). length l ≤ calls_limit) cuts.joined small in
     let (sum, few, say) = subst (λ (l : List (Vec Call Global)). CountsCalls l (Some count)) is counts in
     (subst (λ (l : List ℕ). IsCalls l (Good (calls_of (joined_calls read)))) (sym cuts.joined) (say (slices_of slices) each fits), subst (λ (k : ℕ). k ≤ line_limit) sum few)
-
--- one slice is the whole text
-pub one_slice : (text : List ℕ) (calls : Vec Call Global) (slices : List (Vec Call Global)) → slices ≡ calls ∷ [] → length calls.items ≤ line_limit → ReadsCalls text (Ok calls) → SayTogether text slices
-one_slice text calls slices is few said =
-    let all : joined_calls slices ≡ calls.items = ap joined_calls is ∙ append-nil calls.items in
-    (subst (λ (l : List Call). IsCalls text (Good (calls_of l))) (sym all) said, subst (λ (l : List Call). length l ≤ line_limit) (sym all) few)

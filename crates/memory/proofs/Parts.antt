@@ -68,12 +68,7 @@ take_grown n m bs zeros fits =
     take_add n m bs
     ∙ ap (λ ys. take n bs ++ ys) (take-zeros (drop n bs) m (λ k. get_or-drop n bs k 0 ∙ zeros (n + k) (omega arith)) (omega (arith, length-drop n bs)))
 
--- a list of bytes is one at each place
-pub are_bytes : (bs : List ℕ) → ((k : ℕ) → get_or bs k 0 < 256) → AreBytes bs
-are_bytes [] each = tt
-are_bytes (b ∷ bs) each = (each 0, are_bytes bs (λ k. each (suc k)))
-
--- and so is its front
+-- the front of a list of bytes is one
 pub take_bytes : (n : ℕ) (bs : List ℕ) → ((k : ℕ) → get_or bs k 0 < 256) → AreBytes (take n bs)
 take_bytes zero bs each = tt
 take_bytes (suc n) [] each = tt

@@ -178,16 +178,3 @@ forks number v new kept views h at =
           (at_end vs right j u there));
       none = λ j above. h.none j (omega arith);
     }
-
--- the rule of a new pool
-pub begun : IsInOrder [] (ticket_view 0 true [] [] ∷ [])
-begun = record {
-  log = [];
-  legal = tt;
-  leaves = refl;
-  fits = λ number v at. ⊎_elim (λ x. absurd (some-ne-none v (sym x)))
-      (λ (x : (number ≡ 0) × (ticket_view 0 true [] [] ≡ v)).
-      subst (λ (y : ℕ × TicketView). Knows [] 1 y.0 y.1) (λ i. (sym x.0 i, x.1 i)) (let k : Knows [] 1 0 (ticket_view 0 true [] []) = record { number' = refl; newest = λ yes. refl; begins = ([], refl); own = refl } in k))
-      (at_end [] (ticket_view 0 true [] []) number v at);
-  none = λ number above. refl;
-}

@@ -55,9 +55,6 @@ pub record LinesRead (text rest : List ℕ) (calls : List Call) : Type 0 where
   pub say : SayAll done calls
   pub few : length calls ≤ line_limit
 
-pub lines_begin : (text : List ℕ) → LinesRead text text []
-lines_begin text = record { done = []; lines = refl; say = tt; few = omega arith }
-
 -- lines say calls, and others behind them say others
 pub say_both : (done rest : List TextLine) (calls more : List Call) → SayAll done calls → SayAll rest more → SayAll (done ++ rest) (calls ++ more)
 say_both [] rest [] more h g = g

@@ -84,8 +84,3 @@ field_refused line name rest field after args some h split none c k e =
     let (more, words, rest_is) = h.others c k e in
     let (v, vs, w, ws, p, q) = field_of rest field after more (rest_splits rest field after some h.stops split) split words rest_is in
     none v w p
-
--- all fields are read
-pub fields_read : (line name rest : List ℕ) (args : List Value) → length rest ≡ 0 → FieldsRead line name rest args → IsCall (record { name = name; args = args }) × (line ≡ call_text (record { name = name; args = args }))
-fields_read line name [] args none h = (record { name = h.is_name; words = h.words }, h.written ∙ ap (λ l. name ++ l) (append-nil (args_text args)))
-fields_read line name (b ∷ rest) args none h = absurd (omega arith)

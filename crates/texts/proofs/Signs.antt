@@ -72,7 +72,3 @@ positive_result text n (Err f) small at none = positive_past text n small at non
 pub positive_read : {E : Type 0} (text : List ℕ) (n : ℕ) (r : Result ℤ E) (o : Option ℤ) → n < 2 ^ 64 → text ≡ decimal n → OkIff r (FitsSigned w64 (pos n)) (pos n) → o ≡ result_ok r
     → IsReading (λ z. FitsSigned w64 z) signed_decimal text o
 positive_read text n r o small at h is = subst (λ (o : Option ℤ). IsReading (λ z. FitsSigned w64 z) signed_decimal text o) (sym is) (positive_result text n r small at h)
-
--- the same number with or without the sign in front, as a text in two parts
-pub signed_front : (text digits : List ℕ) (r : Option ℤ) → text ≡ (45 ∷ []) ++ digits → IsReading (λ z. FitsSigned w64 z) signed_decimal (45 ∷ digits) r → IsReading (λ z. FitsSigned w64 z) signed_decimal text r
-signed_front text digits r e h = subst (λ l. IsReading (λ z. FitsSigned w64 z) signed_decimal l r) (sym e) h

@@ -1,20 +1,15 @@
 -- One loop that reads an expression token by token, and may do more with each: what it keeps, how it goes on, and what it has at the end.
 use Rattle.std.specs.Prelude.{IsTrue}
 use Rattle.std.specs.List.{list_all}
-use Rattle.std.proofs.Common.{◌≡◌, ℕ, suc, ◌+◌, ◌-◌, ◌≤◌, Bool, true, false, cond, List, [], ◌∷◌, ◌++◌, length, map, Some, None, refl, sym, ap, subst, ◌∙◌, append_assoc, arith}
+use Rattle.std.proofs.Common.{◌≡◌, ℕ, suc, ◌+◌, ◌-◌, ◌≤◌, Bool, true, false, cond, List, [], ◌∷◌, ◌++◌, length, map, Some, None, sym, ap, subst, ◌∙◌, append_assoc, arith}
 use Rattle.std.proofs.lemmas.List.{map_push, append-nil, length-append}
 use Rattle.wsyntax.specs.declared.instructions.Token.{Token as Held}
-use Rattle.wsyntax.specs.declared.module.LocalRun.{LocalRun}
 use Rattle.wsyntax.specs.Brackets.{closes, lies_within}
 use Rattle.wsyntax.specs.Instructions.{Token}
 use Rattle.wsyntax.specs.Modules.{seen}
 use Rattle.wsyntax.specs.Binary.Nesting.{token_at, nest, tokens_at, expression}
-use Rattle.wsyntax.specs.Binary.Sections.{locals, body}
-use Rattle.wsyntax.specs.Binary.Shell.{SpellsBody}
 use Rattle.wdecode.specs.Gives.{GivesToken}
-use Rattle.wdecode.proofs.Agree.{whole_sound}
-use Rattle.wdecode.proofs.SectionLaws.{body_agrees}
-use Rattle.wdecode.proofs.Trees.{push, push-none, Tokens}
+use Rattle.wdecode.proofs.Trees.{push, Tokens}
 use Rattle.wdecode.proofs.FlatLoop.{token_shorter, goes_on, comes_to_end}
 use Rattle.wdecode.proofs.Closed.{Leaves, leaves_next, leaves_none, within_next}
 
@@ -24,17 +19,6 @@ pub record SoFar (bytes : List ℕ) (tokens : List Held) (targets : List ℕ) (s
   pub closing : Leaves tokens s
   pub within : IsTrue (list_all (lies_within (length targets)) tokens)
   pub room : length rest + length tokens ≤ length bytes
-
--- nothing is read yet
-pub starts : (bytes : List ℕ) → SoFar bytes [] [] [] bytes
-starts bytes =
-    let all : length bytes - 0 ≡ length bytes = omega arith in
-    record {
-      so_far = λ more. push-none (tokens_at (length bytes - 0) [] bytes) ∙ ap (λ (n : ℕ). tokens_at n [] bytes) all;
-      closing = λ more. refl;
-      within = refl;
-      room = omega arith;
-    }
 
 grown : (old added new : List ℕ) (tokens : List Held) (read total : Tokens) → new ≡ old ++ added → ((more : List ℕ) → push (map (seen (old ++ more)) tokens) read ≡ total) → (more : List ℕ) → push (map (seen (new ++ more)) tokens) read ≡ total
 grown old added new tokens read total e so_far more =
@@ -104,8 +88,3 @@ pub finishes : (bytes : List ℕ) (tokens pushed : List Held) (old new : List �
 finishes bytes tokens pushed old new s now rest after t ends h g fits moves at_end is =
     let closed : (targets : List ℕ) → nest s (seen targets t) ≡ Some None = λ targets. moves targets ∙ ap (λ (b : Bool). Some (cond b None (Some now))) at_end in
     subst (λ (x : List Held). AllRead bytes x new after) (sym is) (the_last bytes tokens old new s rest after t h g fits closed)
-
--- runs of locals and an expression, read to the end, are a body
-pub body_spelled : (bytes rest : List ℕ) (runs : List LocalRun) (tokens : List Token) → locals.read bytes ≡ Some (runs, rest) → expression.read rest ≡ Some (tokens, []) → SpellsBody bytes (record { runs = runs; code = tokens })
-unfolding body
-body_spelled bytes rest runs tokens first second = whole_sound body body_agrees bytes (record { runs = runs; code = tokens }) (rw (first, second) refl)

@@ -1,9 +1,9 @@
 -- A number of more than five bytes is five bytes, and then one of at most five.
-use Rattle.std.proofs.Common.{◌≡◌, ℕ, zero, suc, ◌+◌, ◌*◌, ◌%◌, ◌≤◌, Bool, true, false, cond, ltb, List, [], ◌∷◌, length, get_or, drop, Option, Some, None, refl, ap, ◌∙◌, arith, inl, inr}
+use Rattle.std.proofs.Common.{◌≡◌, ℕ, suc, ◌+◌, ◌*◌, ◌%◌, ◌≤◌, Bool, true, false, cond, ltb, List, [], ◌∷◌, length, get_or, drop, Option, Some, None, refl, ap, ◌∙◌, arith}
 use Rattle.std.proofs.lemmas.Bool.{ltb-false, le-ltb}
 use Rattle.wnum.specs.Number.{IsNumber, groups, sign, five}
 use Rattle.wnum.specs.Reading.{Read, ◌>>=◌, number_at, sums_at}
-use Rattle.wnum.proofs.Numbers.{bind_some, chosen, number_takes}
+use Rattle.wnum.proofs.Numbers.{bind_some, number_takes}
 
 abbrev pub Sums : Type 0
 Sums = (ℕ × ℕ) × List ℕ
@@ -29,20 +29,9 @@ of_front r = r >>= λ found. Some ((groups found.0, sign found.0), found.1)
 abbrev behind : ℕ → Read (List ℕ) → Read (List ℕ)
 behind b r = r >>= λ found. Some (b ∷ found.0, found.1)
 
-behind_none : (b : ℕ) (r : Read (List ℕ)) → of_front r ≡ None → of_front (behind b r) ≡ None
-behind_none b None e = refl
-behind_none b (Some x) e = absurd cc
-
 none_behind : (b : ℕ) (r : Read (List ℕ)) → of_front (behind b r) ≡ None → of_front r ≡ None
 none_behind b None e = refl
 none_behind b (Some x) e = absurd cc
-
-tail_none : (b : ℕ) (r : Read (List ℕ)) → behind b r ≡ None → r ≡ None
-tail_none b None e = refl
-tail_none b (Some x) e = absurd cc
-
-pub step_none : (n b : ℕ) (bs : List ℕ) → 128 ≤ b → sums_at n bs ≡ None → sums_at (suc n) (b ∷ bs) ≡ None
-step_none n b bs h e = rw (le-ltb b 128 h) (behind_none b (number_at n bs) e)
 
 -- what a front byte is where nothing is read
 front_by : (n b : ℕ) (bs : List ℕ) (t : Bool) → ltb b 128 ≡ t → of_front (cond t (Some (b ∷ [], bs)) (behind b (number_at n bs))) ≡ None → (128 ≤ b) × (sums_at n bs ≡ None)
@@ -51,24 +40,6 @@ front_by n b bs false h e = (ltb-false b 128 h, none_behind b (number_at n bs) e
 
 pub front_of_none : (n b : ℕ) (bs : List ℕ) → sums_at (suc n) (b ∷ bs) ≡ None → (128 ≤ b) × (sums_at n bs ≡ None)
 front_of_none n b bs e = front_by n b bs (ltb b 128) refl e
-
--- more bytes may be read, and what was read still is
-pub number_grows : (n m : ℕ) (bytes : List ℕ) (x : List ℕ × List ℕ) → n ≤ m → number_at n bytes ≡ Some x → number_at m bytes ≡ Some x
-number_grows zero m bytes x le e = absurd cc
-number_grows (suc n) zero bytes x le e = absurd (omega arith)
-number_grows (suc n) (suc m) [] x le e = absurd cc
-number_grows (suc n) (suc m) (b ∷ bs) x le e =
-    elim (chosen (ltb b 128) (Some (b ∷ [], bs)) (number_at n bs >>= λ found. Some (b ∷ found.0, found.1)) (Some x) e) [
-      | inl h ↦ rw h.0 h.1
-      | inr h ↦
-          let a = bind_some (number_at n bs) (λ found. Some (b ∷ found.0, found.1)) x h.1 in
-          rw (h.0, number_grows n m bs a.0 (omega arith) a.1) a.2
-    ]
-
-pub sums_grow : (n m : ℕ) (bytes : List ℕ) (x : Sums) → n ≤ m → sums_at n bytes ≡ Some x → sums_at m bytes ≡ Some x
-sums_grow n m bytes x le e =
-    let f = bind_some (number_at n bytes) (λ found. Some ((groups found.0, sign found.0), found.1)) x e in
-    rw (number_grows n m bytes f.0 le f.1) f.2
 
 regroup : (a b c d e s t : ℕ) (r : List ℕ) → under a (under b (under c (under d (under e ((s, t), r))))) ≡ ((five a b c d e + 34359738368 * s, 34359738368 * t), r)
 regroup a b c d e s t r =
@@ -86,15 +57,6 @@ ten_some a b c d e rest s t r none some =
     let fe = front_of_none 0 e rest fd.1 in
     step_some 9 a (b ∷ c ∷ d ∷ e ∷ rest) _ fa.0 (step_some 8 b (c ∷ d ∷ e ∷ rest) _ fb.0 (step_some 7 c (d ∷ e ∷ rest) _ fc.0 (step_some 6 d (e ∷ rest) _ fd.0 (step_some 5 e rest ((s, t), r) fe.0 some)))) ∙ ap (λ (x : Sums). Some x) (regroup a b c d e s t r)
 
-pub ten_none : (a b c d e : ℕ) (rest : List ℕ) → sums_at 5 (a ∷ b ∷ c ∷ d ∷ e ∷ rest) ≡ None → sums_at 5 rest ≡ None → sums_at 10 (a ∷ b ∷ c ∷ d ∷ e ∷ rest) ≡ None
-ten_none a b c d e rest none more =
-    let fa = front_of_none 4 a (b ∷ c ∷ d ∷ e ∷ rest) none in
-    let fb = front_of_none 3 b (c ∷ d ∷ e ∷ rest) fa.1 in
-    let fc = front_of_none 2 c (d ∷ e ∷ rest) fb.1 in
-    let fd = front_of_none 1 d (e ∷ rest) fc.1 in
-    let fe = front_of_none 0 e rest fd.1 in
-    step_none 9 a (b ∷ c ∷ d ∷ e ∷ rest) fa.0 (step_none 8 b (c ∷ d ∷ e ∷ rest) fb.0 (step_none 7 c (d ∷ e ∷ rest) fc.0 (step_none 6 d (e ∷ rest) fd.0 (step_none 5 e rest fe.0 more))))
-
 -- the same at bytes that are known by their places
 pub at_some : (bytes : List ℕ) (s t : ℕ) (r : List ℕ) → 5 ≤ length bytes → sums_at 5 bytes ≡ None → sums_at 5 (drop 5 bytes) ≡ Some ((s, t), r)
     → sums_at 10 bytes ≡ Some ((five (get_or bytes 0 0) (get_or bytes 1 0) (get_or bytes 2 0) (get_or bytes 3 0) (get_or bytes 4 0) + 34359738368 * s, 34359738368 * t), r)
@@ -104,11 +66,3 @@ at_some (a ∷ b ∷ c ∷ []) s t r long none some = absurd (omega arith)
 at_some (a ∷ b ∷ []) s t r long none some = absurd (omega arith)
 at_some (a ∷ []) s t r long none some = absurd (omega arith)
 at_some [] s t r long none some = absurd (omega arith)
-
-pub at_none : (bytes : List ℕ) → 5 ≤ length bytes → sums_at 5 bytes ≡ None → sums_at 5 (drop 5 bytes) ≡ None → sums_at 10 bytes ≡ None
-at_none (a ∷ b ∷ c ∷ d ∷ e ∷ rest) long none more = ten_none a b c d e rest none more
-at_none (a ∷ b ∷ c ∷ d ∷ []) long none more = absurd (omega arith)
-at_none (a ∷ b ∷ c ∷ []) long none more = absurd (omega arith)
-at_none (a ∷ b ∷ []) long none more = absurd (omega arith)
-at_none (a ∷ []) long none more = absurd (omega arith)
-at_none [] long none more = absurd (omega arith)

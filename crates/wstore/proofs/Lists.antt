@@ -1,12 +1,8 @@
 -- Lists that are overwritten from a place on.
 use Rattle.std.proofs.Common.{◌≡◌, ℕ, ◌+◌, ◌<◌, ◌≤◌, List, [], ◌∷◌, ◌++◌, length, take, drop, map, get_or, sym, ap, ◌∙◌, arith, length-append, length-drop}
 use Rattle.std.proofs.Math.ListN.{set}
-use Rattle.std.proofs.lemmas.List.{append_assoc, map-append, length-map, take-map, drop-map, drop_more, take-append-drop, length-take-le, set_at}
+use Rattle.std.proofs.lemmas.List.{append_assoc, map-append, length-map, take-map, drop-map, drop_more, length-take-le, set_at}
 use Rattle.wsyntax.specs.Execution.Allocation.{overwrite}
-
--- nothing is written
-pub overwrite-none : {A : Type 0} (p : ℕ) (ys : List A) → overwrite p [] ys ≡ ys
-overwrite-none p ys = let e : p + 0 ≡ p = omega arith in ap (λ k. take p ys ++ drop k ys) e ∙ take-append-drop p ys
 
 -- one more item is written
 pub overwrite_more : {A : Type 0} (p k : ℕ) (xs ys : List A) (x : A) → k ≡ p + length xs → k < length ys → set (overwrite p xs ys) k x ≡ overwrite p (xs ++ x ∷ []) ys

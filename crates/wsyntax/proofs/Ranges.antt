@@ -1,7 +1,7 @@
 -- Function types stay where they are when a list of value types grows.
 use Rattle.std.proofs.Common.{◌≡◌, ℕ, ◌-◌, ◌≤◌, List, [], ◌∷◌, ◌++◌, length, map, drop, refl, ◌∙◌, arith, length-append, append_assoc}
 use Rattle.std.specs.List.{All, slice_range}
-use Rattle.std.proofs.lemmas.List.Elements.{All-head, All-tail, All-weaker, All-push}
+use Rattle.std.proofs.lemmas.List.Elements.{All-head, All-tail, All-weaker}
 use Rattle.std.proofs.lemmas.List.{drop-append-le, take-append-le, length-drop, map-append}
 use Rattle.std.proofs.Math.Seq.{drop-append_seam, take-append_seam, take-length}
 use Rattle.wsyntax.specs.Types.{FuncType, ValType}
@@ -47,11 +47,6 @@ added_last values params results r start middle end =
     let second : slice_range ((values ++ params) ++ results) r.middle r.end ≡ results = rw (middle, end) (range_last (values ++ params) results) in
     rw (first, second) refl
 
--- all stay within
-within_all : (values params results : List ValType) (rs : List TypeRange) → All (IsWithin values) rs → All (IsWithin ((values ++ params) ++ results)) rs
-within_all values params results rs all =
-    All-weaker (IsWithin values) (IsWithin ((values ++ params) ++ results)) (λ r is. within_more (values ++ params) results r (within_more values params r is)) rs all
-
 -- one function type more, in the form of the loop that adds it
 pub types_more : (values params results : List ValType) (rs : List TypeRange) (r : TypeRange) (ts : List FuncType) (t : FuncType) → r.start ≡ length values → r.middle ≡ length (values ++ params) → r.end ≡ length ((values ++ params) ++ results) → t ≡ record { params = params; results = results } → map (type_in values) rs ≡ ts → All (IsWithin values) rs → map (type_in ((values ++ params) ++ results)) (rs ++ r ∷ []) ≡ ts ++ t ∷ []
 types_more values params results rs r ts t start middle end is so_far all =
@@ -59,14 +54,3 @@ types_more values params results rs r ts t start middle end is so_far all =
     let stay = types_stay (values ++ params) results rs within_first ∙ types_stay values params rs all ∙ so_far in
     let last = added_last values params results r start middle end in
     rw (map-append (type_in ((values ++ params) ++ results)) rs (r ∷ []), stay, last, is) refl
-
-pub ranges_more : (values params results : List ValType) (rs : List TypeRange) (r : TypeRange) → r.start ≡ length values → r.middle ≡ length (values ++ params) → r.end ≡ length ((values ++ params) ++ results) → All (IsWithin values) rs → All (IsWithin ((values ++ params) ++ results)) (rs ++ r ∷ [])
-ranges_more values params results rs r start middle end all =
-    let within : IsWithin ((values ++ params) ++ results) r = record {
-      params = omega (arith, start, middle, length-append values params);
-      results = omega (arith, middle, end, length-append (values ++ params) results);
-      all = omega (arith, end);
-    } in All-push (IsWithin ((values ++ params) ++ results)) rs r (within_all values params results rs all) within
-
-pub appended : {l b c d e : List ValType} → l ≡ b ++ d → b ≡ c → d ≡ e → l ≡ c ++ e
-appended whole first rest = cc

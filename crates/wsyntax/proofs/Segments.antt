@@ -18,16 +18,6 @@ elements_stay functions more (s ∷ ss) all =
     let here = element_stays functions more s (All-head (IsWithin functions) s ss all) in
     let rest = elements_stay functions more ss (All-tail (IsWithin functions) s ss all) in cc (here, rest)
 
-empty_part : (functions : List ℕ) (n : ℕ) → slice_range functions n n ≡ []
-empty_part functions n =
-    let none : n - n ≡ 0 = omega arith in rw none refl
-
--- one segment more, without functions
-pub elements_more : (functions : List ℕ) (ss : List Segment) (s : Segment) → s.end ≡ s.start → map (element_in functions) (ss ++ s ∷ []) ≡ map (element_in functions) ss ++ (record { place = s.place; functions = [] }) ∷ []
-elements_more functions ss s is =
-    let none : slice_range functions s.start s.end ≡ [] = rw is (empty_part functions s.start) in
-    rw (map-append (element_in functions) ss (s ∷ []), none) refl
-
 last_with : (es : List HeldElement) (e : HeldElement) (f : ℕ) → with_function (es ++ e ∷ []) f ≡ es ++ record e { functions = e.functions ++ f ∷ [] } ∷ []
 last_with [] e f = refl
 last_with (d ∷ []) e f = refl

@@ -30,10 +30,6 @@ when_some false x y e = absurd cc
 pub when_at : {A : Type 0} (b : Bool) (x : Option A) → b ≡ true → when b x ≡ x
 when_at b x e = rw e
 
-pub on_when : {A B : Type 0} (b : Bool) (x : Option A) (f : A → Option B) → on (when b x) f ≡ when b (on x f)
-on_when true x f = refl
-on_when false x f = refl
-
 -- two chains with one first link
 pub on_pair : {A B D E : Type 0} (x : Option A) (f : A → Option B) (h : B → Option E) (g : A → Option D) (k : D → Option E) → ((z : A) → on (f z) h ≡ on (g z) k) → on (on x f) h ≡ on (on x g) k
 on_pair None f h g k p = refl

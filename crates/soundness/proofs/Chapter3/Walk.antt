@@ -47,10 +47,6 @@ walk C (If t body rest) o =
 walk C (IfElse t body other rest) o =
     on (block_sig C.types t) (λ s. on (take_one I32 o) (λ o0. on (take_all (enter s) o0) (λ o1. on (walk (under (leave s) C) body (fresh (enter s))) (λ o2. when (ends_with (leave s) o2) (on (walk (under (leave s) C) other (fresh (enter s))) (λ o3. when (ends_with (leave s) o3) (walk C rest (put (leave s) o1))))))))
 
--- the operands with which the rest of the tokens is run
-abbrev After : Context → List Token → Frame → List Frame → Operands → Option (List Frame)
-After C us f fs o = run C us (record f { operands = o } ∷ fs)
-
 pub run-walk : (code : Code) (C : Context) (f : Frame) (fs : List Frame) (us : List Token) → run C (onto code us) (f ∷ fs) ≡ on (walk (context_in C (f ∷ fs)) code f.operands) (λ o. run C us (record f { operands = o } ∷ fs))
 run-walk Stop C f fs us = refl
 run-walk (Plain i rest) C f fs us =
