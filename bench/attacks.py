@@ -100,12 +100,45 @@ def branches_over_lists(size):
     return long_list(size, lambda n: b'\x02\x40\x00\x02\x01' + b'\x41\x00\x0D\x00' * (n // 4) + b'\x0B\x00\x0B', True)
 
 
+def calls_of_lists(lists, calls, size):
+    # Functions that give or take these lists, and so many bytes of these calls of them, over and over.
+    types = vector([b'\x60\x00\x00'] + [b'\x60' + vector([] if gives else types) + vector(types if gives else []) for gives, types in lists])
+    steps = b''.join(b'\x10' + unsigned(call) for call in calls)
+    body = b'\x00' + steps * ((size - len(types)) // len(steps)) + b'\x00\x0B'
+    count = len(lists) + 1
+    functions = section(3, vector([unsigned(k) for k in range(count)]))
+    return HEADER + section(1, types) + functions + section(10, vector([unsigned(len(body)) + body] + [b'\x03\x00\x00\x0B'] * (count - 1)))
+
+
+def ends_of_lists(size):
+    # A list of an eighth of the bytes is given, and the same without its first type is taken.
+    many = [b'\x7F'] * (size // 8)
+    return calls_of_lists([(True, many), (False, many[1:])], [1, 2], size)
+
+
+def cuts_of_lists(size):
+    # A list of a quarter of the bytes is given, cut in many places, and then its half is taken.
+    many = [b'\x7F', b'\x7E'] * (size // 8)
+    few = [2 * k for k in range(1, 41)] + [82 * k for k in range(1, 41)]
+    lists = [(True, many), (False, many[:size // 16 * 2])] + [(False, many[:length]) for length in few]
+    return calls_of_lists(lists, [call for k in range(1600) for call in (1, 3 + k % 40, 43 + k // 40, 2)], size)
+
+
+def cuts_of_broken_lists(size):
+    # The same with a list of 131,000 types that repeats but for its first, so that no period is found, and more places.
+    many = [b'\x7E'] + [b'\x7F'] * 130_999
+    few = list(range(1, 101)) + [100 * k for k in range(1, 141)]
+    lists = [(True, many), (False, many[1:110_001])] + [(False, many[1:length + 1]) for length in few]
+    return calls_of_lists(lists, [call for k in range(14_000) for call in (1, 3 + k % 100, 103 + k // 100, 2)], size)
+
+
 FAMILIES = [('far locals', far_locals), ('runs of no locals', empty_runs), ('element segments', element_segments),
             ('segments of a function', element_segments_of_one), ('data segments', data_segments),
             ('functions of two bytes', two_byte_functions), ('exports of equal fronts', exports), ('open blocks', open_blocks),
             ('ill typed at the end', ill_typed_at_the_end), ('seldom tokens', seldom_tokens), ('types alone', types_alone),
             ('calls of long results', calls_of_results), ('calls of long lists', calls_in_a_row), ('blocks of long lists', blocks_of_lists),
-            ('branches over long lists', branches_over_lists)]
+            ('branches over long lists', branches_over_lists), ('ends of long lists', ends_of_lists),
+            ('long lists cut anywhere', cuts_of_lists), ('broken lists cut anywhere', cuts_of_broken_lists)]
 
 
 def seconds(words, times=3, limit=120):
