@@ -6,6 +6,7 @@ those of ordinary code of the same size, and the peak memory in lengths of the m
 microseconds a call.
 """
 import os
+import random
 import subprocess
 import sys
 import tempfile
@@ -132,13 +133,52 @@ def cuts_of_broken_lists(size):
     return calls_of_lists(lists, [call for k in range(14_000) for call in (1, 3 + k % 100, 103 + k // 100, 2)], size)
 
 
+def lists_put_back(size):
+    # Of a list that does not repeat as many of the last types are taken and given again as in 30,720 places, and then it is
+    # taken by one that is the same but for its first type.
+    chance = random.Random(5)
+    front = [chance.choice([b'\x7F', b'\x7E']) for _ in range(size // 8 - 33_000)]
+    many = front + [b'\x7C'] * 33_000
+    few = [list(range(1, 33)), [32 * k for k in range(1, 33)], [1024 * k for k in range(1, 31)]]
+    lists, taken = [(True, [b'\x7D'] + many), (False, many)], {}
+    for length in sorted({length for lengths in few for length in lengths}):
+        taken[length] = len(lists) + 1
+        lists += [(False, [b'\x7C'] * length), (True, [b'\x7C'] * length)]
+    calls = []
+    for k in range(32 * 32 * 30):
+        ends = [taken[few[0][k % 32]], taken[few[1][k // 32 % 32]], taken[few[2][k // 1024]]]
+        calls += [1] + ends + [end + 1 for end in reversed(ends)] + [2]
+    return calls_of_lists(lists, calls, size)
+
+
+def ends_of_many_lists(size):
+    # Of 160 lists that end alike each is given, and the end of one of 160 others is taken: more pairs than are kept.
+    chance = random.Random(5)
+    length = size // 640
+    many = [chance.choice([b'\x7F', b'\x7E']) for _ in range(length + 320)]
+    lists = [(True, many[k:]) for k in range(160)] + [(False, many[k:]) for k in range(160, 320)]
+    return calls_of_lists(lists, [1 + (k if kind == 0 else 160 + (k * 7 + turn) % 160) for turn in range(160) for k in range(160) for kind in range(2)], size)
+
+
+def cuts_of_patterns(size):
+    # A list that repeats by 2,500 types is cut in 144 places, and then its half is taken.
+    chance = random.Random(5)
+    pattern = [chance.choice([b'\x7F', b'\x7E']) for _ in range(2_500)]
+    count = size // 8 // 2_500
+    few = [2_500 * k for k in range(1, 13)] + [30_000 * k for k in range(1, 13)]
+    cuts = [(False, (pattern * (length // 2_500))) for length in few if length <= count * 1_250]
+    lists = [(True, pattern * count), (False, pattern * (count // 2))] + cuts
+    return calls_of_lists(lists, [call for k in range(144) for call in (1, 3 + k % 12, min(15 + k // 12, len(lists)), 2)], size)
+
+
 FAMILIES = [('far locals', far_locals), ('runs of no locals', empty_runs), ('element segments', element_segments),
             ('segments of a function', element_segments_of_one), ('data segments', data_segments),
             ('functions of two bytes', two_byte_functions), ('exports of equal fronts', exports), ('open blocks', open_blocks),
             ('ill typed at the end', ill_typed_at_the_end), ('seldom tokens', seldom_tokens), ('types alone', types_alone),
             ('calls of long results', calls_of_results), ('calls of long lists', calls_in_a_row), ('blocks of long lists', blocks_of_lists),
             ('branches over long lists', branches_over_lists), ('ends of long lists', ends_of_lists),
-            ('long lists cut anywhere', cuts_of_lists), ('broken lists cut anywhere', cuts_of_broken_lists)]
+            ('long lists cut anywhere', cuts_of_lists), ('broken lists cut anywhere', cuts_of_broken_lists),
+            ('patterns cut anywhere', cuts_of_patterns), ('long lists put back', lists_put_back), ('ends of many lists', ends_of_many_lists)]
 
 
 def seconds(words, times=3, limit=120):

@@ -13,7 +13,7 @@ use wsyntax::Token::{
     Block, Br, BrIf, Call, Drop, Else, End, I32Const, I64Const, If, LocalGet, LocalSet, Loop, Nop,
     Select, Unreachable,
 };
-use wsyntax::ValType::{F32, I32, I64};
+use wsyntax::ValType::{F32, F64, I32, I64};
 use wsyntax::{BlockType, Body, Expression, LocalRun, Module, Operator, Token, ValType};
 
 /// A module with functions whose types have these indices, and with no type yet.
@@ -76,6 +76,38 @@ fn ends_of_lists(alloc: Global) -> Result<Module<'static>, AllocError> {
     module.types.push(&[], &[])?;
     module.types.push(&[], &LONGER)?;
     module.types.push(&LONGER[1..], &[])?;
+    Ok(module)
+}
+
+/// So many types, i32 and i64 in turn, but for one place.
+fn in_turn(
+    alloc: Global,
+    count: usize,
+    place: usize,
+    other: ValType,
+) -> Result<Vec<ValType>, AllocError> {
+    let mut types = Vec::new(alloc);
+    for at in 0..count {
+        types.push(if at % 2 == 0 { I32 } else { I64 })?;
+    }
+    if place < types.len() {
+        types[place] = other;
+    }
+    Ok(types)
+}
+
+/// A module with the types `[] -> []`, `[] -> [t*]` and four `[u*] -> []`, and functions of these types. All lists are i32 and
+/// i64 in turn, so long that it is looked for how they repeat: t* are 5,000 of which the first is an f32; u* are the last 3,000
+/// of them, these with an f64 among them, 5,000 that begin with an i32, and the last 4,999.
+fn lists_in_turn(alloc: Global) -> Result<Module<'static>, AllocError> {
+    let mut module = some_functions(alloc, &[0, 1, 2, 3, 4, 5])?;
+    let given = in_turn(alloc, 5_000, 0, F32)?;
+    module.types.push(&[], &[])?;
+    module.types.push(&[], &given)?;
+    module.types.push(&in_turn(alloc, 3_000, 0, I32)?, &[])?;
+    module.types.push(&in_turn(alloc, 3_000, 10, F64)?, &[])?;
+    module.types.push(&in_turn(alloc, 5_000, 0, I32)?, &[])?;
+    module.types.push(&given[1..], &[])?;
     Ok(module)
 }
 
@@ -452,6 +484,52 @@ const ENDS: [Case<'static>; 3] = [
 fn ends_of_long_lists(rt: HostRuntime) -> Result<(), Fail> {
     let module = ends_of_lists(rt.alloc())?;
     assert_cases(&rt, rt.alloc(), &module, &ENDS)
+}
+
+/// Long lists that repeat are taken wherever they are cut, and only where all types are the same.
+const IN_TURN: [Case<'static>; 6] = [
+    (
+        &[
+            Call(1),
+            Call(2),
+            Unreachable,
+            Call(1),
+            Drop,
+            Drop,
+            Call(2),
+            Unreachable,
+            End,
+        ],
+        &[],
+        None,
+    ),
+    (
+        &[Call(1), Call(2), Unreachable, Call(1), Drop, Call(2), End],
+        &[],
+        Some(5),
+    ),
+    (&[Call(1), Call(3), End], &[], Some(1)),
+    (
+        &[Call(1), Call(2), Unreachable, Call(1), Call(3), End],
+        &[],
+        Some(4),
+    ),
+    (
+        &[Call(1), Call(5), Drop, Call(1), Call(5), Drop, End],
+        &[],
+        None,
+    ),
+    (
+        &[Call(1), Call(5), Drop, Call(1), Call(4), End],
+        &[],
+        Some(4),
+    ),
+];
+
+#[test]
+fn long_lists_that_repeat(rt: HostRuntime) -> Result<(), Fail> {
+    let module = lists_in_turn(rt.alloc())?;
+    assert_cases(&rt, rt.alloc(), &module, &IN_TURN)
 }
 
 /// The tokens as a body with no locals.

@@ -33,3 +33,4 @@ pub mod Singles
 pub mod Putting
 pub mod Taking
 pub mod Repeating
+pub mod Alike

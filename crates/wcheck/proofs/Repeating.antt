@@ -1,42 +1,52 @@
 -- Lists that repeat themselves, and parts of them that are the same.
-use Rattle.std.proofs.Common.{◌≡◌, ◌≤◌, ◌<◌, ◌-◌, ◌+◌, ℕ, zero, suc, true, List, length, drop, take, get_or, sym, ap, ◌∙◌, subst, arith, length-drop, length-take}
-use Rattle.std.proofs.lemmas.List.{ext_get_or, get_or-drop, get_or-take, get_or_default}
+use Rattle.std.proofs.Common.{◌≡◌, ◌≤◌, ◌<◌, ◌-◌, ◌+◌, ℕ, zero, suc, List, length, drop, take, get_or, sym, ap, ◌∙◌, subst, arith, length-drop, length-take}
+use Rattle.std.proofs.lemmas.List.{ext_get_or, get_or-drop, get_or-take}
 use Rattle.std.specs.Prelude.{min}
 use mathlib.Core.Logic.{dite}
 use native.Mathlib.Decide.{dec_le}
 use Rattle.std.proofs.Math.Nat.{lt_of_not-le}
 use Rattle.wsyntax.specs.declared.ValType.{ValType}
 use Rattle.wsyntax.specs.declared.ValType.TheVariants.{I32}
-use Rattle.wsyntax.specs.Types.{FuncType, same_type}
+use Rattle.wsyntax.specs.Types.{FuncType}
 use Rattle.wcontext.specs.declared.lists.TypeList.{TypeList}
 use Rattle.wcontext.specs.Lists.{list_of}
 use Rattle.wcheck.specs.declared.operand.Run.{Run}
 use Rattle.wcheck.specs.declared.periods.Period.{Period}
-use Rattle.wcheck.specs.Periods.{Repeats, IsPeriod}
+use Rattle.wcheck.specs.Periods.{Repeats, IsPeriod, HoldsBefore}
 use Rattle.wcheck.specs.Runs.{types_of_run}
-use Rattle.wcheck.proofs.Basics.{same_type-true}
 
--- two types of a list that are the same, by any default
-same_at : (ts : List ValType) (i j : ℕ) (d e : ValType) → i < length ts → j < length ts → same_type (get_or ts i d) (get_or ts j d) ≡ true → get_or ts i e ≡ get_or ts j e
-same_at ts i j d e li lj same =
-    get_or_default ts i e d li ∙ same_type-true (get_or ts i d) (get_or ts j d) same ∙ get_or_default ts j d e lj
+-- parts of two lists that are the same, type by type
+begun : (a b : List ValType) (x y n j : ℕ) (d : ValType) → take n (drop x a) ≡ take n (drop y b) → j < n → get_or a (x + j) d ≡ get_or b (y + j) d
+begun a b x y n j d e lt =
+    sym (get_or-drop x a j d)
+    ∙ sym (get_or-take n (drop x a) j d lt)
+    ∙ ap (λ z. get_or z j d) e
+    ∙ get_or-take n (drop y b) j d lt
+    ∙ get_or-drop y b j d
 
--- a list that repeats one place before, too
-pub earlier : (ts : List ValType) (from to step : ℕ) (d : ValType) → Repeats ts from to step → 0 < from → from + step ≤ to → to ≤ length ts → same_type (get_or ts (from - 1) d) (get_or ts (from - 1 + step) d) ≡ true → Repeats ts (from - 1) to step
-earlier ts from to step d r some fits long same i e lo hi =
+-- a list that repeats so many places before, too
+pub earlier : (ts : List ValType) (from to step count : ℕ) → Repeats ts from to step → count ≤ from → take count (drop (from - count) ts) ≡ take count (drop (from - count + step) ts) → Repeats ts (from - count) to step
+earlier ts from to step count r fits same i d lo hi =
     dite (dec_le from i)
-    (λ behind. r i e behind hi)
-    (λ no. let at : i ≡ from - 1 = omega (arith, lo, lt_of_not-le no) in
-    subst (λ (k : ℕ). get_or ts k e ≡ get_or ts (k + step) e) (sym at) (same_at ts (from - 1) (from - 1 + step) d e (omega (arith, some, fits, long)) (omega (arith, some, fits, long)) same))
+    (λ behind. r i d behind hi)
+    (λ no.
+    let at : from - count + (i - (from - count)) ≡ i = omega (arith, lo) in
+    let up : from - count + step + (i - (from - count)) ≡ i + step = omega (arith, lo) in
+    ap (λ (k : ℕ). get_or ts k d) (sym at)
+    ∙ begun ts ts (from - count) (from - count + step) count (i - (from - count)) d same (omega (arith, lo, fits, lt_of_not-le no))
+    ∙ ap (λ (k : ℕ). get_or ts k d) up)
 
--- and one place behind
-pub later : (ts : List ValType) (from to step : ℕ) (d : ValType) → Repeats ts from to step → step ≤ to → to < length ts → same_type (get_or ts (to - step) d) (get_or ts to d) ≡ true → Repeats ts from (to + 1) step
-later ts from to step d r fits long same i e lo hi =
+-- and so many places behind
+pub later : (ts : List ValType) (from to step count : ℕ) → Repeats ts from to step → step ≤ to → take count (drop (to - step) ts) ≡ take count (drop to ts) → Repeats ts from (to + count) step
+later ts from to step count r fits same i d lo hi =
     dite (dec_le to (i + step))
-    (λ last. let at : i ≡ to - step = omega (arith, hi, last) in
-    let up : to - step + step ≡ to = omega (arith, fits) in
-    subst (λ (k : ℕ). get_or ts k e ≡ get_or ts (k + step) e) (sym at) (same_at ts (to - step) to d e (omega (arith, fits, long)) long same ∙ ap (λ (k : ℕ). get_or ts k e) (sym up)))
-    (λ no. r i e lo (lt_of_not-le no))
+    (λ last.
+    let at : to - step + (i + step - to) ≡ i = omega (arith, fits, last) in
+    let up : to + (i + step - to) ≡ i + step = omega (arith, last) in
+    ap (λ (k : ℕ). get_or ts k d) (sym at)
+    ∙ begun ts ts (to - step) to count (i + step - to) d same (omega (arith, last, hi))
+    ∙ ap (λ (k : ℕ). get_or ts k d) up)
+    (λ no. r i d lo (lt_of_not-le no))
 
 -- the ends of two lists, of so many types, each of which repeats by the same step
 module _ (a b : List ValType) (n step : ℕ) (la : n ≤ length a) (lb : n ≤ length b) (some : 0 < step) (ra : Repeats a (length a - n) (length a) step) (rb : Repeats b (length b - n) (length b) step) (first : (j : ℕ) (d : ValType) → j < min step n → get_or a (length a - n + j) d ≡ get_or b (length b - n + j) d) where
@@ -68,15 +78,6 @@ cut ts left from to step n r begins ends i d lo hi =
     ∙ r i d (omega (arith, lo, begins)) (omega (arith, hi, ends))
     ∙ sym (get_or-take left ts (i + step) d (omega (arith, hi, length-take left ts)))
 
--- parts of two lists that are the same, type by type
-begun : (a b : List ValType) (x y n j : ℕ) (d : ValType) → take n (drop x a) ≡ take n (drop y b) → j < n → get_or a (x + j) d ≡ get_or b (y + j) d
-begun a b x y n j d e lt =
-    sym (get_or-drop x a j d)
-    ∙ sym (get_or-take n (drop x a) j d lt)
-    ∙ ap (λ z. get_or z j d) e
-    ∙ get_or-take n (drop y b) j d lt
-    ∙ get_or-drop y b j d
-
 -- fronts of lists that repeat by the same step up to their ends, and whose ends begin alike
 pub fronts_alike : (types : List FuncType) (one other : Run) (p q : Period) (n : ℕ) → IsPeriod types p → p.list ≡ one.list → IsPeriod types q → q.list ≡ other.list → p.step ≡ q.step → 0 < p.step → n ≤ length (types_of_run types one) → n ≤ length (types_of_run types other) → p.from ≤ length (types_of_run types one) - n → length (types_of_run types one) ≤ p.to → q.from ≤ length (types_of_run types other) - n → length (types_of_run types other) ≤ q.to → take (min p.step n) (drop (length (types_of_run types one) - n) (types_of_run types one)) ≡ take (min p.step n) (drop (length (types_of_run types other) - n) (types_of_run types other)) → drop (length (types_of_run types one) - n) (types_of_run types one) ≡ drop (length (types_of_run types other) - n) (types_of_run types other)
 fronts_alike types one other p q n hp lp hq lq step some la lb fa ta fb tb same =
@@ -86,13 +87,13 @@ fronts_alike types one other p q n hp lp hq lq step some la lb fa ta fb tb same 
     (λ j d lt. begun (types_of_run types one) (types_of_run types other) (length (types_of_run types one) - n) (length (types_of_run types other) - n) (min p.step n) j d same lt)
 
 -- the same of slices that are these fronts
-pub found_alike : (types t u : List FuncType) (one other : Run) (p q : Period) (a b : List ValType) (m n : ℕ) → t ≡ types → u ≡ types → a ≡ types_of_run types one → b ≡ types_of_run types other → m ≡ min p.step n → IsPeriod t p × (p.list ≡ one.list) → IsPeriod u q × (q.list ≡ other.list) → p.step ≡ q.step → 0 < p.step → n ≤ length (types_of_run types one) → n ≤ length (types_of_run types other) → (p.from ≤ length a - n) × (length a ≤ p.to) → (q.from ≤ length b - n) × (length b ≤ q.to) → take m (drop (length a - n) a) ≡ take m (drop (length b - n) b) → drop (length (types_of_run types one) - n) (types_of_run types one) ≡ drop (length (types_of_run types other) - n) (types_of_run types other)
-found_alike types t u one other p q a b m n et eu ea eb em hp hq step some la lb wa wb same =
-    fronts_alike types one other p q n (subst (λ (z : List FuncType). IsPeriod z p) et hp.0) hp.1 (subst (λ (z : List FuncType). IsPeriod z q) eu hq.0) hq.1 step some la lb
-    (subst (λ (z : List ValType). p.from ≤ length z - n) ea wa.0)
-    (subst (λ (z : List ValType). length z ≤ p.to) ea wa.1)
-    (subst (λ (z : List ValType). q.from ≤ length z - n) eb wb.0)
-    (subst (λ (z : List ValType). length z ≤ q.to) eb wb.1)
+pub found_alike : (types t u : List FuncType) (one other : Run) (p q : Period) (a b : List ValType) (m n : ℕ) → t ≡ types → u ≡ types → a ≡ types_of_run types one → b ≡ types_of_run types other → m ≡ min p.step n → IsPeriod t p × (p.list ≡ one.list) → IsPeriod u q × (q.list ≡ other.list) → p.step ≡ q.step → n ≤ length (types_of_run types one) → n ≤ length (types_of_run types other) → HoldsBefore p (length a) n → HoldsBefore q (length b) n → take m (drop (length a - n) a) ≡ take m (drop (length b - n) b) → drop (length (types_of_run types one) - n) (types_of_run types one) ≡ drop (length (types_of_run types other) - n) (types_of_run types other)
+found_alike types t u one other p q a b m n et eu ea eb em hp hq step la lb wa wb same =
+    fronts_alike types one other p q n (subst (λ (z : List FuncType). IsPeriod z p) et hp.0) hp.1 (subst (λ (z : List FuncType). IsPeriod z q) eu hq.0) hq.1 step wa.some la lb
+    (subst (λ (z : List ValType). p.from ≤ length z - n) ea wa.first)
+    (subst (λ (z : List ValType). length z ≤ p.to) ea wa.last)
+    (subst (λ (z : List ValType). q.from ≤ length z - n) eb wb.first)
+    (subst (λ (z : List ValType). length z ≤ q.to) eb wb.last)
     (ap (λ (z : List ValType). take (min p.step n) (drop (length z - n) z)) (sym ea)
     ∙ ap (λ (k : ℕ). take k (drop (length a - n) a)) (sym em)
     ∙ same

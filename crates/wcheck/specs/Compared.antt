@@ -1,15 +1,15 @@
--- Fronts of lists that were compared.
-use Rattle.std.specs.Prelude.{◌≡◌, ◌-◌, min, List, Option, Some, None, length, drop}
-use Rattle.wsyntax.specs.declared.ValType.{ValType}
+-- Parts of lists that were compared.
+use Rattle.std.specs.Prelude.{◌≡◌, ℕ, List, Option, Some, None, take, drop}
 use Rattle.wsyntax.specs.Types.{FuncType}
+use Rattle.wcontext.specs.Lists.{list_of}
+use Rattle.wcheck.specs.declared.compared.PartStart.{PartStart}
 use Rattle.wcheck.specs.declared.compared.Pair.{Pair}
-use Rattle.wcheck.specs.Runs.{types_of_run}
 
--- the shorter of the two is an end of the longer
-abbrev pub EndsAlike : List ValType → List ValType → Type 0
-EndsAlike ts us = drop (length ts - min (length ts) (length us)) ts ≡ drop (length us - min (length ts) (length us)) us
+-- so many types from the one place on are those from the other on, where these are the function types
+abbrev pub AreAlike : List FuncType → PartStart → PartStart → ℕ → Type 0
+AreAlike types one other count = take count (drop one.from (list_of types one.list)) ≡ take count (drop other.from (list_of types other.list))
 
--- what is kept at a place, where these are the function types
+-- what is kept at a place
 abbrev pub IsCompared : List FuncType → Option Pair → Type 0
 IsCompared types None = Unit {0}
-IsCompared types (Some p) = EndsAlike (types_of_run types p.one) (types_of_run types p.other)
+IsCompared types (Some p) = AreAlike types p.one p.other p.count

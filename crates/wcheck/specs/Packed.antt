@@ -1,29 +1,30 @@
 -- A frame in few bytes.
-use Rattle.std.specs.Prelude.{ℕ, Bool, true, false}
-use Rattle.wsyntax.specs.declared.ValType.TheVariants as types
+use Rattle.std.specs.Prelude.{ℕ, ◌+◌, ◌*◌, ◌-◌, ◌/◌, ◌%◌, Bool, nat_lt, ◌==◌, if◌then◌else◌}
+use Rattle.wsyntax.specs.declared.ValType.TheVariants.{I32, I64, F32, F64}
 use Rattle.wcontext.specs.declared.lists.TypeList.{TypeList}
-use Rattle.wcontext.specs.declared.lists.TypeList.TheVariants as lists
-use Rattle.wcheck.specs.declared.packed.Kind.{Kind}
-use Rattle.wcheck.specs.declared.packed.Kind.TheVariants.{Nothing, I32, I64, F32, F64, Params, Results}
-use Rattle.wcheck.specs.declared.packed.Way.{Way}
-use Rattle.wcheck.specs.declared.packed.Way.TheVariants.{Plain, Loop, Then}
+use Rattle.wcontext.specs.declared.lists.TypeList.TheVariants.{Nothing, One, Params, Results}
 
--- the list of that kind, of the function type of that index where it is one's
-abbrev pub list_from : Kind → ℕ → TypeList
-list_from Nothing i = lists.Nothing
-list_from I32 i = lists.One types.I32
-list_from I64 i = lists.One types.I64
-list_from F32 i = lists.One types.F32
-list_from F64 i = lists.One types.F64
-list_from Params i = lists.Params i
-list_from Results i = lists.Results i
+-- the list of types of that number: none, one type, or that of a function type's index, from 5 on its parameters and from 2^23
+-- on its results
+abbrev pub list_from : ℕ → TypeList
+list_from n =
+    if n == 0 then Nothing else
+    if n == 1 then One I32 else
+    if n == 2 then One I64 else
+    if n == 3 then One F32 else
+    if n == 4 then One F64 else
+    if nat_lt n 8388608 then Params (n - 5) else Results (n - 8388608)
 
-abbrev pub is_then : Way → Bool
-is_then Plain = false
-is_then Loop = false
-is_then Then = true
+-- the height whose upper part is in the lower 13 bits of a number
+abbrev pub height_from : ℕ → ℕ → ℕ
+height_from base top = base + 4294967296 * (top % 8192)
 
-abbrev pub is_loop : Way → Bool
-is_loop Plain = false
-is_loop Loop = true
-is_loop Then = false
+-- the marks in the 3 bits above those
+abbrev pub is_loop : ℕ → Bool
+is_loop top = top / 8192 % 2 == 1
+
+abbrev pub is_then : ℕ → Bool
+is_then top = top / 16384 % 2 == 1
+
+abbrev pub is_dead : ℕ → Bool
+is_dead top = top / 32768 == 1

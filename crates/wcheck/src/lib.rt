@@ -15,6 +15,7 @@ mod locals;
 mod operand;
 mod operands;
 mod packed;
+mod parts;
 mod periods;
 mod rule;
 mod scope;

@@ -1,10 +1,10 @@
-use Rattle.std.proofs.Common.{sym, ◌∙◌, arith}
+use Rattle.std.proofs.Common.{refl, arith}
 use Rattle.wcheck.proofs.Repeating.{later}
 use Rattle.wcheck.proofs.periods.last_repeated.Goals as goal
 
-pub loop-to-preserved : goal.loop-to-preserved
-loop-to-preserved c = (
-  omega (arith, c.loop-to.invariant.0),
-  omega (arith, c.loop-to-test.true),
-  later c.args.types.now c.args.from c.loop-to.to c.args.step _ c.loop-to.invariant.2 (omega (arith, c.requires.step, c.loop-to.invariant.0)) c.loop-to-test.true (sym c.is_same.ensures ∙ c.if-is_same.true),
+pub loop-chunk-preserved-then-are_same : goal.loop-chunk-preserved-then-are_same
+loop-chunk-preserved-then-are_same c = (
+  omega (arith, c.loop-chunk.invariant.0),
+  c.if-are_same.ensures.second refl,
+  later c.args.types.now c.args.from c.loop-chunk.to c.args.step c.loop-chunk.chunk c.loop-chunk.invariant.2 (omega (arith, c.requires.step, c.loop-chunk.invariant.0)) (c.if-are_same.ensures.same refl),
 )

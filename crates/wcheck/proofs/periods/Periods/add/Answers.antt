@@ -12,4 +12,8 @@ pushed P false xs ys x e all p = subst (All P) (sym e) all
 
 pub invariant_of-self-2 : goal.invariant_of-self-2
 invariant_of-self-2 c =
-    pushed (IsPeriod c.self.inside.context.now.context.types) (is_ok c.push.result) c.self.inside.found.items c.push.new.self.items c.search-period.result c.push.ensures.items c.self.invariant (subst (λ z. IsPeriod z c.search-period.result) (sym c.self.view_is) c.search-period.ensures.period)
+    pushed (IsPeriod c.self.inside.context.now.context.types) (is_ok c.push.result) c.self.inside.periods.items c.push.new.self.items c.search-period.result c.push.ensures.items c.self.invariant (subst (λ z. IsPeriod z c.search-period.result) (sym c.self.view_is) c.search-period.ensures.period)
+
+pub invariant_of-self-then-is_err-2 : goal.invariant_of-self-then-is_err-2
+invariant_of-self-then-is_err-2 c =
+    pushed (IsPeriod c.self.inside.context.now.context.types) (is_ok c.push.result) c.self.inside.periods.items c.push.new.self.items c.search-period.result c.push.ensures.items c.self.invariant (subst (λ z. IsPeriod z c.search-period.result) (sym c.self.view_is) c.search-period.ensures.period)
