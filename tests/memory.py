@@ -20,7 +20,7 @@ CHECKED = ['add', 'bodies 3 and 900 of 1,000 ill typed', 'memory, loads and divi
 RAN = ['the sum passes the greatest i32', 'a store that no other call sees, and divisions', 'calls through a table', 'growth up to the declared maximum']
 LIMIT = 5000
 DEPTH = 3000
-# In so many megabytes of addresses a million open blocks fit where they are packed (24 do), and not else (40 do).
+# In so many megabytes of addresses a million open blocks fit where they are packed (20 do), and not else (40 do).
 ROOM = 32
 
 

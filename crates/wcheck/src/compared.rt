@@ -1,5 +1,5 @@
 //! Parts of long lists that were compared before, so that a body cannot have the same two compared again and again.
-ghost use Rattle.std.specs.Prelude.{◌≡◌, ◌≤◌, ◌-◌, true, IfSome, length, take, drop};
+ghost use Rattle.std.specs.Prelude.{◌≡◌, ◌≤◌, ◌-◌, true, length, take, drop};
 ghost use Rattle.wcontext.specs.Lists.{list_of};
 ghost use Rattle.wcheck.specs.Compared.{AreAlike};
 ghost use Rattle.wcheck.specs.Runs.{types_of_run};
@@ -169,26 +169,27 @@ impl<'a> Compared<'a> {
         first_of(self.context.list(front.list), front.left as usize)
     }
 
-    /// By how many types both fronts repeat in all of so many of their last types, if these surely are the same since the
-    /// first of them are.
-    fn repeat_alike(&mut self, one: Run, other: Run, count: usize) -> Option<usize>
+    /// Whether so many of the last types of both fronts surely are the same, since both repeat by the same step and the first
+    /// of them are.
+    fn repeat_alike(&mut self, one: Run, other: Run, count: usize) -> bool
         requires first { count ≤ length (types_of_run self.old one) }
         requires second { count ≤ length (types_of_run self.old other) }
-        ensures alike { IfSome result (λ _. drop (length (types_of_run self.old one) - count) (types_of_run self.old one) ≡ drop (length (types_of_run self.old other) - count) (types_of_run self.old other)) }
+        ensures alike { result ≡ true → drop (length (types_of_run self.old one) - count) (types_of_run self.old one) ≡ drop (length (types_of_run self.old other) - count) (types_of_run self.old other) }
         ensures types { self.new ≡ self.old }
     {
         let a = self.types_of(one);
         let b = self.types_of(other);
-        let p = self.periods.holding(one.list, a.len(), count)?;
-        let q = self.periods.holding(other.list, b.len(), count)?;
+        let Some(p) = self.periods.holding(one.list, a.len(), count) else {
+            return false;
+        };
+        let Some(q) = self.periods.holding(other.list, b.len(), count) else {
+            return false;
+        };
         if p.step != q.step {
-            return None;
+            return false;
         }
         let first = p.step.min(count);
-        if !are_same(a, a.len() - count, b, b.len() - count, first) {
-            return None;
-        }
-        Some(p.step)
+        are_same(a, a.len() - count, b, b.len() - count, first)
     }
 
     /// Where the last so many types of a front, which has these types, begin in its list.
@@ -218,10 +219,8 @@ impl<'a> Compared<'a> {
         let b = self.types_of(other);
         let start = self.start_of(one, a, most);
         let other_start = self.start_of(other, b, most);
-        if let Some(step) = self.repeat_alike(one, other, most) {
-            if step >= LONG {
-                self.keep(start, other_start, most);
-            }
+        if self.repeat_alike(one, other, most) {
+            self.keep(start, other_start, most);
             return most;
         }
         let count = common_end(a, b);

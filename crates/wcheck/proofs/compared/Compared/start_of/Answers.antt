@@ -1,7 +1,6 @@
 use Rattle.std.proofs.Common.{◌≡◌, ◌-◌, ◌≤◌, List, length, take, drop, sym, subst}
 use Rattle.wsyntax.specs.declared.ValType.{ValType}
 use Rattle.wcontext.specs.Lists.{list_of}
-use Rattle.wcheck.specs.Runs.{types_of_run}
 use Rattle.wcheck.proofs.Alike.{end_of_front}
 use Rattle.wcheck.proofs.compared.Compared.start_of.Goals as goal
 
