@@ -291,13 +291,13 @@ impl<'a> OperandList<'a> {
         Ok(())
     }
 
-    /// Puts a list of types in one place. After an error the list is as before.
-    pub(crate) fn push_run(&mut self, list: TypeList) -> Result<(), AllocError>
-        requires { 0 < length (list_of self.old.types list) }
+    /// Puts a list of types, which has so many, in one place. After an error the list is as before.
+    pub(crate) fn push_run(&mut self, list: TypeList, left: usize) -> Result<(), AllocError>
+        requires some { 0 < left }
+        requires all { left ≡ length (list_of self.old.types list) }
         ensures items { MatchResult result (λ _. self.new.items ≡ self.old.items ++ map Some (list_of self.old.types list)) (λ _. self.new.items ≡ self.old.items) }
         ensures types { self.new.types ≡ self.old.types }
     {
-        let left = self.context.list(list).len();
         let Ok(count) = u32::try_from(left) else {
             return Err(AllocError);
         };

@@ -377,19 +377,19 @@ impl<'a> OperandStack<'a> {
         if ts.len() <= SHORT {
             return self.take_all_known(ts) || self.take_each(ts);
         }
-        self.take_many(list)
+        self.take_many(list, ts)
     }
 
-    /// Takes operands of the types of a list, the last first. Once none is known, nothing more is looked at, and what was put
-    /// from the same list is taken at once.
+    /// Takes operands of the types of a list, which are these, the last first. Once none is known, nothing more is looked at,
+    /// and what was put from the same list is taken at once.
     #[inline(never)]
     #[tactic(auto, using(crate::proofs::ListFacts::taken_empty))]
-    fn take_many(&mut self, list: TypeList) -> bool
+    fn take_many(&mut self, list: TypeList, ts: &[ValType]) -> bool
+        requires { ts.now ≡ list_of self.old.types list }
         ensures above { take_all (reverse (list_of self.old.types list)) self.old.above ≡ when result (Some self.new.above) }
         ensures below { self.new.below ≡ self.old.below }
         ensures types { self.new.types ≡ self.old.types }
     {
-        let ts = self.list.types_of(list);
         let mut i = ts.len();
         while i > 0 {
             if self.is_empty() {
@@ -462,7 +462,7 @@ impl<'a> OperandStack<'a> {
     {
         let ts = self.list.types_of(list);
         if ts.len() > SHORT {
-            self.list.push_run(list)?;
+            self.list.push_run(list, ts.len())?;
             return Ok(());
         }
         for t in ts {
