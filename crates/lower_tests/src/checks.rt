@@ -79,19 +79,23 @@ fn ends_of_lists(alloc: Global) -> Result<Module<'static>, AllocError> {
     Ok(module)
 }
 
-/// So many types, i32 and i64 in turn, but for one place.
+/// The types from one place up to another of a list that has i32 and i64 in turn, but for one place.
 fn in_turn(
     alloc: Global,
-    count: usize,
+    from: usize,
+    to: usize,
     place: usize,
     other: ValType,
 ) -> Result<Vec<ValType>, AllocError> {
     let mut types = Vec::new(alloc);
-    for at in 0..count {
-        types.push(if at % 2 == 0 { I32 } else { I64 })?;
-    }
-    if place < types.len() {
-        types[place] = other;
+    for at in from..to {
+        types.push(if at == place {
+            other
+        } else if at % 2 == 0 {
+            I32
+        } else {
+            I64
+        })?;
     }
     Ok(types)
 }
@@ -101,13 +105,12 @@ fn in_turn(
 /// of them, these with an f64 among them, 5,000 that begin with an i32, and the last 4,999.
 fn lists_in_turn(alloc: Global) -> Result<Module<'static>, AllocError> {
     let mut module = some_functions(alloc, &[0, 1, 2, 3, 4, 5])?;
-    let given = in_turn(alloc, 5_000, 0, F32)?;
     module.types.push(&[], &[])?;
-    module.types.push(&[], &given)?;
-    module.types.push(&in_turn(alloc, 3_000, 0, I32)?, &[])?;
-    module.types.push(&in_turn(alloc, 3_000, 10, F64)?, &[])?;
-    module.types.push(&in_turn(alloc, 5_000, 0, I32)?, &[])?;
-    module.types.push(&given[1..], &[])?;
+    module.types.push(&[], &in_turn(alloc, 0, 5_000, 0, F32)?)?;
+    module.types.push(&in_turn(alloc, 0, 3_000, 0, I32)?, &[])?;
+    module.types.push(&in_turn(alloc, 0, 3_000, 10, F64)?, &[])?;
+    module.types.push(&in_turn(alloc, 0, 5_000, 0, I32)?, &[])?;
+    module.types.push(&in_turn(alloc, 1, 5_000, 0, I32)?, &[])?;
     Ok(module)
 }
 
