@@ -161,14 +161,16 @@ def ends_of_many_lists(size):
 
 
 def cuts_of_patterns(size):
-    # A list that repeats by 2,500 types is cut in 144 places, and then its half is taken.
+    # A list that repeats by 2,500 types is cut in up to 144 places, and then its half is taken.
     chance = random.Random(5)
     pattern = [chance.choice([b'\x7F', b'\x7E']) for _ in range(2_500)]
     count = size // 8 // 2_500
-    few = [2_500 * k for k in range(1, 13)] + [30_000 * k for k in range(1, 13)]
-    cuts = [(False, (pattern * (length // 2_500))) for length in few if length <= count * 1_250]
-    lists = [(True, pattern * count), (False, pattern * (count // 2))] + cuts
-    return calls_of_lists(lists, [call for k in range(144) for call in (1, 3 + k % 12, min(15 + k // 12, len(lists)), 2)], size)
+    few = [(k, 12 * j) for j in range(1, 13) for k in range(1, 13) if k + 12 * j <= count - count // 2]
+    lists, taken = [(True, pattern * count), (False, pattern * (count // 2))], {}
+    for times in sorted({times for pair in few for times in pair}):
+        taken[times] = len(lists) + 1
+        lists.append((False, pattern * times))
+    return calls_of_lists(lists, [call for k, j in few for call in (1, taken[k], taken[j], 2)], size)
 
 
 FAMILIES = [('far locals', far_locals), ('runs of no locals', empty_runs), ('element segments', element_segments),
