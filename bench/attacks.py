@@ -126,7 +126,7 @@ def cuts_of_lists(size):
 
 
 def cuts_of_broken_lists(size):
-    # The same with a list of 131,000 types that repeats but for its first, so that no period is found, and more places.
+    # The same with a list of 131,000 types that repeats but for its first, which the longest sample has in it, and more places.
     many = [b'\x7E'] + [b'\x7F'] * 130_999
     few = list(range(1, 101)) + [100 * k for k in range(1, 141)]
     lists = [(True, many), (False, many[1:110_001])] + [(False, many[1:length + 1]) for length in few]
@@ -134,8 +134,8 @@ def cuts_of_broken_lists(size):
 
 
 def lists_put_back(size):
-    # Of a list that does not repeat as many of the last types are taken and given again as in 30,720 places, and then it is
-    # taken by one that is the same but for its first type.
+    # A list that does not repeat is given, some of its last types are taken and given again, in 30,720 ways, and then the same
+    # list without its first type is taken.
     chance = random.Random(5)
     front = [chance.choice([b'\x7F', b'\x7E']) for _ in range(size // 8 - 33_000)]
     many = front + [b'\x7C'] * 33_000
