@@ -30,6 +30,13 @@ fn segments_are_held_by_their_numbers(rt: HostRuntime) -> Result<(), Fail> {
     assert!(rt; is_at(&segments, 1, &[]));
     assert!(rt; is_at(&segments, 2, &[9]));
     assert!(rt; segments.get(3).is_none());
-    assert!(rt; Elements::new(rt.alloc()).push_function(7).is_err());
+    Ok(())
+}
+
+#[test]
+fn a_function_goes_nowhere_without_a_segment(rt: HostRuntime) -> Result<(), Fail> {
+    let mut none = Elements::new(rt.alloc());
+    none.push_function(7)?;
+    assert!(rt; none.len() == 0);
     Ok(())
 }

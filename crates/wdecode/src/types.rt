@@ -42,7 +42,7 @@ fn type_index_at(bytes: &[u8]) -> Result<(BlockType, &[u8]), Fault>
     Ok((BlockType::Index(index as u32), rest))
 }
 
-/// A block type (5.3.2): empty, one value type, or the index of a type.
+/// A block type (5.3.2, and 5.4.1 of Core 2.0): empty, one value type, or the index of a type.
 #[inline(always)]
 #[tactic(auto, unfolding(wsyntax::specs::Binary::Types::block_type))]
 pub fn block_type_at(bytes: &[u8]) -> Result<(BlockType, &[u8]), Fault>

@@ -1,5 +1,5 @@
 -- 2.3.3 Function types as they are held and lent: the value types of all of them lie in one list.
-use Rattle.std.specs.Prelude.{◌≤◌, List, length, map, slice_range, All}
+use Rattle.std.specs.Prelude.{◌≤◌, ◌<◌, ◌^◌, List, length, map, slice_range, All}
 use Rattle.wsyntax.specs.Types.{FuncType, ValType}
 use Rattle.wsyntax.specs.declared.func_types.FuncType.{FuncType as LentFuncType}
 use Rattle.wsyntax.specs.declared.func_types.TypeRange.{TypeRange}
@@ -8,6 +8,11 @@ use Rattle.wsyntax.specs.declared.func_types.FuncTypes.TheInside.{Inside}
 -- the function type that is lent
 abbrev pub func_type_of : LentFuncType → FuncType
 func_type_of t = record { params = t.params.now; results = t.results.now }
+
+-- the lists of a type have fewer than 2^32 types each
+pub record IsShort (t : LentFuncType) : Type 0 where
+  pub params : length t.params.now < 2 ^ 32
+  pub results : length t.results.now < 2 ^ 32
 
 -- the function type that lies at a range of the list
 abbrev pub type_in : List ValType → TypeRange → FuncType

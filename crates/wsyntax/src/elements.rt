@@ -77,13 +77,13 @@ impl Elements {
         Ok(())
     }
 
-    /// Puts a function behind those of the last segment. Want of memory is the answer too where there is no segment, or
-    /// the last does not end where the list does, which it always does.
+    /// Puts a function after those of the last segment; nothing changes where there is none. Want of memory is the answer
+    /// too where the last does not end where the list does, which it always does, or where the list has 2^32 functions.
     pub fn push_function(&mut self, function: u32) -> Result<(), AllocError>
         ensures { IfOk result (λ _. self.new ≡ with_function self.old function) }
     {
         let Some(Segment { place, start, end }) = self.segments.pop() else {
-            return Err(AllocError);
+            return Ok(());
         };
         if end as usize != self.functions.len() || end == u32::MAX {
             return Err(AllocError);

@@ -40,8 +40,8 @@ impl Model for FuncTypes {
 }
 
 impl FuncTypes {
-    ghost use Rattle.std.specs.Prelude.{[], ◌∷◌, ◌++◌, length, slice_get, option_map};
-    ghost use Rattle.wsyntax.specs.FuncTypes.{func_type_of};
+    ghost use Rattle.std.specs.Prelude.{[], ◌∷◌, ◌++◌, length, slice_get, option_map, IfSome};
+    ghost use Rattle.wsyntax.specs.FuncTypes.{func_type_of, IsShort};
 
     /// No types, and no room.
     pub fn new(alloc: Alloc) -> FuncTypes
@@ -94,10 +94,11 @@ impl FuncTypes {
         self.ranges.len()
     }
 
-    /// The type of that index, in constant time; `None` where there is none.
+    /// The type of that index, in constant time; `None` where there is none. Each of its lists has fewer than 2^32 types.
     #[inline]
     pub fn get(&self, index: usize) -> Option<FuncType<'_>>
-        ensures { option_map func_type_of result ≡ slice_get self.now index }
+        ensures found { option_map func_type_of result ≡ slice_get self.now index }
+        ensures short { IfSome result IsShort }
     {
         let range = self.ranges.get(index)?;
         Some(FuncType {

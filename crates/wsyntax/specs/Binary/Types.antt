@@ -14,7 +14,7 @@ val_type_of b = if b == 0x7F then Some I32 else if b == 0x7E then Some I64 else 
 unfoldable pub val_type : Production ValType
 val_type = byte >>= λ b. given (val_type_of b)
 
--- 5.3.2 block types: empty, or one value type
+-- 5.3.2 result types, as block types have them: empty, or one value type
 abbrev pub block_type_of : ℕ → Option BlockType
 block_type_of b = if b == 0x40 then Some Empty else reading.◌>>=◌ (val_type_of b) (λ t. Some (Value t))
 

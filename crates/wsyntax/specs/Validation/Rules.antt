@@ -30,11 +30,11 @@ InOrder l = ForSome l.max (λ most. l.min ≤ most)
 abbrev pub WithinRange : ℕ → Limits → Type 0
 WithinRange range l = (l.min ≤ range) × ForSome l.max (λ most. most ≤ range) × InOrder l
 
--- rule 4 (3.2.4): the limits of each table, imported or defined, are in order; their range is that of every u32
+-- rule 4 (3.2.3): the limits of each table, imported or defined, are in order; their range is that of every u32
 abbrev pub TablesLimited : ModuleShape → Type 0
 TablesLimited m = All (λ t. InOrder t.limits) (tables_of m)
 
--- rule 5 (3.2.5): the limits of each memory, imported or defined, are within 65,536 pages
+-- rule 5 (3.2.4): the limits of each memory, imported or defined, are within 65,536 pages
 abbrev pub MemoriesLimited : ModuleShape → Type 0
 MemoriesLimited m = All (WithinRange 65536) (memories_of m)
 
