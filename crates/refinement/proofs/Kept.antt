@@ -17,3 +17,4 @@ pub mod Enough
 pub mod Standing
 pub mod Turnings
 pub mod Callers
+pub mod Stopping

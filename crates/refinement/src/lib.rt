@@ -2,7 +2,7 @@
 //! steps of the definition. Each function does nothing; its `ensures` is a law about definitions in `specs/`.
 #![tactic(auto)]
 
-ghost use Rattle.refinement.specs.Laws.{Begins, EndsWell, EntryRefused, GoesOn, IsBounded, IsReady};
+ghost use Rattle.refinement.specs.Laws.{Begins, EndsWell, EntryRefused, GoesOn, IsBounded, IsReady, StopsAnywhere};
 ghost use Rattle.refinement.specs.Measure.{GetsSmaller};
 ghost use Rattle.refinement.specs.Reduction.{ReductionLaws, SafetyLaws};
 ghost use Rattle.refinement.specs.Trees.{TreeIsFound};
@@ -77,6 +77,13 @@ pub fn ends_well()
 pub fn is_bounded()
     ensures { IsBounded }
 {}
+
+/// A call that is given up has come to a configuration of the definition, with as many dispatches as its charges allow.
+pub fn stops_anywhere()
+    ensures { StopsAnywhere }
+{
+    safety_laws();
+}
 
 /// Each turn makes the number of the turns that are left smaller.
 pub fn gets_smaller()
