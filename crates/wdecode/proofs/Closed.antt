@@ -124,7 +124,7 @@ one_grows n m le (held.F32Const b) e = refl
 one_grows n m le (held.F64Const b) e = refl
 one_grows n m le (held.Numeric f) e = refl
 
-both : (a b : Bool) → (a && b) ≡ true → (a ≡ true) × (b ≡ true)
+pub both : (a b : Bool) → (a && b) ≡ true → (a ≡ true) × (b ≡ true)
 both true b e = (refl, e)
 both false b e = absurd cc
 

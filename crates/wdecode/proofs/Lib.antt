@@ -14,6 +14,7 @@ pub mod OneTreeLaws
 pub mod Determined
 pub mod Closed
 pub mod ClosedTrees
+pub mod BranchTables
 pub mod OneLoop
 pub mod OnePush
 pub mod OneRead

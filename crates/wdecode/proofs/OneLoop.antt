@@ -11,6 +11,8 @@ use Rattle.wsyntax.specs.Binary.Nesting.{token_at, nest, tokens_at, expression}
 use Rattle.wdecode.specs.Gives.{GivesToken}
 use Rattle.wdecode.proofs.Trees.{push, Tokens}
 use Rattle.wdecode.proofs.FlatLoop.{token_shorter, goes_on, comes_to_end}
+use Rattle.wdecode.specs.BranchTables.{Follows, FollowAll}
+use Rattle.wdecode.proofs.BranchTables.{follows_next}
 use Rattle.wdecode.proofs.Closed.{Leaves, leaves_next, leaves_none, within_next}
 
 -- Of the bytes of an expression these tokens were read, with these targets; s is open, from the innermost block on, and the rest is to be read.
@@ -18,6 +20,7 @@ pub record SoFar (bytes : List ℕ) (tokens : List Held) (targets : List ℕ) (s
   pub so_far : (more : List ℕ) → push (map (seen (targets ++ more)) tokens) (tokens_at (length bytes - length tokens) s rest) ≡ tokens_at (length bytes) [] bytes
   pub closing : Leaves tokens s
   pub within : IsTrue (list_all (lies_within (length targets)) tokens)
+  pub follow : FollowAll 0 tokens (length targets)
   pub room : length rest + length tokens ≤ length bytes
 
 grown : (old added new : List ℕ) (tokens : List Held) (read total : Tokens) → new ≡ old ++ added → ((more : List ℕ) → push (map (seen (old ++ more)) tokens) read ≡ total) → (more : List ℕ) → push (map (seen (new ++ more)) tokens) read ≡ total
@@ -30,9 +33,10 @@ abbrev pub Moves : List Bool → List Bool → Held → Bool → Type 0
 Moves s now t ends = (targets : List ℕ) → nest s (seen targets t) ≡ Some (cond ends None (Some now))
 
 one_more : (bytes : List ℕ) (tokens : List Held) (old new : List ℕ) (s now : List Bool) (rest after : List ℕ) (t : Held) → SoFar bytes tokens old s rest
-    → GivesToken seen old new (t, after) (token_at rest) → IsTrue (lies_within (length new) t) → ((targets : List ℕ) → nest s (seen targets t) ≡ Some (Some now))
+    → GivesToken seen old new (t, after) (token_at rest) → IsTrue (lies_within (length new) t) → Follows (length old) t (length new)
+    → ((targets : List ℕ) → nest s (seen targets t) ≡ Some (Some now))
     → SoFar bytes (tokens ++ t ∷ []) new now after
-one_more bytes tokens old new s now rest after t h g fits opened =
+one_more bytes tokens old new s now rest after t h g fits adds opened =
     let shorter = token_shorter rest (seen (new ++ []) t) after (g.2 []) in
     let room = h.room in
     let longer : length (tokens ++ t ∷ []) ≡ length tokens + 1 = length-append tokens (t ∷ []) in
@@ -46,28 +50,32 @@ one_more bytes tokens old new s now rest after t h g fits opened =
           subst (λ (x : List Token). push x (tokens_at (length bytes - length (tokens ++ t ∷ [])) now after) ≡ tokens_at (length bytes) [] bytes) (sym (map_push look tokens t)) on;
       closing = leaves_next new tokens t s now (opened new) h.closing;
       within = within_next (length old) (length new) targets_grow tokens t h.within fits;
+      follow = follows_next 0 (length old) (length new) tokens t h.follow adds;
       room = omega arith;
     }
 
 -- a token is read that leaves blocks or the expression open
 pub continues : (bytes : List ℕ) (tokens pushed : List Held) (old new : List ℕ) (s now : List Bool) (rest after : List ℕ) (t : Held) (ends : Bool) → SoFar bytes tokens old s rest
-    → GivesToken seen old new (t, after) (token_at rest) → IsTrue (lies_within (length new) t) → Moves s now t ends → ends ≡ false → pushed ≡ tokens ++ t ∷ []
+    → GivesToken seen old new (t, after) (token_at rest) → IsTrue (lies_within (length new) t) → Follows (length old) t (length new)
+    → Moves s now t ends → ends ≡ false → pushed ≡ tokens ++ t ∷ []
     → SoFar bytes pushed new now after
-continues bytes tokens pushed old new s now rest after t ends h g fits moves open_still is =
+continues bytes tokens pushed old new s now rest after t ends h g fits adds moves open_still is =
     let opened : (targets : List ℕ) → nest s (seen targets t) ≡ Some (Some now) = λ targets. moves targets ∙ ap (λ (b : Bool). Some (cond b None (Some now))) open_still in
-    subst (λ (x : List Held). SoFar bytes x new now after) (sym is) (one_more bytes tokens old new s now rest after t h g fits opened)
+    subst (λ (x : List Held). SoFar bytes x new now after) (sym is) (one_more bytes tokens old new s now rest after t h g fits adds opened)
 
 -- what the loop has when a token closes the expression
 pub record AllRead (bytes : List ℕ) (tokens : List Held) (targets rest : List ℕ) : Type 0 where
   pub read : expression.read bytes ≡ Some (map (seen targets) tokens, rest)
   pub closed : IsTrue (closes [] tokens)
   pub within : IsTrue (list_all (lies_within (length targets)) tokens)
+  pub follow : FollowAll 0 tokens (length targets)
 
 the_last : (bytes : List ℕ) (tokens : List Held) (old new : List ℕ) (s : List Bool) (rest after : List ℕ) (t : Held) → SoFar bytes tokens old s rest
-    → GivesToken seen old new (t, after) (token_at rest) → IsTrue (lies_within (length new) t) → ((targets : List ℕ) → nest s (seen targets t) ≡ Some None)
+    → GivesToken seen old new (t, after) (token_at rest) → IsTrue (lies_within (length new) t) → Follows (length old) t (length new)
+    → ((targets : List ℕ) → nest s (seen targets t) ≡ Some None)
     → AllRead bytes (tokens ++ t ∷ []) new after
 unfolding expression
-the_last bytes tokens old new s rest after t h g fits closed =
+the_last bytes tokens old new s rest after t h g fits adds closed =
     let look = seen (new ++ []) in
     let shorter = token_shorter rest (look t) after (g.2 []) in
     let room = h.room in
@@ -79,12 +87,14 @@ the_last bytes tokens old new s rest after t h g fits closed =
       read = done ∙ ap (λ (x : List Token). let y : List Token × List ℕ = (x, after) in Some y) (sym (map_push look tokens t) ∙ ap (λ (x : List ℕ). map (seen x) (tokens ++ t ∷ [])) (append-nil new));
       closed = leaves_none new tokens t s (closed new) h.closing;
       within = within_next (length old) (length new) targets_grow tokens t h.within fits;
+      follow = follows_next 0 (length old) (length new) tokens t h.follow adds;
     }
 
 -- a token is read that closes the expression
 pub finishes : (bytes : List ℕ) (tokens pushed : List Held) (old new : List ℕ) (s now : List Bool) (rest after : List ℕ) (t : Held) (ends : Bool) → SoFar bytes tokens old s rest
-    → GivesToken seen old new (t, after) (token_at rest) → IsTrue (lies_within (length new) t) → Moves s now t ends → ends ≡ true → pushed ≡ tokens ++ t ∷ []
+    → GivesToken seen old new (t, after) (token_at rest) → IsTrue (lies_within (length new) t) → Follows (length old) t (length new)
+    → Moves s now t ends → ends ≡ true → pushed ≡ tokens ++ t ∷ []
     → AllRead bytes pushed new after
-finishes bytes tokens pushed old new s now rest after t ends h g fits moves at_end is =
+finishes bytes tokens pushed old new s now rest after t ends h g fits adds moves at_end is =
     let closed : (targets : List ℕ) → nest s (seen targets t) ≡ Some None = λ targets. moves targets ∙ ap (λ (b : Bool). Some (cond b None (Some now))) at_end in
-    subst (λ (x : List Held). AllRead bytes x new after) (sym is) (the_last bytes tokens old new s rest after t h g fits closed)
+    subst (λ (x : List Held). AllRead bytes x new after) (sym is) (the_last bytes tokens old new s rest after t h g fits adds closed)

@@ -16,6 +16,7 @@ use Rattle.wsyntax.specs.Binary.Nesting.{seen_as, token_at}
 use Rattle.wdecode.specs.declared.fault.Fault.{Fault}
 use Rattle.wdecode.specs.Gives.{Pushes, PushesPlain}
 use Rattle.wdecode.proofs.FlatLoop.{token_shorter}
+use Rattle.wdecode.proofs.BranchTables.{no_table}
 use Rattle.wdecode.proofs.OneLoop.{SoFar, continues}
 use Rattle.wdecode.proofs.OneToken.{not_it}
 
@@ -82,7 +83,7 @@ pub pushes_on : (bytes : List ℕ) (old new : List Held) (targets : List ℕ) (s
 pushes_on bytes old new targets s rest after h p =
     continues bytes old new targets targets s s rest after p.0 false h
     ([], sym (append-nil targets), λ more. let i = p.3 (targets ++ more) in i.2 ∙ ap (λ (u : Token). Some (u, after)) (sym i.1))
-    (p.2 (length targets))
+    (p.2 (length targets)) (no_table p.0 p.2 (length targets))
     (λ t. let i = p.3 t in rw i.1 refl)
     refl p.1
 

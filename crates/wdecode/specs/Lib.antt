@@ -1,3 +1,4 @@
+pub mod BranchTables
 pub mod Fronts
 pub mod Gives
 pub mod Held

@@ -1,6 +1,7 @@
 ghost use Rattle.std.specs.Prelude.{◌≡◌, ◌≤◌, ◌<◌, ◌^◌, ℕ, List, length, nat_lt, IfOk, IsErrOf, Option, Some, None, if◌then◌else◌};
+ghost use Rattle.wdecode.specs.BranchTables.{targets_of, FollowAll};
 ghost use Rattle.wdecode.specs.Gives.{Gives};
-ghost use Rattle.wsyntax.specs.Modules.{BodyShape, body_shape};
+ghost use Rattle.wsyntax.specs.Modules.{BodyShape, body_shape, tokens_of};
 ghost use Rattle.wsyntax.specs.Binary.Production.{whole_at};
 ghost use Rattle.wsyntax.specs.Binary.Sections.{body, locals as locals_production, locals_of};
 ghost use Rattle.wsyntax.specs.Binary.Shell.{SpellsBody, FewLocals, local_limit};
@@ -54,7 +55,9 @@ pub fn locals_at(alloc: Alloc, bytes: &[u8]) -> Result<(Vec<LocalRun>, &[u8]), F
 /// All of the bytes as a body (5.5.13).
 #[tactic(auto, unfolding(wsyntax::specs::Binary::Sections::body))]
 fn whole_body(alloc: Alloc, bytes: &[u8]) -> Result<Body, Fault>
-    ensures { Gives body_shape result (whole_at body.read bytes.now) }
+    ensures value { Gives body_shape result (whole_at body.read bytes.now) }
+    ensures follow { IfOk result (λ b. FollowAll 0 b.code.tokens.items (length b.code.targets.items)) }
+    ensures targets { IfOk result (λ b. b.code.targets.items ≡ targets_of (tokens_of b.code)) }
 {
     let (runs, rest) = locals_at(alloc, bytes)?;
     let (code, rest) = expression_at(alloc, rest)?;
@@ -83,6 +86,10 @@ pub fn decode_body(alloc: Alloc, bytes: &[u8]) -> Result<Body, BodyFault>
     ensures found { IfOk result (λ b. SpellsBody bytes.now (body_shape b) × FewLocals (body_shape b)) }
     // The bytes spell no other body.
     ensures only { IfOk result (λ b. (other : BodyShape) → SpellsBody bytes.now other → body_shape b ≡ other) }
+    // The targets are the labels of the branch tables and their defaults, each default after its labels, and no others.
+    ensures targets { IfOk result (λ b. b.code.targets.items ≡ targets_of (tokens_of b.code)) }
+    // Each branch table begins where the one before it ends, the first at 0, and the last ends where the targets end.
+    ensures follow { IfOk result (λ b. FollowAll 0 b.code.tokens.items (length b.code.targets.items)) }
     // Malformed are bytes that spell no body.
     ensures malformed { IsErrOf result BodyFault.Malformed → (b : BodyShape) → SpellsBody bytes.now b → ⊥ }
     // Only a spelled body has too many locals.

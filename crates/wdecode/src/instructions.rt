@@ -1,5 +1,6 @@
 ghost use Rattle.std.specs.Prelude.{◌≡◌, ◌≢◌, ◌<◌, ℕ, Bool, List, ◌++◌, Option, Some, None, reverse, length, if◌then◌else◌, IfOk, IfErr, IsTrue};
 ghost use Rattle.wsyntax.specs.Brackets.{lies_within};
+ghost use Rattle.wdecode.specs.BranchTables.{targets_of, Follows, FollowAll};
 ghost use Rattle.wdecode.specs.Gives.{Gives, GivesToken, Fails};
 ghost use Rattle.wsyntax.specs.Instructions.{Do};
 ghost use Rattle.wsyntax.specs.Modules.{seen, tokens_of};
@@ -209,6 +210,7 @@ fn labels_at<'a>(targets: &mut Vec<u32>, count: u32, bytes: &'a [u8]) -> Result<
 fn table_at<'a>(targets: &mut Vec<u32>, bytes: &'a [u8]) -> Result<(Token, &'a [u8]), Fault>
     ensures ok { IfOk result (λ x. GivesToken seen targets.old.items targets.new.items (x.0, x.1.now) (seen_as Do ((immediates Opcode.BrTable).read bytes.now))) }
     ensures within { IfOk result (λ x. IsTrue (lies_within (length targets.new.items) x.0)) }
+    ensures follows { IfOk result (λ x. Follows (length targets.old.items) x.0 (length targets.new.items)) }
     ensures err { IfErr result (λ e. Fails e (seen_as Do ((immediates Opcode.BrTable).read bytes.now))) }
 {
     let first = targets.len();
@@ -225,6 +227,7 @@ fn table_at<'a>(targets: &mut Vec<u32>, bytes: &'a [u8]) -> Result<(Token, &'a [
 fn plain_at<'a>(targets: &mut Vec<u32>, bytes: &'a [u8]) -> Result<(Token, &'a [u8]), Fault>
     ensures ok { IfOk result (λ x. GivesToken seen targets.old.items targets.new.items (x.0, x.1.now) (seen_as Do (plain_instruction.read bytes.now))) }
     ensures within { IfOk result (λ x. IsTrue (lies_within (length targets.new.items) x.0)) }
+    ensures follows { IfOk result (λ x. Follows (length targets.old.items) x.0 (length targets.new.items)) }
     ensures err { IfErr result (λ e. Fails e (seen_as Do (plain_instruction.read bytes.now))) }
 {
     let [byte, rest @ ..] = bytes else {
@@ -246,6 +249,7 @@ fn plain_at<'a>(targets: &mut Vec<u32>, bytes: &'a [u8]) -> Result<(Token, &'a [
 fn front_token<'a>(targets: &mut Vec<u32>, bytes: &'a [u8]) -> Result<(Token, &'a [u8]), Fault>
     ensures ok { IfOk result (λ x. GivesToken seen targets.old.items targets.new.items (x.0, x.1.now) (token_of bytes.now)) }
     ensures within { IfOk result (λ x. IsTrue (lies_within (length targets.new.items) x.0)) }
+    ensures follows { IfOk result (λ x. Follows (length targets.old.items) x.0 (length targets.new.items)) }
     ensures err { IfErr result (λ e. Fails e (token_of bytes.now)) }
 {
     let [byte, rest @ ..] = bytes else {
@@ -277,6 +281,7 @@ fn front_token<'a>(targets: &mut Vec<u32>, bytes: &'a [u8]) -> Result<(Token, &'
 pub fn token_at<'a>(targets: &mut Vec<u32>, bytes: &'a [u8]) -> Result<(Token, &'a [u8]), Fault>
     ensures ok { IfOk result (λ x. GivesToken seen targets.old.items targets.new.items (x.0, x.1.now) (token_of bytes.now)) }
     ensures within { IfOk result (λ x. IsTrue (lies_within (length targets.new.items) x.0)) }
+    ensures follows { IfOk result (λ x. Follows (length targets.old.items) x.0 (length targets.new.items)) }
     ensures shorter { IfOk result (λ x. length x.1.now < length bytes.now) }
     ensures err { IfErr result (λ e. Fails e (token_of bytes.now)) }
 {
@@ -321,7 +326,9 @@ pub fn enter(opened: &mut SmallVec<bool, FEW>, token: Token) -> Result<bool, Fau
 /// An expression (5.4.6) at the front, up to and with the end that closes it, and the bytes after it.
 #[tactic(auto, unfolding(wsyntax::specs::Binary::Nesting::expression))]
 pub fn expression_at(alloc: Global, bytes: &[u8]) -> Result<(Expression, &[u8]), Fault>
-    ensures { Gives (λ x. (tokens_of x.0, x.1.now)) result (expression.read bytes.now) }
+    ensures value { Gives (λ x. (tokens_of x.0, x.1.now)) result (expression.read bytes.now) }
+    ensures follow { IfOk result (λ x. FollowAll 0 x.0.tokens.items (length x.0.targets.items)) }
+    ensures targets { IfOk result (λ x. x.0.targets.items ≡ targets_of (tokens_of x.0)) }
 {
     let mut tokens = Vec::new(alloc);
     let mut targets = Vec::new(alloc);

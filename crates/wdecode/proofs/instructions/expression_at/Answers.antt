@@ -4,37 +4,48 @@ use Rattle.wsyntax.specs.declared.instructions.Token.{Token as Held}
 use Rattle.wsyntax.specs.Modules.{seen}
 use Rattle.wsyntax.specs.Binary.Nesting.{tokens_at, expression}
 use Rattle.wdecode.proofs.FlatLoop.{token_fails, nest_fails}
+use Rattle.wdecode.proofs.BranchTables.{all_targets}
 use Rattle.wdecode.proofs.OneLoop.{continues, finishes}
 use Rattle.wdecode.proofs.OnePush.{pushes_on, pushes_shorter}
 use Rattle.wdecode.proofs.instructions.expression_at.Goals as goal
 
-pub returns-in_err-token : goal.returns-in_err-token
+pub returns-in_err-token-clause-value : goal.returns-in_err-token-clause-value
 unfolding expression
-returns-in_err-token c =
+returns-in_err-token-clause-value c =
     let p = err_from_is_err_and c.from_residual-in_err-token.result c.from_residual-in_err-token.ensures.1 in
     rw (p.1, p.2) (token_fails c.in_err-token.field-0.0 _ _ _ c.each.rest.now (tokens_at (length c.args.bytes.now) [] c.args.bytes.now) c.in_err-token.ensures.err (c.each.invariant.so_far []))
 
-pub returns-in_err-closes : goal.returns-in_err-closes
+pub returns-in_err-closes-clause-value : goal.returns-in_err-closes-clause-value
 unfolding expression
-returns-in_err-closes c =
+returns-in_err-closes-clause-value c =
     let p = err_from_is_err_and c.from_residual-in_err-closes.result c.from_residual-in_err-closes.ensures.1 in
     let g = c.in_ok-token.ensures.ok in
     let t = seen (c.token_at.new.targets.items ++ []) c.in_ok-token.token in
     rw (p.1, p.2) (nest_fails c.in_err-closes.field-0.0 _ _ _ c.each.rest.now c.in_ok-token.after.now t (tokens_at (length c.args.bytes.now) [] c.args.bytes.now) (g.2 []) (c.in_err-closes.ensures.err (c.token_at.new.targets.items ++ [])) (c.each.invariant.so_far []))
 
-pub returns-then-closes : goal.returns-then-closes
-returns-then-closes c =
-    let all = finishes c.args.bytes.now c.each.tokens.items c.push.new.self.items c.each.targets.items c.token_at.new.targets.items (reverse c.each.opened.items) (reverse c.enter.new.opened.items) c.each.rest.now c.in_ok-token.after.now c.in_ok-token.token c.in_ok-closes.closes c.each.invariant c.in_ok-token.ensures.ok c.in_ok-token.ensures.within c.in_ok-closes.ensures.ok c.if-closes.true (c.in_ok-push.ensures.items ∙ ap (λ (x : List Held). x ++ c.in_ok-token.token ∷ []) (rw c.in_default.is at c.in_ok-after.ensures.ok)) in
+pub returns-then-closes-clause-value : goal.returns-then-closes-clause-value
+returns-then-closes-clause-value c =
+    let all = finishes c.args.bytes.now c.each.tokens.items c.push.new.self.items c.each.targets.items c.token_at.new.targets.items (reverse c.each.opened.items) (reverse c.enter.new.opened.items) c.each.rest.now c.in_ok-token.after.now c.in_ok-token.token c.in_ok-closes.closes c.each.invariant c.in_ok-token.ensures.ok c.in_ok-token.ensures.within c.in_ok-token.ensures.follows c.in_ok-closes.ensures.ok c.if-closes.true (c.in_ok-push.ensures.items ∙ ap (λ (x : List Held). x ++ c.in_ok-token.token ∷ []) (rw c.in_default.is at c.in_ok-after.ensures.ok)) in
     all.read
+
+pub returns-then-closes-clause-follow : goal.returns-then-closes-clause-follow
+returns-then-closes-clause-follow c =
+    let all = finishes c.args.bytes.now c.each.tokens.items c.push.new.self.items c.each.targets.items c.token_at.new.targets.items (reverse c.each.opened.items) (reverse c.enter.new.opened.items) c.each.rest.now c.in_ok-token.after.now c.in_ok-token.token c.in_ok-closes.closes c.each.invariant c.in_ok-token.ensures.ok c.in_ok-token.ensures.within c.in_ok-token.ensures.follows c.in_ok-closes.ensures.ok c.if-closes.true (c.in_ok-push.ensures.items ∙ ap (λ (x : List Held). x ++ c.in_ok-token.token ∷ []) (rw c.in_default.is at c.in_ok-after.ensures.ok)) in
+    all.follow
+
+pub returns-then-closes-clause-targets : goal.returns-then-closes-clause-targets
+returns-then-closes-clause-targets c =
+    let all = finishes c.args.bytes.now c.each.tokens.items c.push.new.self.items c.each.targets.items c.token_at.new.targets.items (reverse c.each.opened.items) (reverse c.enter.new.opened.items) c.each.rest.now c.in_ok-token.after.now c.in_ok-token.token c.in_ok-closes.closes c.each.invariant c.in_ok-token.ensures.ok c.in_ok-token.ensures.within c.in_ok-token.ensures.follows c.in_ok-closes.ensures.ok c.if-closes.true (c.in_ok-push.ensures.items ∙ ap (λ (x : List Held). x ++ c.in_ok-token.token ∷ []) (rw c.in_default.is at c.in_ok-after.ensures.ok)) in
+    all_targets c.token_at.new.targets.items c.push.new.self.items all.follow all.within
 
 pub invariant_of-result-clause-closed : goal.invariant_of-result-clause-closed
 invariant_of-result-clause-closed c =
-    let all = finishes c.args.bytes.now c.each.tokens.items c.push.new.self.items c.each.targets.items c.token_at.new.targets.items (reverse c.each.opened.items) (reverse c.enter.new.opened.items) c.each.rest.now c.in_ok-token.after.now c.in_ok-token.token c.in_ok-closes.closes c.each.invariant c.in_ok-token.ensures.ok c.in_ok-token.ensures.within c.in_ok-closes.ensures.ok c.if-closes.true (c.in_ok-push.ensures.items ∙ ap (λ (x : List Held). x ++ c.in_ok-token.token ∷ []) (rw c.in_default.is at c.in_ok-after.ensures.ok)) in
+    let all = finishes c.args.bytes.now c.each.tokens.items c.push.new.self.items c.each.targets.items c.token_at.new.targets.items (reverse c.each.opened.items) (reverse c.enter.new.opened.items) c.each.rest.now c.in_ok-token.after.now c.in_ok-token.token c.in_ok-closes.closes c.each.invariant c.in_ok-token.ensures.ok c.in_ok-token.ensures.within c.in_ok-token.ensures.follows c.in_ok-closes.ensures.ok c.if-closes.true (c.in_ok-push.ensures.items ∙ ap (λ (x : List Held). x ++ c.in_ok-token.token ∷ []) (rw c.in_default.is at c.in_ok-after.ensures.ok)) in
     all.closed
 
 pub invariant_of-result-clause-within : goal.invariant_of-result-clause-within
 invariant_of-result-clause-within c =
-    let all = finishes c.args.bytes.now c.each.tokens.items c.push.new.self.items c.each.targets.items c.token_at.new.targets.items (reverse c.each.opened.items) (reverse c.enter.new.opened.items) c.each.rest.now c.in_ok-token.after.now c.in_ok-token.token c.in_ok-closes.closes c.each.invariant c.in_ok-token.ensures.ok c.in_ok-token.ensures.within c.in_ok-closes.ensures.ok c.if-closes.true (c.in_ok-push.ensures.items ∙ ap (λ (x : List Held). x ++ c.in_ok-token.token ∷ []) (rw c.in_default.is at c.in_ok-after.ensures.ok)) in
+    let all = finishes c.args.bytes.now c.each.tokens.items c.push.new.self.items c.each.targets.items c.token_at.new.targets.items (reverse c.each.opened.items) (reverse c.enter.new.opened.items) c.each.rest.now c.in_ok-token.after.now c.in_ok-token.token c.in_ok-closes.closes c.each.invariant c.in_ok-token.ensures.ok c.in_ok-token.ensures.within c.in_ok-token.ensures.follows c.in_ok-closes.ensures.ok c.if-closes.true (c.in_ok-push.ensures.items ∙ ap (λ (x : List Held). x ++ c.in_ok-token.token ∷ []) (rw c.in_default.is at c.in_ok-after.ensures.ok)) in
     all.within
 
 pub each-smaller : goal.each-smaller
@@ -42,7 +53,7 @@ each-smaller c = c.in_ok-token.ensures.shorter
 
 pub each-preserved : goal.each-preserved
 each-preserved c =
-    continues c.args.bytes.now c.each.tokens.items c.push.new.self.items c.each.targets.items c.token_at.new.targets.items (reverse c.each.opened.items) (reverse c.enter.new.opened.items) c.each.rest.now c.in_ok-token.after.now c.in_ok-token.token c.in_ok-closes.closes c.each.invariant c.in_ok-token.ensures.ok c.in_ok-token.ensures.within c.in_ok-closes.ensures.ok c.if-closes.false (c.in_ok-push.ensures.items ∙ ap (λ (x : List Held). x ++ c.in_ok-token.token ∷ []) (rw c.in_default.is at c.in_ok-after.ensures.ok))
+    continues c.args.bytes.now c.each.tokens.items c.push.new.self.items c.each.targets.items c.token_at.new.targets.items (reverse c.each.opened.items) (reverse c.enter.new.opened.items) c.each.rest.now c.in_ok-token.after.now c.in_ok-token.token c.in_ok-closes.closes c.each.invariant c.in_ok-token.ensures.ok c.in_ok-token.ensures.within c.in_ok-token.ensures.follows c.in_ok-closes.ensures.ok c.if-closes.false (c.in_ok-push.ensures.items ∙ ap (λ (x : List Held). x ++ c.in_ok-token.token ∷ []) (rw c.in_default.is at c.in_ok-after.ensures.ok))
 
 pub each-smaller-in-Some : goal.each-smaller-in-Some
 each-smaller-in-Some c = pushes_shorter c.each.tokens.items c.push_frequent.new.tokens.items c.each.rest.now c.in-Some.after.now (rw c.in-Some.is at c.in_ok-after.ensures.ok)
