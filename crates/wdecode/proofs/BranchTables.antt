@@ -1,7 +1,8 @@
 -- The branch tables of an expression follow one another in the list of targets, so that it is the list of their labels and defaults.
 use Rattle.std.specs.Prelude.{IsTrue, slice_range, slice_index_or}
 use Rattle.std.specs.List.{list_all}
-use Rattle.std.proofs.Common.{◌≡◌, ◌⊎◌, inl, inr, ℕ, ◌+◌, ◌-◌, ◌<◌, List, [], ◌∷◌, ◌++◌, length, map, take, drop, refl, sym, ap, subst, ◌∙◌, append_assoc, arith}
+use Rattle.std.proofs.Common.{◌≡◌, ◌⊎◌, inl, inr, ℕ, ◌+◌, ◌-◌, ◌<◌, List, [], ◌∷◌, ◌++◌, length, map, take, drop}
+use Rattle.std.proofs.Common.{refl, sym, ap, subst, ◌∙◌, append_assoc, arith}
 use Rattle.std.proofs.lemmas.Bool.{ltb-true}
 use Rattle.std.proofs.lemmas.List.{drop_all, drop_more, drop-drop, take-append-drop}
 use Rattle.wsyntax.specs.declared.instructions.Token.{Token as Held}
@@ -60,7 +61,8 @@ no_table t within n = elim (table_or_none t) [
 ]
 
 -- one more token
-pub follows_next : (before middle after : ℕ) (ts : List Held) (t : Held) → FollowAll before ts middle → Follows middle t after → FollowAll before (ts ++ t ∷ []) after
+pub follows_next : (before middle after : ℕ) (ts : List Held) (t : Held)
+    → FollowAll before ts middle → Follows middle t after → FollowAll before (ts ++ t ∷ []) after
 follows_next before middle after [] t e f = (after, subst (λ (n : ℕ). Follows n t after) e f, refl)
 follows_next before middle after (u ∷ ts) t h f = (h.0, h.1, follows_next h.0 middle after ts t h.2 f)
 
@@ -69,15 +71,16 @@ cut : (targets : List ℕ) (count first : ℕ) → first + count < length target
     → drop first targets ≡ table_targets (seen targets (held.BrTable count first)) ++ drop (first + count + 1) targets
 cut targets count first lt =
     let width : first + count - first ≡ count = omega arith in
-    let labels : take count (drop first targets) ≡ slice_range targets first (first + count) = ap (λ (n : ℕ). take n (drop first targets)) (sym width) in
+    let part = slice_range targets first (first + count) in
+    let labels : take count (drop first targets) ≡ part = ap (λ (n : ℕ). take n (drop first targets)) (sym width) in
     sym (take-append-drop count (drop first targets))
     ∙ ap (λ (x : List ℕ). x ++ drop count (drop first targets)) labels
-    ∙ ap (λ (x : List ℕ). slice_range targets first (first + count) ++ x) (drop-drop count first targets ∙ drop_more targets (first + count) 0 lt)
-    ∙ sym (append_assoc (slice_range targets first (first + count)) (slice_index_or targets (first + count) 0 ∷ []) (drop (first + count + 1) targets))
+    ∙ ap (λ (x : List ℕ). part ++ x) (drop-drop count first targets ∙ drop_more targets (first + count) 0 lt)
+    ∙ sym (append_assoc part (slice_index_or targets (first + count) 0 ∷ []) (drop (first + count + 1) targets))
 
 -- what is left of the targets is that of the tokens that are left
-left : (targets : List ℕ) (before : ℕ) (ts : List Held) → FollowAll before ts (length targets) → IsTrue (list_all (lies_within (length targets)) ts)
-    → drop before targets ≡ targets_of (map (seen targets) ts)
+left : (targets : List ℕ) (before : ℕ) (ts : List Held) → FollowAll before ts (length targets)
+    → IsTrue (list_all (lies_within (length targets)) ts) → drop before targets ≡ targets_of (map (seen targets) ts)
 left targets before [] e within = drop_all before targets (omega arith)
 left targets before (t ∷ ts) h within =
     let w = both (lies_within (length targets) t) (list_all (lies_within (length targets)) ts) within in
@@ -85,7 +88,8 @@ left targets before (t ∷ ts) h within =
     elim (table_or_none t) [
       | inl x ↦
           let f : Follows before (held.BrTable x.0 x.1) h.0 = subst (λ (u : Held). Follows before u h.0) x.2 h.1 in
-          let lies : IsTrue (lies_within (length targets) (held.BrTable x.0 x.1)) = subst (λ (u : Held). IsTrue (lies_within (length targets) u)) x.2 w.0 in
+          let lies : IsTrue (lies_within (length targets) (held.BrTable x.0 x.1))
+          = subst (λ (u : Held). IsTrue (lies_within (length targets) u)) x.2 w.0 in
           let next : x.1 + x.0 + 1 ≡ h.0 = omega (arith, f.0, f.1) in
           ap (λ (n : ℕ). drop n targets) (sym f.0)
           ∙ cut targets x.0 x.1 (ltb-true (x.1 + x.0) (length targets) lies)
@@ -98,6 +102,6 @@ left targets before (t ∷ ts) h within =
     ]
 
 -- all targets are those of the tokens
-pub all_targets : (targets : List ℕ) (ts : List Held) → FollowAll 0 ts (length targets) → IsTrue (list_all (lies_within (length targets)) ts)
-    → targets ≡ targets_of (map (seen targets) ts)
+pub all_targets : (targets : List ℕ) (ts : List Held) → FollowAll 0 ts (length targets)
+    → IsTrue (list_all (lies_within (length targets)) ts) → targets ≡ targets_of (map (seen targets) ts)
 all_targets targets ts h within = left targets 0 ts h within

@@ -23,20 +23,14 @@ returns-in_err-closes-clause-value c =
     let t = seen (c.token_at.new.targets.items ++ []) c.in_ok-token.token in
     rw (p.1, p.2) (nest_fails c.in_err-closes.field-0.0 _ _ _ c.each.rest.now c.in_ok-token.after.now t (tokens_at (length c.args.bytes.now) [] c.args.bytes.now) (g.2 []) (c.in_err-closes.ensures.err (c.token_at.new.targets.items ++ [])) (c.each.invariant.so_far []))
 
-pub returns-then-closes-clause-value : goal.returns-then-closes-clause-value
-returns-then-closes-clause-value c =
+pub returns-then-closes : goal.returns-then-closes
+returns-then-closes c =
     let all = finishes c.args.bytes.now c.each.tokens.items c.push.new.self.items c.each.targets.items c.token_at.new.targets.items (reverse c.each.opened.items) (reverse c.enter.new.opened.items) c.each.rest.now c.in_ok-token.after.now c.in_ok-token.token c.in_ok-closes.closes c.each.invariant c.in_ok-token.ensures.ok c.in_ok-token.ensures.within c.in_ok-token.ensures.follows c.in_ok-closes.ensures.ok c.if-closes.true (c.in_ok-push.ensures.items ∙ ap (λ (x : List Held). x ++ c.in_ok-token.token ∷ []) (rw c.in_default.is at c.in_ok-after.ensures.ok)) in
-    all.read
-
-pub returns-then-closes-clause-follow : goal.returns-then-closes-clause-follow
-returns-then-closes-clause-follow c =
-    let all = finishes c.args.bytes.now c.each.tokens.items c.push.new.self.items c.each.targets.items c.token_at.new.targets.items (reverse c.each.opened.items) (reverse c.enter.new.opened.items) c.each.rest.now c.in_ok-token.after.now c.in_ok-token.token c.in_ok-closes.closes c.each.invariant c.in_ok-token.ensures.ok c.in_ok-token.ensures.within c.in_ok-token.ensures.follows c.in_ok-closes.ensures.ok c.if-closes.true (c.in_ok-push.ensures.items ∙ ap (λ (x : List Held). x ++ c.in_ok-token.token ∷ []) (rw c.in_default.is at c.in_ok-after.ensures.ok)) in
-    all.follow
-
-pub returns-then-closes-clause-targets : goal.returns-then-closes-clause-targets
-returns-then-closes-clause-targets c =
-    let all = finishes c.args.bytes.now c.each.tokens.items c.push.new.self.items c.each.targets.items c.token_at.new.targets.items (reverse c.each.opened.items) (reverse c.enter.new.opened.items) c.each.rest.now c.in_ok-token.after.now c.in_ok-token.token c.in_ok-closes.closes c.each.invariant c.in_ok-token.ensures.ok c.in_ok-token.ensures.within c.in_ok-token.ensures.follows c.in_ok-closes.ensures.ok c.if-closes.true (c.in_ok-push.ensures.items ∙ ap (λ (x : List Held). x ++ c.in_ok-token.token ∷ []) (rw c.in_default.is at c.in_ok-after.ensures.ok)) in
-    all_targets c.token_at.new.targets.items c.push.new.self.items all.follow all.within
+    record {
+      value = all.read;
+      follow = all.follow;
+      targets = all_targets c.token_at.new.targets.items c.push.new.self.items all.follow all.within;
+    }
 
 pub invariant_of-result-clause-closed : goal.invariant_of-result-clause-closed
 invariant_of-result-clause-closed c =

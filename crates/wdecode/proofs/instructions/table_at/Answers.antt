@@ -41,8 +41,10 @@ returns-clause-follows c =
     let labels = c.in_ok-rest.ensures.ok in
     let d = c.in_ok-default.default in
     let old = c.args.targets.now.items in
-    let grown : c.push.new.self.items ≡ old ++ (labels.0 ++ d ∷ []) = c.in_ok-push.ensures.items ∙ ap (λ (x : List ℕ). x ++ d ∷ []) labels.1 ∙ append_assoc old labels.0 (d ∷ []) in
+    let grown : c.push.new.self.items ≡ old ++ (labels.0 ++ d ∷ [])
+    = c.in_ok-push.ensures.items ∙ ap (λ (x : List ℕ). x ++ d ∷ []) labels.1 ∙ append_assoc old labels.0 (d ∷ []) in
     let first : c.len-first.result ≡ length old = omega (arith, c.len-first.ensures, c.args.targets.now.ok) in
     let many = labels_count c.in_ok-count.count c.in_ok-count.rest.now labels.0 c.in_ok-rest.rest.now labels.2 in
-    let whole : length c.push.new.self.items ≡ length old + length (labels.0 ++ d ∷ []) = ap length grown ∙ length-append old (labels.0 ++ d ∷ []) in
+    let whole : length c.push.new.self.items ≡ length old + length (labels.0 ++ d ∷ [])
+    = ap length grown ∙ length-append old (labels.0 ++ d ∷ []) in
     (first, omega (arith, length-append labels.0 (d ∷ [])))
