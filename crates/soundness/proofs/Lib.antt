@@ -1,6 +1,7 @@
 pub mod Chapter3
 pub mod Chapter4
 pub mod Samples
+pub mod Several
 pub mod Joined
 pub mod StartFirst
 pub mod CallTexts

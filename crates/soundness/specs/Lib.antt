@@ -1,6 +1,8 @@
 pub mod Bodies
+pub mod BlockTypes
 pub mod Samples
 pub mod Instructions
+pub mod SeveralValues
 pub mod Growth
 pub mod Counts
 pub mod Operators

@@ -1,5 +1,6 @@
 //! The definitions computed on small inputs, the answers given beforehand.
 
+ghost use Rattle.soundness.specs.BlockTypes.{IndexedBlocks, IndexedIfs, IndexedLabels, IndexedLoops, SeveralResults};
 ghost use Rattle.soundness.specs.Bodies.{ReachedBodies, UnreachedBodies};
 ghost use Rattle.soundness.specs.CallTexts.{BadTexts, GoodTexts, LineExamples};
 ghost use Rattle.soundness.specs.Counts.{CountExamples};
@@ -10,6 +11,7 @@ ghost use Rattle.soundness.specs.Instructions.{BlockExamples, BytesExamples, Var
 ghost use Rattle.soundness.specs.Operators.{OperatorExamples};
 ghost use Rattle.soundness.specs.Reports.{EndTexts, ReportExamples, VerdictTexts};
 ghost use Rattle.soundness.specs.Samples.{ControlExamples, DivisionExamples, LimitExamples, MemoryExamples, TableExamples};
+ghost use Rattle.soundness.specs.SeveralValues.{SeveralExamples, TwoResults};
 ghost use Rattle.soundness.specs.Spellings.{BlockTypeReadings, NameSpellings, SignedSpellings, UnsignedSpellings};
 ghost use Rattle.soundness.specs.StartFirst.{StartFirstExamples};
 ghost use Rattle.soundness.specs.Starts.{FreshExamples, RefusalExamples};
@@ -19,6 +21,16 @@ ghost use Rattle.soundness.specs.WholeAnswers.{AnswerExamples};
 pub fn bodies()
     ensures reached { ReachedBodies }
     ensures unreached { UnreachedBodies }
+{}
+
+/// The verdicts of the algorithm on bodies with block types by index, as Core 2.0 has them: parameters, several results,
+/// labels of several types, an `if` without `else` that passes its operands, and an index that no type has.
+pub fn block_types()
+    ensures blocks { IndexedBlocks }
+    ensures loops { IndexedLoops }
+    ensures ifs { IndexedIfs }
+    ensures labels { IndexedLabels }
+    ensures functions { SeveralResults }
 {}
 
 /// How calls of small functions end.
@@ -35,6 +47,12 @@ pub fn instructions()
     ensures variables { VariableExamples }
     ensures bytes { BytesExamples }
     ensures blocks { BlockExamples }
+{}
+
+/// How blocks with parameters and several results, branches that carry several values and calls with two results end.
+pub fn several_values()
+    ensures blocks { SeveralExamples }
+    ensures calls { TwoResults }
 {}
 
 /// How a memory grows at each of its bounds.
