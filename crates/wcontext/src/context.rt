@@ -33,8 +33,8 @@ impl Model for Context {
 }
 
 impl Context {
-    ghost use Rattle.std.specs.Prelude.{◌≡◌, ◌≤◌, length, slice_get, option_map, IfSome, IfOk};
-    ghost use Rattle.wsyntax.specs.FuncTypes.{func_type_of};
+    ghost use Rattle.std.specs.Prelude.{◌≡◌, ◌≤◌, ◌<◌, ◌^◌, length, slice_get, option_map, IfSome, IfOk};
+    ghost use Rattle.wsyntax.specs.FuncTypes.{func_type_of, IsShort};
     ghost use Rattle.wsyntax.specs.Modules.{module_shape};
     ghost use Rattle.wsyntax.specs.Validation.ModuleContext.{indexed_context};
     ghost use Rattle.wsyntax.specs.Validation.Rules.{ImportsTyped, FunctionsTyped};
@@ -65,10 +65,11 @@ impl Context {
         Ok(context)
     }
 
-    /// The function type of that index; `None` where the module has none.
+    /// The function type of that index, whose lists have fewer than 2^32 types each; `None` where the module has none.
     #[inline]
     pub fn signature(&self, type_index: u32) -> Option<FuncType<'_>>
-        ensures { option_map func_type_of result ≡ slice_get self.now.context.types type_index }
+        ensures found { option_map func_type_of result ≡ slice_get self.now.context.types type_index }
+        ensures short { IfSome result IsShort }
     {
         self.types.get(type_index as usize)
     }
@@ -109,10 +110,11 @@ impl Context {
         self.lists(*type_index)
     }
 
-    /// The types of a list; none where the module has no such type.
+    /// The types of a list, fewer than 2^32; none where the module has no such type.
     #[inline]
     pub fn list(&self, list: TypeList) -> &[ValType]
-        ensures { result.now ≡ list_of self.now.context.types list }
+        ensures types { result.now ≡ list_of self.now.context.types list }
+        ensures short { length result.now < 2 ^ 32 }
     {
         match list {
             TypeList::Nothing => no_types(),
