@@ -1,16 +1,16 @@
 -- What the words of the command line say of numbers.
-use Rattle.std.specs.Prelude.{◌≡◌, ◌≢◌, ◌⊎◌, ℕ, ◌+◌, ◌<◌, List, [], ◌++◌, length, slice_index_or, codes}
+use Rattle.std.specs.Prelude.{◌≡◌, ◌≢◌, ◌⊎◌, ℕ, ◌+◌, ◌<◌, List, [], ◌++◌, length, slice_index_or, codes, pos}
 use Rattle.std.specs.List.{All, AllWithin, before_first}
 use Rattle.std.specs.Str.{bytes_eq}
-use Rattle.std.specs.Str.Parse.{IsNumeral, digits_value, without_leading_plus}
+use Rattle.std.specs.Str.Parse.{IsNumeral, signed_digits_value, without_leading_sign}
 
 -- the words that may be options: those before the first `--`
 abbrev pub option_words : List (List ℕ) → List (List ℕ)
 option_words words = before_first (λ word. bytes_eq word (codes "--")) words
 
--- the text is this number in decimal, perhaps with a plus before it
+-- the text is this number in decimal, perhaps with a sign before it: a minus only before 0
 abbrev pub IsDecimal : ℕ → List ℕ → Type 0
-IsDecimal n text = IsNumeral 10 (without_leading_plus text) × (n ≡ digits_value 10 (without_leading_plus text))
+IsDecimal n text = IsNumeral 10 (without_leading_sign text) × (signed_digits_value 10 text ≡ pos n)
 
 -- the word does not begin with the option
 abbrev pub LacksOption : List ℕ → List ℕ → Type 0

@@ -1,16 +1,28 @@
 -- What the words of the command line ask for.
-use Rattle.std.specs.Prelude.{◌⊎◌, ℕ, List, Contains, codes}
-use Rattle.command.specs.Options.{SaysLimits, SaysPlan}
+use Rattle.std.specs.Prelude.{◌≡◌, ◌⊎◌, ℕ, List, [], ◌++◌, Contains, codes, slice_index_or}
+use Rattle.command.specs.Options.{SaysLimits, SaysPlan, option_words}
 use Rattle.command.specs.declared.request.Request.{Request}
 use Rattle.command.specs.declared.request.Request.TheVariants.{Check, Run, Text}
 
--- a word asks for help
-abbrev pub AsksHelp : List (List ℕ) → Type 0
-AsksHelp words = Contains words (codes "help") ⊎ (Contains words (codes "--help") ⊎ Contains words (codes "-h"))
+-- the word begins with this text
+abbrev pub BeginsWith : List ℕ → List ℕ → Type 0
+BeginsWith front word = (rest : List ℕ) × (word ≡ front ++ rest)
 
--- a word asks for the version
+-- the first word, the empty one where there is none
+abbrev pub first_word : List (List ℕ) → List ℕ
+first_word words = slice_index_or words 0 []
+
+-- one of the words begins with this text
+abbrev pub ContainsFront : List (List ℕ) → List ℕ → Type 0
+ContainsFront words front = (word : List ℕ) × BeginsWith front word × Contains words word
+
+-- a word asks for help: the first is `help`, or one of those that may be options is `--help` or begins with `-h`
+abbrev pub AsksHelp : List (List ℕ) → Type 0
+AsksHelp words = (first_word words ≡ codes "help") ⊎ (Contains (option_words words) (codes "--help") ⊎ ContainsFront (option_words words) (codes "-h"))
+
+-- a word asks for the version: the first is `--version` or begins with `-V`
 abbrev pub AsksVersion : List (List ℕ) → Type 0
-AsksVersion words = Contains words (codes "--version") ⊎ Contains words (codes "-V")
+AsksVersion words = (first_word words ≡ codes "--version") ⊎ BeginsWith (codes "-V") (first_word words)
 
 -- the paths of a request are among the words, which say its numbers, and a text is given only where a word asks for one
 abbrev pub IsRequestOf : List (List ℕ) → Request → Type 0

@@ -14,6 +14,32 @@ pub const FRAMES_DEFAULT: &str = "1024";
 /// How many pages of memory a call has where no word says it.
 pub const PAGES_DEFAULT: &str = "256";
 
+/// What `gate check --help` ends with.
+const CHECK_EXAMPLE: &str = "\
+The verdict is one line. The first of these that holds is printed:
+
+    refused too-large                 more than 16777216 bytes
+    refused malformed                 the bytes spell no module, the insides of function bodies aside
+    refused rule K                    module rule K, from 2 to 13, is the least that is broken
+    refused body F malformed          the bytes of that body spell none
+    refused body F too-many-locals    the body declares more than 100000 locals, parameters aside
+    refused body F ill-typed at T     no body that begins with its tokens up to and with T has a type
+    accepted                          none of these: the module is valid
+
+F is the least function whose body is refused; imported functions count first. F and T count from 0. On
+the eight bytes of a module without sections, in `empty.wasm`, and on seven of them, in `short.wasm`,
+
+    gate check empty.wasm
+    gate check short.wasm
+
+print
+
+    accepted
+    refused malformed
+
+The status is 0 for a module that is accepted and 2 for one that is refused; 64 for words that are no
+command, 70 where a growth of memory was refused, and 74 where a file cannot be read or a write fails.";
+
 /// What `gate run --help` ends with.
 const RUN_EXAMPLE: &str = "\
 CALLS has one line a call: the name of an export, and then for each argument a tab and `i32:NUMBER` or
@@ -33,7 +59,10 @@ are reported as
     3 no-export
     total 4 values 2 traps 0 exhausted 0 refused 2 no-memory 0 fuel 2
 
-The status is 0 for a report, 2 for a module that is refused and 3 for calls that are.";
+A module that has an import, or floats anywhere, is judged but not run: its calls are `not-started`.
+
+The status is 0 for a report, 2 for a module that is refused and 3 for calls that are; 64 for words that
+are no command, 70 where a growth of memory was refused, and 74 where a file cannot be read or a write fails.";
 
 /// The whole command line.
 pub fn gate_command<'a>(alloc: Global) -> Result<Command<'a>, AllocError> {
@@ -56,6 +85,7 @@ fn check_command<'a>(alloc: Global) -> Result<Command<'a>, AllocError> {
     ]?;
     Command::new(alloc, "check")
         .about("Prints the verdict on a module: accepted, or its first refusal")
+        .after_long_help(CHECK_EXAMPLE)
         .args(words)
 }
 

@@ -7,6 +7,7 @@ mod matched;
 mod reading;
 mod request;
 mod said;
+mod words;
 
 pub use fault::{WordsFault, usage};
 pub use reading::read_words;

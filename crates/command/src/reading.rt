@@ -4,8 +4,10 @@ ghost use Rattle.command.specs.Requests.{AsksHelp, AsksVersion, IsRequestOf};
 
 use crate::commands::gate_command;
 use crate::fault::{WordsFault, usage};
-use crate::matched::{check_of, find_word, run_of};
+use crate::matched::{check_of, run_of};
 use crate::request::Request;
+use crate::said::option_words;
+use crate::words::{begins_with, contains_front, find_word, first_word};
 use clap::error::ErrorKind;
 use clap::{ArgMatches, Error};
 use std::alloc::Global;
@@ -38,20 +40,22 @@ fn request_of<'a>(
     }
 }
 
-// Whether a word asks for help.
+// Whether a word asks for help: `help` as the first one, or an option.
 fn asks_help(words: &[&str]) -> bool
     ensures { IsTrue result → AsksHelp (map (λ w. w.now) words.now) }
 {
-    find_word(words, "help").is_some()
-        || find_word(words, "--help").is_some()
-        || find_word(words, "-h").is_some()
+    let options = option_words(words);
+    first_word(words) == "help"
+        || find_word(options, "--help").is_some()
+        || contains_front(options, "-h")
 }
 
-// Whether a word asks for the version.
+// Whether the first word asks for the version.
 fn asks_version(words: &[&str]) -> bool
     ensures { IsTrue result → AsksVersion (map (λ w. w.now) words.now) }
 {
-    find_word(words, "--version").is_some() || find_word(words, "-V").is_some()
+    let first = first_word(words);
+    first == "--version" || begins_with(first, "-V")
 }
 
 // A text that is asked for, or a mistake in the words.

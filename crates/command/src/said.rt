@@ -1,19 +1,16 @@
 // What the words say of numbers.
-ghost use Rattle.std.specs.Prelude.{◌≡◌, ◌⊎◌, [], ◌++◌, IfSome, IsTrue, MatchOption, Some, codes, map, option_map};
+ghost use Rattle.std.specs.Prelude.{◌≡◌, ◌⊎◌, [], ◌++◌, IfSome, MatchOption, Some, codes, map, option_map};
 ghost use Rattle.command.specs.Options.{IsDecimal, LacksOption, SaysNumber, SaysText, option_words};
 
-/// Whether the words say this number of the option with this name and default.
-pub fn is_said(words: &[&str], name: &str, default: &str, number: u32) -> bool
-    ensures { IsTrue result → SaysNumber (map (λ w. w.now) words.now) name.now default.now number }
+/// The number that the words say of the option with this name and default. `None` where they say none.
+pub fn said_number(words: &[&str], name: &str, default: &str) -> Option<u32>
+    ensures { IfSome result (SaysNumber (map (λ w. w.now) words.now) name.now default.now) }
 {
-    match said_text(option_words(words), name, default) {
-        Some(text) => is_decimal(text, number),
-        None => false,
-    }
+    number_of(said_text(option_words(words), name, default)?)
 }
 
-// The words that may be options.
-fn option_words<'a>(words: &'a [&'a str]) -> &'a [&'a str]
+/// The words that may be options.
+pub fn option_words<'a>(words: &'a [&'a str]) -> &'a [&'a str]
     ensures { map (λ w. w.now) result.now ≡ option_words (map (λ w. w.now) words.now) }
 {
     for i in 0..words.len() {
@@ -54,12 +51,12 @@ fn after_option<'a>(word: &'a str, name: &str) -> Option<&'a str>
     word.strip_prefix("--")?.strip_prefix(name)
 }
 
-// Whether the text is this number.
-fn is_decimal(text: &str, number: u32) -> bool
-    ensures { IsTrue result → IsDecimal number text.now }
+// The number that a text is, where it fits 32 bits.
+fn number_of(text: &str) -> Option<u32>
+    ensures { IfSome result (λ n. IsDecimal n text.now) }
 {
-    match text.parse::<u32>() {
-        Ok(said) => said == number,
-        Err(_) => false,
+    match text.parse::<i64>() {
+        Ok(number) => u32::try_from(number).ok(),
+        Err(_) => None,
     }
 }
