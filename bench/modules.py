@@ -9,36 +9,12 @@ KIND   many   many functions of some 200 bytes of integer code
               can be reached
        labels one function of branch tables, each of half as many labels as bytes are left
 """
+import os
 import random
 import sys
 
-
-def unsigned(n):
-    out = bytearray()
-    while True:
-        out.append(n & 127 | (128 if n > 127 else 0))
-        n >>= 7
-        if not n:
-            return bytes(out)
-
-
-def signed(n):
-    out = bytearray()
-    while True:
-        b, n = n & 127, n >> 7
-        last = (n == 0 and not b & 64) or (n == -1 and b & 64)
-        out.append(b if last else b | 128)
-        if last:
-            return bytes(out)
-
-
-def vector(items):
-    return unsigned(len(items)) + b''.join(items)
-
-
-def section(number, contents):
-    return bytes([number]) + unsigned(len(contents)) + contents
-
+sys.path.insert(0, os.path.dirname(os.path.abspath(__file__)))
+from encoding import HEADER, function_type, section, signed, sized, unsigned, vector
 
 # Statements leave the operand stack as they found it. Every function is [i32 i32] -> [i32] with four locals more.
 LOCALS = 6
@@ -85,19 +61,19 @@ def body(r, size):
         parts.append(part)
         total += len(part)
     code = b'\x01\x04\x7F' + b''.join(parts) + value(r, 1) + b'\x0B'
-    return unsigned(len(code)) + code
+    return sized(code)
 
 
 def lists(size):
     count = size // 12
-    bodies = vector([unsigned(7) + b'\x00\x00' + b'\x10\x00' * 2 + b'\x0B'] * count)
-    return b'\0asm\1\0\0\0' + section(1, vector([b'\x60' + vector([b'\x7F'] * (size // 4)) + b'\x00'])) + section(3, vector([b'\0'] * count)) + section(10, bodies)
+    bodies = vector([sized(b'\x00\x00' + b'\x10\x00' * 2 + b'\x0B')] * count)
+    return HEADER + section(1, vector([function_type([b'\x7F'] * (size // 4))])) + section(3, vector([b'\0'] * count)) + section(10, bodies)
 
 
 def labels(size):
     table = b'\x02\x40\x41\x00\x0E' + vector([b'\x00'] * (size // 4)) + b'\x01' + b'\x0B'
     code = b'\x00' + table * 4 + b'\x0B'
-    return b'\0asm\1\0\0\0' + section(1, b'\x01\x60\x00\x00') + section(3, b'\x01\x00') + section(10, b'\x01' + unsigned(len(code)) + code)
+    return HEADER + section(1, b'\x01\x60\x00\x00') + section(3, b'\x01\x00') + section(10, b'\x01' + sized(code))
 
 
 def module(kind, size, seed):
@@ -115,7 +91,7 @@ def module(kind, size, seed):
         total += len(one) + 1
         if kind == 'one':
             break
-    return b'\0asm\1\0\0\0' + section(1, b'\x01\x60\x02\x7F\x7F\x01\x7F') + section(3, vector([b'\0'] * len(bodies))) + section(5, b'\x01\x00\x01') + section(7, b'\x01\x01f\x00\x00') + section(10, vector(bodies))
+    return HEADER + section(1, b'\x01\x60\x02\x7F\x7F\x01\x7F') + section(3, vector([b'\0'] * len(bodies))) + section(5, b'\x01\x00\x01') + section(7, b'\x01\x01f\x00\x00') + section(10, vector(bodies))
 
 
 if __name__ == '__main__':

@@ -19,6 +19,7 @@ import time
 here = os.path.dirname(os.path.abspath(__file__))
 sys.path.insert(0, here)
 import modules
+from encoding import HEADER, section, sized, signed, unsigned, vector
 
 PLANS = [('1', '1'), ('4', '16'), ('4', '1'), ('64', '7'), ('64', '65535')]
 HELD = [None, 256 << 20, 1 << 30]
@@ -30,13 +31,13 @@ def small_body(r, functions):
     def value(depth):
         pick = r.random()
         if depth == 0 or pick < 0.3:
-            return b'\x20' + bytes([r.randrange(3)]) if r.random() < 0.7 else b'\x41' + modules.signed(r.choice([0, 1, -1, 7, 65535, 65536, -2 ** 31, 2 ** 31 - 1]))
+            return b'\x20' + bytes([r.randrange(3)]) if r.random() < 0.7 else b'\x41' + signed(r.choice([0, 1, -1, 7, 65535, 65536, -2 ** 31, 2 ** 31 - 1]))
         if pick < 0.7:
             return value(depth - 1) + value(depth - 1) + bytes([r.choice(I32)])
         if pick < 0.8:
             return value(depth - 1) + r.choice([b'\x28\x02\x00', b'\x2D\x00\x00', b'\x2E\x01\x08'])
         if pick < 0.86:
-            return value(depth - 1) + b'\x10' + modules.unsigned(r.randrange(functions))
+            return value(depth - 1) + b'\x10' + unsigned(r.randrange(functions))
         if pick < 0.92:
             return value(depth - 1) + value(depth - 1) + b'\x11\x00\x00'
         if pick < 0.96:
@@ -50,7 +51,7 @@ def small_body(r, functions):
         if pick < 0.55:
             return value(1) + value(1) + r.choice([b'\x36\x02\x00', b'\x3A\x00\x04'])
         if pick < 0.65 and labels:
-            return value(1) + b'\x0D' + modules.unsigned(r.randrange(labels))
+            return value(1) + b'\x0D' + unsigned(r.randrange(labels))
         if pick < 0.75 and labels < 4:
             return b'\x02\x40' + b''.join(statement(labels + 1) for _ in range(r.randrange(1, 4))) + b'\x0B'
         if pick < 0.85 and labels < 4:
@@ -60,23 +61,23 @@ def small_body(r, functions):
         return value(1) + b'\x1A'
 
     code = b'\x01\x02\x7F' + b''.join(statement(0) for _ in range(r.randrange(1, 6))) + value(2) + b'\x0B'
-    return modules.unsigned(len(code)) + code
+    return sized(code)
 
 
 def small_module(r):
     count = r.randrange(1, 6)
-    table = modules.vector([modules.unsigned(r.randrange(count)) for _ in range(r.randrange(4))])
-    exports = modules.vector([b'\x01' + bytes([97 + k]) + b'\x00' + bytes([k]) for k in range(count)])
-    data = b'\x00\x41' + modules.signed(r.choice([0, 65530, 65536, 70000])) + b'\x0B' + modules.vector([bytes([r.randrange(256)]) for _ in range(r.randrange(8))])
-    parts = [modules.section(1, b'\x02\x60\x01\x7F\x01\x7F\x60\x00\x00'),
-             modules.section(3, modules.vector([b'\0'] * count)),
-             modules.section(4, b'\x01\x70\x00' + modules.unsigned(r.choice([0, 3, 8]))),
-             modules.section(5, b'\x01\x01\x01' + modules.unsigned(r.choice([1, 2, 40]))),
-             modules.section(7, exports),
-             modules.section(9, b'\x01\x00\x41\x00\x0B' + table),
-             modules.section(10, modules.vector([small_body(r, count) for _ in range(count)])),
-             modules.section(11, b'\x01' + data)]
-    return b'\0asm\1\0\0\0' + b''.join(parts)
+    table = vector([unsigned(r.randrange(count)) for _ in range(r.randrange(4))])
+    exports = vector([b'\x01' + bytes([97 + k]) + b'\x00' + bytes([k]) for k in range(count)])
+    data = b'\x00\x41' + signed(r.choice([0, 65530, 65536, 70000])) + b'\x0B' + vector([bytes([r.randrange(256)]) for _ in range(r.randrange(8))])
+    parts = [section(1, b'\x02\x60\x01\x7F\x01\x7F\x60\x00\x00'),
+             section(3, vector([b'\0'] * count)),
+             section(4, b'\x01\x70\x00' + unsigned(r.choice([0, 3, 8]))),
+             section(5, b'\x01\x01\x01' + unsigned(r.choice([1, 2, 40]))),
+             section(7, exports),
+             section(9, b'\x01\x00\x41\x00\x0B' + table),
+             section(10, vector([small_body(r, count) for _ in range(count)])),
+             section(11, b'\x01' + data)]
+    return HEADER + b''.join(parts)
 
 
 def changed(r, module):
@@ -104,7 +105,7 @@ def candidate(r):
         return modules.module(r.choice(['many', 'tiny', 'large', 'one']), r.choice([2_000, 40_000, 300_000]), r.randrange(2 ** 32))
     if pick < 0.95:
         return changed(r, modules.module(r.choice(['many', 'tiny', 'one']), r.choice([2_000, 40_000]), r.randrange(2 ** 32)))
-    return b'\0asm\1\0\0\0' + bytes(r.randrange(256) for _ in range(r.randrange(200)))
+    return HEADER + bytes(r.randrange(256) for _ in range(r.randrange(200)))
 
 
 def calls_of(r):

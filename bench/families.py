@@ -1,0 +1,346 @@
+#!/usr/bin/env python3
+"""usage: families.py NAME FORM BYTES SEED > MODULE    writes a module of that family: one that is made to cost much.
+
+A family has forms. In the form `accepted` the module is valid; in `refused` the last token of its longest body is ill typed,
+or else the last thing of its last section is wrong; `dead` stands before either where that code is not reached, and `open`
+for blocks of which none is ended. Indices, names and orders are at random, by the seed. `families.py` alone lists them all.
+"""
+import itertools
+import os
+import random
+import sys
+
+sys.path.insert(0, os.path.dirname(os.path.abspath(__file__)))
+from encoding import EMPTY, HEADER, function_type, section, signed, sized, unsigned, vector, whole
+
+I32, I64, F32, F64 = b'\x7F', b'\x7E', b'\x7D', b'\x7C'
+WRONG = b'\x42\x00\x45'
+ANYWHERE = ('accepted', 'refused', 'dead accepted', 'dead refused')
+DEAD = ('dead accepted', 'dead refused')
+SECTIONS = ('accepted', 'refused')
+
+
+def at_random(pieces, size, chance):
+    # About so many bytes of these pieces.
+    mean = sum(map(len, pieces)) / len(pieces)
+    return b''.join(chance.choices(pieces, k=max(1, int(size / mean))))
+
+
+def of_code(make):
+    """A family whose code, which `make` gives with the other arguments of `whole`, leaves the operands as it found them."""
+    def module(size, form, chance):
+        dead = form.startswith('dead')
+        code, others = make(size, dead, chance)
+        return whole((b'\x00' if dead else b'') + code + (WRONG if form.endswith('refused') else b''), **others)
+    return module
+
+
+def of_sections(make):
+    """A family whose sections and functions are given by `make`; where it is refused, a last function is added that is wrong."""
+    def module(size, form, chance):
+        parts = make(size, chance)
+        if form == 'refused':
+            parts['others'] = parts.get('others', []) + [(0, b'\x00' + WRONG + b'\x0B')]
+        return whole(b'', **parts)
+    return module
+
+
+def looks(places, dead):
+    # At locals at these places, every second of type i32 from the second on; in dead code no operand is wanted.
+    return [b'\x21' + unsigned(k) if dead else b'\x41\x00\x21' + unsigned(k) for k in places if dead or k % 2]
+
+
+def far_locals(size, dead, chance):
+    # Runs of one local of types in turn, of which those are looked at that no short list holds.
+    count = min(99_999, size // 8)
+    runs = vector([b'\x01' + (I32 if k % 2 else I64) for k in range(count)])
+    return at_random(looks(range(min(1_000, count // 2), count), dead), size - len(runs), chance), {'locals_of': runs}
+
+
+def among_empty_runs(most):
+    def make(size, dead, chance):
+        # The same, at most so many, at random places among runs of no local, which take half of the bytes.
+        places = size // 4
+        count = min(most, places // 2)
+        runs = [b'\x00' + chance.choice([I32, I64]) for _ in range(places)]
+        for k, place in enumerate(sorted(chance.sample(range(places), count))):
+            runs[place] = b'\x01' + (I32 if k % 2 else I64)
+        return at_random(looks(range(min(1_000, count // 2), count), dead), size // 2, chance), {'locals_of': vector(runs)}
+    return make
+
+
+def empty_runs(size, dead, chance):
+    runs = [b'\x00' + chance.choice([I32, I64]) for _ in range(size // 4)] + [b'\x01' + I32]
+    return looks([0], True)[0] * (size // 4) if dead else b'\x41\x00\x21\x00' * (size // 8), {'locals_of': vector(runs)}
+
+
+def open_blocks(size, form, chance):
+    # Blocks, loops and ifs, one in the other, and then their ends.
+    dead = b'\x00' if form.startswith('dead') else b''
+    unended = form.endswith('open')
+    begins = [b'\x02\x40', b'\x03\x40'] + ([] if unended else [b'\x41\x00\x04\x40'])
+    code = at_random(begins, size if unended else size * 8 // 11, chance)
+    count = code.count(b'\x40')
+    if unended:
+        return whole(dead + code)[:-1] + b'\x01'
+    return whole(dead + code + b'\x0B' * count + (WRONG if form.endswith('refused') else b''))
+
+
+def branches(size, dead, chance):
+    # To labels at random, out of many open blocks.
+    depth = min(100_000, size // 8)
+    pieces = [(b'\x0D' if dead else b'\x41\x00\x0D') + unsigned(k) for k in range(depth)]
+    code = b'\x02\x40' * depth + (b'\x00' if dead else b'') + at_random(pieces, size - 3 * depth, chance)
+    return code + b'\x0B' * depth, {}
+
+
+def branch_tables(size, dead, chance):
+    depth = min(10_000, size // 64)
+    labels = [unsigned(k) for k in range(depth)]
+    tables = []
+    while sum(map(len, tables)) < size - 3 * depth:
+        count = min(100_000, size // 16)
+        tables.append((b'' if dead else b'\x41\x00') + b'\x0E' + vector(chance.choices(labels, k=count)) + chance.choice(labels))
+    return b'\x02\x40' * depth + (b'\x00' if dead else b'') + b''.join(tables) + b'\x0B' * depth, {}
+
+
+def selects(size, dead, chance):
+    return b'\x1B' * size + b'\x1A', {}
+
+
+def seldom_tokens(size, dead, chance):
+    return at_random([b'\x1B', b'\x01', b'\x00', b'\x0F'], size, chance) + b'\x00', {}
+
+
+def drops(size, dead, chance):
+    return at_random([b'\x41\x00\x1A', b'\x42\x00\x1A', b'\x43\x00\x00\x00\x00\x1A'], size, chance), {}
+
+
+def globals_at_random(size, dead, chance):
+    count = size // 20
+    held = [chance.choice([I32 + b'\x01\x41\x00\x0B', I64 + b'\x01\x42\x00\x0B']) for _ in range(count)]
+    pieces = [b'\x24' + unsigned(k) if dead else b'\x23' + unsigned(k) + b'\x1A' for k in range(count)]
+    return at_random(pieces, size - 5 * count, chance), {'sections': {6: vector(held)}}
+
+
+def some_types(count, chance):
+    # Types of up to four parameters and no results, in dead code taken from nothing.
+    return [EMPTY] + [function_type(chance.choices([I32, I64, F32, F64], k=chance.randrange(5))) for _ in range(count - 1)]
+
+
+def calls_at_random(size, dead, chance):
+    count = size // 30
+    types = some_types(count, chance) if dead else [EMPTY] * count
+    pieces = [b'\x10' + unsigned(k) for k in range(count)]
+    return at_random(pieces, size // 2, chance), {'types': types, 'others': [(k, b'\x00\x0B') for k in range(1, count)]}
+
+
+def indirect_calls(size, dead, chance):
+    count = size // 16
+    types = some_types(count, chance) if dead else [EMPTY] * count
+    pieces = [(b'' if dead else b'\x41\x00') + b'\x11' + unsigned(k) + b'\x00' for k in range(count)]
+    return at_random(pieces, size // 2, chance), {'types': types, 'sections': {4: b'\x01\x70\x00\x01'}}
+
+
+def names(size, front, chance):
+    # Of a front that they share and four letters at random, in an order at random.
+    letters = b'abcdefghijklmnopqrstuvwxyzABCDEFGHIJKLMNOPQRSTUVWXYZ0123456789_.'
+    count = size // (len(front) + 7)
+    return [front + bytes(letters[number >> shift & 63] for shift in (18, 12, 6, 0)) for number in chance.sample(range(2 ** 24), count)]
+
+
+def exports(length):
+    def module(size, form, chance):
+        many = names(size, b'a' * length, chance)
+        many += [many[chance.randrange(len(many))]] if form == 'refused' else []
+        return whole(b'', sections={7: vector([sized(name) + b'\x00\x00' for name in many])})
+    return module
+
+
+def imports(size, chance):
+    return {'sections': {2: vector([sized(name) + sized(name) + b'\x03\x7F\x00' for name in names(size // 2, b'a', chance)])}}
+
+
+def types_of(lengths, results=False):
+    def make(size, chance):
+        # Lists of these lengths at random; of the longer ones all are different, but by chance.
+        types, total = [EMPTY], 0
+        while total < size:
+            many = chance.choices([I32, I64, F32, F64], k=chance.choice(lengths))
+            types.append(function_type([], many) if results else function_type(many))
+            total += len(types[-1])
+        return {'types': types}
+    return make
+
+
+def same_types(one):
+    return lambda size, chance: {'types': [EMPTY] + [one] * (size // len(one))}
+
+
+def bodies(body):
+    # Functions of this body; the module is refused where it spells none.
+    return lambda size, chance: {'others': [(0, body)] * (size // (len(body) + 2))}
+
+
+def element_segments(size, chance):
+    return {'sections': {4: b'\x01\x70\x00\x01', 9: vector([b'\x00\x41\x00\x0B\x00'] * (size // 5))}}
+
+
+def element_segments_of_one(size, chance):
+    count = size // 30
+    pieces = [b'\x00\x41\x00\x0B\x01' + unsigned(k) for k in range(count)]
+    segments = vector(chance.choices(pieces, k=size * 5 // 6 // 8))
+    return {'others': [(0, b'\x00\x0B')] * (count - 1), 'sections': {4: b'\x01\x70\x00\x01', 9: segments}}
+
+
+def data_segments(size, chance):
+    return {'sections': {5: b'\x01\x00\x01', 11: vector([b'\x00\x41\x00\x0B\x00'] * (size // 5))}}
+
+
+def custom_sections(size, form, chance):
+    return HEADER + at_random([b'\x00\x01\x00', b'\x00\x02\x01a', b'\x00\x03\x01ab'], size, chance) + (b'\x00' if form == 'refused' else b'')
+
+
+def of_lists(make):
+    """A family of functions that give or take the lists which `make` gives, with groups of their calls, in an order at random
+    and over and over, in code that is not reached."""
+    def module(size, form, chance):
+        lists, groups = make(size, chance)
+        groups = [b''.join(b'\x10' + unsigned(call) for call in group) for group in groups]
+        chance.shuffle(groups)
+        types = [EMPTY] + [function_type([], types) if gives else function_type(types) for gives, types in lists]
+        calls, room = [], max(size - sum(map(len, types)), size // 4)
+        for group in itertools.cycle(groups):
+            if room <= 0:
+                break
+            calls.append(group)
+            room -= len(group)
+        return whole(b'\x00' + b''.join(calls) + b'\x00' + (WRONG if form.endswith('refused') else b''), types=types,
+                     others=[(k, b'\x00\x00\x0B') for k in range(1, len(types))])
+    return module
+
+
+def long_list(of_parameters, code):
+    """Functions of a type of an eighth of the bytes as results, and as parameters too or not, and code of its calls or blocks."""
+    def make(size, dead, chance):
+        many = [chance.choice([I32, I64]) for _ in range(size // 8)]
+        types = [EMPTY, function_type(many if of_parameters else [], many)]
+        return code(size // 2) + b'\x00', {'types': types, 'others': [(1, b'\x00\x00\x0B')]}
+    return of_code(make)
+
+
+def ends_of_lists(size, chance):
+    # A list of an eighth of the bytes is given, and the same without its first type is taken.
+    many = [I32] * (size // 8)
+    return [(True, many), (False, many[1:])], [[1, 2]]
+
+
+def cuts_of_lists(size, chance):
+    # A list of a quarter of the bytes is given, cut in many places, and then its half is taken.
+    many = [I32, I64] * (size // 8)
+    few = [2 * k for k in range(1, 41)] + [82 * k for k in range(1, 41)]
+    lists = [(True, many), (False, many[:size // 16 * 2])] + [(False, many[:length]) for length in few]
+    return lists, [(1, 3 + k % 40, 43 + k // 40, 2) for k in range(1600)]
+
+
+def cuts_of_broken_lists(size, chance):
+    # The same with a list of 131,000 types that repeats but for its first, which the longest sample has in it, and more places.
+    length = min(131_000, size // 4)
+    many = [I64] + [I32] * (length - 1)
+    few = list(range(1, 101)) + [100 * k for k in range(1, 141)]
+    few = [min(k, length // 16) for k in few]
+    lists = [(True, many), (False, many[1:length * 11 // 13])] + [(False, many[1:k + 1]) for k in few]
+    return lists, [(1, 3 + k % 100, 103 + k // 100, 2) for k in range(14_000)]
+
+
+def lists_put_back(size, chance):
+    # A list that does not repeat is given, some of its last types are taken and given again, in 30,720 ways, and then the same
+    # list without its first type is taken.
+    most = min(1024, size // 2_000)
+    ends_of = [F64] * (32 + 32 * 32 + 30 * most)
+    many = [chance.choice([I32, I64]) for _ in range(size // 8 - len(ends_of))] + ends_of
+    few = [list(range(1, 33)), [32 * k for k in range(1, 33)], [most * k for k in range(1, 31)]]
+    lists, taken = [(True, [F32] + many), (False, many)], {}
+    for length in sorted({length for lengths in few for length in lengths}):
+        taken[length] = len(lists) + 1
+        lists += [(False, [F64] * length), (True, [F64] * length)]
+    calls = []
+    for k in range(32 * 32 * 30):
+        ends = [taken[few[0][k % 32]], taken[few[1][k // 32 % 32]], taken[few[2][k // 1024]]]
+        calls.append([1] + ends + [end + 1 for end in reversed(ends)] + [2])
+    return lists, calls
+
+
+def ends_of_many_lists(size, chance):
+    # Of 160 lists that end alike each is given, and the end of one of 160 others is taken: more pairs than are kept.
+    length = size // 640
+    many = [chance.choice([I32, I64]) for _ in range(length + 320)]
+    lists = [(True, many[k:]) for k in range(160)] + [(False, many[k:]) for k in range(160, 320)]
+    return lists, [(1 + k, 161 + other) for k in range(160) for other in range(160)]
+
+
+def cuts_of_patterns(size, chance):
+    # A list that repeats by 2,500 types is cut in up to 144 places, and then its half is taken.
+    pattern = [chance.choice([I32, I64]) for _ in range(min(2_500, size // 200))]
+    count = size // 8 // len(pattern)
+    few = [(k, 12 * j) for j in range(1, 13) for k in range(1, 13) if k + 12 * j <= count - count // 2] or [(1, 1)]
+    lists, taken = [(True, pattern * count), (False, pattern * (count // 2))], {}
+    for times in sorted({times for pair in few for times in pair}):
+        taken[times] = len(lists) + 1
+        lists.append((False, pattern * times))
+    return lists, [(1, taken[k], taken[j], 2) for k, j in few]
+
+
+# What each family is called, its forms, and what makes it of a size, a form and a source of chance.
+FAMILIES = {
+    'far locals': (ANYWHERE, of_code(far_locals)),
+    'far locals among empty runs': (ANYWHERE, of_code(among_empty_runs(99_999))),
+    '49,000 locals among empty runs': (ANYWHERE, of_code(among_empty_runs(49_000))),
+    'runs of no locals': (ANYWHERE, of_code(empty_runs)),
+    'open blocks': (ANYWHERE + ('open', 'dead open'), open_blocks),
+    'branches out of open blocks': (ANYWHERE, of_code(branches)),
+    'branch tables': (ANYWHERE, of_code(branch_tables)),
+    'select': (DEAD, of_code(selects)),
+    'seldom tokens': (DEAD, of_code(seldom_tokens)),
+    'constants dropped': (ANYWHERE, of_code(drops)),
+    'globals at random': (ANYWHERE, of_code(globals_at_random)),
+    'calls at random': (ANYWHERE, of_code(calls_at_random)),
+    'indirect calls at random': (ANYWHERE, of_code(indirect_calls)),
+    'exports, short names': (SECTIONS, exports(1)),
+    'exports, long fronts': (SECTIONS, exports(56)),
+    'imports': (SECTIONS, of_sections(imports)),
+    'types of 9 to 16 parameters': (SECTIONS, of_sections(types_of(range(9, 17)))),
+    'types of 9 to 16 results': (SECTIONS, of_sections(types_of(range(9, 17), True))),
+    'types of 1 to 3 parameters': (SECTIONS, of_sections(types_of(range(1, 4)))),
+    'types of one parameter': (SECTIONS, of_sections(same_types(function_type([I32])))),
+    'types of nothing': (SECTIONS, of_sections(same_types(EMPTY))),
+    'bodies of no bytes': (('refused',), of_sections(bodies(b''))),
+    'functions of two bytes': (SECTIONS, of_sections(bodies(b'\x00\x0B'))),
+    'element segments': (SECTIONS, of_sections(element_segments)),
+    'segments of a function': (SECTIONS, of_sections(element_segments_of_one)),
+    'data segments': (SECTIONS, of_sections(data_segments)),
+    'custom sections': (SECTIONS, custom_sections),
+    'calls of long results': (DEAD, long_list(False, lambda n: b'\x10\x01' * (n // 2))),
+    'calls of long lists': (DEAD, long_list(True, lambda n: b'\x10\x01' * (n // 2))),
+    'blocks of long lists': (DEAD, long_list(True, lambda n: b'\x02\x01\x0B' * (n // 3))),
+    'branches over long lists': (DEAD, long_list(True, lambda n: b'\x02\x40\x00\x02\x01' + b'\x41\x00\x0D\x00' * (n // 4) + b'\x0B\x00\x0B')),
+    'ends of long lists': (DEAD, of_lists(ends_of_lists)),
+    'long lists cut anywhere': (DEAD, of_lists(cuts_of_lists)),
+    'broken lists cut anywhere': (DEAD, of_lists(cuts_of_broken_lists)),
+    'patterns cut anywhere': (DEAD, of_lists(cuts_of_patterns)),
+    'long lists put back': (DEAD, of_lists(lists_put_back)),
+    'ends of many lists': (DEAD, of_lists(ends_of_many_lists)),
+}
+
+
+def module_of(name, form, size, seed):
+    forms, make = FAMILIES[name]
+    assert form in forms, f'{name} has the forms {forms}'
+    return make(size, form, random.Random(seed))
+
+
+if __name__ == '__main__':
+    if len(sys.argv) == 5:
+        sys.stdout.buffer.write(module_of(sys.argv[1], sys.argv[2], int(sys.argv[3]), int(sys.argv[4])))
+    else:
+        sys.exit('\n'.join([__doc__] + [f'{name}: {", ".join(forms)}' for name, (forms, _) in FAMILIES.items()]))
