@@ -4,8 +4,9 @@ use Rattle.wsyntax.specs.Modules.{ModuleShape, tokens_of}
 use Rattle.wsyntax.specs.Binary.Shell.{module_limit}
 use Rattle.checked.specs.declared.body.CheckedBody.{CheckedBody}
 
--- 5.1.3 each segment and each token takes a byte at least
+-- 5.1.3 each function type, each segment and each token takes a byte at least
 pub record IsSmall (m : ModuleShape) (all : List CheckedBody) : Type 0 where
+  pub types : length m.types < 2 ^ 32
   pub elements : length m.elements < 2 ^ 32
   pub segments : length m.segments < 2 ^ 32
   pub tokens : (f : ℕ) (b : CheckedBody) → slice_get all f ≡ Some b → length (tokens_of b.body.code) ≤ module_limit

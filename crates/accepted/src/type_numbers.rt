@@ -1,4 +1,4 @@
-ghost use Rattle.std.specs.Prelude.{◌≡◌, IfOk, map};
+ghost use Rattle.std.specs.Prelude.{◌≡◌, ◌<◌, ◌^◌, IfOk, length, map};
 ghost use Rattle.wsyntax.specs.FuncTypes.{func_type_of};
 ghost use Rattle.accepted.specs.TypeNumbers.{code_of, key_of, Numbers, AreTypeNumbers};
 
@@ -54,6 +54,7 @@ fn number_of(
 /// Of each type a number, equal for equal types alone. The time is near linear in the length of the
 /// types, whatever they are.
 pub(crate) fn type_numbers(alloc: Global, types: &FuncTypes) -> Result<Vec<u32>, AllocError>
+    requires { length types.now < 2 ^ 32 }
     ensures { IfOk result (λ v. AreTypeNumbers types.now v.items) }
 {
     let mut first = BTreeMap::new(alloc);
@@ -63,10 +64,7 @@ pub(crate) fn type_numbers(alloc: Global, types: &FuncTypes) -> Result<Vec<u32>,
             unreachable!()
         };
         let key = key_of(alloc, of_type)?;
-        let Ok(next) = u32::try_from(index) else {
-            return Err(AllocError);
-        };
-        numbers.push(number_of(&mut first, key, next)?)?;
+        numbers.push(number_of(&mut first, key, index as u32)?)?;
     }
     Ok(numbers)
 }

@@ -1,11 +1,11 @@
--- How many imports, bodies and segments a module of so many bytes has, and how long its bodies are: each takes a byte at least.
+-- How many function types, imports, bodies and segments a module of so many bytes has, and how long its bodies are: each takes a byte at least.
 use Rattle.std.proofs.Common.{◌≡◌, ℕ, zero, suc, ◌+◌, ◌≤◌, List, [], ◌∷◌, ◌++◌, length, Option, Some, None, ap, subst, ◌∙◌, arith}
 use Rattle.std.specs.Prelude.{slice_get, filter_map}
 use Rattle.std.specs.List.{cons_option}
 use Rattle.std.proofs.lemmas.List.{length-append}
 use Rattle.wnum.specs.Number.{SpellsUnsigned}
 use Rattle.wsyntax.specs.Modules.{ModuleShape}
-use Rattle.wsyntax.specs.Binary.Production.{Production, SpellsAll}
+use Rattle.wsyntax.specs.Binary.Production.{Production, SpellsAll, byte, exactly}
 use Rattle.wsyntax.specs.Binary.Types.{func_type, limits, table_type}
 use Rattle.wsyntax.specs.Binary.Values.{u32, vector, blob, name}
 use Rattle.wsyntax.specs.Binary.Sections.{an_import, global, an_export, element, data_segment, SectionShape, Custom, Types, Imports, Functions, Tables, Memories, Globals, Exports, Start, Elements, Bodies, Segments, filling, contents_of, section, SectionKind, CustomSection, TypeSection, ImportSection, FunctionSection, TableSection, MemorySection, GlobalSection, ExportSection, StartSection, ElementSection, CodeSection, DataSection}
@@ -36,6 +36,16 @@ blob_fills bytes a s = front_fills u32 (number_fills 32) bytes s.0 s.1 s.2 s.3 s
 name_fills : Fills name
 unfolding name
 name_fills bytes a s = front_fills blob blob_fills bytes s.0 s.1 s.2 s.3 s.4
+
+byte_fills : Fills byte
+byte_fills bytes b s = omega (arith, ap length s)
+
+exactly_fills : (b : ℕ) → Fills (exactly b)
+exactly_fills b bytes a s = front_fills byte byte_fills bytes s.0 s.1 s.2 s.3 s.4
+
+func_type_fills : Fills func_type
+unfolding func_type
+func_type_fills bytes a s = front_fills (exactly 0x60) (exactly_fills 0x60) bytes s.0 s.1 s.2 s.3 s.4
 
 an_import_fills : Fills an_import
 unfolding an_import
@@ -89,10 +99,10 @@ bodies_weigh bytes values s =
     let e : length bytes ≡ length s.0 + length s.1 = ap length s.3 ∙ length-append s.0 s.1 in
     omega arith
 
--- the imports, the bodies and the segments of a section
+-- the function types, the imports, the bodies and the segments of a section
 abbrev held : SectionShape → ℕ
 held Custom = 0
-held (Types v) = 0
+held (Types v) = length v
 held (Imports v) = length v
 held (Functions v) = 0
 held (Tables v) = 0
@@ -109,7 +119,7 @@ filling_holds s p made h bytes shape t = subst (λ (x : SectionShape). held x �
 
 contents_hold : (k : SectionKind) (s bytes : List ℕ) (shape : SectionShape) → (contents_of k s).spells bytes shape → held shape ≤ length s
 contents_hold CustomSection s bytes shape t = subst (λ (x : SectionShape). held x ≤ length s) (some_is Custom shape t.5.1) (omega arith)
-contents_hold TypeSection s bytes shape t = filling_holds s (vector func_type) Types (λ v h. omega arith) bytes shape t
+contents_hold TypeSection s bytes shape t = filling_holds s (vector func_type) Types (λ v h. vector_fills func_type func_type_fills s v h) bytes shape t
 contents_hold ImportSection s bytes shape t = filling_holds s (vector an_import) Imports (λ v h. vector_fills an_import an_import_fills s v h) bytes shape t
 contents_hold FunctionSection s bytes shape t = filling_holds s (vector u32) Functions (λ v h. omega arith) bytes shape t
 contents_hold TableSection s bytes shape t = filling_holds s (vector table_type) Tables (λ v h. omega arith) bytes shape t
@@ -139,9 +149,9 @@ section_holds bytes shape t =
     let f : length t.1 ≡ length u.0 + length u.1 = ap length u.3 ∙ length-append u.0 u.1 in
     omega arith
 
--- the imports, the bodies and the segments of a module
+-- the function types, the imports, the bodies and the segments of a module
 abbrev total : ModuleShape → ℕ
-total m = length m.imports + weight m.bodies + length m.elements + length m.segments
+total m = length m.types + length m.imports + weight m.bodies + length m.elements + length m.segments
 
 put_holds : (m : ModuleShape) (s : SectionShape) → total (put m s) ≤ total m + held s
 put_holds m Custom = omega arith
@@ -206,6 +216,13 @@ functions_fit bytes m s =
     let all : total m ≤ length bytes = shell_holds bytes m s.shell in
     let imports : length (imported_functions m) ≤ length m.imports = filtered _ m.imports in
     let bodies : length m.bodies ≤ weight m.bodies = weight_counts m.bodies in
+    let small : length bytes ≤ module_limit = s.small in
+    omega arith
+
+-- its function types
+pub types_fit : (bytes : List ℕ) (m : ModuleShape) → IsModule bytes m → length m.types ≤ module_limit
+types_fit bytes m s =
+    let all : total m ≤ length bytes = shell_holds bytes m s.shell in
     let small : length bytes ≤ module_limit = s.small in
     omega arith
 

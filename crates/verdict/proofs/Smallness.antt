@@ -8,7 +8,7 @@ use Rattle.wsyntax.specs.Validation.Verdict.{IsModule}
 use Rattle.checked.specs.declared.body.CheckedBody.{CheckedBody}
 use Rattle.accepted.specs.Judgement.{IsJudged}
 use Rattle.accepted.specs.Small.{IsSmall}
-use Rattle.verdict.proofs.Sizes.{segments_fit, body_fits}
+use Rattle.verdict.proofs.Sizes.{types_fit, segments_fit, body_fits}
 use Rattle.verdict.proofs.TokenCounts.{tokens_fit}
 
 few_tokens : (bytes : List ℕ) (m : ModuleShape) (x : IndexedContext) (all : List CheckedBody) → IsModule bytes m → IsJudged m x all → (f : ℕ) (b : CheckedBody) → slice_get all f ≡ Some b → length (tokens_of b.body.code) ≤ module_limit
@@ -20,5 +20,6 @@ few_tokens bytes m x all whole judged f b e =
 
 pub is_small : (bytes : List ℕ) (m : ModuleShape) (x : IndexedContext) (all : List CheckedBody) → IsModule bytes m → IsJudged m x all → IsSmall m all
 is_small bytes m x all whole judged =
+    let types : length m.types ≤ module_limit = types_fit bytes m whole in
     let few : length m.elements + length m.segments ≤ module_limit = segments_fit bytes m whole in
-    record { elements = omega arith; segments = omega arith; tokens = few_tokens bytes m x all whole judged }
+    record { types = omega arith; elements = omega arith; segments = omega arith; tokens = few_tokens bytes m x all whole judged }

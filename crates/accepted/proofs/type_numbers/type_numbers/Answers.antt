@@ -13,7 +13,7 @@ loop-index-preserved c =
     let n = c.in_ok-number_of.field-0 in
     let t = func_type_of c.in-Some.of_type in
     let here : slice_get c.args.types.now i ≡ Some t = sym c.in-Some.ensures.found in
-    let step : Numbers old new (key_of t) i n = subst (λ (k : List ℕ). Numbers old new k i n) c.in_ok-key.ensures (subst (λ (j : ℕ). Numbers old new c.in_ok-key.key.items j n) c.in-Ok.ensures.1 c.in_ok-number_of.ensures) in
+    let step : Numbers old new (key_of t) i n = subst (λ (k : List ℕ). Numbers old new k i n) c.in_ok-key.ensures c.in_ok-number_of.ensures in
     subst (λ (ns : List ℕ). AreNumbered c.args.types.now (i + 1) new ns) (sym c.in_ok-push.ensures.items)
     (numbered_more c.args.types.now i old new c.loop-index.numbers.items t n c.loop-index.invariant here step)
 
