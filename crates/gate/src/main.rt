@@ -11,6 +11,7 @@ mod reading;
 #[cfg(test)]
 mod tests;
 
+pub use files::{ReadFault, Source};
 use std::process::ExitCode;
 
 fn main(rt: HostRuntime) -> ExitCode {

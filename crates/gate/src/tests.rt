@@ -113,7 +113,7 @@ fn status_of<R: Threads + Wait + Sync>(
 
 #[test]
 fn help_goes_to_standard_output(rt: HostRuntime) {
-    let asked: [&[&str]; 8] = [
+    let asked: [&[&str]; 16] = [
         &["--help"],
         &["-h"],
         &["help"],
@@ -122,6 +122,14 @@ fn help_goes_to_standard_output(rt: HostRuntime) {
         &["help", "run"],
         &["--version"],
         &["-V"],
+        &["-hV"],
+        &["-Vh"],
+        &["-hx"],
+        &["check", "-hV", "x.wasm"],
+        &["check", "x.wasm", "-h"],
+        &["check", "-h", "--workers=9999"],
+        &["check", "--piece=1", "--help", "y"],
+        &["run", "help", "--help"],
     ];
     for words in asked {
         let (mut out, mut err) = (Screen::wide(rt.alloc()), Screen::wide(rt.alloc()));
@@ -132,7 +140,7 @@ fn help_goes_to_standard_output(rt: HostRuntime) {
 
 #[test]
 fn words_that_are_no_command(rt: HostRuntime) {
-    let wrong: [&[&str]; 20] = [
+    let wrong: [&[&str]; 33] = [
         &[],
         &["judge"],
         &["check"],
@@ -153,6 +161,19 @@ fn words_that_are_no_command(rt: HostRuntime) {
         &["check", "x.wasm", "--piece", "0"],
         &["check", "x.wasm", "--piece", "65536"],
         &["check", "x.wasm", "--piece", "-1"],
+        &["run", "x.wasm", "x.calls", "--fuel=-1"],
+        &["run", "x.wasm", "x.calls", "--fuel", "-0"],
+        &["run", "x.wasm", "x.calls", "--frames=-0"],
+        &["check", "--version"],
+        &["check", "-Vh", "x.wasm"],
+        &["check", "x.wasm", "help"],
+        &["check", "--workers=9999", "--help"],
+        &["run", "x.wasm", "--fuel", "-h"],
+        &["check", "x.wasm", "y.wasm", "--help"],
+        &["help", "x.wasm"],
+        &["--help=run"],
+        &["--", "--help"],
+        &["--", "help"],
     ];
     for words in wrong {
         let (mut out, mut err) = (Screen::wide(rt.alloc()), Screen::wide(rt.alloc()));
@@ -176,7 +197,7 @@ fn the_version_goes_to_standard_output(rt: HostRuntime) {
 
 #[test]
 fn a_file_that_cannot_be_read(rt: HostRuntime) {
-    let asked: [(&[&str], &[u8]); 5] = [
+    let asked: [(&[&str], &[u8]); 7] = [
         (&["check", "y.wasm"], b"gate: cannot read y.wasm\n"),
         (&["run", "y.wasm", "x.calls"], b"gate: cannot read y.wasm\n"),
         (&["run", "y.wasm", "y.calls"], b"gate: cannot read y.wasm\n"),
@@ -188,6 +209,8 @@ fn a_file_that_cannot_be_read(rt: HostRuntime) {
             &["run", "--", "--fuel.wasm", "x.calls"],
             b"gate: cannot read --fuel.wasm\n",
         ),
+        (&["check", "--", "-h"], b"gate: cannot read -h\n"),
+        (&["run", "help", "x.calls"], b"gate: cannot read help\n"),
     ];
     // The second module would be refused.
     for module in [&HEADER, &HEADER[..7]] {
@@ -252,4 +275,38 @@ fn a_write_or_flush_that_fails(rt: HostRuntime) -> Result<(), Fail> {
         assert_eq!(rt; err.shown.as_slice(), b"gate: write failed\n".as_slice());
     }
     Ok(())
+}
+
+// An answer of each kind is written whole before its flush fails.
+#[test]
+fn a_flush_that_fails_after_an_answer(rt: HostRuntime) {
+    let check: &[&str] = &["check", "x.wasm"];
+    let calls: &[&str] = &["run", "x.wasm", "x.calls"];
+    let answers: [(&[&str], &[u8], &[u8], &[u8], u8); 5] = [
+        (check, &HEADER, b"", b"accepted\n", 0),
+        (check, &HEADER[..7], b"", b"refused malformed\n", 2),
+        (calls, &HEADER[..7], b"", b"refused malformed\n", 2),
+        (calls, &HEADER, b"f", b"accepted\ncalls line 1 refused\n", 3),
+        (
+            calls,
+            &HEADER,
+            b"f\n",
+            b"0 no-export\ntotal 1 values 0 traps 0 exhausted 0 refused 1 no-memory 0 fuel 0\n",
+            0,
+        ),
+    ];
+    for (words, module, text, answer, status) in answers {
+        for (flushes, ends, told) in [
+            (true, status, b"".as_slice()),
+            (false, 74, b"gate: write failed\n".as_slice()),
+        ] {
+            let mut source = Held::new(module, text);
+            let mut out = Screen::new(rt.alloc(), 100_000, 100_000, flushes);
+            let mut err = Screen::wide(rt.alloc());
+            let ended = run(&rt, rt.alloc(), words, &mut source, &mut out, &mut err);
+            assert_eq!(rt; ended, ends);
+            assert_eq!(rt; out.shown.as_slice(), answer);
+            assert_eq!(rt; err.shown.as_slice(), told);
+        }
+    }
 }

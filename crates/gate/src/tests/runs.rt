@@ -21,7 +21,7 @@ type Row = (
 );
 
 // Sums, fuel and frames.
-const PLAIN: [Row; 11] = [
+const PLAIN: [Row; 12] = [
     (
         ADDS,
         &[],
@@ -60,6 +60,13 @@ const PLAIN: [Row; 11] = [
     (
         LOOPS,
         &["--fuel", "0"],
+        "f\n",
+        "0 out-of-fuel fuel 0\ntotal 1 values 0 traps 0 exhausted 1 refused 0 no-memory 0 fuel 0\n",
+        0,
+    ),
+    (
+        LOOPS,
+        &["--fuel=-0", "--pages=-00"],
         "f\n",
         "0 out-of-fuel fuel 0\ntotal 1 values 0 traps 0 exhausted 1 refused 0 no-memory 0 fuel 0\n",
         0,
