@@ -113,7 +113,7 @@ def check(words, path):
 
 def run_module(code, pages=0, locals_of=b'\x00', data=None, table=0):
     # One function `f`, with what is named.
-    sections = {7: b'\x01\x01f\x00\x00'}
+    sections = {}
     if table:
         sections[4] = b'\x01\x70\x00' + unsigned(table)
     if pages:

@@ -43,9 +43,10 @@ def function_type(parameters, results=()):
 
 
 def whole(code, locals_of=b'\x00', types=(EMPTY,), others=(), sections=None):
-    """A module whose first function, of the first type, has this `code`, to which the last `end` is added. `others` are pairs
-    of a type's index and a body without its size; `sections` has the contents of further sections by their numbers."""
+    """A module whose first function, of the first type, has this `code`, to which the last `end` is added, and the name `f`.
+    `others` are pairs of a type's index and a body without its size; `sections` has the contents of other sections by their
+    numbers."""
     parts = {1: vector(types), 3: vector([b'\0'] + [unsigned(index) for index, _ in others]),
-             10: vector([sized(locals_of + code + b'\x0B')] + [sized(body) for _, body in others])}
+             7: b'\x01\x01f\x00\x00', 10: vector([sized(locals_of + code + b'\x0B')] + [sized(body) for _, body in others])}
     parts.update(sections or {})
     return HEADER + b''.join(section(number, parts[number]) for number in sorted(parts))

@@ -198,7 +198,8 @@ def data_segments(size, chance):
 
 
 def custom_sections(size, form, chance):
-    return HEADER + at_random([b'\x00\x01\x00', b'\x00\x02\x01a', b'\x00\x03\x01ab'], size, chance) + (b'\x00' if form == 'refused' else b'')
+    sections = at_random([b'\x00\x01\x00', b'\x00\x02\x01a', b'\x00\x03\x01ab'], size, chance)
+    return HEADER + sections + (b'\x00' if form == 'refused' else b'')
 
 
 def of_lists(make):
@@ -227,6 +228,10 @@ def long_list(of_parameters, code):
         types = [EMPTY, function_type(many if of_parameters else [], many)]
         return code(size // 2) + b'\x00', {'types': types, 'others': [(1, b'\x00\x00\x0B')]}
     return of_code(make)
+
+
+def branches_in_a_block(size):
+    return b'\x02\x40\x00\x02\x01' + b'\x41\x00\x0D\x00' * (size // 4) + b'\x0B\x00\x0B'
 
 
 def ends_of_lists(size, chance):
@@ -323,7 +328,7 @@ FAMILIES = {
     'calls of long results': (DEAD, long_list(False, lambda n: b'\x10\x01' * (n // 2))),
     'calls of long lists': (DEAD, long_list(True, lambda n: b'\x10\x01' * (n // 2))),
     'blocks of long lists': (DEAD, long_list(True, lambda n: b'\x02\x01\x0B' * (n // 3))),
-    'branches over long lists': (DEAD, long_list(True, lambda n: b'\x02\x40\x00\x02\x01' + b'\x41\x00\x0D\x00' * (n // 4) + b'\x0B\x00\x0B')),
+    'branches over long lists': (DEAD, long_list(True, branches_in_a_block)),
     'ends of long lists': (DEAD, of_lists(ends_of_lists)),
     'long lists cut anywhere': (DEAD, of_lists(cuts_of_lists)),
     'broken lists cut anywhere': (DEAD, of_lists(cuts_of_broken_lists)),

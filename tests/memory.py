@@ -1,27 +1,51 @@
 #!/usr/bin/env python3
-"""usage: memory.py GATE    refuses each request for memory in turn while GATE judges and runs some rows of the tables, and
-judges a module of many open blocks; then has it judge a million of them in little memory, which no contract promises.
+"""usage: memory.py GATE    what GATE does where memory is refused, where it is not, and how much it asks for.
 
-Each check must end in want of memory, with nothing on standard output, or with the row's line. Each run must end the same
-way, or with the row's report in which calls that were run may end in no-memory, the total counted anew. It stops where 25
-runs in a row ended as if no request had been refused: then the program asks no more. A module none of whose requests was
-refused, and one that asks more than LIMIT times, count as failures.
+refused    Each request for memory is refused in turn while some rows of the tables, and many open blocks, are judged and run.
+           A check must end in want of memory, with nothing on standard output, or with the row's line; a run the same way, or
+           with the row's report in which calls that were run may end in `no-memory`, the total counted anew. It stops where 25
+           runs in a row ended as if no request had been refused: then the program asks no more. A module none of whose
+           requests was refused, and one that asks more than MOST_REQUESTS times, count as failures. Of one row a request is
+           found whose want ends its first call alone.
+held       A million open blocks are judged in little memory, which no contract promises; the calls of functions whose entry
+           wants 34 GB end in `no-memory`, each in its own line.
+granted    No request is refused while all modules of the tables, of counts.py and of bench/families.py are judged and run, by
+           one worker and by four: nothing may be out of memory, and verdicts are those of the tables. What the program asked
+           for before any call, at once and together, is at most some times the module's length: nothing is asked for by a
+           count that the bytes do not fill.
 """
 import os
 import re
 import resource
+import struct
 import subprocess
 import sys
 import tempfile
 
+import counts
 import rows
+from encoding import EMPTY, function_type, unsigned, vector, whole
+from families import FAMILIES, module_of
 
 CHECKED = ['add', 'bodies 3 and 900 of 1,000 ill typed', 'memory, loads and division', 'call through the table', 'float constant']
-RAN = ['the sum passes the greatest i32', 'a store that no other call sees, and divisions', 'calls through a table', 'growth up to the declared maximum']
-LIMIT = 5000
+RAN = ['the sum passes the greatest i32', 'a store that no other call sees, and divisions', 'calls through a table',
+       'growth up to the declared maximum']
+# The report of the second of these where the first call alone meets want of memory: the load of the second sees no store either way.
+FIRST_CALL = ('0 no-memory\n1 values i32:0 fuel 1\n2 trap integer-overflow fuel 1\n3 trap divide-by-zero fuel 1\n4 values i32:-3 fuel 1\n'
+              '5 bad-arguments\n6 no-export\ntotal 7 values 2 traps 2 exhausted 0 refused 2 no-memory 1 fuel 4\n')
+MOST_REQUESTS = 5000
 DEPTH = 3000
 # In so many megabytes of addresses a million open blocks fit where they are packed (20 do), and not else (40 do).
 ROOM = 32
+# What may be asked for at once and together, in lengths of the module, and beside: the worst are bodies of no bytes (26 and 49)
+# and, for runs, functions of two bytes (75 and 390), since each body has a record.
+LENGTHS = {'check': (48, 96), 'run': (128, 640)}
+BESIDE = 512 << 10
+SIZE = 100_000
+# The entry of `f` asks for room for all operands of its body, which are many times its length: gigabytes, which may be refused.
+HIGH_ENTRIES = ['calls of long results']
+# The names of exports in the tables.
+NAMES = b'f\ng\ns\nl\nd\na\nb\nu\nadd\n'
 
 
 def total_of(lines):
@@ -50,46 +74,46 @@ def may_report(wanted, got):
                for n, (line, other) in enumerate(zip(lines, others)))
 
 
-class Sweep:
-    def __init__(self, gate, folder):
+class Gate:
+    """The program with `refuse_memory.c` before it, and how often it did right."""
+
+    def __init__(self, program, folder):
         here = os.path.dirname(os.path.abspath(__file__))
-        self.gate, self.library = gate, os.path.join(folder, 'refuse.so')
-        subprocess.run(['cc', '-O1', '-shared', '-fPIC', '-o', self.library, os.path.join(here, 'refuse_memory.c'), '-ldl'], check=True)
+        self.program, self.library, self.asked = program, os.path.join(folder, 'refuse.so'), os.path.join(folder, 'asked')
+        self.module, self.calls = os.path.join(folder, 'module.wasm'), os.path.join(folder, 'calls')
+        source = os.path.join(here, 'refuse_memory.c')
+        subprocess.run(['cc', '-O1', '-shared', '-fPIC', '-o', self.library, source, '-ldl'], check=True)
         self.passed = self.failed = self.refusals = 0
 
-    def fail(self, text):
-        self.failed += 1
-        print(text)
+    def expect(self, holds, name, got):
+        self.passed, self.failed = self.passed + bool(holds), self.failed + (not holds)
+        if not holds:
+            print(f'{name}: {str(got)[:400]}')
+
+    def run(self, words, megabytes=None, **named):
+        # What it prints, its status, and what stands on standard error.
+        limit = megabytes and megabytes << 20
+        loaded = {**os.environ, 'LD_PRELOAD': self.library, **named} if named else None
+        ran = subprocess.run([self.program] + words, capture_output=True, timeout=120, env=loaded,
+                             preexec_fn=limit and (lambda: resource.setrlimit(resource.RLIMIT_AS, (limit, limit))))
+        return ran.stdout.decode(), ran.returncode, ran.stderr
 
     def refuse_each(self, name, words, wanted, status, is_good):
-        # Refuses the first request, then the second, and so on.
-        number, whole, refused = 1, 0, 0
-        while whole < 25 and number < LIMIT:
-            ran = subprocess.run([self.gate] + words, capture_output=True, timeout=60,
-                                 env={**os.environ, 'LD_PRELOAD': self.library, 'REFUSED': str(number)})
-            text = ran.stdout.decode()
-            if (ran.returncode, text, ran.stderr) == (status, wanted, b''):
-                self.passed, whole = self.passed + 1, whole + 1
-            elif (ran.returncode, text, ran.stderr) == (70, '', b'gate: no memory\n') \
-                    or (ran.returncode == status and ran.stderr == b'' and is_good(wanted, text)):
-                self.passed, refused, whole = self.passed + 1, refused + 1, 0
-            else:
-                self.fail(f'{name}, {words[0]}, request {number}: {ran.returncode}, {text[:200]!r}, {ran.stderr[:200]!r}')
-                whole = 0
+        # Refuses the first request, then the second, and so on. Gives all that was printed.
+        number, whole, refused, printed = 1, 0, 0, set()
+        while whole < 25 and number < MOST_REQUESTS:
+            got = text, ended, error = self.run(words, REFUSED=str(number))
+            printed.add(text)
+            is_whole = got == (wanted, status, b'')
+            is_short = got == ('', 70, b'gate: no memory\n') or ended == status and error == b'' and is_good(wanted, text)
+            self.expect(is_whole or is_short, f'{name}, {words[0]}, request {number}', got)
+            whole = whole + 1 if is_whole else 0
+            refused += is_short and not is_whole
             number += 1
         self.refusals += refused
-        if not refused or number >= LIMIT:
-            self.fail(f'{name}: {refused} requests refused, {number} tried')
-
-
-    def judge_within(self, name, module, megabytes):
-        limit = megabytes << 20
-        ran = subprocess.run([self.gate, 'check', module, '--workers', '1'], capture_output=True, timeout=60,
-                             preexec_fn=lambda: resource.setrlimit(resource.RLIMIT_AS, (limit, limit)))
-        if (ran.returncode, ran.stdout, ran.stderr) == (0, b'accepted\n', b''):
-            self.passed += 1
-        else:
-            self.fail(f'{name}, {megabytes} MB: {ran.returncode}, {ran.stdout!r}, {ran.stderr!r}')
+        if not refused or number >= MOST_REQUESTS:
+            self.expect(False, name, f'{refused} requests refused, {number} tried')
+        return printed
 
 
 def named(table, names):
@@ -97,43 +121,93 @@ def named(table, names):
     return [found[name] for name in names]
 
 
-def leb(number):
-    return bytes([number]) if number < 128 else bytes([number % 128 + 128]) + leb(number // 128)
-
-
-def one_body(code):
-    # A module of one function `[] -> []` with no locals and this body.
-    body = leb(len(code) + 1) + b'\x00' + code
-    return b'\0asm\1\0\0\0\x01\x04\x01\x60\x00\x00\x03\x02\x01\x00\x0a' + leb(len(body) + 1) + b'\x01' + body
-
-
 def open_blocks(depth):
     # So many blocks inside one that gives an i32, and a branch out of them all.
-    return one_body(b'\x02\x7f' + b'\x02\x40' * depth + b'\x41\x01\x0c' + leb(depth) + b'\x0b' * depth + b'\x41\x01\x0b\x1a\x0b')
+    return whole(b'\x02\x7f' + b'\x02\x40' * depth + b'\x41\x01\x0c' + unsigned(depth) + b'\x0b' * depth + b'\x41\x01\x0b\x1a')
 
 
-def main(gate):
-    with tempfile.TemporaryDirectory() as folder:
-        sweep = Sweep(gate, folder)
-        module, calls_path = os.path.join(folder, 'module.wasm'), os.path.join(folder, 'calls')
-        for name, spelled, line, status in named('check.tsv', CHECKED):
-            rows.write(module, rows.bytes_of(spelled))
-            for workers in ('1', '4'):
-                sweep.refuse_each(name, ['check', module, '--workers', workers], line + '\n', int(status), lambda wanted, got: False)
-        rows.write(module, open_blocks(DEPTH))
+def refused(gate):
+    for name, spelled, line, status in named('check.tsv', CHECKED):
+        rows.write(gate.module, rows.bytes_of(spelled))
         for workers in ('1', '4'):
-            sweep.refuse_each('deep blocks', ['check', module, '--workers', workers], 'accepted\n', 0, lambda wanted, got: False)
-        for name, spelled, calls, options, text, status in named('run.tsv', RAN):
-            rows.write(module, rows.bytes_of(spelled))
-            rows.write(calls_path, rows.text_of(calls))
-            for workers in ('1', '4'):
-                words = ['run', module, calls_path, '--workers', workers, '--piece', '1'] + options.split()
-                sweep.refuse_each(name, words, rows.text_of(text).decode(), int(status), may_report)
-        rows.write(module, open_blocks(1_000_000))
-        sweep.judge_within('a million open blocks', module, ROOM)
-    print(f'{sweep.refusals} of {sweep.passed} runs met want of memory')
-    print(f'{sweep.passed} passed, {sweep.failed} failed')
-    return 1 if sweep.failed or not sweep.passed else 0
+            gate.refuse_each(name, ['check', gate.module, '--workers', workers], line + '\n', int(status), lambda wanted, got: False)
+    rows.write(gate.module, open_blocks(DEPTH))
+    for workers in ('1', '4'):
+        gate.refuse_each('deep blocks', ['check', gate.module, '--workers', workers], 'accepted\n', 0, lambda wanted, got: False)
+    for name, spelled, calls, options, text, status in named('run.tsv', RAN):
+        rows.write(gate.module, rows.bytes_of(spelled))
+        rows.write(gate.calls, rows.text_of(calls))
+        for workers in ('1', '4'):
+            words = ['run', gate.module, gate.calls, '--workers', workers, '--piece', '1'] + options.split()
+            printed = gate.refuse_each(name, words, rows.text_of(text).decode(), int(status), may_report)
+            if name == RAN[1] and workers == '1':
+                gate.expect(FIRST_CALL in printed, f'{name}, no request whose want ends the first call alone', printed)
+
+
+def held(gate):
+    rows.write(gate.module, open_blocks(1_000_000))
+    got = gate.run(['check', gate.module, '--workers', '1'], ROOM)
+    gate.expect(got == ('accepted\n', 0, b''), f'a million open blocks, {ROOM} MB', got)
+    # `t` has 46,342 times 92,682 operands below a block, loop or if, and an entry takes room for all; `c` calls it, `u` traps.
+    many = [EMPTY, function_type([], [b'\x7F'] * 92_682)]
+    exports = vector([b'\x01' + name + b'\x00' + bytes([k]) for k, name in enumerate([b't', b'u', b'g', b'c'])])
+    rows.write(gate.calls, b't\ng\nu\nc\ng\nt\n')
+    lines = ['0 no-memory', '1 values fuel 1', '2 trap unreachable fuel 1', '3 no-memory', '4 values fuel 1', '5 no-memory']
+    for begin in (b'\x02\x40', b'\x03\x40', b'\x41\x00\x04\x40'):
+        others = [(1, b'\x00\x00\x0B'), (0, b'\x00\x0B'), (0, b'\x00\x10\x00\x0B')]
+        rows.write(gate.module, whole(b'\x10\x01' * 46_342 + begin + b'\x0B\x00', types=many, others=others, sections={7: exports}))
+        for workers in ('1', '4'):
+            got = gate.run(['run', gate.module, gate.calls, '--workers', workers, '--piece', '1'], 1024)
+            report = '\n'.join(lines + [total_of(lines), ''])
+            gate.expect(got == (report, 0, b''), f'calls of a tall function, {begin}, {workers} workers', got)
+
+
+def all_modules():
+    # Each module with its name, the beginning of its verdict where that is known, and whether its calls are tried.
+    seen = set()
+    for name, spelled, verdict, _ in rows.rows('check.tsv'):
+        seen.add(spelled)
+        yield name, rows.bytes_of(spelled), verdict, True
+    for name, spelled, _, _, text, _ in rows.rows('run.tsv'):
+        if spelled not in seen:
+            seen.add(spelled)
+            yield name, rows.bytes_of(spelled), '', True
+    for name, module, verdict in counts.modules():
+        yield name, module, verdict, True
+    for name, (forms, _) in FAMILIES.items():
+        for form in forms:
+            verdict = 'accepted' if form.endswith('accepted') else 'refused'
+            yield f'{name}, {form}', module_of(name, form, SIZE, 7), verdict, name not in HIGH_ENTRIES
+
+
+def granted(gate):
+    rows.write(gate.calls, NAMES)
+    for name, module, verdict, is_called in all_modules():
+        rows.write(gate.module, module)
+        for workers in ('1', '4'):
+            for words in (['check', gate.module], ['run', gate.module, os.devnull]):
+                text, status, error = gate.run(words + ['--workers', workers], ASKED=gate.asked)
+                is_accepted = text == 'accepted\n' or text.startswith('total 0 ')
+                holds = error == b'' and status == (0 if is_accepted else 2) and ('accepted' if is_accepted else text).startswith(verdict)
+                gate.expect(holds, f'{name}, {words[0]}, {workers} workers, nothing refused', (text, status, error))
+                with open(gate.asked, 'rb') as file:
+                    sizes = struct.unpack('QQ', file.read())
+                most = [times * len(module) + BESIDE for times in LENGTHS[words[0]]]
+                gate.expect(sizes[0] <= most[0] and sizes[1] <= most[1], f'{name}, {words[0]}, {workers} workers: bytes asked for', sizes)
+            if is_called:
+                got = gate.run(['run', gate.module, gate.calls, '--workers', workers, '--piece', '1', '--fuel', '1000'])
+                holds = got[1] in (0, 2) and got[2] == b'' and not re.search(r'^\d+ no-memory$', got[0], re.MULTILINE)
+                gate.expect(holds, f'{name}, calls, {workers} workers, nothing refused', got)
+
+
+def main(program):
+    with tempfile.TemporaryDirectory() as folder:
+        gate = Gate(program, folder)
+        for part in (refused, held, granted):
+            part(gate)
+    print(f'{gate.refusals} of {gate.passed} runs met want of memory')
+    print(f'{gate.passed} passed, {gate.failed} failed')
+    return 1 if gate.failed or not gate.passed else 0
 
 
 if __name__ == '__main__':
