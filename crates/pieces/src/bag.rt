@@ -47,7 +47,7 @@ pub struct Bag {
 }
 
 impl Bag {
-    ghost use Rattle.std.specs.Prelude.{ℕ, [], ◌∷◌, ◌++◌, true, IfSome, IfNone};
+    ghost use Rattle.std.specs.Prelude.{ℕ, [], ◌∷◌, ◌++◌, true, IfSome, IfNone, IsNone};
     ghost use Rattle.crossbeam_deque.specs.Handles.{view, IsPassOf};
     ghost use Rattle.pieces.specs.Cuts.{first_of, end_of};
     ghost use Rattle.pieces.specs.Deque.{Took};
@@ -75,6 +75,9 @@ impl Bag {
             × (p.first ≡ first_of self.now.size k) × (p.end ≡ end_of self.now.n self.now.size k)
             × (taken share.new ≡ taken share.old ++ k ∷ [])) }
         ensures none { IfNone result ((share.new.met ≡ true) × (taken share.new ≡ taken share.old)) }
+
+        // A share that has met the end stays as it is.
+        ensures ended { share.old.met ≡ true → IsNone result × (share.new ≡ share.old) }
     {
         if share.met {
             return None;
