@@ -1,5 +1,5 @@
 -- A call that is given up where it stands.
-use Rattle.std.proofs.Common.{◌≡◌, ℕ, ◌+◌, ◌-◌, ◌*◌, ◌≤◌, List, [], length, Option, Some, None, false, refl, sym, ap, subst, arith}
+use Rattle.std.proofs.Common.{◌≡◌, ℕ, ◌+◌, ◌*◌, ◌≤◌, List, [], length, Option, Some, None, false, refl, sym, subst, arith}
 use Rattle.std.specs.Prelude.{slice_get}
 use Rattle.std.proofs.lemmas.Option.{slice_get_within}
 use Rattle.wsyntax.specs.Types.{FuncType}
@@ -9,10 +9,10 @@ use Rattle.wsyntax.specs.Execution.Chain.{Within, charged}
 use Rattle.wsyntax.specs.Execution.Ends.{start}
 use Rattle.soundness.specs.State.{config_of}
 use Rattle.soundness.specs.Slots.{slot_store}
-use Rattle.refinement.specs.Machine.{Body, Program, Machine, module_of, token_here, ticked}
+use Rattle.refinement.specs.Machine.{Body, Program, module_of, token_here, ticked}
 use Rattle.refinement.specs.Joint.{Joint, state_of, machine_of}
 use Rattle.refinement.specs.Reached.{Calling, StopsShort}
-use Rattle.refinement.specs.Invariant.{remaining, Reaches, Reached}
+use Rattle.refinement.specs.Invariant.{remaining, Reaches}
 use Rattle.refinement.specs.Laws.{Called, is_loop, StopsAnywhere}
 use Rattle.refinement.specs.Reduction.{SafetyLaws}
 
