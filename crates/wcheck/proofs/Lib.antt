@@ -34,3 +34,4 @@ pub mod Putting
 pub mod Taking
 pub mod Repeating
 pub mod Alike
+pub mod Written

@@ -16,8 +16,8 @@ pub enum CheckFault {
     /// It has no type. `at` is the number of the first token that no completion can save, from 0.
     #[error("ill-typed at {at}")]
     IllTyped { at: usize },
-    /// A growth of memory was refused, or the side table has no room for a place, a count or a height of this body,
-    /// which is 2^32 or more; nothing is said of the body.
+    /// A growth of memory was refused, or the body has 2^31 tokens or more, for whose places the side table has no room;
+    /// nothing is said of the body.
     #[error("no memory")]
     Memory,
 }

@@ -1,4 +1,4 @@
-ghost use Rattle.std.specs.Prelude.{◌≡◌, ◌+◌, ◌<◌, ◌↔◌, Bool, true, false, Some, List, [], IsTrue, IfOk, length};
+ghost use Rattle.std.specs.Prelude.{◌≡◌, ◌+◌, ◌<◌, ◌^◌, ◌↔◌, Bool, true, false, Some, List, [], IsTrue, IfOk, length};
 ghost use Rattle.wsyntax.specs.Modules.{seen};
 ghost use Rattle.wsyntax.specs.Validation.Algorithm.{when, step};
 ghost use Rattle.wcheck.specs.Checking.{begun, with_frames};
@@ -163,7 +163,8 @@ impl<'a> Checker<'a> {
     /// How many operands a branch to the innermost frame takes.
     #[tactic(auto, using(crate::proofs::ListFacts::reverse_length))]
     pub(crate) fn arity(&self) -> usize
-        ensures { result ≡ label_size self.now.frames }
+        ensures size { result ≡ label_size self.now.frames }
+        ensures few { result < 2 ^ 32 }
     {
         if self.control.is_open {
             self.scope.context.list(label(self.control.top)).len()

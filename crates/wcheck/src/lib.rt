@@ -22,4 +22,5 @@ mod scope;
 mod table;
 
 pub use check::{CheckFault, check_body};
+pub use checked::CheckedBody;
 pub use checker::Checker;

@@ -177,7 +177,8 @@ impl<'a> Model for OperandList<'a> {
 /// How many runs ordinary bodies have at once.
 const FEW_RUNS: usize = 16;
 
-/// The most operands in runs that there can be.
+/// The most operands in runs that there can be. No body of fewer than 2^31 tokens reaches it, for a token puts fewer than
+/// 2^32 operands.
 const MOST: usize = 1 << 63;
 
 impl<'a> OperandList<'a> {
@@ -228,7 +229,8 @@ impl<'a> OperandList<'a> {
     /// The types of a list.
     #[inline]
     pub(crate) fn types_of(&self, list: TypeList) -> &'a [ValType]
-        ensures { result.now ≡ list_of self.now.types list }
+        ensures types { result.now ≡ list_of self.now.types list }
+        ensures few { length result.now < 2 ^ 32 }
     {
         self.context.list(list)
     }
@@ -295,12 +297,11 @@ impl<'a> OperandList<'a> {
     pub(crate) fn push_run(&mut self, list: TypeList, left: usize) -> Result<(), AllocError>
         requires some { 0 < left }
         requires all { left ≡ length (list_of self.old.types list) }
+        requires few { left < 2 ^ 32 }
         ensures items { MatchResult result (λ _. self.new.items ≡ self.old.items ++ map Some (list_of self.old.types list)) (λ _. self.new.items ≡ self.old.items) }
         ensures types { self.new.types ≡ self.old.types }
     {
-        let Ok(count) = u32::try_from(left) else {
-            return Err(AllocError);
-        };
+        let count = left as u32;
         let more = self.more + (left - 1);
         if more > MOST {
             return Err(AllocError);

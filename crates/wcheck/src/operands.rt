@@ -1,4 +1,4 @@
-ghost use Rattle.std.specs.Prelude.{◌≡◌, ◌<◌, ◌≤◌, ◌+◌, ◌-◌, List, [], ◌∷◌, ◌++◌, Bool, true, false, Option, Some, MatchOption, IfOk, reverse, take, drop, length, vec_len};
+ghost use Rattle.std.specs.Prelude.{◌≡◌, ◌<◌, ◌≤◌, ◌+◌, ◌-◌, ◌^◌, List, [], ◌∷◌, ◌++◌, Bool, true, false, Option, Some, MatchOption, IfOk, reverse, take, drop, length, vec_len};
 ghost use Rattle.wcontext.specs.Lists.{list_of};
 ghost use Rattle.wsyntax.specs.Validation.Algorithm.{Takes, Drops, when, apply, take_any, take_one, take_all, put, fresh, is_nil, ends_with};
 
@@ -310,6 +310,7 @@ impl<'a> OperandStack<'a> {
 
     /// Takes operands of the last of the first so many types of a list, as many as stand in the run on top.
     fn take_part(&mut self, list: TypeList, count: usize) -> usize
+        requires { count < 2 ^ 32 }
         ensures count { result ≤ length (take count (list_of self.old.types list)) }
         ensures taken { take_all (reverse (take count (list_of self.old.types list))) self.old.above ≡ take_all (reverse (take (length (take count (list_of self.old.types list)) - result) (take count (list_of self.old.types list)))) self.new.above }
         ensures below { self.new.below ≡ self.old.below }
@@ -318,9 +319,7 @@ impl<'a> OperandStack<'a> {
         let Some(top) = self.list.top_front() else {
             return 0;
         };
-        let Ok(left) = u32::try_from(count) else {
-            return 0;
-        };
+        let left = count as u32;
         let height = self.list.len();
         let part = self.compared.common_end(Run { list, left }, top);
         if height - self.base < part {
@@ -385,7 +384,8 @@ impl<'a> OperandStack<'a> {
     #[inline(never)]
     #[tactic(auto, using(crate::proofs::ListFacts::taken_empty))]
     fn take_many(&mut self, list: TypeList, ts: &[ValType]) -> bool
-        requires { ts.now ≡ list_of self.old.types list }
+        requires types { ts.now ≡ list_of self.old.types list }
+        requires few { length ts.now < 2 ^ 32 }
         ensures above { take_all (reverse (list_of self.old.types list)) self.old.above ≡ when result (Some self.new.above) }
         ensures below { self.new.below ≡ self.old.below }
         ensures types { self.new.types ≡ self.old.types }

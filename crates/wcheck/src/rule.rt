@@ -1,4 +1,4 @@
-ghost use Rattle.std.specs.Prelude.{◌≡◌, ◌+◌, ◌^◌, ℕ, nat_le, List, [], ◌∷◌, Option, reverse, slice_range, slice_index_or, option_map};
+ghost use Rattle.std.specs.Prelude.{◌≡◌, ◌+◌, ◌<◌, ◌^◌, ℕ, length, nat_le, List, [], ◌∷◌, Option, reverse, slice_range, slice_index_or, option_map};
 ghost use Rattle.wsyntax.specs.Types.{FuncType};
 ghost use Rattle.wsyntax.specs.Table.{num_op, load_access, store_access};
 ghost use Rattle.wsyntax.specs.Instructions.{MemoryLoad, MemoryStore};
@@ -97,7 +97,8 @@ fn store_rule(context: &Context, store: Store, align: u32) -> Option<OperandRule
 /// The labels of a branch table, the default apart.
 #[inline]
 pub(crate) fn table_labels(targets: &[u32], first: usize, count: u32) -> &[u32]
-    ensures { result.now ≡ slice_range targets.now first (first + count) }
+    ensures labels { result.now ≡ slice_range targets.now first (first + count) }
+    ensures few { length result.now < 2 ^ 32 }
 {
     let rest = if first <= targets.len() {
         &targets[first..]
