@@ -30,7 +30,7 @@ from families import FAMILIES, module_of
 CHECKED = ['add', 'bodies 3 and 900 of 1,000 ill typed', 'memory, loads and division', 'call through the table', 'float constant']
 RAN = ['the sum passes the greatest i32', 'a store that no other call sees, and divisions', 'calls through a table',
        'growth up to the declared maximum']
-# The report of the second of these where the first call alone meets want of memory: the load of the second sees no store either way.
+# The report of the second of these where the first call alone meets want of memory; the others see nothing of it.
 FIRST_CALL = ('0 no-memory\n1 values i32:0 fuel 1\n2 trap integer-overflow fuel 1\n3 trap divide-by-zero fuel 1\n4 values i32:-3 fuel 1\n'
               '5 bad-arguments\n6 no-export\ntotal 7 values 2 traps 2 exhausted 0 refused 2 no-memory 1 fuel 4\n')
 MOST_REQUESTS = 5000
@@ -42,8 +42,9 @@ ROOM = 32
 LENGTHS = {'check': (48, 96), 'run': (128, 640)}
 BESIDE = 512 << 10
 SIZE = 100_000
-# The entry of `f` asks for room for all operands of its body, which are many times its length: gigabytes, which may be refused.
-HIGH_ENTRIES = ['calls of long results']
+# The entry of `f` asks for room for all operands of its body, which grow with the square of its length: 2.4 GB and 260 MB, which
+# a machine may refuse. So `f` is not called.
+HIGH_ENTRIES = ['calls of long results', 'long lists cut anywhere']
 # The names of exports in the tables.
 NAMES = b'f\ng\ns\nl\nd\na\nb\nu\nadd\n'
 
