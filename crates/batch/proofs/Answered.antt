@@ -1,5 +1,5 @@
 -- The answer, from what its parts say.
-use Rattle.std.proofs.Common.{◌≡◌, ℕ, suc, ◌^◌, ◌<◌, false, List, [], ◌∷◌, ◌++◌, Some, IsSomeAnd, Err, length, refl, sym, ap, subst, ◌∙◌, arith}
+use Rattle.std.proofs.Common.{◌≡◌, ℕ, suc, ◌^◌, ◌<◌, false, List, [], ◌∷◌, ◌++◌, Option, Some, IsSomeAnd, Err, length, refl, sym, ap, subst, ◌∙◌, arith}
 use Rattle.std.specs.Prelude.{slice_get, map, IfSome}
 use Rattle.std.proofs.lemmas.List.{length-map}
 use Rattle.std.proofs.lemmas.Option.{same_Some}
@@ -27,7 +27,9 @@ use Rattle.wstore.specs.declared.settings.Settings.{Settings}
 use Rattle.wstore.specs.Settings.{limits}
 use Rattle.batch.specs.Ends.{is_short, AreEnds}
 use Rattle.batch.specs.Groups.{GiveParts}
-use Rattle.batch.specs.Answers.{IsSomeAnswer, refused_text}
+use Rattle.batch.specs.Answers.{Answers, IsSomeAnswer, refused_text}
+use Rattle.batch.specs.Output.{AppendsLess, FallsShort}
+use Rattle.batch.specs.declared.status.AnswerFault.TheVariants.{Write}
 use Rattle.batch.proofs.Batches.{ends_given}
 use Rattle.batch.proofs.GroupedLines.{as_many}
 
@@ -92,3 +94,14 @@ report_is bytes text a s calls given parts written last v spells said same (line
 -- where there are no parts the last line is all that is written
 pub line_alone : (bytes text : List ℕ) (l : Limits) (parts : List Part) (last : List ℕ) → parts ≡ [] → IsSomeAnswer bytes text l last → IsSomeAnswer bytes text l (parts_text parts ++ last)
 line_alone bytes text l parts last none h = subst (λ (p : List Part). IsSomeAnswer bytes text l (parts_text p ++ last)) (sym none) h
+
+-- ---- a write that failed
+
+-- the answer was not written whole
+pub fell_short : (P : List ℕ → Type 0) (parts given : List Part) (last bytes : List ℕ) (old new : Option (List ℕ)) → P (parts_text parts ++ last) → given ≡ parts → bytes ≡ last → AppendsLess old new (parts_text given ++ bytes) → FallsShort P old new Write
+fell_short P parts given last bytes old new is same_parts same_last less =
+    (parts_text parts ++ last, is, subst (λ (p : List Part). AppendsLess old new (parts_text p ++ last)) same_parts (subst (λ (b : List ℕ). AppendsLess old new (parts_text given ++ b)) same_last less))
+
+-- a beginning that is not the whole is a beginning
+pub front_of : (P : List ℕ → Type 0) (old new : Option (List ℕ)) → FallsShort P old new Write → Answers P old new (Err Write)
+front_of P old new (out, is, (front, rest, split, some, now)) = (out, is, (front, rest, split, now))

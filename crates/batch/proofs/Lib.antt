@@ -5,5 +5,6 @@ pub mod Instance
 pub mod Batches
 pub mod GroupedLines
 pub mod Answered
+pub mod Safe
 pub mod PartsWritten
 pub mod SlicedCalls

@@ -1,12 +1,13 @@
 -- Texts of parts that are written one behind another, and a last line behind them.
-use Rattle.std.proofs.Common.{◌≡◌, ℕ, ◌+◌, ◌<◌, ◌≤◌, List, [], ◌∷◌, ◌++◌, Option, length, get_or, take, drop, string_bytes, sym, ap, ◌∙◌, subst, append_assoc}
+use Rattle.std.proofs.Common.{◌≡◌, ℕ, ◌+◌, ◌<◌, ◌≤◌, List, [], ◌∷◌, ◌++◌, Option, Result, Ok, Err, length, get_or, take, drop, string_bytes, refl, sym, ap, ◌∙◌, subst, append_assoc}
+use Rattle.std.specs.Prelude.{◌≢◌, IfErr, MatchResult}
 use Rattle.std.specs.Io.KnownBytes.{Appends}
 use Rattle.std.proofs.KnownBytes.{Appends-trans}
 use Rattle.std.proofs.lemmas.Grind.{flat_map-append}
 use Rattle.std.proofs.lemmas.List.{append-nil, drop_more, take_all, take_more, take-append-drop}
 use Rattle.texts.specs.Parts.{parts_text}
 use Rattle.texts.specs.declared.part.Part.{Part}
-use Rattle.batch.specs.Output.{AppendsFront}
+use Rattle.batch.specs.Output.{AppendsFront, AppendsLess}
 
 -- the texts up to the next part
 texts_more : (parts : List Part) (i : ℕ) (p : Part) → i < length parts → p ≡ get_or parts i p → parts_text (take (i + 1) parts) ≡ parts_text (take i parts) ++ string_bytes p.text
@@ -20,12 +21,22 @@ pub part_written : (parts : List Part) (i : ℕ) (p : Part) (text : List ℕ) (o
 part_written parts i p text old mid new below at is before now =
     subst (Appends old new) (sym (texts_more parts i p below at ∙ ap (λ l. parts_text (take i parts) ++ l) (sym is))) (Appends-trans old mid new _ _ before now)
 
+-- a beginning that is not the whole is a beginning
+pub less_front : (old new : Option (List ℕ)) (text : List ℕ) → AppendsLess old new text → AppendsFront old new text
+less_front old new text (front, rest, split, some, now) = (front, rest, split, now)
+
+-- what is not empty is not empty with more after it
+some_more : (xs ys : List ℕ) → (xs ≢ []) → xs ++ ys ≢ []
+some_more [] ys some = absurd (some refl)
+some_more (x ∷ xs) ys some = λ e. cc
+
 -- a beginning of what is left is a beginning of all
-front_behind : (old mid new : Option (List ℕ)) (whole done text more : List ℕ) → whole ≡ done ++ (text ++ more) → Appends old mid done → AppendsFront mid new text → AppendsFront old new whole
-front_behind old mid new whole done text more is before (front, rest, split, now) = (
+front_behind : (old mid new : Option (List ℕ)) (whole done text more : List ℕ) → whole ≡ done ++ (text ++ more) → Appends old mid done → AppendsLess mid new text → AppendsLess old new whole
+front_behind old mid new whole done text more is before (front, rest, split, some, now) = (
   done ++ front,
   rest ++ more,
   is ∙ ap (λ l. done ++ (l ++ more)) split ∙ ap (λ l. done ++ l) (append_assoc front rest more) ∙ sym (append_assoc done front (rest ++ more)),
+  some_more rest more some,
   Appends-trans old mid new done front before now,
 )
 
@@ -40,7 +51,7 @@ texts_around parts i p last below at =
 
 -- a part is not written whole
 pub part_failed : (parts : List Part) (i : ℕ) (p : Part) (text last : List ℕ) (old mid new : Option (List ℕ)) → i < length parts → p ≡ get_or parts i p → text ≡ string_bytes p.text
-    → Appends old mid (parts_text (take i parts)) → AppendsFront mid new text → AppendsFront old new (parts_text parts ++ last)
+    → Appends old mid (parts_text (take i parts)) → AppendsLess mid new text → AppendsLess old new (parts_text parts ++ last)
 part_failed parts i p text last old mid new below at is before now =
     front_behind old mid new (parts_text parts ++ last) (parts_text (take i parts)) text (parts_text (drop (i + 1) parts) ++ last)
     (texts_around parts i p last below at ∙ ap (λ l. parts_text (take i parts) ++ (l ++ (parts_text (drop (i + 1) parts) ++ last))) (sym is)) before now
@@ -51,7 +62,12 @@ all_written parts i last old mid new past before now =
     subst (λ (l : List Part). Appends old new (parts_text l ++ last)) (take_all i parts past) (Appends-trans old mid new _ _ before now)
 
 -- or a beginning of it
-pub last_failed : (parts : List Part) (i : ℕ) (last : List ℕ) (old mid new : Option (List ℕ)) → length parts ≤ i → Appends old mid (parts_text (take i parts)) → AppendsFront mid new last → AppendsFront old new (parts_text parts ++ last)
+pub last_failed : (parts : List Part) (i : ℕ) (last : List ℕ) (old mid new : Option (List ℕ)) → length parts ≤ i → Appends old mid (parts_text (take i parts)) → AppendsLess mid new last → AppendsLess old new (parts_text parts ++ last)
 last_failed parts i last old mid new past before now =
     let all : parts_text parts ≡ parts_text (take i parts) = ap parts_text (sym (take_all i parts past)) in
     front_behind old mid new (parts_text parts ++ last) (parts_text (take i parts)) last [] (ap (λ l. l ++ last) all ∙ ap (λ l. parts_text (take i parts) ++ l) (sym (append-nil last))) before now
+
+-- the last text is written or falls short
+pub or_less : {T E : Type 0} (r : Result T E) (A B front less shorter : Type 0) → MatchResult r (λ _. A) (λ _. front) → IfErr r (λ _. less) → (A → B) → (less → shorter) → MatchResult r (λ _. B) (λ _. shorter)
+or_less (Ok u) A B front less shorter h l f g = f h
+or_less (Err e) A B front less shorter h l f g = g l

@@ -21,6 +21,10 @@ abbrev pub status_of : Verdict → Status
 status_of Accepted = Good
 status_of _ = ModuleRefused
 
+-- the line of a verdict with P
+abbrev pub IsLineOf : (Verdict → Type 0) → List ℕ → Type 0
+IsLineOf P line = (v : Verdict) × P v × (line ≡ verdict_line v)
+
 -- the line of a verdict with P is written, a beginning of it where a write failed, and nothing for want of memory
 abbrev pub Reports : (Verdict → Type 0) → Option (List ℕ) → Option (List ℕ) → Result Status AnswerFault → Type 0
 Reports P old new (Ok status) = (v : Verdict) × P v × (status ≡ status_of v) × Appends old new (verdict_line v)

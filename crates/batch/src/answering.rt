@@ -1,6 +1,6 @@
 //! The answer to a module and a text of calls.
 
-ghost use Rattle.std.specs.Prelude.{◌≡◌, ◌++◌, ℕ, List, IfOk, IsSomeAnd, string_bytes};
+ghost use Rattle.std.specs.Prelude.{◌≡◌, ◌++◌, ℕ, List, IfErr, IfOk, IsSomeAnd, string_bytes};
 ghost use Rattle.wsyntax.specs.Modules.{module_shape};
 ghost use Rattle.wsyntax.specs.Binary.Shell.{Spells};
 ghost use Rattle.wsyntax.specs.Validation.Verdict.{IsVerdict, Accepted as accepted_verdict};
@@ -10,7 +10,10 @@ ghost use Rattle.texts.specs.Parts.{parts_text};
 ghost use Rattle.accepted.specs.Judgement.{shapes_of};
 ghost use Rattle.wstore.specs.Settings.{limits};
 ghost use Rattle.batch.specs.Answers.{Answers, HasStatus, IsSomeAnswer, StatusBy, refused_text};
+ghost use Rattle.batch.specs.Output.{FallsShort};
+ghost use Rattle.batch.specs.Safe.{NeverStuck, ValuesAreTyped};
 
+use crate::laws::answers_are_safe;
 use crate::line::line_of;
 use crate::output::write_parts;
 use crate::reading::read_by_workers;
@@ -25,7 +28,7 @@ use texts::{CallsFault, Part, last_line};
 use verdict::{Accepted, judge};
 use wstore::Settings;
 
-/// What is written, the texts of some parts and a last line behind them, and what it is.
+/// What is written, the texts of some parts and a last line after them, and what it is.
 #[derive(Drop)]
 struct Written {
     parts: Vec<Part>,
@@ -99,9 +102,23 @@ fn answer_to<R: Threads + Wait + Sync, W: Watch + Sync>(
     }
 }
 
-/// Judges a module, reads the calls, runs each alone, and writes the answer: a refused module's verdict line; else what is
-/// wrong with the calls; else the report. It is made before its first byte is written, so want of memory leaves `out` as it
-/// was. Nothing is flushed.
+/// Judges a module, reads the calls, runs each alone, and writes the answer. The whole promise, each phrase with the clause
+/// that carries it:
+///
+/// - What is written is the answer of the definition for `bytes`, `calls` and `settings`: a refused module's verdict line; else
+///   what is wrong with the calls; else the report, in which each call ends as its reduction on an instance of its own ends,
+///   after the start function, with the exact fuel (`answer`, by `IsSomeAnswer`). `plan` stands in no clause. Where the same
+///   calls met want of memory, the answer is one (`one_answer`): one function of the two texts and the settings.
+/// - `Status` says which of the three was written (`status`).
+/// - No call is ever stuck: no configuration that a call reaches is, from the start function on the fresh store, and from the
+///   call on the store that the start function left (`never_stuck`).
+/// - The values of a call are of the result types of the function that it names (`typed`): whatever ends the report tells.
+/// - The answer is made before its first byte is written, so want of memory leaves `out` as it was. Where the fault is `Write`,
+///   a beginning of the answer was written, and not all of it (`answer`, `fault`).
+///
+/// Nothing is flushed. Of a writer whose contents are not known the clauses on writing say nothing. That `Write` comes only
+/// after a write failed or took no byte is tested, where less than all was written: contents do not tell it. That memory is
+/// wanting only where it was refused is tested too.
 pub fn answer<R: Threads + Wait + Sync, W: Watch + Sync, O: Write>(
     rt: &R,
     alloc: Global,
@@ -114,7 +131,13 @@ pub fn answer<R: Threads + Wait + Sync, W: Watch + Sync, O: Write>(
 ) -> Result<Status, AnswerFault>
     ensures answer { Answers (IsSomeAnswer bytes.now calls.now (limits settings.fuel settings.frames settings.pages)) (O.contents out.old) (O.contents out.new) result }
     ensures status { IfOk result (HasStatus bytes.now calls.now) }
+    ensures never_stuck { NeverStuck bytes.now calls.now (limits settings.fuel settings.frames settings.pages) }
+    ensures typed { ValuesAreTyped bytes.now calls.now (limits settings.fuel settings.frames settings.pages) }
+    ensures fault { IfErr result
+        (FallsShort (IsSomeAnswer bytes.now calls.now (limits settings.fuel settings.frames settings.pages))
+        (O.contents out.old) (O.contents out.new)) }
 {
+    answers_are_safe();
     let Ok(answer) = answer_to(rt, alloc, bytes, calls, settings, plan, watch) else {
         return Err(AnswerFault::Memory);
     };

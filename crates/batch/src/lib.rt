@@ -17,12 +17,13 @@ mod slices;
 mod status;
 
 pub use answering::answer;
-pub use laws::one_answer;
+pub use laws::{answers_are_safe, one_answer};
 pub use output::{WriteFailed, write_text};
 pub use pieces::{Plan, Quiet, Watch};
 pub use report::report_verdict;
 pub use running::run_batch;
 pub use status::{AnswerFault, Status};
+pub use texts::{Call, CallsFault, Line, read_calls};
 pub use wstore::Settings;
 
 #[cfg(test)]

@@ -1,7 +1,7 @@
-ghost use Rattle.std.specs.Prelude.{◌≡◌, List, ◌++◌, ℕ, MatchResult};
+ghost use Rattle.std.specs.Prelude.{◌++◌, IfErr, MatchResult};
 ghost use Rattle.std.specs.Io.KnownBytes.{Appends};
 ghost use Rattle.texts.specs.Parts.{parts_text};
-ghost use Rattle.batch.specs.Output.{AppendsFront};
+ghost use Rattle.batch.specs.Output.{AppendsFront, AppendsLess};
 
 use std::io::Write;
 use texts::Part;
@@ -10,11 +10,12 @@ use texts::Part;
 #[derive(Clone, Copy, Debug, PartialEq, Eq)]
 pub struct WriteFailed;
 
-/// Writes the whole text, or a beginning of it: the first write that fails, or that takes no byte, ends it.
+/// Writes the whole text, or a beginning of it that is shorter: the first write that fails, or that takes no byte, ends it.
 pub fn write_text<W: Write>(out: &mut W, text: &[u8]) -> Result<(), WriteFailed>
-    ensures { MatchResult result
+    ensures text { MatchResult result
         (λ _. Appends (W.contents out.old) (W.contents out.new) text.now)
         (λ _. AppendsFront (W.contents out.old) (W.contents out.new) text.now) }
+    ensures less { IfErr result (λ _. AppendsLess (W.contents out.old) (W.contents out.new) text.now) }
 {
     let mut rest = text;
     'writes: while !rest.is_empty() {
@@ -26,7 +27,7 @@ pub fn write_text<W: Write>(out: &mut W, text: &[u8]) -> Result<(), WriteFailed>
     Ok(())
 }
 
-/// Writes the texts of the parts one behind another and a last line behind them, or a beginning of that.
+/// Writes the texts of the parts one after another and a last line after them, or a beginning of that, which is shorter.
 pub(crate) fn write_parts<W: Write>(
     out: &mut W,
     parts: &[Part],
@@ -34,7 +35,7 @@ pub(crate) fn write_parts<W: Write>(
 ) -> Result<(), WriteFailed>
     ensures { MatchResult result
         (λ _. Appends (W.contents out.old) (W.contents out.new) (parts_text parts.now ++ last.now))
-        (λ _. AppendsFront (W.contents out.old) (W.contents out.new) (parts_text parts.now ++ last.now)) }
+        (λ _. AppendsLess (W.contents out.old) (W.contents out.new) (parts_text parts.now ++ last.now)) }
 {
     for part in parts {
         if let Err(failed) = write_text(out, part.text()) {

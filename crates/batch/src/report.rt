@@ -1,6 +1,7 @@
-ghost use Rattle.std.specs.Prelude.{◌≡◌, Some};
+ghost use Rattle.std.specs.Prelude.{◌≡◌, IfErr, Some};
 ghost use Rattle.wsyntax.specs.Validation.Verdict.{IsVerdict, Verdict};
-ghost use Rattle.batch.specs.Report.{given_verdict, status_of, Reports};
+ghost use Rattle.batch.specs.Output.{FallsShort};
+ghost use Rattle.batch.specs.Report.{given_verdict, status_of, IsLineOf, Reports};
 
 use crate::line::line_of;
 use crate::output::write_text;
@@ -12,8 +13,9 @@ use std::sync::Wait;
 use std::thread::Threads;
 use verdict::{Refusal, examine};
 
-/// Judges a module and writes its verdict line. The line is made before its first byte is written, so want
-/// of memory leaves `out` as it was. Nothing is flushed.
+/// Judges a module and writes its verdict line. The line is made before its first byte is written, so want of memory leaves
+/// `out` as it was. Where the fault is `Write`, a beginning of the line was written, and not all of it (`fault`); that a write
+/// then failed or took no byte is tested. Nothing is flushed.
 pub fn report_verdict<R: Threads + Wait + Sync, W: Watch + Sync, O: Write>(
     rt: &R,
     alloc: Global,
@@ -22,7 +24,8 @@ pub fn report_verdict<R: Threads + Wait + Sync, W: Watch + Sync, O: Write>(
     watch: &W,
     out: &mut O,
 ) -> Result<Status, AnswerFault>
-    ensures { Reports (IsVerdict bytes.now) (O.contents out.old) (O.contents out.new) result }
+    ensures report { Reports (IsVerdict bytes.now) (O.contents out.old) (O.contents out.new) result }
+    ensures fault { IfErr result (FallsShort (IsLineOf (IsVerdict bytes.now)) (O.contents out.old) (O.contents out.new)) }
 {
     let judged = examine(rt, alloc, bytes, plan, watch);
     write_verdict(alloc, judged, out)
@@ -34,7 +37,8 @@ pub(crate) fn write_verdict<O: Write>(
     judged: Result<(), Refusal>,
     out: &mut O,
 ) -> Result<Status, AnswerFault>
-    ensures { Reports (λ v. given_verdict judged ≡ Some v) (O.contents out.old) (O.contents out.new) result }
+    ensures report { Reports (λ v. given_verdict judged ≡ Some v) (O.contents out.old) (O.contents out.new) result }
+    ensures fault { IfErr result (FallsShort (IsLineOf (λ v. given_verdict judged ≡ Some v)) (O.contents out.old) (O.contents out.new)) }
 {
     let Ok(line) = line_of(alloc, judged) else {
         return Err(AnswerFault::Memory);

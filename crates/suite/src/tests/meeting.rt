@@ -1,6 +1,6 @@
 // Two bodies and two calls are at work at once. Where one worker does both, or a loop without workers, none sees the
 // other come while it is there itself.
-use batch::{Plan, Settings, Status, Watch, answer};
+use batch::{Call, Plan, Quiet, Settings, Status, Watch, answer, read_calls, run_batch};
 use pieces::Stage;
 use std::alloc::Global;
 use std::process::Abort;
@@ -9,7 +9,7 @@ use std::sync::atomic::{AtomicBool, Ordering};
 use std::test::Fail;
 use std::thread;
 use std::thread::Threads;
-use verdict::{Class, Refusal, examine, judge};
+use verdict::{Accepted, Class, Refusal, examine, judge};
 
 // (module (func (export "f")) (func))
 const ACCEPTED: &[u8] = b"\0asm\x01\0\0\0\
@@ -217,4 +217,35 @@ fn two_calls_of_one_piece_are_run_at_once(rt: HostRuntime) -> Result<(), Fail> {
         }
     }
     panic!(rt; "no two calls were run at once")
+}
+
+// Runs a batch on two workers.
+fn meeting_of_batch<R: Threads + Wait + Abort + Sync>(
+    rt: &R,
+    alloc: Global,
+    accepted: &Accepted<'_>,
+    calls: &[Call<'_>],
+) -> Result<Meeting, Fail> {
+    let plan = Plan::new(2, 1).ok_or("plan")?;
+    let settings = Settings::new(10, 1, 0).ok_or("settings")?;
+    let meeting = Meeting::new();
+    let lines = run_batch(rt, alloc, accepted, calls, settings, plan, &meeting)?;
+    assert_eq!(rt; lines.len(), calls.len());
+    Ok(meeting)
+}
+
+#[test]
+fn two_calls_of_a_batch_are_run_at_once(rt: HostRuntime) -> Result<(), Fail> {
+    let plan = Plan::new(2, 1).ok_or("plan")?;
+    let accepted = judge(&rt, rt.alloc(), ACCEPTED, plan, &Quiet)?;
+    let calls = read_calls(rt.alloc(), b"f\nf\n")?;
+    for _ in 0..TRIES {
+        if meeting_of_batch(&rt, rt.alloc(), &accepted, &calls)?
+            .calls
+            .has_met()
+        {
+            return Ok(());
+        }
+    }
+    panic!(rt; "no two calls of a batch were run at once")
 }
