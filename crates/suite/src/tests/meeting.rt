@@ -18,6 +18,16 @@ const ACCEPTED: &[u8] = b"\0asm\x01\0\0\0\
     \x07\x05\x01\x01f\0\0\
     \x0a\x07\x02\x02\0\x0b\x02\0\x0b";
 
+// (module (memory 1)
+//   (func (export "a") (param i32) (result i32) local.get 0 i32.load)
+//   (func (export "b") (param i32) (result i32) local.get 0 i32.load offset=4294967295))
+const LOADS: &[u8] = b"\0asm\x01\0\0\0\
+    \x01\x06\x01\x60\x01\x7f\x01\x7f\
+    \x03\x03\x02\0\0\
+    \x05\x03\x01\0\x01\
+    \x07\x09\x02\x01a\0\0\x01b\0\x01\
+    \x0a\x15\x02\x07\0\x20\0\x28\x02\0\x0b\x0b\0\x20\0\x28\x02\xff\xff\xff\xff\x0f\x0b";
+
 // (module (func (export "f")) (func drop))
 const REFUSED: &[u8] = b"\0asm\x01\0\0\0\
     \x01\x04\x01\x60\0\0\
@@ -177,17 +187,17 @@ fn meeting_of_answer<R: Threads + Wait + Abort + Sync>(
     piece: u32,
 ) -> Result<Meeting, Fail> {
     let plan = Plan::new(2, piece).ok_or("plan")?;
-    let settings = Settings::new(10, 1, 0).ok_or("settings")?;
+    let settings = Settings::new(10, 1, 1).ok_or("settings")?;
     let meeting = Meeting::new();
     let mut text = Vec::new(alloc);
     let status = answer(
-        rt, alloc, ACCEPTED, b"f\nf\n", settings, plan, &meeting, &mut text,
+        rt, alloc, LOADS, b"a\ti32:0\nb\ti32:1\n", settings, plan, &meeting, &mut text,
     )?;
     assert_eq!(rt;
         text.as_slice(),
-        "0 values fuel 1\n\
-        1 values fuel 1\n\
-        total 2 values 2 traps 0 exhausted 0 refused 0 no-memory 0 fuel 2\n"
+        "0 values i32:0 fuel 1\n\
+        1 trap out-of-bounds fuel 1\n\
+        total 2 values 1 traps 1 exhausted 0 refused 0 no-memory 0 fuel 2\n"
             .as_bytes()
     );
     assert_eq!(rt; status, Status::Good);
