@@ -1,6 +1,6 @@
 -- A call that fits is a typed call of the module's program, and what its execution leaves.
 use Rattle.std.proofs.Common.{◌≡◌, ℕ, ◌≤◌, ◌^◌, List, length, refl, sym, ap, ◌∙◌, subst, arith}
-use Rattle.std.specs.Prelude.{slice_get, Result, Ok, Err, IfOk, OnErr}
+use Rattle.std.specs.Prelude.{slice_get, Result, Ok, Err, IfOk, IfErr}
 use Rattle.std.proofs.Math.Logic.{∥∥₁_elim, ∥∥₁_prop, ∥∥₁_map}
 use Rattle.wsyntax.specs.declared.value.Value.{Value}
 use Rattle.wsyntax.specs.Modules.{ModuleShape, BodyShape}
@@ -8,28 +8,29 @@ use Rattle.wsyntax.specs.Binary.Shell.{module_limit}
 use Rattle.wsyntax.specs.Validation.Context.{Context}
 use Rattle.wsyntax.specs.Validation.ModuleContext.{IndexedContext, module_context}
 use Rattle.wsyntax.specs.Execution.Store.{Module, Store}
-use Rattle.wsyntax.specs.Execution.Chain.{worked}
+use Rattle.wsyntax.specs.Execution.Chain.{Within, worked}
 use Rattle.wsyntax.specs.Execution.ConfigTyped.{ModuleTyped, StoreTyped}
-use Rattle.wsyntax.specs.Execution.Ends.{Outcome, Ends}
+use Rattle.wsyntax.specs.Execution.Ends.{Outcome, Ends, start}
 use Rattle.wsyntax.specs.Execution.Laws.{StoreKept}
 use Rattle.wsyntax.specs.Execution.Start.{InstanceOf}
-use Rattle.soundness.specs.Slots.{SlotStore}
+use Rattle.soundness.specs.Slots.{SlotStore, slot_store}
 use Rattle.soundness.specs.Instances.{Runnable, OneInstance}
 use Rattle.checked.specs.declared.body.CheckedBody.{CheckedBody}
 use Rattle.refinement.specs.Machine.{Program, module_of}
-use Rattle.refinement.specs.Reached.{BodyHolds, ProgramHolds}
+use Rattle.refinement.specs.Reached.{BodyHolds, ProgramHolds, StopsShort as Short}
 use Rattle.refinement.specs.Trees.{TreeIsFound}
 use Rattle.interpreter.specs.declared.code.Code.{Code}
 use Rattle.interpreter.specs.Code.{bodies_of, program_of}
-use Rattle.interpreter.specs.Ended.{EndsWith, IsTypedStore}
-use Rattle.interpreter.specs.Execution.{Executes, LeavesTyped}
+use Rattle.interpreter.specs.Ended.{EndsWith}
+use Rattle.interpreter.specs.Execution.{call_of, Executes, LeavesCall}
 use Rattle.interpreter.specs.declared.machine.Execution.{Execution}
+use Rattle.interpreter.specs.declared.machine.OutOfMemory.{OutOfMemory}
 use Rattle.ends.specs.Outcomes.{outcome_of}
 use Rattle.accepted.specs.Judgement.{IsJudged, shapes_of}
 use Rattle.accepted.specs.Small.{IsSmall}
 use Rattle.accepted.specs.TypeNumbers.{AreTypeNumbers}
 use Rattle.wstore.specs.Held.{store_of, IsHeld}
-use Rattle.wstore.specs.Runs.{Fits, Runs, IsTypedCall, longest}
+use Rattle.wstore.specs.Runs.{Fits, Runs, StopsShort, IsTypedCall, longest}
 use Rattle.wstore.proofs.Held.{tagged_again, is_held}
 use Rattle.wstore.proofs.Programs.{has_tree, functions_are, body_at, body_there, defined_at, longest_within, body_holds}
 use Rattle.wstore.proofs.ProgramCode.{HasParts, parts_program, is_code}
@@ -103,8 +104,8 @@ typed_call m x all numbers store c f args fuel frames found one k h fits =
 
 -- ---- after the call
 
-typed_is_held : (C : Context) (store : SlotStore) → IsTypedStore C store → IsHeld C store
-typed_is_held C store h = subst (IsHeld C) h.2 (is_held C h.0 h.1)
+typed_is_held : (C : Context) (s : Store) (store : SlotStore) → StoreTyped C s → slot_store s ≡ store → IsHeld C store
+typed_is_held C s store h e = subst (IsHeld C) e (is_held C s h)
 
 module _ (m : ModuleShape) (bodies : List BodyShape) (c : Code) (store store' : SlotStore) (f : ℕ) (args : List Value) (fuel frames : ℕ) (kept : StoreKept) (t : IsTypedCall m bodies c store f args fuel frames) where
   -- how the call ended
@@ -137,8 +138,34 @@ module _ (m : ModuleShape) (bodies : List BodyShape) (c : Code) (store store' : 
   all_runs (Ok x) one h = runs (outcome_of x.outcome) x.left x.dispatches one (ended x h)
   all_runs (Err e) one h = tt
 
-  pub held_after : {E : Type 0} (r : Result Execution E) → IfOk r Executed → OnErr r (LeavesTyped c store f args fuel frames store') → IsHeld (module_context m) store'
+  -- where it was given up
+  abbrev GivenUp : OutOfMemory → Type 0
+  GivenUp = LeavesCall c store f args fuel frames store'
+
+  given_up : (x : OutOfMemory) → GivenUp x → Short (module_context m) (program_of c) (call_of (store_of (module_context m) store) f args fuel frames) (longest bodies) store' x.left x.dispatches
+  given_up x h = h (module_context m) (longest bodies) (store_of (module_context m) store) t.body t.sig t.call
+
+  pub stops : (r : Result Execution OutOfMemory) → OneInstance → IfErr r GivenUp
+      → IfErr r (λ x. StopsShort m bodies (store_of (module_context m) store) f args fuel frames (store_of (module_context m) store') x.left x.dispatches)
+  stops (Ok x) one h = tt
+  stops (Err x) one h =
+      let C = module_context m in
+      let k = given_up x h in
+      let Comes : Module → Type 0 = λ i. Within i frames fuel (start (store_of C store) f args) k.kinds k.there x.left in
+      record {
+        there = k.there;
+        kinds = k.kinds;
+        chain = λ i is. subst Comes (one.same m bodies (module_of (program_of c)) i t.instance is) k.chain;
+        stored = sym (tagged_again C (k.there).store k.typed) ∙ ap (store_of C) k.stored;
+        paid = k.paid;
+        most = k.most;
+        least = k.least;
+      }
+
+  pub held_after : (r : Result Execution OutOfMemory) → IfOk r Executed → IfErr r GivenUp → IsHeld (module_context m) store'
   held_after (Ok x) h k =
       let e = ended x h in
-      typed_is_held (module_context m) store' (e.after, after_typed (outcome_of x.outcome) x.left x.dispatches e, e.stored)
-  held_after (Err e) h k = typed_is_held (module_context m) store' (k (module_context m) (longest bodies) (store_of (module_context m) store) t.body t.sig t.call)
+      typed_is_held (module_context m) e.after store' (after_typed (outcome_of x.outcome) x.left x.dispatches e) e.stored
+  held_after (Err x) h k =
+      let e = given_up x k in
+      typed_is_held (module_context m) (e.there).store store' e.typed e.stored

@@ -1,13 +1,14 @@
 -- 4.5.5 A call on the store of an instance.
-use Rattle.std.specs.Prelude.{◌≡◌, ℕ, ◌+◌, ◌≤◌, List, [], ◌∷◌, length, max, Some, slice_get}
+use Rattle.std.specs.Prelude.{◌≡◌, ℕ, ◌+◌, ◌*◌, ◌≤◌, List, [], ◌∷◌, length, max, Some, slice_get}
 use Rattle.wsyntax.specs.Types.{FuncType}
 use Rattle.wsyntax.specs.declared.value.Value.{Value}
 use Rattle.wsyntax.specs.Modules.{ModuleShape, BodyShape}
 use Rattle.wsyntax.specs.Validation.Context.{Context}
 use Rattle.wsyntax.specs.Execution.Store.{Module, Store}
-use Rattle.wsyntax.specs.Execution.Chain.{worked}
+use Rattle.wsyntax.specs.Execution.Step.{Config, Kind}
+use Rattle.wsyntax.specs.Execution.Chain.{Within, charged, worked}
 use Rattle.wsyntax.specs.Execution.ConfigTyped.{ValuesTyped}
-use Rattle.wsyntax.specs.Execution.Ends.{Outcome, Ends}
+use Rattle.wsyntax.specs.Execution.Ends.{Outcome, Ends, start}
 use Rattle.wsyntax.specs.Execution.Start.{InstanceOf}
 use Rattle.wsyntax.specs.Validation.ModuleContext.{module_context}
 use Rattle.soundness.specs.Slots.{SlotStore}
@@ -16,7 +17,10 @@ use Rattle.interpreter.specs.declared.code.Code.{Code}
 use Rattle.interpreter.specs.Code.{program_of, IsCode}
 use Rattle.interpreter.specs.Ended.{WithinBound}
 use Rattle.interpreter.specs.Execution.{IsCall}
+use Rattle.accepted.specs.Judgement.{shapes_of}
+use Rattle.wstore.specs.declared.instance.Instance.{Instance}
 use Rattle.wstore.specs.Held.{store_of}
+use Rattle.wstore.specs.Views.{module_in, store_in}
 
 -- the function is there, and the arguments are of its type
 pub record Fits (C : Context) (f : ℕ) (args : List Value) : Type 0 where
@@ -35,6 +39,22 @@ pub record Runs (m : ModuleShape) (bodies : List BodyShape) (s : Store) (f : ℕ
   pub ends : (i : Module) → InstanceOf m bodies i → (e : Ends i s f args fuel frames o spent s') × (worked e.kinds ≤ dispatches)
   pub paid : spent + left ≡ fuel
   pub most : WithinBound (longest bodies) spent dispatches o
+
+-- the call of f on store s is given up where it has come to, with store s' and so much fuel; the tokens that were taken are no more than the
+-- longest body has for each unit that was charged, and no fewer than there is work in the chain
+pub record StopsShort (m : ModuleShape) (bodies : List BodyShape) (s : Store) (f : ℕ) (args : List Value) (fuel frames : ℕ) (s' : Store) (left dispatches : ℕ) : Type 0 where
+  pub there : Config
+  pub kinds : List Kind
+  pub chain : (i : Module) → InstanceOf m bodies i → Within i frames fuel (start s f args) kinds there left
+  pub stored : there.store ≡ s'
+  pub paid : charged kinds + left ≡ fuel
+  pub most : dispatches ≤ charged kinds * longest bodies
+  pub least : worked kinds ≤ dispatches
+
+-- so of a call on an instance
+abbrev pub GivesUp : Instance → ℕ → List Value → ℕ → ℕ → Instance → ℕ → ℕ → Type 0
+GivesUp old f args fuel frames new left dispatches =
+    StopsShort (module_in old) (shapes_of old.accepted.now.bodies.items) (store_in old) f args fuel frames (store_in new) left dispatches
 
 -- the code is that of the module with these bodies, and the call is a typed call of it
 pub record IsTypedCall (m : ModuleShape) (bodies : List BodyShape) (code : Code) (store : SlotStore) (f : ℕ) (args : List Value) (fuel frames : ℕ) : Type 0 where

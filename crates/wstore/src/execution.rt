@@ -1,17 +1,17 @@
 //! Calls on the store of an instance.
 
-ghost use Rattle.std.specs.Prelude.{◌≡◌, ◌≤◌, IfOk};
+ghost use Rattle.std.specs.Prelude.{◌≡◌, ◌<◌, ◌≤◌, IfOk, IfErr, OnErr};
 ghost use Rattle.ends.specs.Outcomes.{outcome_of};
 ghost use Rattle.parts.specs.Seen.{seen};
 ghost use Rattle.parts.specs.Buffers.{room_with};
 ghost use Rattle.accepted.specs.Judgement.{shapes_of};
 ghost use Rattle.wstore.specs.Views.{module_in, context_in, store_in};
-ghost use Rattle.wstore.specs.Runs.{Fits, IsTypedCall, Runs};
+ghost use Rattle.wstore.specs.Runs.{Fits, IsTypedCall, Runs, GivesUp};
 
 use crate::instance::Instance;
 use accepted::Accepted;
-use interpreter::{Code, Execution, execute};
-use std::alloc::{AllocError, Global};
+use interpreter::{Code, Execution, OutOfMemory, execute};
+use std::alloc::Global;
 use wsyntax::Value;
 
 /// The code of a module without imports.
@@ -49,7 +49,7 @@ fn is_typed_call(
 impl<'a> Instance<'a> {
     /// Calls a function on its store (4.5.5), under limits of fuel and frames. Fuel is tested first, then frames; then
     /// memory is asked for: for the results, and for the frames as they are entered. An error says that memory was
-    /// refused; the store is then one that the call had reached.
+    /// refused, which is asked for only where there is fuel and a frame; the store is then one that the call had reached.
     pub fn execute(
         &mut self,
         alloc: Global,
@@ -57,9 +57,11 @@ impl<'a> Instance<'a> {
         args: &[Value],
         fuel: u32,
         frames: u32,
-    ) -> Result<Execution, AllocError>
+    ) -> Result<Execution, OutOfMemory>
         requires { Fits (context_in self.old) function args.now }
         ensures runs { IfOk result (λ x. Runs (module_in self.old) (shapes_of self.old.accepted.now.bodies.items) (store_in self.old) function args.now fuel frames (outcome_of x.outcome) (store_in self.new) x.left x.dispatches) }
+        ensures refused { IfErr result (λ e. GivesUp self.old function args.now fuel frames self.new e.left e.dispatches) }
+        ensures needed { OnErr result ((0 < fuel) × (0 < frames)) }
         ensures room { room_with self.old.parts.memory self.old.lent ≤ room_with self.new.parts.memory self.new.lent }
         ensures marks { (self.new.accepted.now ≡ self.old.accepted.now) × (self.new.failed ≡ self.old.failed) × (self.new.dispatches ≡ self.old.dispatches) }
     {

@@ -20,7 +20,7 @@ pub struct Instance<'a> {
     pub(crate) lent: CleanMem,
     /// Whether a call met want of memory.
     pub(crate) failed: bool,
-    /// How many instructions the calls have dispatched.
+    /// How many tokens the latest call on it took.
     pub(crate) dispatches: u64,
     pub(crate) ghost held: { ∥ IsHeld (module_context (module_shape accepted.now.module)) (seen parts) ∥₁ },
     pub(crate) ghost runnable: { ∥ Runnable (module_shape accepted.now.module) (shapes_of accepted.now.bodies.items) ∥₁ },

@@ -21,4 +21,5 @@ pub use fault::{NotStarted, StartFault};
 pub use instance::Instance;
 pub use instantiating::instantiate;
 pub use judged::accepted_is_judged;
+pub use memory::{CleanMem, Pool, Ticket};
 pub use settings::Settings;

@@ -8,6 +8,7 @@ ghost use Rattle.memory.specs.Buffered.{IsWidth};
 ghost use Rattle.wsyntax.specs.Execution.Store.{read};
 ghost use Rattle.wstore.specs.Stores.{entry_at, pages_in, StoreWrites, StoreGrows};
 ghost use Rattle.wstore.specs.Views.{context_in, store_in};
+ghost use Rattle.interpreter.specs.Growths.{LacksRoom};
 
 use crate::entry::Entry;
 use crate::instance::Instance;
@@ -60,11 +61,13 @@ impl<'a> Instance<'a> {
     }
 
     /// Grows its memory by so many pages of zeros, and answers the size before, in pages. `None` exactly where it may not
-    /// have so many pages, or where there is no memory. An error says that memory was refused. Nothing changes after either.
+    /// have so many pages, or where there is no memory. An error says that memory was refused, which is asked for only where the
+    /// buffer has no room for them. Nothing changes after either.
     pub fn grow(&mut self, more: u32) -> Result<Option<u32>, AllocError>
         ensures grown { IfOk result (λ size. StoreGrows (seen self.old.parts) more size (seen self.new.parts)) }
         ensures room { room_with self.old.parts.memory self.old.lent ≤ room_with self.new.parts.memory self.new.lent }
         ensures refused { OnErr result (seen self.new.parts ≡ seen self.old.parts) }
+        ensures needed { OnErr result (LacksRoom self.old.parts.memory more) }
         ensures marks { (self.new.accepted.now ≡ self.old.accepted.now) × (self.new.failed ≡ self.old.failed) × (self.new.dispatches ≡ self.old.dispatches) }
     {
         match &mut self.parts.memory {
@@ -119,14 +122,14 @@ impl<'a> Instance<'a> {
         self.failed = true;
     }
 
-    /// How many instructions the calls have dispatched.
+    /// How many tokens the latest call on it took.
     pub fn dispatches(&self) -> u64
         ensures { result ≡ self.now.dispatches }
     {
         self.dispatches
     }
 
-    /// Notes how many instructions the calls have dispatched.
+    /// Notes how many tokens the latest call on it took.
     pub fn set_dispatches(&mut self, dispatches: u64)
         ensures noted { self.new.dispatches ≡ dispatches }
         ensures rest { (self.new.accepted ≡ self.old.accepted) × (self.new.parts ≡ self.old.parts) × (self.new.lent ≡ self.old.lent) × (self.new.failed ≡ self.old.failed) }

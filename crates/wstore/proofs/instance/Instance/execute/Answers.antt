@@ -3,7 +3,7 @@ use Rattle.std.proofs.Math.Logic.{∥∥₁_map}
 use Rattle.accepted.specs.Judgement.{shapes_of}
 use Rattle.parts.specs.Seen.{seen}
 use Rattle.wstore.specs.Views.{module_in}
-use Rattle.wstore.proofs.TypedCalls.{known, typed_call, all_runs, held_after}
+use Rattle.wstore.proofs.TypedCalls.{known, typed_call, all_runs, stops, held_after}
 use Rattle.wstore.proofs.instance.Instance.execute.Goals as goal
 
 pub is_typed_call-requires : goal.is_typed_call-requires
@@ -35,3 +35,8 @@ pub returns-clause-runs : goal.returns-clause-runs
 returns-clause-runs c =
     let i = c.args.self.now in
     all_runs (module_in i) (shapes_of i.accepted.now.bodies.items) c.code_of-code.result (seen i.parts) (seen c.execute.new.parts) c.args.function c.args.args.now c.args.fuel c.args.frames c.store_kept.ensures c.is_typed_call.ensures c.execute.result c.one_instance.ensures c.execute.ensures.executed
+
+pub returns-clause-refused : goal.returns-clause-refused
+returns-clause-refused c =
+    let i = c.args.self.now in
+    stops (module_in i) (shapes_of i.accepted.now.bodies.items) c.code_of-code.result (seen i.parts) (seen c.execute.new.parts) c.args.function c.args.args.now c.args.fuel c.args.frames c.store_kept.ensures c.is_typed_call.ensures c.execute.result c.one_instance.ensures c.execute.ensures.refused
