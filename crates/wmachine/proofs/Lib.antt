@@ -2,3 +2,4 @@ pub mod Sets
 pub mod Words
 pub mod Fitting
 pub mod Calling
+pub mod GivingUp

@@ -1,5 +1,5 @@
 -- 4.5.5 What a call promises beside how it ends.
-use Rattle.std.specs.Prelude.{◌≡◌, ℕ, List, Some, slice_get}
+use Rattle.std.specs.Prelude.{◌≡◌, ℕ, ◌*◌, ◌<◌, ◌≤◌, ◌⊎◌, true, List, Some, slice_get}
 use Rattle.wsyntax.specs.Types.{FuncType}
 use Rattle.wsyntax.specs.declared.value.Value.{Value}
 use Rattle.wsyntax.specs.Modules.{ModuleShape, BodyShape}
@@ -11,6 +11,8 @@ use Rattle.wsyntax.specs.Execution.Chain.{Chain}
 use Rattle.wsyntax.specs.Execution.ConfigTyped.{ValuesTyped}
 use Rattle.wsyntax.specs.Execution.Ends.{Outcome, Values, Trapped, OutOfFuel, OutOfFrames, IsStuck, start}
 use Rattle.wsyntax.specs.Execution.Start.{InstanceOf}
+use Rattle.wstore.specs.declared.instance.Instance.{Instance}
+use Rattle.wstore.specs.Runs.{GivesUp}
 
 -- the function is there, and its parameters are of the types of the arguments
 pub record HasParams (C : Context) (f : ℕ) (args : List Value) : Type 0 where
@@ -29,3 +31,15 @@ GivesTyped C f OutOfFrames = Unit {0}
 abbrev pub NeverStuck : ModuleShape → List BodyShape → Store → ℕ → List Value → Type 0
 NeverStuck m bodies s f args =
     (i : Module) (kinds : List Kind) (c : Config) → InstanceOf m bodies i → Chain i (start s f args) kinds c → IsStuck i c → ⊥
+
+-- the call on the instance is given up where it has come to, with so much fuel left there
+abbrev pub IsGivenUp : Instance → ℕ → List Value → ℕ → ℕ → Instance → Type 0
+IsGivenUp old f args fuel frames new = (left : ℕ) × GivesUp old f args fuel frames new left new.dispatches
+
+-- no more tokens were taken than L for each unit that was charged, of so much fuel
+abbrev pub TookAtMost : ℕ → ℕ → ℕ → Type 0
+TookAtMost L fuel dispatches = (charged : ℕ) × (charged ≤ fuel) × (dispatches ≤ charged * L)
+
+-- a call may meet want of memory: the instance had failed before, or there is fuel and a frame
+abbrev pub MayWant : Instance → ℕ → ℕ → Type 0
+MayWant old fuel frames = (old.failed ≡ true) ⊎ ((0 < fuel) × (0 < frames))

@@ -5,8 +5,8 @@ ghost use Rattle.wsyntax.specs.Execution.Ends.{Outcome as MeantOutcome};
 ghost use Rattle.parts.specs.Buffers.{room_with};
 ghost use Rattle.accepted.specs.Judgement.{shapes_of};
 ghost use Rattle.wstore.specs.Views.{module_in, context_in, store_in};
-ghost use Rattle.wstore.specs.Runs.{Fits, Runs};
-ghost use Rattle.wmachine.specs.Calls.{HasParams, GivesTyped, NeverStuck};
+ghost use Rattle.wstore.specs.Runs.{Fits, Runs, longest};
+ghost use Rattle.wmachine.specs.Calls.{HasParams, GivesTyped, NeverStuck, IsGivenUp, TookAtMost, MayWant};
 
 use crate::arguments::are_words;
 use crate::fuel::Fuel;
@@ -28,7 +28,8 @@ fn call_is_typed(instance: &Instance<'_>, function: u32, args: &[Value])
 }
 
 /// Calls a function of an instance (4.5.5) with the fuel that is left. An error says that memory was refused, now or on an
-/// earlier call of the instance; then the instance has failed, and no fuel is taken.
+/// earlier call of the instance; then the instance has failed, and no fuel is taken. Memory is asked for only where there is
+/// fuel and a frame. The instance's `dispatches` are the tokens that this call took, however it ends.
 pub fn invoke(
     alloc: Global,
     instance: &mut Instance<'_>,
@@ -47,9 +48,14 @@ pub fn invoke(
     ensures failed { instance.old.failed ≡ true → IsErr result }
     ensures fails { OnErr result (instance.new.failed ≡ true) }
     ensures untouched { OnErr result (fuel.new.left ≡ fuel.old.left) }
+    ensures needed { OnErr result (MayWant instance.old fuel.old.left frames) }
+    ensures given_up { OnErr result (IsGivenUp instance.old function args.now fuel.old.left frames instance.new) }
+    ensures bounded { OnErr result (TookAtMost (longest (shapes_of instance.old.accepted.now.bodies.items)) fuel.old.left instance.new.dispatches) }
+    ensures idle { instance.old.failed ≡ true → (instance.new.dispatches ≡ 0) × (instance.new.parts ≡ instance.old.parts) }
 {
     call_is_typed(instance, function, args);
     if instance.failed() {
+        instance.set_dispatches(0);
         return Err(AllocError);
     }
     match instance.execute(alloc, function, args, fuel.left(), frames) {
@@ -59,8 +65,9 @@ pub fn invoke(
             Ok(execution.outcome)
         }
         Err(refused) => {
+            instance.set_dispatches(refused.dispatches);
             instance.fail();
-            Err(refused)
+            Err(AllocError)
         }
     }
 }
