@@ -22,6 +22,7 @@ import subprocess
 import sys
 import tempfile
 
+sys.path.insert(0, os.path.join(os.path.dirname(os.path.abspath(__file__)), '..', 'bench'))
 import counts
 import rows
 from encoding import EMPTY, function_type, unsigned, vector, whole
