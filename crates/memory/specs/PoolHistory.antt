@@ -71,8 +71,10 @@ pub record Extends (v : TicketView) (step : PoolStep) (w : TicketView) : Type 0 
   pub ticket : w.ticket ≡ v.ticket
   pub newest : w.newest ≡ v.newest
 
--- At one moment the pool kept these memories: there is a legal history that begins with all that the ticket has seen and
--- leaves them. Of this ticket it has the steps that it made, and none of tickets above the greatest number.
+-- The pool was found with these memories: there is a legal history that begins with all that the ticket has seen and leaves
+-- them. Of this ticket it has the steps that it made, and none of tickets above the greatest number. For a pool of one ticket
+-- it is what the ticket has seen. Where there are more tickets, the others may have given and taken anything in between, so a
+-- pool may have been found with any memories.
 pub record Finds (v : TicketView) (kept : List ℕ) : Type 0 where
   pub log : List PoolEntry
   pub begins : Begins v.seen log

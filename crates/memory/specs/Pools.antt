@@ -1,5 +1,5 @@
 -- What a clause says of a pool and its tickets.
-use Rattle.std.specs.Prelude.{◌≡◌, ℕ, zero, suc, ◌⊎◌, List, [], ◌∷◌, ◌++◌, List, All, map, length}
+use Rattle.std.specs.Prelude.{◌≡◌, ℕ, zero, suc, List, [], ◌∷◌, ◌++◌, List, All, map, length}
 use Rattle.crossbeam_queue.specs.Fifo.{Held}
 use Rattle.crossbeam_queue.specs.Passes.{view, IsPassOf, ruled_capacity}
 use Rattle.memory.specs.declared.pool.Pool.{Pool}
@@ -36,10 +36,27 @@ pub record AreIssued (p : Pool) (tickets : List Ticket) : Type 0 where
   pub each : All (IsNew p) tickets
   pub numbered : map (λ (t : Ticket). (view_of t).ticket) tickets ≡ numbers (length tickets)
 
--- a memory of so many bytes was lent: the first that the pool kept, or an empty one, and the pool was empty at one moment
-abbrev pub LendsFrom : TicketView → ℕ → TicketView → Type 0
-LendsFrom v n w = Extends v (Lent n) w ⊎ ((n ≡ 0) × (w ≡ v) × Held 0 (Finds v))
+-- so many steps, one after another
+abbrev pub Repeats : (TicketView → TicketView → Type 0) → ℕ → TicketView → TicketView → Type 0
+Repeats step zero v w = w ≡ v
+Repeats step (suc k) v w = (u : TicketView) × Repeats step k v u × step u w
 
--- a memory of so many bytes was given: it is kept behind the others, or it is dropped, and the pool was full at one moment
+-- the pool was found empty, and an empty memory was put in
+abbrev pub AddsEmpty : TicketView → TicketView → Type 0
+AddsEmpty v w = Held 0 (Finds v) × Extends v (Gave 0) w
+
+-- the pool was found full, and the first memory was taken and dropped
+abbrev pub DropsFirst : ℕ → TicketView → TicketView → Type 0
+DropsFirst capacity v w = Held capacity (Finds v) × ((n : ℕ) × Extends v (Lent n) w)
+
+-- A memory of so many bytes was lent: the first that the pool kept, after empty ones were put in where it was found empty.
+-- That it is the first holds for any number of tickets. How many empty ones were put in is exact for a pool of one ticket, one
+-- where it kept none and else none; for more tickets it is left open.
+abbrev pub LendsFrom : TicketView → ℕ → TicketView → Type 0
+LendsFrom v n w = (k : ℕ) × (u : TicketView) × Repeats AddsEmpty k v u × Extends u (Lent n) w
+
+-- A memory of so many bytes was given: it is kept after the others, after first ones were dropped where the pool was found full.
+-- That it is kept holds for any number of tickets. How many were dropped is exact for a pool of one ticket, one where it was
+-- full and else none; for more tickets it is left open.
 abbrev pub GivesTo : ℕ → TicketView → ℕ → TicketView → Type 0
-GivesTo capacity v n w = Extends v (Gave n) w ⊎ ((w ≡ v) × Held capacity (Finds v))
+GivesTo capacity v n w = (k : ℕ) × (u : TicketView) × Repeats (DropsFirst capacity) k v u × Extends u (Gave n) w

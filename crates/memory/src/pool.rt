@@ -76,10 +76,11 @@ pub struct Ticket {
 }
 
 impl Pool {
-    ghost use Rattle.std.specs.Prelude.{◌≡◌, ◌<◌, ◌≤◌, true, [], IfOk, vec_len};
+    ghost use Rattle.std.specs.Prelude.{◌≡◌, ◌<◌, ◌≤◌, ◌⊎◌, true, [], IfOk, vec_len};
+    ghost use Rattle.crossbeam_queue.specs.Fifo.{Held};
     ghost use Rattle.crossbeam_queue.specs.Passes.{view, IsPassOf};
-    ghost use Rattle.memory.specs.PoolHistory.{ticket_view};
-    ghost use Rattle.memory.specs.Pools.{IsTicketOf, AreIssued, capacity_of, view_of, LendsFrom, GivesTo};
+    ghost use Rattle.memory.specs.PoolHistory.{ticket_view, Finds};
+    ghost use Rattle.memory.specs.Pools.{IsTicketOf, AreIssued, capacity_of, view_of, AddsEmpty, DropsFirst, LendsFrom, GivesTo};
 
     /// An empty pool that keeps at most `capacity` memories, and as many tickets. It takes the memory of all its
     /// calls.
@@ -117,28 +118,66 @@ impl Pool {
         Ok(tickets)
     }
 
-    /// The first of the memories that the pool keeps, or an empty new one where it was empty at one moment of the
-    /// call. It takes no memory; it may wait for another thread, and what it promises holds if it returns.
+    /// The first of the memories that the pool keeps. Where it finds the pool empty it puts an empty memory in, and
+    /// takes the first. It takes no memory; it may wait for another thread, and what it promises holds if it returns.
+    ///
+    /// Its contract tells for any number of tickets that what it gives is the first. How many empty memories it puts in
+    /// the contract tells for a pool of one ticket: one where the pool kept none, else none.
     pub fn lend<R: Wait>(&self, rt: &R, ticket: &mut Ticket) -> CleanMem
         requires { IsTicketOf self.now ticket.old }
         ensures ticket { IsTicketOf self.now ticket.new }
         ensures lent { LendsFrom (view_of ticket.old) result (view_of ticket.new) }
     {
-        match self.queue.pop_as::<Lends, R>(rt, &mut ticket.pass) {
-            Some(memory) => memory,
-            None => CleanMem::empty(self.alloc),
+        for _ in rt.forever() {
+            match self.queue.pop_as::<Lends, R>(rt, &mut ticket.pass) {
+                Some(memory) => return memory,
+                None => self.add_empty(rt, ticket),
+            }
         }
+        unreachable!()
     }
 
-    /// Keeps a memory behind the others, or drops it where the pool was full at one moment of the call. It takes no
-    /// memory; it may wait for another thread, and what it promises holds if it returns.
+    // An empty memory for a pool that was found empty, unless others have filled it.
+    fn add_empty<R: Wait>(&self, rt: &R, ticket: &mut Ticket)
+        requires ticket { IsTicketOf self.now ticket.old }
+        requires found { Held 0 (Finds (view_of ticket.old)) }
+        ensures ticket { IsTicketOf self.now ticket.new }
+        ensures added { (view_of ticket.new ≡ view_of ticket.old) ⊎ AddsEmpty (view_of ticket.old) (view_of ticket.new) }
+    {
+        let empty = CleanMem::empty(self.alloc);
+        let _ = self.queue.push_as::<Gives, R>(rt, &mut ticket.pass, empty);
+    }
+
+    /// Keeps a memory after the others. Where it finds the pool full it drops the first that is kept, and tries again.
+    /// It takes no memory; it may wait for another thread, and what it promises holds if it returns.
+    ///
+    /// Its contract tells for any number of tickets that the memory is kept. How many others it drops the contract tells
+    /// for a pool of one ticket: one where the pool was full, else none.
     ///
     /// A memory that was given is gone: `pool.give(rt, ticket, memory); memory.len()` does not compile.
-    pub fn give<R: Wait>(&self, rt: &R, ticket: &mut Ticket, memory: CleanMem)
+    pub fn give<R: Wait>(&self, rt: &R, ticket: &mut Ticket, mut memory: CleanMem)
         requires { IsTicketOf self.now ticket.old }
         ensures ticket { IsTicketOf self.now ticket.new }
         ensures given { GivesTo (capacity_of self.now) (view_of ticket.old) memory (view_of ticket.new) }
     {
-        let _ = self.queue.push_as::<Gives, R>(rt, &mut ticket.pass, memory);
+        for _ in rt.forever() {
+            match self.queue.push_as::<Gives, R>(rt, &mut ticket.pass, memory) {
+                Ok(()) => return,
+                Err(back) => memory = back,
+            }
+            self.drop_first(rt, ticket);
+        }
+        unreachable!()
+    }
+
+    // Drops the first memory of a pool that was found full, unless others have emptied it.
+    fn drop_first<R: Wait>(&self, rt: &R, ticket: &mut Ticket)
+        requires ticket { IsTicketOf self.now ticket.old }
+        requires found { Held (capacity_of self.now) (Finds (view_of ticket.old)) }
+        ensures ticket { IsTicketOf self.now ticket.new }
+        ensures dropped { (view_of ticket.new ≡ view_of ticket.old)
+            ⊎ DropsFirst (capacity_of self.now) (view_of ticket.old) (view_of ticket.new) }
+    {
+        let _ = self.queue.pop_as::<Lends, R>(rt, &mut ticket.pass);
     }
 }
