@@ -121,14 +121,32 @@ fn two_tickets_share_one_pool(rt: HostRuntime) -> Result<(), Fail> {
 }
 
 #[test]
-fn a_full_pool_drops_what_is_given(rt: HostRuntime) -> Result<(), Fail> {
+fn a_full_pool_drops_the_first_that_it_keeps(rt: HostRuntime) -> Result<(), Fail> {
     let (pool, mut tickets) = Pool::new(rt.alloc(), 1)?;
     let mut ticket = tickets.pop().ok_or("ticket")?;
-    let clean = after(&rt, CleanMem::empty(rt.alloc()), 1, &[])?;
-    give_memory(&rt, &pool, &mut ticket, clean);
-    give_memory(&rt, &pool, &mut ticket, CleanMem::empty(rt.alloc()));
-    expect_lent(&rt, &pool, &mut ticket, 65_536);
+    let one_page = after(&rt, CleanMem::empty(rt.alloc()), 1, &[])?;
+    let two_pages = after(&rt, CleanMem::empty(rt.alloc()), 2, &[])?;
+    give_memory(&rt, &pool, &mut ticket, one_page);
+    give_memory(&rt, &pool, &mut ticket, two_pages);
+    expect_lent(&rt, &pool, &mut ticket, 131_072);
     expect_lent(&rt, &pool, &mut ticket, 0);
+    Ok(())
+}
+
+#[test]
+fn two_tickets_fill_one_pool(rt: HostRuntime) -> Result<(), Fail> {
+    let (pool, mut tickets) = Pool::new(rt.alloc(), 2)?;
+    let mut second = tickets.pop().ok_or("ticket")?;
+    let mut first = tickets.pop().ok_or("ticket")?;
+    let one_page = after(&rt, CleanMem::empty(rt.alloc()), 1, &[])?;
+    let two_pages = after(&rt, CleanMem::empty(rt.alloc()), 2, &[])?;
+    let three_pages = after(&rt, CleanMem::empty(rt.alloc()), 3, &[])?;
+    give_memory(&rt, &pool, &mut first, one_page);
+    give_memory(&rt, &pool, &mut second, two_pages);
+    give_memory(&rt, &pool, &mut first, three_pages);
+    expect_lent(&rt, &pool, &mut second, 131_072);
+    expect_lent(&rt, &pool, &mut first, 196_608);
+    expect_lent(&rt, &pool, &mut second, 0);
     Ok(())
 }
 

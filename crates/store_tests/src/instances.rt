@@ -66,7 +66,7 @@ static DATA_OUTSIDE: [u8; 69] = [
     0x41, 0x7F, 0x0B, 0x01, 0x61,
 ];
 
-fn accepted<R: Threads + Wait + Abort + Sync>(
+pub(crate) fn accepted<R: Threads + Wait + Abort + Sync>(
     rt: &R,
     alloc: Global,
     bytes: &'static [u8],
@@ -76,7 +76,7 @@ fn accepted<R: Threads + Wait + Abort + Sync>(
 }
 
 // An instance in the memory that is lent, of at most so many pages.
-fn start<'a>(
+pub(crate) fn start<'a>(
     alloc: Global,
     accepted: &'a Accepted<'a>,
     pages: u32,

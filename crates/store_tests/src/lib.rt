@@ -6,3 +6,5 @@
 mod calls;
 #[cfg(test)]
 mod instances;
+#[cfg(test)]
+mod pools;
