@@ -19,7 +19,7 @@ use Rattle.wsyntax.specs.Texts.Calls.{Call, Good, IsCalls, TextLine, Ended, Unen
 use Rattle.wsyntax.specs.Texts.Report.{CallEnd, Ran, NoExport, NotAFunction, BadArguments, NotStarted, NoMemory}
 use Rattle.wsyntax.specs.Texts.Answer.{Limits, Names, Started, EndOf, EndsOf, ran}
 use Rattle.soundness.specs.Instances.{Judged, TypedAt, SegmentsAreBytes, Instantiated, StartIsPlain, CallsTyped, CallsAreSafe}
-use Rattle.verdict.proofs.SegmentBytes.{segments_are_bytes}
+use Rattle.verdict.specs.Laws.{SegmentsHoldBytes}
 use Rattle.batch.specs.Ends.{IsCallee}
 use Rattle.batch.specs.Safe.{IsRun, NoneStuck, NeverStuck, GivesTyped, EachGivesTyped, ValuesAreTyped, IsSafe}
 
@@ -32,6 +32,7 @@ pub record Laws : Type 0 where
   pub typed : CallsTyped
   pub safe : CallsAreSafe
   pub never : laws.NeverStuck
+  pub bytes : SegmentsHoldBytes
 
 none_and_some : {A : Type 0} (o : Option A) (x : A) → o ≡ None → o ≡ Some x → ⊥
 none_and_some o x a b = cc
@@ -80,7 +81,7 @@ instantiated : Laws → (bytes : List ℕ) (pages : ℕ) (m : ModuleShape) (bodi
     → start_refusal pages m bodies ≡ None → InstanceOf m bodies i → Instantiated m bodies pages i
 instantiated laws bytes pages m bodies i below verdict spelled none is = record {
   judged = judged laws bytes m bodies verdict spelled;
-  bytes = segments_are_bytes bytes m spelled.0 below;
+  bytes = laws.bytes bytes m spelled.0 below;
   not_refused = none;
   instance = is;
 }

@@ -18,8 +18,8 @@ use Rattle.batch.specs.Ends.{IsCallee}
 
 -- ---- no call is ever stuck
 
--- a call that is run: the bytes are accepted and spell this module, the text says the call, which names function f and has arguments of the types of its parameters,
--- nothing refuses the start of an instance, and this is one
+-- a call that is run: the bytes are accepted and spell this module, the text says the call, which names function f and has arguments of
+-- the types of its parameters, nothing refuses the start of an instance, and this is one
 pub record IsRun (bytes text : List ℕ) (l : Limits) (m : ModuleShape) (i : Module) (c : Call) (f : ℕ) : Type 0 where
   pub accepted : IsVerdict bytes Accepted
   pub bodies : List BodyShape
@@ -36,7 +36,8 @@ pub record IsRun (bytes text : List ℕ) (l : Limits) (m : ModuleShape) (i : Mod
 abbrev pub NoneStuck : Module → Store → ℕ → List Value → Type 0
 NoneStuck i s f args = (kinds : List Kind) (c : Config) → Chain i (start s f args) kinds c → IsStuck i c → ⊥
 
--- of no call that is run: not where its start function is run on the fresh store, and not where it is run on the store that the start function leaves
+-- of no call that is run: not where its start function is run on the fresh store, and not where it is run on the store that the start
+-- function leaves
 pub record NeverStuck (bytes text : List ℕ) (l : Limits) : Type 0 where
   pub in_start : (m : ModuleShape) (i : Module) (c : Call) (f g : ℕ) → IsRun bytes text l m i c f → m.start ≡ Some g → NoneStuck i (fresh_store l.pages m) g []
   pub in_call : (m : ModuleShape) (i : Module) (c : Call) (f : ℕ) (s : Store) (k : ℕ) → IsRun bytes text l m i c f → Started m i l s k → NoneStuck i s f c.args

@@ -7,7 +7,7 @@ ghost use Rattle.batch.specs.Safe.{IsSafe};
 
 use soundness::instances::{calls_are_safe, calls_typed, start_is_plain};
 use soundness::{execution, texts};
-use verdict::one_verdict;
+use verdict::{one_verdict, segments_hold_bytes};
 use wdecode::{bodies_are_determined, modules_are_determined, shells_are_determined};
 
 /// The law that the same bytes, text and limits have one answer, where the same calls met want of memory.
@@ -25,6 +25,7 @@ pub fn answers_are_safe()
 {
     bodies_are_determined();
     shells_are_determined();
+    segments_hold_bytes();
     start_is_plain();
     calls_typed();
     calls_are_safe();

@@ -1,4 +1,4 @@
-ghost use Rattle.verdict.specs.Laws.{OneVerdict};
+ghost use Rattle.verdict.specs.Laws.{OneVerdict, SegmentsHoldBytes};
 
 use soundness::validation::{one_fault, typed_where_no_fault, unique_tree};
 use wdecode::{bodies_are_determined, shells_are_determined};
@@ -13,3 +13,8 @@ pub fn one_verdict()
     typed_where_no_fault();
     one_fault();
 }
+
+/// Where bytes spell a module, what its data segments hold are bytes.
+pub fn segments_hold_bytes()
+    ensures { SegmentsHoldBytes }
+{}

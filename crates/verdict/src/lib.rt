@@ -19,5 +19,5 @@ mod rest;
 pub use accepted::Accepted;
 pub use examining::examine;
 pub use judging::judge;
-pub use laws::one_verdict;
+pub use laws::{one_verdict, segments_hold_bytes};
 pub use refusal::{Class, Refusal};

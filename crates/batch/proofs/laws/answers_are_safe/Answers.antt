@@ -9,4 +9,5 @@ returns c bytes text l below = is_safe record {
   typed = c.calls_typed.ensures;
   safe = c.calls_are_safe.ensures;
   never = c.never_stuck.ensures;
+  bytes = c.segments_hold_bytes.ensures;
 } bytes text l below
