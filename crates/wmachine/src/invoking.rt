@@ -50,7 +50,8 @@ pub fn invoke(
     ensures untouched { OnErr result (fuel.new.left ≡ fuel.old.left) }
     ensures needed { OnErr result (MayWant instance.old fuel.old.left frames) }
     ensures given_up { OnErr result (IsGivenUp instance.old function args.now fuel.old.left frames instance.new) }
-    ensures bounded { OnErr result (TookAtMost (longest (shapes_of instance.old.accepted.now.bodies.items)) fuel.old.left instance.new.dispatches) }
+    ensures bounded { OnErr result
+        (TookAtMost (longest (shapes_of instance.old.accepted.now.bodies.items)) fuel.old.left instance.new.dispatches) }
     ensures idle { instance.old.failed ≡ true → (instance.new.dispatches ≡ 0) × (instance.new.parts ≡ instance.old.parts) }
 {
     call_is_typed(instance, function, args);
