@@ -7,4 +7,5 @@ use Rattle.memory.specs.Pools.{Repeats}
 pub once_more : (step : TicketView → TicketView → Type 0) (v u before after : TicketView) → (k : ℕ) × Repeats step k v u → before ≡ u
     → (after ≡ before) ⊎ step before after → (k : ℕ) × Repeats step k v after
 once_more step v u before after so_far same (inl none) = (so_far.0, subst (λ x. Repeats step so_far.0 v x) (sym (none ∙ same)) so_far.1)
-once_more step v u before after so_far same (inr more) = (suc so_far.0, (before, subst (λ x. Repeats step so_far.0 v x) (sym same) so_far.1, more))
+once_more step v u before after so_far same (inr more) =
+    (suc so_far.0, (before, subst (λ x. Repeats step so_far.0 v x) (sym same) so_far.1, more))
