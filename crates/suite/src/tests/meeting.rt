@@ -191,7 +191,14 @@ fn meeting_of_answer<R: Threads + Wait + Abort + Sync>(
     let meeting = Meeting::new();
     let mut text = Vec::new(alloc);
     let status = answer(
-        rt, alloc, LOADS, b"a\ti32:0\nb\ti32:1\n", settings, plan, &meeting, &mut text,
+        rt,
+        alloc,
+        LOADS,
+        b"a\ti32:0\nb\ti32:1\n",
+        settings,
+        plan,
+        &meeting,
+        &mut text,
     )?;
     assert_eq!(rt;
         text.as_slice(),
