@@ -1,12 +1,15 @@
 #!/usr/bin/env python3
-"""usage: prove.py PROGRAM    proves the crates that a program stands on, side by side, and then the program, and builds it.
+"""Proves the crates that a program stands on, side by side, and then the program, and builds it.
 
 Two calls of `rt` in one tree wait for each other, and one call goes by the number of crates below a crate, so that what
 most others wait for begins late. So each crate is proved in a tree of its own under out/lanes, with the libraries of the
 crates below it as hard links, and what the check keeps is moved back. Of the crates that wait for none, the one with the
 longest chain of others behind it goes first, with the processors that no other crate takes. Standard error has a line for
-each crate, and of one that is not proved what the prover said.
+each crate, with the minutes that are left by what the last run took, and of one that is not proved what the prover said.
+A run that is cut off goes on where it was: what is proved stays in the crates' folders.
 """
+import argparse
+import json
 import os
 import re
 import shutil
@@ -17,6 +20,7 @@ from concurrent.futures import FIRST_COMPLETED, ThreadPoolExecutor, wait
 
 root = os.path.dirname(os.path.abspath(__file__))
 lanes = os.path.join(root, 'out', 'lanes')
+kept_seconds = os.path.join(root, 'out', 'seconds.json')
 
 # A check needs up to so many kilobytes.
 MEMORY_OF_A_CHECK = 3_000_000
@@ -24,7 +28,8 @@ MEMORY_OF_A_CHECK = 3_000_000
 # More processors than these make no check faster.
 MOST_JOBS = 4
 
-# Seconds that a check from nothing took beside three others. They say which crate goes first, and nothing else.
+# Seconds that a check from nothing took beside three others, for a crate that no run here has proved from nothing. They say
+# which crate goes first, and how long it takes, and nothing else.
 SECONDS = {
     'accepted': 175, 'batch': 190, 'checked': 27, 'command': 150, 'ends': 15, 'files': 30, 'gate': 190, 'interpreter': 180,
     'layout': 50, 'memory': 88, 'numerics': 33, 'parts': 13, 'pieces': 285, 'refinement': 17, 'side_table': 14,
@@ -61,9 +66,24 @@ def below(name, graph):
     return found
 
 
+def measured():
+    """The seconds that the crates took when they were last proved from nothing."""
+    try:
+        return json.loads(read(kept_seconds))
+    except (OSError, ValueError):
+        return {}
+
+
+def keep_seconds(name, took):
+    """Writes down what the proof of a crate from nothing took."""
+    with open(kept_seconds + '.new', 'w') as file:
+        json.dump({**measured(), name: round(took)}, file, indent=1, sort_keys=True)
+    os.replace(kept_seconds + '.new', kept_seconds)
+
+
 def seconds(name):
     """About how long the check of a crate takes; a minute for one that was not measured."""
-    return SECONDS.get(name, 60)
+    return measured().get(name, SECONDS.get(name, 60))
 
 
 def behind(crates, graph):
@@ -94,10 +114,12 @@ def prove_library(name, graph, jobs):
     """Proves a crate and builds its library. Answers whether it is proved, and what the prover said."""
     lane = make_lane(name, graph)
     kept, moved = os.path.join(root, 'crates', name, 'out'), os.path.join(lane, 'crates', name, 'out')
-    if os.path.isdir(kept):
+    begun, fresh = time.monotonic(), not os.path.isdir(kept)
+    if not fresh:
         shutil.move(kept, moved)
     try:
-        return run(['rt', 'lib', '--jobs', str(jobs)], os.path.dirname(moved))
+        proved, said = run(['rt', 'lib', '--jobs', str(jobs)], os.path.dirname(moved))
+        return proved, said, time.monotonic() - begun if fresh and proved else None
     finally:
         if os.path.isdir(moved):
             shutil.move(moved, kept)
@@ -115,9 +137,18 @@ def at_once():
     return max(1, min(os.cpu_count() or 1, memory // MEMORY_OF_A_CHECK))
 
 
-def tell(name, proved, said, number, count):
+def minutes_left(left, running, room):
+    """About how many minutes the crates that are left take: the longest chain of them, or all by the processors there are."""
+    graph = uses()
+    chains = behind([*left, *running], graph)
+    longest = max(chains.values(), default=0)
+    return max(longest, sum(map(seconds, chains)) / room) / 60
+
+
+def tell(name, proved, said, number, count, left=None):
     if proved:
-        print(f'gate: {name} is proved ({number} of {count}, {time.monotonic() - started:.0f} s)', file=sys.stderr)
+        more = '' if left is None else f', about {left:.0f} minutes left'
+        print(f'gate: {name} is proved ({number} of {count}, {time.monotonic() - started:.0f} s{more})', file=sys.stderr)
     else:
         errors = [line for line in said.splitlines() if 'error' in line] or said.splitlines()[-20:]
         print(f'gate: {name} is not proved:', *errors, sep='\n', file=sys.stderr)
@@ -139,9 +170,11 @@ def prove_libraries(crates, graph, count):
                 running[pool.submit(prove_library, name, graph, jobs)] = name, jobs
             for ended in wait(running, return_when=FIRST_COMPLETED).done:
                 name, _ = running.pop(ended)
-                proved, said = ended.result()
+                proved, said, took = ended.result()
                 done.add(name)
-                tell(name, proved, said, len(done), count)
+                if took is not None:
+                    keep_seconds(name, took)
+                tell(name, proved, said, len(done), count, minutes_left(left, [it for it, _ in running.values()], room))
                 if not proved:
                     return False
     return True
@@ -164,4 +197,6 @@ def main(program):
 
 started = time.monotonic()
 if __name__ == '__main__':
-    sys.exit(main(sys.argv[1]))
+    parser = argparse.ArgumentParser(description=__doc__, formatter_class=argparse.RawDescriptionHelpFormatter)
+    parser.add_argument('program', metavar='PROGRAM', help='the crate of the program, as in crates.txt')
+    sys.exit(main(parser.parse_args().program))
