@@ -28,7 +28,7 @@ pub enum Refusal {
     /// The bytes spell no module, the insides of bodies aside.
     #[error("malformed")]
     Malformed,
-    /// The least broken module rule, from 1 to 13.
+    /// The least broken module rule, from 2 to 13.
     #[error("rule {0}")]
     Rule(u32),
     /// The least function, imported ones counted first, whose body is refused.
