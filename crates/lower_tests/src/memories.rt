@@ -135,12 +135,12 @@ fn a_full_pool_drops_the_first_that_it_keeps(rt: HostRuntime) -> Result<(), Fail
 
 #[test]
 fn two_tickets_fill_one_pool(rt: HostRuntime) -> Result<(), Fail> {
-    let (pool, mut tickets) = Pool::new(rt.alloc(), 2)?;
-    let mut second = tickets.pop().ok_or("ticket")?;
-    let mut first = tickets.pop().ok_or("ticket")?;
     let one_page = after(&rt, CleanMem::empty(rt.alloc()), 1, &[])?;
     let two_pages = after(&rt, CleanMem::empty(rt.alloc()), 2, &[])?;
     let three_pages = after(&rt, CleanMem::empty(rt.alloc()), 3, &[])?;
+    let (pool, mut tickets) = Pool::new(rt.alloc(), 2)?;
+    let mut second = tickets.pop().ok_or("ticket")?;
+    let mut first = tickets.pop().ok_or("ticket")?;
     give_memory(&rt, &pool, &mut first, one_page);
     give_memory(&rt, &pool, &mut second, two_pages);
     give_memory(&rt, &pool, &mut first, three_pages);
