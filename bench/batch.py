@@ -1,5 +1,5 @@
 #!/usr/bin/env python3
-"""usage: batch.py GATE    what a call on a fresh instance costs in `gate run`, beside wabt and node, all in one run.
+"""What a call on a fresh instance costs in `gate run`, beside wabt and node, all in one run.
 
 Needs wabt's wat2wasm. For each kind of module: microseconds a call of 100,000 calls in one process, reading, judging and
 writing included, with 1, 2 and 4 workers; then those of four programs of one worker each that run side by side on a quarter
@@ -13,6 +13,7 @@ the clock starts:
   node    does the same, as often
 Both measure themselves, the best of three.
 """
+import argparse
 import os
 import shutil
 import subprocess
@@ -80,6 +81,6 @@ def main(gate):
 
 
 if __name__ == '__main__':
-    if len(sys.argv) != 2:
-        sys.exit(__doc__)
-    main(os.path.abspath(sys.argv[1]))
+    parser = argparse.ArgumentParser(description=__doc__, formatter_class=argparse.RawDescriptionHelpFormatter)
+    parser.add_argument('gate', metavar='GATE', help='the program')
+    main(os.path.abspath(parser.parse_args().gate))

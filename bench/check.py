@@ -1,11 +1,11 @@
 #!/usr/bin/env python3
-"""usage: check.py GATE [--plot FILE.svg] [--median TURNS] [--first] [MEGABYTES or MODULE.wasm ..]    measures `gate check` beside other validators.
+"""Measures `gate check` beside other validators.
 
-A row is a module of bench/modules.py of each of these sizes (1, 4 and 15 MB where none is given), or a module that is given
-as a file: real programs. All engines take turns, so that all meet the same load, and the best of seven counts, in MB/s of
-the file, by the clock. With --median it is the median of so many turns: on a machine whose processors are often away the
-best of few says little. Three are measured alike: by their own clocks, the file being read, the best of three in one process
-(with --first, the first of the three, but for C), with one worker on one processor by taskset.
+A row is a module of bench/modules.py of each of the sizes that are given, or a module that is given as a file: real programs.
+All engines take turns, so that all meet the same load, and the best of seven counts, in MB/s of the file, by the clock. With
+--median it is the median of so many turns: on a machine whose processors are often away the best of few says little. Three are
+measured alike: by their own clocks, the file being read, the best of three in one process (with --first, the first of the
+three, but for C), with one worker on one processor by taskset.
   gate    crates/bench_check with one worker, which is proved and built where it is missing
   C       bench/peer.c, a plain decoder and checker of the same design, one pass
   node    WebAssembly.validate
@@ -14,8 +14,9 @@ best of few says little. Three are measured alike: by their own clocks, the file
   whole   a fresh process of gate, its start and the reading of the file included; then with 2 and 4 workers
   wabt    wasm-validate, where it is installed, a fresh process
 In brackets: of C and node the ratio to gate, of `gate 4` and `node 4` to the same engine on one, of the others to the whole
-process with one worker. Last the peak memory of `gate` with one worker, by the module's size. `--plot` draws the rows as bars.
+process with one worker. Last the peak memory of `gate` with one worker, by the module's size.
 """
+import argparse
 import math
 import os
 import shutil
@@ -157,12 +158,8 @@ def modules(folder, words):
             yield f'{label}, {size:g} MB', path, kind in LONG_LISTS
 
 
-def main(gate, words):
-    plot = words.pop(words.index('--plot') + 1) if '--plot' in words else None
-    turns = words.pop(words.index('--median') + 1) if '--median' in words else None
-    counts = statistics.median if turns else min
-    first = '--first' in words
-    words = [word for word in words if word not in ('--plot', '--median', '--first')]
+def main(words):
+    gate, counts = os.path.abspath(words.gate), statistics.median if words.median else min
     rows = []
     if not os.path.exists(JUDGE):
         subprocess.run(['rt', 'run'], cwd=os.path.join(here, '..', 'crates', 'bench_check'), stdout=sys.stderr, check=True)
@@ -170,18 +167,22 @@ def main(gate, words):
         peer = os.path.join(folder, 'peer')
         subprocess.run(['gcc', '-O2', '-o', peer, os.path.join(here, 'peer.c')], check=True)
         print('| module | gate | C | node | gate 4 | node 4 | whole | 2 workers | 4 workers | wabt | memory |\n|' + '---|' * 11)
-        for label, path, has_long_lists in modules(folder, words):
-            takes = engines(gate, peer, path, has_long_lists, itemgetter(0) if first else min)
-            speeds = measure(takes, path, int(turns or 7), counts)
+        for label, path, has_long_lists in modules(folder, words.rows):
+            takes = engines(gate, peer, path, has_long_lists, itemgetter(0) if words.first else min)
+            speeds = measure(takes, path, words.median or 7, counts)
             report(gate, label, path, speeds)
             rows.append((label, speeds))
     print(f'In the geometric mean gate is {mean(rows, "node")}, {mean(rows, "C")}, {mean(rows, "wabt")}.')
-    if plot:
-        with open(plot, 'w') as file:
+    if words.plot:
+        with open(words.plot, 'w') as file:
             file.write(bars(rows))
 
 
 if __name__ == '__main__':
-    if len(sys.argv) < 2:
-        sys.exit(__doc__)
-    main(os.path.abspath(sys.argv[1]), sys.argv[2:])
+    parser = argparse.ArgumentParser(description=__doc__, formatter_class=argparse.RawDescriptionHelpFormatter)
+    parser.add_argument('gate', metavar='GATE', help='the program')
+    parser.add_argument('rows', metavar='MEGABYTES or MODULE.wasm', nargs='*', help='1, 4 and 15 MB where none is given')
+    parser.add_argument('--plot', metavar='FILE.svg', help='draw the rows as bars')
+    parser.add_argument('--median', metavar='TURNS', type=int, help='the median of so many turns counts, and not the best of seven')
+    parser.add_argument('--first', action='store_true', help='the first of the three in a process counts, and not the best')
+    main(parser.parse_intermixed_args())

@@ -1,10 +1,11 @@
 #!/usr/bin/env python3
-"""usage: families.py NAME FORM BYTES SEED > MODULE    writes a module of that family: one that is made to cost much.
+"""Writes a module of a family to standard output: one that is made to cost much.
 
 A family has forms. In the form `accepted` the module is valid; in `refused` the last token of its longest body is ill typed,
 or else the last thing of its last section is wrong; `dead` stands before either where that code is not reached, and `open`
 for blocks of which none is ended. Indices, names and orders are at random, by the seed. `families.py` alone lists them all.
 """
+import argparse
 import itertools
 import os
 import random
@@ -345,7 +346,11 @@ def module_of(name, form, size, seed):
 
 
 if __name__ == '__main__':
-    if len(sys.argv) == 5:
-        sys.stdout.buffer.write(module_of(sys.argv[1], sys.argv[2], int(sys.argv[3]), int(sys.argv[4])))
-    else:
-        sys.exit('\n'.join([__doc__] + [f'{name}: {", ".join(forms)}' for name, (forms, _) in FAMILIES.items()]))
+    every = '\n'.join(f'{name}: {", ".join(forms)}' for name, (forms, _) in FAMILIES.items())
+    parser = argparse.ArgumentParser(description=__doc__, epilog=every, formatter_class=argparse.RawDescriptionHelpFormatter)
+    parser.add_argument('name', metavar='NAME', choices=FAMILIES, help='the family, one of those below')
+    parser.add_argument('form', metavar='FORM', help='one of its forms')
+    parser.add_argument('bytes', metavar='BYTES', type=int, help='about how many the module has')
+    parser.add_argument('seed', metavar='SEED', type=int)
+    words = parser.parse_args(sys.argv[1:] or ['--help'])
+    sys.stdout.buffer.write(module_of(words.name, words.form, words.bytes, words.seed))

@@ -1,5 +1,5 @@
 #!/usr/bin/env python3
-"""usage: instances.py GATE    what an instance costs in `gate run`, from its making to its end, beside plain C, all in one run.
+"""What an instance costs in `gate run`, from its making to its end, beside plain C, all in one run.
 
 Needs wabt's wat2wasm and a C compiler. For each kind of module: nanoseconds of processor time a call of 100,000 calls of a
 function that does nothing, or that writes one byte, in one process with one worker, the best of fifteen, less those of a process
@@ -10,6 +10,7 @@ memory says what these come to. In brackets, how many times as long bench/instan
   fresh   with a memory from calloc, which is freed
 Slots, globals and table are had from malloc and freed in both. It measures its own processor time, the best of five.
 """
+import argparse
 import os
 import subprocess
 import sys
@@ -59,6 +60,6 @@ def main(gate):
 
 
 if __name__ == '__main__':
-    if len(sys.argv) != 2:
-        sys.exit(__doc__)
-    main(os.path.abspath(sys.argv[1]))
+    parser = argparse.ArgumentParser(description=__doc__, formatter_class=argparse.RawDescriptionHelpFormatter)
+    parser.add_argument('gate', metavar='GATE', help='the program')
+    main(os.path.abspath(parser.parse_args().gate))

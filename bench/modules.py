@@ -1,5 +1,5 @@
 #!/usr/bin/env python3
-"""usage: modules.py KIND BYTES SEED > MODULE    writes a valid module of about that many bytes, made from the seed.
+"""Writes a valid module to standard output, made from a seed.
 
 KIND   many   many functions of some 200 bytes of integer code
        tiny   functions of ten bytes
@@ -9,6 +9,7 @@ KIND   many   many functions of some 200 bytes of integer code
               can be reached
        labels one function of branch tables, each of half as many labels as bytes are left
 """
+import argparse
 import os
 import random
 import sys
@@ -18,6 +19,7 @@ from encoding import HEADER, function_type, section, signed, sized, unsigned, ve
 
 # Statements leave the operand stack as they found it. Every function is [i32 i32] -> [i32] with four locals more.
 LOCALS = 6
+KINDS = ['many', 'tiny', 'large', 'one', 'lists', 'labels']
 BINARY = [0x6A, 0x6B, 0x6C, 0x71, 0x72, 0x73, 0x74, 0x75, 0x76, 0x77, 0x78]
 TESTS = [0x46, 0x47, 0x48, 0x49, 0x4A, 0x4B, 0x4C, 0x4D, 0x4E, 0x4F]
 
@@ -95,6 +97,9 @@ def module(kind, size, seed):
 
 
 if __name__ == '__main__':
-    if len(sys.argv) != 4:
-        sys.exit(__doc__)
-    sys.stdout.buffer.write(module(sys.argv[1], int(sys.argv[2]), int(sys.argv[3])))
+    parser = argparse.ArgumentParser(description=__doc__, formatter_class=argparse.RawDescriptionHelpFormatter)
+    parser.add_argument('kind', metavar='KIND', choices=KINDS, help=', '.join(KINDS))
+    parser.add_argument('bytes', metavar='BYTES', type=int, help='about how many the module has')
+    parser.add_argument('seed', metavar='SEED', type=int)
+    words = parser.parse_args()
+    sys.stdout.buffer.write(module(words.kind, words.bytes, words.seed))

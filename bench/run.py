@@ -1,5 +1,5 @@
 #!/usr/bin/env python3
-"""usage: run.py GATE    measures `gate run` beside other engines on the kernels of bench/kernels.wat, all in one run.
+"""Measures `gate run` beside other engines on the kernels of bench/kernels.wat, all in one run.
 
 Needs wabt's wat2wasm and a C compiler. For each kernel: milliseconds of processor time of a fresh process of `gate` with one
 worker, less those of the same process without a call; and in brackets how many times as long
@@ -22,6 +22,7 @@ more where a start function, which adds two numbers, runs before each. Of these 
 First, where objdump is installed, how many indirect jumps the function of `gate` has that holds the loop over the tokens. A
 small change there makes the compiler share one jump among all tokens again, which costs a third of the speed.
 """
+import argparse
 import math
 import os
 import re
@@ -226,6 +227,6 @@ def main(gate):
 
 
 if __name__ == '__main__':
-    if len(sys.argv) != 2:
-        sys.exit(__doc__)
-    main(os.path.abspath(sys.argv[1]))
+    parser = argparse.ArgumentParser(description=__doc__, formatter_class=argparse.RawDescriptionHelpFormatter)
+    parser.add_argument('gate', metavar='GATE', help='the program')
+    main(os.path.abspath(parser.parse_args().gate))

@@ -1,5 +1,5 @@
 #!/usr/bin/env python3
-"""usage: soak.py GATE [SECONDS] [SEED]    runs generated modules through `check` and `run`, and ends at the first difference.
+"""Runs generated modules through `check` and `run`, and ends at the first difference.
 
 Modules are generated valid ones (bench/modules.py and small ones with loops, calls, memory, tables, traps), the same with
 bytes changed, cut or doubled, and random bytes behind a header. Each is judged and run on 1, 4 and 64 workers with pieces
@@ -7,6 +7,7 @@ of 1, 7 and 65,535, with stacks of 64 KiB, and with the address space held to 25
 equal to that of one worker, or be want of memory (status 70, nothing on standard output; a call's line `no-memory`).
 A crash, a hang of a minute or another answer ends the soak. It prints seeds and counts; a seed makes the same run again.
 """
+import argparse
 import os
 import random
 import re
@@ -169,6 +170,10 @@ def main(gate, seconds, seed):
 
 
 if __name__ == '__main__':
-    if len(sys.argv) < 2:
-        sys.exit(__doc__)
-    main(os.path.abspath(sys.argv[1]), float((sys.argv[2:] + ['3600'])[0]), int((sys.argv[3:] + [str(random.randrange(2 ** 32))])[0]))
+    parser = argparse.ArgumentParser(description=__doc__, formatter_class=argparse.RawDescriptionHelpFormatter)
+    parser.add_argument('gate', metavar='GATE', help='the program')
+    parser.add_argument('seconds', metavar='SECONDS', nargs='?', type=float, default=3600, help='how long; an hour where none is given')
+    parser.add_argument('seed', metavar='SEED', nargs='?', type=int, default=random.randrange(2 ** 32),
+                        help='at random where none is given')
+    words = parser.parse_args()
+    main(os.path.abspath(words.gate), words.seconds, words.seed)

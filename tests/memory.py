@@ -1,5 +1,5 @@
 #!/usr/bin/env python3
-"""usage: memory.py GATE    what GATE does where memory is refused, where it is not, and how much it asks for.
+"""What the program does where memory is refused, where it is not, and how much it asks for.
 
 refused    Each request for memory is refused in turn while some rows of the tables, and many open blocks, are judged and run.
            A check must end in want of memory, with nothing on standard output, or with the row's line; a run the same way, or
@@ -14,6 +14,7 @@ granted    No request is refused while all modules of the tables, of counts.py a
            for before any call, at once and together, is at most some times the module's length: nothing is asked for by a
            count that the bytes do not fill.
 """
+import argparse
 import os
 import re
 import resource
@@ -213,4 +214,6 @@ def main(program):
 
 
 if __name__ == '__main__':
-    sys.exit(main(os.path.abspath(sys.argv[1])) if len(sys.argv) == 2 else __doc__)
+    parser = argparse.ArgumentParser(description=__doc__, formatter_class=argparse.RawDescriptionHelpFormatter)
+    parser.add_argument('gate', metavar='GATE', help='the program')
+    sys.exit(main(os.path.abspath(parser.parse_args().gate)))

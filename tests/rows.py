@@ -1,5 +1,5 @@
 #!/usr/bin/env python3
-"""usage: rows.py GATE    runs the program GATE on each row of the tables of modules, which the crate `suite` reads too.
+"""Runs the program on each row of the tables of modules, which the crate `suite` reads too.
 
 check.tsv    name, the module as bytes in hexadecimal, what `gate check` prints, its status; each is run with three plans,
              and once more with stacks of 64 KiB, on 64 workers
@@ -8,6 +8,7 @@ run.tsv      name, the module, the calls, the options, what `gate run` prints, i
 Bytes are in hexadecimal; `xNN*K` stands for K times the bytes NN. In calls and in what is printed \\t is a tab and \\n a
 newline. Lines that begin with # are comments.
 """
+import argparse
 import os
 import resource
 import subprocess
@@ -88,4 +89,6 @@ def main(gate):
 
 
 if __name__ == '__main__':
-    sys.exit(main(os.path.abspath(sys.argv[1])) if len(sys.argv) == 2 else __doc__)
+    parser = argparse.ArgumentParser(description=__doc__, formatter_class=argparse.RawDescriptionHelpFormatter)
+    parser.add_argument('gate', metavar='GATE', help='the program')
+    sys.exit(main(os.path.abspath(parser.parse_args().gate)))

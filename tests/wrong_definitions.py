@@ -1,12 +1,13 @@
 #!/usr/bin/env python3
-"""usage: wrong_definitions.py [MINUTES]    shows that wrong definitions are refused: of each edit in tests/wrong_definitions.
+"""Shows that wrong definitions are refused: of each edit in tests/wrong_definitions.
 
 A must-fail edit reaches its own crate alone, while the definitions stand in `wsyntax` and the theorems in `soundness`. So
 each edit here is applied to a copy of these crates, and the check of `soundness` must fail in a proof: the first error
 stands in a file of `proofs/`, not of `specs/`, where it would only say that the definition is no definition. An edit begins
 with the line `file:`, and has pairs of lines `old:` and `new:`; each old text stands exactly once in the file.
-After so many minutes no further edit is begun; with none given, all are tried.
 """
+import argparse
+import math
 import os
 import re
 import shutil
@@ -88,4 +89,7 @@ def main(minutes):
 
 
 if __name__ == '__main__':
-    sys.exit(main(float(sys.argv[1]) if len(sys.argv) > 1 else 1e9))
+    parser = argparse.ArgumentParser(description=__doc__, formatter_class=argparse.RawDescriptionHelpFormatter)
+    parser.add_argument('minutes', metavar='MINUTES', nargs='?', type=float, default=math.inf,
+                        help='after so many no further edit is begun; with none given, all are tried')
+    sys.exit(main(parser.parse_args().minutes))
