@@ -17,6 +17,7 @@ here = os.path.dirname(os.path.abspath(__file__))
 sys.path.insert(0, here)
 from encoding import function_type, sized, signed, unsigned, whole
 from families import FAMILIES, module_of
+from measuring import peak, processor_seconds
 from modules import module
 
 LIMIT = 120
@@ -32,12 +33,9 @@ def hot_loop(size):
 
 def spent(words):
     # The processor seconds of one process, and what it prints; nothing where it takes more than two minutes.
-    with subprocess.Popen(words, stdout=subprocess.PIPE, stderr=subprocess.DEVNULL,
-                          preexec_fn=lambda: resource.setrlimit(resource.RLIMIT_CPU, (LIMIT, LIMIT))) as child:
-        out = child.stdout.read()
-        _, status, usage = os.wait4(child.pid, 0)
-        child.returncode = os.waitstatus_to_exitcode(status)
-    return usage.ru_utime + usage.ru_stime, out.decode() if child.returncode >= 0 else SLOW
+    took, out, status = processor_seconds(words, stderr=subprocess.DEVNULL,
+                                          preexec_fn=lambda: resource.setrlimit(resource.RLIMIT_CPU, (LIMIT, LIMIT)))
+    return took, out if status >= 0 else SLOW
 
 
 def best_of(words):
@@ -45,12 +43,6 @@ def best_of(words):
     for _ in range(TIMES - 1 if best < 5 else 0):
         best = min(best, spent(words)[0])
     return best, out
-
-
-def peak(words):
-    # Asked of `time`, since a child of this process would be counted with this process's own memory.
-    ran = subprocess.run(['/usr/bin/time', '-f', '%M'] + words, capture_output=True)
-    return int(ran.stderr.split()[-1]) * 1024
 
 
 def write(path, contents):

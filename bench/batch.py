@@ -22,6 +22,9 @@ import tempfile
 import time
 
 here = os.path.dirname(os.path.abspath(__file__))
+sys.path.insert(0, here)
+from measuring import translated, waited_for, write
+
 KINDS = [('nothing', '(func (export "f"))', 100_000),
          ('a page, segment, store, load', '(memory 1) (data (i32.const 0) "\\01\\02\\03") (func (export "f") (i32.store (i32.const 8) (i32.load (i32.const 0))))', 100_000),
          ('200 turns of a loop', '(func (export "f") (local i32) (loop (br_if 0 (i32.lt_u (local.tee 0 (i32.add (local.get 0) (i32.const 1))) (i32.const 200)))))', 100_000),
@@ -35,10 +38,10 @@ def seconds(commands):
     # Of these programs side by side: the time that passed, and the processor time that they took together.
     start = time.perf_counter()
     running = [subprocess.Popen(words, stdout=subprocess.DEVNULL) for words in commands]
-    ended = [os.wait4(child.pid, 0) for child in running]
-    if any(status for _, status, _ in ended):
+    spent = sum(map(waited_for, running))
+    if any(child.returncode for child in running):
         sys.exit(f'{commands[0]}: another status than 0')
-    return time.perf_counter() - start, sum(usage.ru_utime + usage.ru_stime for _, _, usage in ended)
+    return time.perf_counter() - start, spent
 
 
 def in_turn(runs):
@@ -64,13 +67,12 @@ def microseconds(words):
 def main(gate):
     print(f'{"us a call":32}{"1 worker":>10}{"2":>8}{"4":>8}{"4 programs":>12}{"4 to these":>12}{"4, CPU":>9}{"wabt":>9}{"node":>9}')
     with tempfile.TemporaryDirectory() as folder:
-        wat, wasm, calls, quarter = (os.path.join(folder, name) for name in ('m.wat', 'm.wasm', 'calls', 'quarter'))
+        calls, quarter = os.path.join(folder, 'calls'), os.path.join(folder, 'quarter')
         wabt = wabt_program(folder)
         for name, text, count in KINDS:
-            for path, contents in ((wat, f'(module {text})'), (calls, 'f\n' * count), (quarter, 'f\n' * (count // 4))):
-                with open(path, 'w') as file:
-                    file.write(contents)
-            subprocess.run(['wat2wasm', '-o', wasm, wat], check=True)
+            write(calls, 'f\n' * count)
+            write(quarter, 'f\n' * (count // 4))
+            wasm = translated(folder, 'm', f'(module {text})')
             runs = [[[gate, 'run', wasm, calls, '--workers', str(n)]] for n in (1, 2, 4)]
             best = in_turn(runs + [[[gate, 'run', wasm, quarter, '--workers', '1']] * 4])
             cells = ''.join(f'{spent / count * 1e6:{width}.2f}' for (spent, _), width in zip(best, (10, 8, 8, 12)))

@@ -17,7 +17,6 @@ In brackets: of C and node the ratio to gate, of `gate 4` and `node 4` to the sa
 process with one worker. Last the peak memory of `gate` with one worker, by the module's size.
 """
 import argparse
-import math
 import os
 import shutil
 import statistics
@@ -28,6 +27,9 @@ import time
 from operator import itemgetter
 
 here = os.path.dirname(os.path.abspath(__file__))
+sys.path.insert(0, here)
+from measuring import geometric_mean, peak, write
+
 KINDS = {'many': 'many functions', 'tiny': 'functions of ten bytes', 'large': 'large functions', 'one': 'one function',
          'lists': 'a type of half as many parameters', 'labels': 'branch tables of half as many labels'}
 # The peer in C compares lists of types item by item each time, which takes minutes on these, and wabt's validator asks for
@@ -56,12 +58,6 @@ def own_clock(words, counts, unit=1e-9):
         return None
     times = [float(line.split()[0]) * unit for line in child.stdout.splitlines()]
     return counts(times) if child.returncode == 0 and times else None
-
-
-def peak(words):
-    # Asked of `time`, since a child of this process would be counted with this process's own memory.
-    ran = subprocess.run(['/usr/bin/time', '-f', '%M'] + words, capture_output=True, check=True)
-    return int(ran.stderr.split()[-1]) * 1024
 
 
 def engines(gate, peer, path, has_long_lists, counts):
@@ -120,8 +116,8 @@ def report(gate, label, path, speeds):
 
 
 def mean(rows, name):
-    ratios = [math.log(speeds['gate'] / speeds[name]) for _, speeds in rows if name in speeds]
-    return f'{math.exp(sum(ratios) / len(ratios)):.2f} times {name} (in {len(ratios)} rows)' if ratios else f'no {name}'
+    ratios = [speeds['gate'] / speeds[name] for _, speeds in rows if name in speeds]
+    return f'{geometric_mean(ratios):.2f} times {name} (in {len(ratios)} rows)' if ratios else f'no {name}'
 
 
 def bars(rows):
@@ -174,8 +170,7 @@ def main(words):
             rows.append((label, speeds))
     print(f'In the geometric mean gate is {mean(rows, "node")}, {mean(rows, "C")}, {mean(rows, "wabt")}.')
     if words.plot:
-        with open(words.plot, 'w') as file:
-            file.write(bars(rows))
+        write(words.plot, bars(rows))
 
 
 if __name__ == '__main__':

@@ -17,7 +17,8 @@ import sys
 import tempfile
 
 sys.dont_write_bytecode = True
-from run import best_of, compiled, translated, write
+from measuring import best_of, translated, write
+from run import compiled
 
 COUNT = 100_000
 NOTHING = '(func (export "f") (param i32))'

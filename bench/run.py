@@ -23,7 +23,6 @@ First, where objdump is installed, how many indirect jumps the function of `gate
 small change there makes the compiler share one jump among all tokens again, which costs a third of the speed.
 """
 import argparse
-import math
 import os
 import re
 import shutil
@@ -32,6 +31,9 @@ import sys
 import tempfile
 
 here = os.path.dirname(os.path.abspath(__file__))
+sys.path.insert(0, here)
+from measuring import best_of, geometric_mean, translated, write
+
 KERNELS = [('fib', 27), ('sums', 5_000_000), ('sieve', 20), ('words', 150), ('mixing', 2_000_000), ('collatz', 20_000),
            ('cases', 2_500_000), ('table', 3_000_000), ('globals', 5_000_000), ('sorting', 10), ('hashing', 60)]
 NODE = """const fs=require('fs');const m=new WebAssembly.Module(fs.readFileSync(process.argv[1]));
@@ -48,20 +50,6 @@ CALLS = 100_000
 LOOP, FEWEST_JUMPS = '<interpreter::machine::run>', 50
 # Newer compilers join the jumps that computed goto is there for, unless they are told not to; older ones know no such words.
 APART = ['-mllvm', '-tail-dup-pred-size=1000', '-mllvm', '-tail-dup-succ-size=1000']
-
-
-def best_of(words, times=5):
-    # The least processor time of a process, in milliseconds, and what it prints.
-    best, out = 1e9, ''
-    for _ in range(times):
-        with subprocess.Popen(words, stdout=subprocess.PIPE) as child:
-            out = child.stdout.read().decode()
-            _, status, usage = os.wait4(child.pid, 0)
-            child.returncode = os.waitstatus_to_exitcode(status)
-        if child.returncode != 0:
-            sys.exit(f'{words}: status {child.returncode}')
-        best = min(best, usage.ru_utime + usage.ru_stime)
-    return best * 1000, out
 
 
 def compiler():
@@ -85,18 +73,6 @@ def machines(folder):
     except subprocess.CalledProcessError:
         threaded = compiled(folder, 'goto', 'machine.c', '-DTHREADED')
     return {'switch': compiled(folder, 'switch', 'machine.c'), 'goto': threaded}
-
-
-def write(path, text):
-    with open(path, 'w') as file:
-        file.write(text)
-
-
-def translated(folder, name, text):
-    wat, wasm = os.path.join(folder, name + '.wat'), os.path.join(folder, name + '.wasm')
-    write(wat, text)
-    subprocess.run(['wat2wasm', '-o', wasm, wat], check=True)
-    return wasm
 
 
 def alone(text, name, size):
@@ -219,7 +195,7 @@ def main(gate):
                 in_fib = {engine: other * 1e6 / calls_of_fib(size) for engine, other in {'gate': spent, **best}.items()}
             print(f'{name:10}{spent:10.1f}' + ''.join(f'{milliseconds(spent, other):>18}' for other in best.values()), flush=True)
         for engine, all_of in ratios.items():
-            print(f'geometric mean, {engine}: {math.exp(sum(map(math.log, all_of)) / len(all_of)):.2f}')
+            print(f'geometric mean, {engine}: {geometric_mean(all_of):.2f}')
         print('a call and its return (fib), ns: ' + ', '.join(f'{engine} {of:.1f}' for engine, of in in_fib.items()))
         small, begun, refused = small_calls(gate, folder)
         print(f'a small call, ns: {begun - small:.0f} on an instance that is there, {small - refused:.0f} on a fresh one, '
