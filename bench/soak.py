@@ -1,17 +1,25 @@
 #!/usr/bin/env python3
 """Runs generated modules through `check` and `run`, and ends at the first difference.
 
-Modules are generated valid ones (bench/modules.py and small ones with loops, calls, memory, tables, traps), the same with
-bytes changed, cut or doubled, and random bytes behind a header. Each is judged and run on 1, 4 and 64 workers with pieces
+Modules are generated valid ones (bench/modules.py, bench/typed.py and small ones with loops, calls, memory, tables, traps), the
+same with bytes changed, cut or doubled, and random bytes after a header. Each is judged and run on 1, 4 and 64 workers with pieces
 of 1, 7 and 65,535, with stacks of 64 KiB, and with the address space held to 256 MB and to 1 GB: those answers must be
 equal to that of one worker, or be want of memory (status 70, nothing on standard output; a call's line `no-memory`).
 A crash, a hang of a minute or another answer ends the soak. It prints seeds and counts; a seed makes the same run again.
+
+Where node is installed, its answers are compared too (bench/answers.js): whether `WebAssembly.validate` accepts the module, and
+how each call ends on a fresh instance, by its values or its trap. A module is passed over, and counted, where node refuses it by
+a limit of its own, and where the part that `gate` refuses may spell what was added after Core 1.0; a call is where it ended for
+want of fuel, frames or memory, and where its memory may grow past the pages that `gate` was given.
 """
 import argparse
+import json
 import os
 import random
 import re
 import resource
+import select
+import shutil
 import subprocess
 import sys
 import tempfile
@@ -21,7 +29,14 @@ here = os.path.dirname(os.path.abspath(__file__))
 sys.path.insert(0, here)
 import modules
 from encoding import HEADER, section, sized, signed, unsigned, vector
+from typed import typed_module
 
+# The bytes of what was added after Core 1.0 and node has: types of references and vectors, and in bodies exceptions, tail calls,
+# and instructions with a prefix. FRONTS has how the first item of a section begins that Core 1.0 knows.
+LATER_TYPES = {0x6F, 0x70, 0x7B, 0xD0, 0xD2, 0xFD}
+LATER = LATER_TYPES | {0x06, 0x07, 0x08, 0x09, 0x12, 0x13, 0x18, 0x19, 0x1C, 0x25, 0x26, 0xD1, 0xFC, 0xFE}
+FRONTS = {4: (b'\x70\0', b'\x70\1'), 5: (b'\0', b'\1'), 9: b'\0', 11: b'\0'}
+OWN_LIMIT = re.compile('internal limit|implementation limit|local count too large|maximum function size|max br_table size')
 PLANS = [('1', '1'), ('4', '16'), ('4', '1'), ('64', '7'), ('64', '65535')]
 HELD = [None, 256 << 20, 1 << 30]
 I32 = [0x6A, 0x6B, 0x6C, 0x6D, 0x6E, 0x6F, 0x70, 0x71, 0x72, 0x73, 0x74, 0x75, 0x76, 0x77, 0x78, 0x46, 0x47, 0x48, 0x4E, 0x4F]
@@ -97,10 +112,19 @@ def changed(r, module):
 
 
 def candidate(r):
+    # A module, and of each of its exports the types of the parameters, as far as they are known.
     pick = r.random()
-    if pick < 0.45:
+    if pick < 0.5:
+        module, parameters = typed_module(r) if r.random() < 0.6 else (small_module(r), [])
+        return (module if pick < 0.3 else changed(r, module)), parameters
+    return other_candidate(r), []
+
+
+def other_candidate(r):
+    pick = r.random()
+    if pick < 0.4:
         return small_module(r)
-    if pick < 0.75:
+    if pick < 0.7:
         return changed(r, small_module(r))
     if pick < 0.85:
         return modules.module(r.choice(['many', 'tiny', 'large', 'one']), r.choice([2_000, 40_000, 300_000]), r.randrange(2 ** 32))
@@ -109,9 +133,15 @@ def candidate(r):
     return HEADER + bytes(r.randrange(256) for _ in range(r.randrange(200)))
 
 
-def calls_of(r):
-    lines = [f"{r.choice(['a', 'b', 'c', 'd', 'e', 'f', 'nothing'])}\ti32:{r.choice([0, 1, -1, 5, 1000, -2 ** 31])}" for _ in range(r.randrange(1, 40))]
-    return ''.join(line + '\n' for line in lines).encode() + (b'' if r.random() < 0.95 else b'a\ti32:-0\n')
+def calls_of(r, parameters):
+    numbers = {b'\x7F': ('i32', [0, 1, -1, 5, 1000, -2 ** 31]), b'\x7E': ('i64', [0, 1, -1, 2 ** 40, 2 ** 63 - 1, -2 ** 63])}
+
+    def line():
+        at = r.randrange(7)
+        types = [it if it in numbers else b'\x7F' for it in parameters[at]] if at < len(parameters) else [b'\x7F']
+        words = [f'{numbers[it][0]}:{r.choice(numbers[it][1])}' for it in types]
+        return '\t'.join([['a', 'b', 'c', 'd', 'e', 'f', 'nothing'][at]] + words) + '\n'
+    return ''.join(line() for _ in range(r.randrange(1, 40))).encode() + (b'' if r.random() < 0.95 else b'a\ti32:-0\n')
 
 
 def held_to(bytes_of):
@@ -135,30 +165,169 @@ def agrees(want, got):
         line == other or re.fullmatch(rb'\d+ no-memory', line) for line, other in zip(lines, others))
 
 
-def main(gate, seconds, seed):
-    print(f'seed {seed}', flush=True)
+def number_at(bytes_of, at):
+    # The unsigned number that is spelled there, and where it ends.
+    n = shift = 0
+    while True:
+        n, shift, at = n | (bytes_of[at] & 127) << shift, shift + 7, at + 1
+        if bytes_of[at - 1] < 128:
+            return n, at
+
+
+def sections(module):
+    # Pairs of number and contents, up to where none is spelled.
+    at, found = 8, []
+    try:
+        while at < len(module):
+            size, start = number_at(module, at + 1)
+            found.append((module[at], module[start:start + size]))
+            at = start + size
+    except IndexError:
+        pass
+    return found
+
+
+def body_of(module, index):
+    # The body of a defined function, without its size.
+    contents = dict(sections(module)).get(10, b'')
+    count, at = number_at(contents, 0)
+    for _ in range(index + 1):
+        size, start = number_at(contents, at)
+        at = start + size
+    return contents[start:at]
+
+
+def is_later(number, contents):
+    # Whether a section may be none of Core 1.0: another number, several tables, memories or flagged segments, other types.
+    if number in FRONTS:
+        return contents[:1] > b'\1' or contents[:1] == b'\1' and not contents[1:].startswith(FRONTS[number])
+    return number > 11 or number in (1, 2, 6) and any(byte in LATER_TYPES for byte in contents)
+
+
+def may_be_later(module, verdict):
+    """Whether the part of the module that this verdict refuses may spell what was added after Core 1.0, which node has."""
+    in_body, all_sections = re.match(rb'refused body (\d+) ', verdict), sections(module)
+    if not in_body:
+        return any(is_later(*it) for it in all_sections)
+    has_imports = any(number == 2 for number, _ in all_sections)
+    body = dict(all_sections)[10] if has_imports else body_of(module, int(in_body.group(1)))
+    return any(byte in LATER for byte in body) or 0x11 in body and 0x80 in body
+
+
+def may_grow(module, pages):
+    # Whether the memory may have more pages than that.
+    contents = dict(sections(module)).get(5, b'\0')
+    if contents[0] == 0:
+        return False
+    _, at = number_at(contents, 2)
+    return contents[1] == 0 or number_at(contents, at)[0] > pages
+
+
+def call_of(line):
+    name, *words = line.decode().split('\t')
+    return [name] + [word.split(':') for word in words]
+
+
+class Node:
+    """A process of node, which answers for one module after the other."""
+
+    def __init__(self):
+        words = ['node', os.path.join(here, 'answers.js')]
+        self.child = subprocess.Popen(words, stdin=subprocess.PIPE, stdout=subprocess.PIPE, stderr=subprocess.DEVNULL)
+
+    def answer(self, path, calls):
+        self.child.stdin.write(json.dumps([path, calls]).encode() + b'\n')
+        self.child.stdin.flush()
+        if not select.select([self.child.stdout], [], [], 60)[0]:
+            self.child.kill()
+            return {'accepted': None, 'why': 'no answer in a minute', 'ends': []}
+        line = self.child.stdout.readline()
+        return json.loads(line) if line else {'accepted': None, 'why': f'node ended with {self.child.wait()}', 'ends': []}
+
+    def end(self):
+        self.child.kill()
+        self.child.wait()
+
+    def difference(self, path, module, verdict, text, report, pages, count):
+        """Compares what node says with this verdict and report; answers what differs, or nothing."""
+        asked = []
+        if report is not None and not may_grow(module, pages):
+            for line, ended in zip(text.splitlines(), report.splitlines()):
+                end = re.sub(rb' fuel \d+$', b'', ended.split(b' ', 1)[1]).decode()
+                if re.match(r'values|trap|no-export|not-a-function|not-started \w+-outside', end):
+                    asked.append((call_of(line), end))
+        says = self.answer(path, [call for call, _ in asked])
+        accepted = verdict == b'accepted\n'
+        if says['accepted'] != accepted:
+            if accepted and OWN_LIMIT.search(says['why']):
+                count['own limits'] += 1
+                return None
+            if says['accepted'] and may_be_later(module, verdict):
+                count['later features'] += 1
+                return None
+            return f'node: {says["accepted"]} {says["why"]}, gate: {verdict}'
+        count['verdicts like node'] += 1
+        for (call, end), other in zip(asked, says['ends']):
+            if other != kind_in_node(end):
+                return f'{call}: node: {other}, gate: {end}'
+            count['calls like node'] += 1
+        return None
+
+
+def kind_in_node(end):
+    # As node can tell it: it has one message for two traps, and does not say which segment lies outside.
+    if end in ('trap uninitialized-element', 'trap type-mismatch'):
+        return 'trap uninitialized-element or type-mismatch'
+    return re.sub(r'-outside \d+$', '-outside', end)
+
+
+def keep(path, calls, kept):
+    os.replace(path, kept + '.wasm')
+    os.replace(calls, kept + '.calls')
+
+
+def main(gate, plans, seconds, seed):
+    print(f'seed {seed}' + ('' if shutil.which('node') else ', without node'), flush=True)
+    node = Node() if shutil.which('node') else None
+    try:
+        soak(gate, node, plans, seconds, seed)
+    finally:
+        if node:
+            node.end()
+
+
+def soak(gate, node, plans, seconds, seed):
     r, end = random.Random(seed), time.time() + seconds
-    count = {'modules': 0, 'accepted': 0, 'reported': 0, 'answers': 0, 'calls': 0}
+    names = ['modules', 'accepted', 'reported', 'answers', 'calls']
+    count = dict.fromkeys(names + ['verdicts like node', 'calls like node', 'own limits', 'later features'] if node else names, 0)
     with tempfile.TemporaryDirectory() as folder:
         path, calls = os.path.join(folder, 'module.wasm'), os.path.join(folder, 'calls')
         while time.time() < end:
-            text = calls_of(r)
-            for name, contents in ((path, candidate(r)), (calls, text)):
+            module, parameters = candidate(r)
+            text = calls_of(r, parameters)
+            kept = f'soak-{seed}-{count["modules"]}'
+            for name, contents in ((path, module), (calls, text)):
                 with open(name, 'wb') as file:
                     file.write(contents)
+            wants = []
             limits = ['--fuel', r.choice(['0', '10', '20000']), '--frames', r.choice(['1', '3', '200']), '--pages', r.choice(['0', '2', '64'])]
             for words in ([gate, 'check', path], [gate, 'run', path, calls] + limits):
                 want = answer(words + ['--workers', '1'], None)
+                wants.append(want)
                 if want[0] not in (0, 2, 3):
                     sys.exit(f'seed {seed}, module {count["modules"]}: {words[1]} ended with {want}')
-                for workers, piece in PLANS:
+                for workers, piece in plans:
                     got = answer(words + ['--workers', workers, '--piece', piece], r.choice(HELD))
                     count['answers'] += 1
                     if not agrees(want, got):
-                        kept = f'soak-{seed}-{count["modules"]}'
-                        os.replace(path, kept + '.wasm')
-                        os.replace(calls, kept + '.calls')
+                        keep(path, calls, kept)
                         sys.exit(f'seed {seed}: {words[1]} with {workers} workers, piece {piece}: {got}, and not {want}; kept as {kept}')
+            if node:
+                report = wants[1][1] if wants[1][0] == 0 else None
+                differs = node.difference(path, module, wants[0][1], text, report, int(limits[-1]), count)
+                if differs:
+                    keep(path, calls, kept)
+                    sys.exit(f'seed {seed}: {differs}; kept as {kept}')
             count['modules'] += 1
             count['accepted'] += want[0] in (0, 3)
             if want[0] == 0:
@@ -175,5 +344,6 @@ if __name__ == '__main__':
     parser.add_argument('seconds', metavar='SECONDS', nargs='?', type=float, default=3600, help='how long; an hour where none is given')
     parser.add_argument('seed', metavar='SEED', nargs='?', type=int, default=random.randrange(2 ** 32),
                         help='at random where none is given')
+    parser.add_argument('--one', action='store_true', help='one worker alone, beside node: many more modules')
     words = parser.parse_args()
-    main(os.path.abspath(words.gate), words.seconds, words.seed)
+    main(os.path.abspath(words.gate), [] if words.one else PLANS, words.seconds, words.seed)
