@@ -108,7 +108,7 @@ def candidate(r):
     # A module, and of each of its exports the types of the parameters, as far as they are known.
     pick = r.random()
     if pick < 0.5:
-        module, parameters = typed_module(r) if r.random() < 0.6 else (small_module(r), [])
+        module, parameters = typed_module(r) if r.random() < 0.7 else (small_module(r), [])
         return (module if pick < 0.3 else changed(r, module)), parameters
     return other_candidate(r), []
 
@@ -130,7 +130,7 @@ def calls_of(r, parameters):
     numbers = {b'\x7F': ('i32', [0, 1, -1, 5, 1000, -2 ** 31]), b'\x7E': ('i64', [0, 1, -1, 2 ** 40, 2 ** 63 - 1, -2 ** 63])}
 
     def line():
-        at = r.randrange(7)
+        at = r.randrange(len(parameters)) if parameters and r.random() < 0.95 else r.randrange(7)
         types = [it if it in numbers else b'\x7F' for it in parameters[at]] if at < len(parameters) else [b'\x7F']
         words = [f'{numbers[it][0]}:{r.choice(numbers[it][1])}' for it in types]
         return '\t'.join([['a', 'b', 'c', 'd', 'e', 'f', 'nothing'][at]] + words) + '\n'

@@ -56,7 +56,13 @@ class Maker:
 
     def address(self, of, rows):
         opcode, most = self.r.choice(rows[of])
-        return bytes([opcode]) + unsigned(self.r.randrange(most + 1)) + unsigned(self.r.choice([0, 1, 8, 65532, 2 ** 32 - 1]))
+        offset = self.r.choice([0, 1, 8, 400]) if self.r.random() < 0.95 else self.r.choice([65532, 2 ** 32 - 1])
+        return bytes([opcode]) + unsigned(self.r.randrange(most + 1)) + unsigned(offset)
+
+    def near(self, most, depth, labels):
+        # An i32 that seldom lies above a power of two less one.
+        masked = b'\x41' + signed(most) + b'\x71' if self.r.random() < 0.97 else b''
+        return self.value(I32, depth, labels) + masked
 
     def place(self, of, opcode):
         # An instruction on a local of this type; where there is none, nothing.
@@ -67,7 +73,7 @@ class Maker:
         # A call, or one through the table, and what it gives; of a function that gives this type first, where one is named.
         callees = [(b'\x10' + unsigned(k), it) for k, it in enumerate(self.functions)]
         if self.has_table:
-            callees += [(self.value(I32, 0, labels) + b'\x11' + unsigned(k) + b'\x00', it) for k, it in enumerate(self.types)]
+            callees += [(self.near(7, 0, labels) + b'\x11' + unsigned(k) + b'\x00', it) for k, it in enumerate(self.types)]
         callees = [it for it in callees if first is None or it[1][1][:1] == [first]]
         if not callees:
             return b'', None
@@ -104,7 +110,7 @@ class Maker:
             opcode, takes, _ = r.choice([row for row in self.numeric if row[2] == of])
             return self.values_of(takes, depth, labels) + opcode
         if pick < 0.65 and self.has_memory:
-            return self.value(I32, depth, labels) + self.address(of, LOADS)
+            return self.near(4095, depth, labels) + self.address(of, LOADS)
         if pick < 0.70 and self.has_memory and of == I32:
             return b'\x3F\x00' if r.random() < 0.5 else self.value(I32, depth, labels) + b'\x40\x00'
         if pick < 0.76:
@@ -146,7 +152,7 @@ class Maker:
             at, of = r.choice(held) if held else (b'', of)
             return self.value(of, depth, labels) + (b'\x24' + at if held else b'\x1A')
         if pick < 0.5 and self.has_memory:
-            return self.values_of([I32, of], depth, labels) + self.address(of, STORES)
+            return self.near(4095, depth, labels) + self.value(of, depth, labels) + self.address(of, STORES)
         if pick < 0.6:
             code, gives = self.called(depth, labels)
             return code + b'\x1A' * len(gives)
@@ -174,12 +180,13 @@ class Maker:
         parts = {1: vector([function_type(*types) for types in self.types]),
                  3: vector([unsigned(self.types.index(types)) for types in self.functions]), 7: vector(exports)}
         if self.has_table:
-            entries = vector([unsigned(r.randrange(count)) for _ in range(r.randrange(5))])
-            parts[4] = b'\x01\x70\x00' + unsigned(r.choice([1, 5, 9]))
-            parts[9] = b'\x01\x00\x41' + signed(r.choice([0, 0, 2])) + b'\x0B' + entries
+            entries = vector([unsigned(r.randrange(count)) for _ in range(r.randrange(9))])
+            parts[4] = b'\x01\x70\x00' + unsigned(8 if r.random() < 0.95 else 2)
+            parts[9] = b'\x01\x00\x41' + signed(0 if r.random() < 0.95 else 3) + b'\x0B' + entries
         if self.has_memory:
             parts[5] = b'\x01\x01\x01' + unsigned(r.choice([1, 2, 40]))
-            parts[11] = b'\x01\x00\x41' + signed(r.choice([0, 8, 65535])) + b'\x0B' + sized(r.randbytes(r.randrange(4)))
+            offset = signed(r.choice([0, 8]) if r.random() < 0.95 else 65535)
+            parts[11] = b'\x01\x00\x41' + offset + b'\x0B' + sized(r.randbytes(r.randrange(4)))
         if held:
             parts[6] = vector(held)
         if plain and r.random() < 0.5:
