@@ -39,7 +39,8 @@ pub struct Accepted<'a> {
     pub(crate) ghost judged: { ∥ IsJudged (module_shape «module») context bodies.items ∥₁ },
     pub(crate) ghost looked: { mentions_floats ≡ has_floats (module_shape «module») (shapes_of bodies.items) },
     pub(crate) ghost numbered: { ∥ AreTypeNumbers (module_shape «module»).types type_numbers.items ∥₁ },
-    pub(crate) ghost shaped: { shapes.items ≡ function_shapes (module_shape «module»).types type_numbers.items (module_shape «module»).functions bodies.items },
+    pub(crate) ghost shaped: { shapes.items
+        ≡ function_shapes (module_shape «module»).types type_numbers.items (module_shape «module»).functions bodies.items },
     pub(crate) ghost laid: { IsLayoutOf (module_shape «module») layout },
     pub(crate) ghost filled: { SegmentsAreBytes (module_shape «module») },
     pub(crate) ghost small: { ∥ IsSmall (module_shape «module») bodies.items ∥₁ },
@@ -74,7 +75,9 @@ impl<'a> Accepted<'a> {
     /// What the shapes of its functions are: of each body the counts of parameters, declared locals and results, and the
     /// number of the type.
     pub fn functions_have_shapes(&self)
-        ensures { self.now.shapes.items ≡ function_shapes (module_shape self.now.module).types self.now.type_numbers.items (module_shape self.now.module).functions self.now.bodies.items }
+        ensures { self.now.shapes.items
+            ≡ function_shapes (module_shape self.now.module).types self.now.type_numbers.items
+            (module_shape self.now.module).functions self.now.bodies.items }
     {}
 
     /// How large it can be, having been spelled by at most 16,777,216 bytes.
@@ -90,7 +93,8 @@ impl<'a> Accepted<'a> {
 
     /// The law that its start function, where it names one, is there, and has no parameters and no results (3.4.7).
     pub fn start_is_plain(&self)
-        ensures { IfSome self.now.module.start (λ f. slice_get (module_context (module_shape self.now.module)).functions f ≡ Some empty_type) }
+        ensures { IfSome self.now.module.start
+            (λ f. slice_get (module_context (module_shape self.now.module)).functions f ≡ Some empty_type) }
     {
         start_is_plain();
     }
@@ -202,7 +206,8 @@ impl<'a> Accepted<'a> {
     /// What is exported under a name: its kind, and its index in the space of that kind. Takes no memory, and compares
     /// the name with as many others as the number of exports can be halved.
     pub fn export(&self, name: &[u8]) -> Option<(ExportKind, u32)>
-        ensures some { (kind : ExportKind) (index : ℕ) → (result ≡ Some (kind, index)) ↔ IsExported (module_shape self.now.module) name.now kind index }
+        ensures some { (kind : ExportKind) (index : ℕ) →
+            (result ≡ Some (kind, index)) ↔ IsExported (module_shape self.now.module) name.now kind index }
         ensures none { IsNone result ↔ IsMissing (module_shape self.now.module) name.now }
     {
         let number = number_of(&self.module.exports, &self.by_name, name)?;

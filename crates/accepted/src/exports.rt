@@ -33,7 +33,8 @@ pub(crate) fn numbers_by_name(
 /// The number of the export of that name.
 pub(crate) fn number_of(exports: &[Export<'_>], numbers: &[usize], name: &[u8]) -> Option<usize>
     requires ascending { AreAscending exports.now numbers.now }
-    ensures { MatchOption result (All (λ k. name_at exports.now k ≢ name.now) numbers.now) (λ k. Contains numbers.now k × (name_at exports.now k ≡ name.now)) }
+    ensures { MatchOption result (All (λ k. name_at exports.now k ≢ name.now) numbers.now)
+        (λ k. Contains numbers.now k × (name_at exports.now k ≡ name.now)) }
 {
     match numbers.binary_search_by(|number| name_at(exports, *number).cmp(name)) {
         Ok(place) => Some(numbers[place]),

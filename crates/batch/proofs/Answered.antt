@@ -24,7 +24,7 @@ use Rattle.accepted.specs.declared.accepted.Accepted.{Accepted as AcceptedModule
 use Rattle.verdict.specs.declared.refusal.Refusal.{Refusal}
 use Rattle.verdict.specs.declared.refusal.Refusal.TheVariants as refusal
 use Rattle.wstore.specs.declared.settings.Settings.{Settings}
-use Rattle.wstore.specs.Settings.{limits}
+use Rattle.wstore.specs.CallLimits.{limits_of}
 use Rattle.batch.specs.Ends.{is_short, AreEnds}
 use Rattle.batch.specs.Groups.{GiveParts}
 use Rattle.batch.specs.Answers.{Answers, IsSomeAnswer, refused_text}
@@ -82,7 +82,7 @@ few_ends a s calls parts written few (lines, gives, are) same =
 -- on calls that were run
 pub report_is : (bytes text : List ℕ) (a : AcceptedModule) (s : Settings) (calls given : List Call) (parts written : List Part) (last : List ℕ)
     → IsVerdict bytes Accepted → Spells bytes (module_shape a.«module») (shapes_of a.bodies.items) → IsCalls text (Good (calls_of calls)) → given ≡ calls → GiveParts a s given parts
-    → written ≡ parts → ((ends : List CallEnd) → AreParts 0 ends written → parts_text written ++ last ≡ report_text ends) → IsSomeAnswer bytes text (limits s.fuel s.frames s.pages) (parts_text parts ++ last)
+    → written ≡ parts → ((ends : List CallEnd) → AreParts 0 ends written → parts_text written ++ last ≡ report_text ends) → IsSomeAnswer bytes text (limits_of s) (parts_text parts ++ last)
 unfolding IsAnswer
 report_is bytes text a s calls given parts written last v spells said same (lines, gives, are) wrote whole =
     let ends' : AreEnds a s calls lines = subst (λ (x : List Call). AreEnds a s x lines) same (ends_given a s given lines gives) in

@@ -14,7 +14,7 @@ use Rattle.texts.specs.declared.line.Line.{Line}
 use Rattle.accepted.specs.declared.accepted.Accepted.{Accepted}
 use Rattle.accepted.specs.Judgement.{shapes_of}
 use Rattle.wstore.specs.declared.settings.Settings.{Settings}
-use Rattle.wstore.specs.Settings.{limits}
+use Rattle.wstore.specs.CallLimits.{limits_of}
 use Rattle.wsyntax.specs.declared.value.Value.{Value}
 use Rattle.batch.specs.Ends.{EndsAlone, IsCallee, is_short, GivesLine, GivesLineAt, AreEnds}
 use Rattle.batch.specs.Groups.{GiveLines}
@@ -25,11 +25,11 @@ use Rattle.batch.proofs.Instance.{instance_of}
 
 -- its line
 pub given_line : (a : Accepted) (s : Settings) (f : ℕ) (c : Call) (args : List Value) (line : Line) → ∥ Judged (module_shape a.«module») (shapes_of a.bodies.items) ∥₁ → IsCallee (module_shape a.«module») (call_of c) f → args ≡ args_of c.args
-    → EndsAlone (module_shape a.«module») (shapes_of a.bodies.items) (limits s.fuel s.frames s.pages) f args line → GivesLine a s c line
+    → EndsAlone (module_shape a.«module») (shapes_of a.bodies.items) (limits_of s) f args line → GivesLine a s c line
 given_line a s f c args line judged callee same h =
     let m = module_shape a.«module» in
     let bodies = shapes_of a.bodies.items in
-    let l = limits s.fuel s.frames s.pages in
+    let l = limits_of s in
     let ends : EndsAlone m bodies l f (args_of c.args) line = subst (λ (x : List Value). EndsAlone m bodies l f x line) same h in
     let (i, is) = instance_of m bodies judged in
     alone_end m bodies l (call_of c) f i line callee is ends
@@ -62,14 +62,14 @@ plus_suc n i = omega arith
 
 -- the calls from number n on, of which all have these lines
 ends_from : (a : Accepted) (s : Settings) (all : List Line) (n : ℕ) (calls : List Call) (lines : List Line) → GiveLines a s calls lines → ((i : ℕ) → slice_get all (n + i) ≡ slice_get lines i)
-    → EndsOf (module_shape a.«module») (shapes_of a.bodies.items) (limits s.fuel s.frames s.pages) (λ n. IsTrue (is_short (slice_get all n))) n (calls_of calls) (ends_of lines)
+    → EndsOf (module_shape a.«module») (shapes_of a.bodies.items) (limits_of s) (λ n. IsTrue (is_short (slice_get all n))) n (calls_of calls) (ends_of lines)
 ends_from a s all n [] [] h at = tt
 ends_from a s all n [] (x ∷ xs) h at = absurd h
 ends_from a s all n (c ∷ cs) [] h at = absurd h
 ends_from a s all n (c ∷ cs) (x ∷ xs) h at =
     let here : Some x ≡ slice_get all n = sym (ap (slice_get all) (plus_zero n) ∙ at 0) in
     let others = ends_from a s all (suc n) cs xs h.1 (λ i. ap (slice_get all) (plus_suc n i) ∙ at (suc i)) in
-    (subst (λ (found : Option Line). EndOf (module_shape a.«module») (shapes_of a.bodies.items) (limits s.fuel s.frames s.pages) (IsTrue (is_short found)) (call_of c) (end_of x)) here h.0, others)
+    (subst (λ (found : Option Line). EndOf (module_shape a.«module») (shapes_of a.bodies.items) (limits_of s) (IsTrue (is_short found)) (call_of c) (end_of x)) here h.0, others)
 
 pub ends_given : (a : Accepted) (s : Settings) (calls : List Call) (lines : List Line) → GiveLines a s calls lines → AreEnds a s calls lines
 ends_given a s calls lines h = ends_from a s lines 0 calls lines h (λ i. ap (slice_get lines) (from_zero i))

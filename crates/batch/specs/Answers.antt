@@ -1,9 +1,14 @@
 -- What is left behind for a module and a text of calls.
-use Rattle.std.specs.Prelude.{◌≡◌, ℕ, Bool, IsTrue, List, Option, Some, None, Result, Ok, Err}
+use Rattle.std.specs.Prelude.{◌≡◌, ◌++◌, ℕ, Bool, IsTrue, List, Option, Some, None, Result, Ok, Err, IsSomeAnd}
 use Rattle.std.specs.Io.KnownBytes.{Keeps, Appends}
+use Rattle.wsyntax.specs.Modules.{module_shape}
+use Rattle.wsyntax.specs.Binary.Shell.{Spells}
 use Rattle.wsyntax.specs.Validation.Verdict.{Verdict, Accepted, IsVerdict}
+use Rattle.wsyntax.specs.Texts.Lines.{verdict_line}
 use Rattle.wsyntax.specs.Texts.Calls.{CallsText, TooLong, BadLine, Good as GoodCalls, IsCalls}
-use Rattle.wsyntax.specs.Texts.Answer.{Limits, IsAnswer}
+use Rattle.wsyntax.specs.Texts.Answer.{Limits, IsAnswer, calls_line}
+use Rattle.accepted.specs.declared.accepted.Accepted.{Accepted as AcceptedModule}
+use Rattle.accepted.specs.Judgement.{shapes_of}
 use Rattle.texts.specs.declared.fault.CallsFault.{CallsFault}
 use Rattle.texts.specs.declared.fault.CallsFault.TheVariants as fault
 use Rattle.batch.specs.Output.{AppendsFront}
@@ -16,11 +21,19 @@ use Rattle.batch.specs.declared.status.AnswerFault.TheVariants.{Memory, Write}
 abbrev pub IsSomeAnswer : List ℕ → List ℕ → Limits → List ℕ → Type 0
 IsSomeAnswer bytes text l out = (short : ℕ → Bool) × IsAnswer bytes text l (λ n. IsTrue (short n)) out
 
+-- the answer to an accepted module that these bytes spell, whichever spell it, where some of the calls met want of memory
+abbrev pub IsAnswerOn : AcceptedModule → List ℕ → Limits → List ℕ → Type 0
+IsAnswerOn a text l out = (bytes : List ℕ) → IsVerdict bytes Accepted → Spells bytes (module_shape a.«module») (shapes_of a.bodies.items) → IsSomeAnswer bytes text l out
+
 -- what a text of calls is that is refused; want of memory says nothing
 abbrev pub refused_text : CallsFault → Option CallsText
 refused_text fault.TooLarge = Some TooLong
 refused_text (fault.Line k) = Some (BadLine k)
 refused_text fault.Memory = None
+
+-- the lines of an accepted module whose calls are refused for this fault
+abbrev pub SaysRefused : CallsFault → List ℕ → Type 0
+SaysRefused fault text = IsSomeAnd (refused_text fault) (λ c. text ≡ verdict_line Accepted ++ calls_line c)
 
 -- good for a report, else what is refused
 abbrev pub calls_status : CallsText → Status

@@ -21,7 +21,7 @@ use Rattle.texts.specs.declared.line.Line.TheVariants.{Ran, NoExport, NotAFuncti
 use Rattle.accepted.specs.declared.accepted.Accepted.{Accepted}
 use Rattle.accepted.specs.Judgement.{shapes_of}
 use Rattle.wstore.specs.declared.settings.Settings.{Settings}
-use Rattle.wstore.specs.Settings.{limits}
+use Rattle.wstore.specs.CallLimits.{limits_of}
 
 -- ---- one call, alone
 
@@ -30,6 +30,10 @@ abbrev pub StartEnds : ModuleShape → Module → Limits → Store → ℕ → O
 StartEnds m i l s left None = (k : ℕ) × Started m i l s k × (l.fuel ≡ k + left)
 StartEnds m i l s left (Some o) =
     (g : ℕ) × (k : ℕ) × (m.start ≡ Some g) × Ends i (fresh_store l.pages m) g [] l.fuel l.frames (outcome_of o) k s × (outcome_of o ≢ meant.Values []) × (l.fuel ≡ k + left)
+
+-- the same on each instance of the module
+abbrev pub StartEndsOnEach : ModuleShape → List BodyShape → Limits → Store → ℕ → Option Outcome → Type 0
+StartEndsOnEach m bodies l s left end = (i : Module) → InstanceOf m bodies i → StartEnds m i l s left end
 
 -- 4.5.5 the line says how the call of function f ends on each instance of the module
 abbrev pub RanAlone : ModuleShape → List BodyShape → Limits → ℕ → List Value → Line → Type 0
@@ -65,7 +69,7 @@ RefusedAs a c line = (l : Limits) → EndOf (module_shape a.«module») (shapes_
 -- the line says how the call ends; where it says that memory was wanting, the call met that
 abbrev pub GivesLine : Accepted → Settings → Call → Line → Type 0
 GivesLine a s c line =
-    EndOf (module_shape a.«module») (shapes_of a.bodies.items) (limits s.fuel s.frames s.pages) (IsTrue (is_short (Some line))) (call_of c) (end_of line)
+    EndOf (module_shape a.«module») (shapes_of a.bodies.items) (limits_of s) (IsTrue (is_short (Some line))) (call_of c) (end_of line)
 
 abbrev pub GivesLineAt : Accepted → Settings → List Call → ℕ → Line → Type 0
 GivesLineAt a s calls n line = (c : Call) × (slice_get calls n ≡ Some c) × GivesLine a s c line
@@ -73,4 +77,4 @@ GivesLineAt a s calls n line = (c : Call) × (slice_get calls n ≡ Some c) × G
 -- the lines say how the calls end, one line a call
 abbrev pub AreEnds : Accepted → Settings → List Call → List Line → Type 0
 AreEnds a s calls lines =
-    EndsOf (module_shape a.«module») (shapes_of a.bodies.items) (limits s.fuel s.frames s.pages) (λ n. IsTrue (is_short (slice_get lines n))) 0 (calls_of calls) (ends_of lines)
+    EndsOf (module_shape a.«module») (shapes_of a.bodies.items) (limits_of s) (λ n. IsTrue (is_short (slice_get lines n))) 0 (calls_of calls) (ends_of lines)

@@ -4,5 +4,6 @@ pub mod Ends
 pub mod Safe
 pub mod Groups
 pub mod Answers
+pub mod Whole
 pub mod Laws
 pub mod Slices

@@ -1,16 +1,11 @@
 //! The answer to a module and a text of calls.
 
-ghost use Rattle.std.specs.Prelude.{◌≡◌, ◌++◌, ℕ, List, IfErr, IfOk, IsSomeAnd, string_bytes};
-ghost use Rattle.wsyntax.specs.Modules.{module_shape};
-ghost use Rattle.wsyntax.specs.Binary.Shell.{Spells};
-ghost use Rattle.wsyntax.specs.Validation.Verdict.{IsVerdict, Accepted as accepted_verdict};
-ghost use Rattle.wsyntax.specs.Texts.Lines.{verdict_line};
-ghost use Rattle.wsyntax.specs.Texts.Answer.{calls_line as refusal_line};
-ghost use Rattle.texts.specs.Parts.{parts_text};
-ghost use Rattle.accepted.specs.Judgement.{shapes_of};
-ghost use Rattle.wstore.specs.Settings.{limits};
-ghost use Rattle.batch.specs.Answers.{Answers, HasStatus, IsSomeAnswer, StatusBy, refused_text};
+ghost use Rattle.std.specs.Prelude.{IfErr, IfOk, string_bytes};
+ghost use Rattle.wsyntax.specs.Validation.Verdict.{Accepted as accepted_verdict};
+ghost use Rattle.wstore.specs.CallLimits.{limits_of};
+ghost use Rattle.batch.specs.Answers.{Answers, HasStatus, IsAnswerOn, IsSomeAnswer, SaysRefused, StatusBy};
 ghost use Rattle.batch.specs.Output.{FallsShort};
+ghost use Rattle.batch.specs.Whole.{text_of};
 ghost use Rattle.batch.specs.Safe.{NeverStuck, ValuesAreTyped};
 
 use crate::laws::answers_are_safe;
@@ -38,7 +33,7 @@ struct Written {
 
 /// The answer on calls that are refused.
 fn calls_line(alloc: Global, fault: CallsFault) -> Result<String, AllocError>
-    ensures { IfOk result (λ line. IsSomeAnd (refused_text fault) (λ c. string_bytes line ≡ verdict_line accepted_verdict ++ refusal_line c)) }
+    ensures { IfOk result (λ line. SaysRefused fault (string_bytes line)) }
 {
     match fault {
         CallsFault::TooLarge => String::from_str(alloc, "accepted\ncalls too-large\n"),
@@ -57,7 +52,7 @@ fn answer_on<R: Threads + Wait + Sync, W: Watch + Sync>(
     plan: Plan,
     watch: &W,
 ) -> Result<Written, AllocError>
-    ensures answer { IfOk result (λ a. (bytes : List ℕ) → IsVerdict bytes accepted_verdict → Spells bytes (module_shape accepted.now.module) (shapes_of accepted.now.bodies.items) → IsSomeAnswer bytes calls.now (limits settings.fuel settings.frames settings.pages) (parts_text a.parts.items ++ string_bytes a.last)) }
+    ensures answer { IfOk result (λ a. IsAnswerOn accepted.now calls.now (limits_of settings) (text_of a)) }
     ensures status { IfOk result (λ a. StatusBy calls.now accepted_verdict a.status) }
 {
     let slices = match read_by_workers(rt, alloc, calls, plan) {
@@ -89,7 +84,7 @@ fn answer_to<R: Threads + Wait + Sync, W: Watch + Sync>(
     plan: Plan,
     watch: &W,
 ) -> Result<Written, AllocError>
-    ensures answer { IfOk result (λ a. IsSomeAnswer bytes.now calls.now (limits settings.fuel settings.frames settings.pages) (parts_text a.parts.items ++ string_bytes a.last)) }
+    ensures answer { IfOk result (λ a. IsSomeAnswer bytes.now calls.now (limits_of settings) (text_of a)) }
     ensures status { IfOk result (λ a. HasStatus bytes.now calls.now a.status) }
 {
     match judge(rt, alloc, bytes, plan, watch) {
@@ -129,12 +124,12 @@ pub fn answer<R: Threads + Wait + Sync, W: Watch + Sync, O: Write>(
     watch: &W,
     out: &mut O,
 ) -> Result<Status, AnswerFault>
-    ensures answer { Answers (IsSomeAnswer bytes.now calls.now (limits settings.fuel settings.frames settings.pages)) (O.contents out.old) (O.contents out.new) result }
+    ensures answer { Answers (IsSomeAnswer bytes.now calls.now (limits_of settings)) (O.contents out.old) (O.contents out.new) result }
     ensures status { IfOk result (HasStatus bytes.now calls.now) }
-    ensures never_stuck { NeverStuck bytes.now calls.now (limits settings.fuel settings.frames settings.pages) }
-    ensures typed { ValuesAreTyped bytes.now calls.now (limits settings.fuel settings.frames settings.pages) }
+    ensures never_stuck { NeverStuck bytes.now calls.now (limits_of settings) }
+    ensures typed { ValuesAreTyped bytes.now calls.now (limits_of settings) }
     ensures fault { IfErr result
-        (FallsShort (IsSomeAnswer bytes.now calls.now (limits settings.fuel settings.frames settings.pages))
+        (FallsShort (IsSomeAnswer bytes.now calls.now (limits_of settings))
         (O.contents out.old) (O.contents out.new)) }
 {
     answers_are_safe();

@@ -4,15 +4,14 @@ ghost use Rattle.std.specs.Prelude.{◌≡◌, ℕ, List, IfOk};
 ghost use Rattle.wsyntax.specs.Modules.{ModuleShape, BodyShape, module_shape};
 ghost use Rattle.wsyntax.specs.Validation.ModuleContext.{module_context};
 ghost use Rattle.wsyntax.specs.declared.value.Value.{Value};
-ghost use Rattle.wsyntax.specs.Execution.Store.{Module};
-ghost use Rattle.wsyntax.specs.Execution.Start.{InstanceOf, fresh_store};
+ghost use Rattle.wsyntax.specs.Execution.Start.{fresh_store};
 ghost use Rattle.wsyntax.specs.Texts.Answer.{Limits};
 ghost use Rattle.accepted.specs.Judgement.{shapes_of};
 ghost use Rattle.wstore.specs.Faults.{IsFault};
-ghost use Rattle.wstore.specs.Settings.{limits};
+ghost use Rattle.wstore.specs.CallLimits.{limits_of};
 ghost use Rattle.wstore.specs.Views.{module_in, context_in, store_in};
 ghost use Rattle.wmachine.specs.Calls.{HasParams};
-ghost use Rattle.batch.specs.Ends.{StartEnds, RanAlone, EndsAlone};
+ghost use Rattle.batch.specs.Ends.{StartEndsOnEach, RanAlone, EndsAlone};
 
 use ends::Outcome;
 use memory::CleanMem;
@@ -32,7 +31,9 @@ fn run_start(
 ) -> Result<Option<Outcome>, AllocError>
     requires fresh { store_in instance.old ≡ fresh_store settings.pages (module_in instance.old) }
     requires whole { fuel.old.left ≡ settings.fuel }
-    ensures ends { IfOk result (λ end. (i : Module) → InstanceOf (module_in instance.old) (shapes_of instance.old.accepted.now.bodies.items) i → StartEnds (module_in instance.old) i (limits settings.fuel settings.frames settings.pages) (store_in instance.new) fuel.new.left end) }
+    ensures ends { IfOk result
+        (StartEndsOnEach (module_in instance.old) (shapes_of instance.old.accepted.now.bodies.items) (limits_of settings)
+        (store_in instance.new) fuel.new.left) }
     ensures limit { fuel.new.limit ≡ fuel.old.limit }
     ensures of { instance.new.accepted.now ≡ instance.old.accepted.now }
 {
@@ -57,7 +58,8 @@ fn start_and_call(
 ) -> Result<Line, AllocError>
     requires fresh { store_in instance.old ≡ fresh_store settings.pages (module_in instance.old) }
     requires fits { HasParams (context_in instance.old) function args.now }
-    ensures { IfOk result (RanAlone (module_in instance.old) (shapes_of instance.old.accepted.now.bodies.items) (limits settings.fuel settings.frames settings.pages) function args.now) }
+    ensures { IfOk result
+        (RanAlone (module_in instance.old) (shapes_of instance.old.accepted.now.bodies.items) (limits_of settings) function args.now) }
 {
     settings.in_range();
     let Some(mut fuel) = Fuel::new(settings.fuel()) else {
@@ -93,7 +95,8 @@ pub(crate) fn run_alone(
     clean: CleanMem,
 ) -> (Line, CleanMem)
     requires { HasParams (module_context (module_shape accepted.now.module)) function args.now }
-    ensures { EndsAlone (module_shape accepted.now.module) (shapes_of accepted.now.bodies.items) (limits settings.fuel settings.frames settings.pages) function args.now result.0 }
+    ensures { EndsAlone (module_shape accepted.now.module) (shapes_of accepted.now.bodies.items) (limits_of settings)
+        function args.now result.0 }
 {
     let mut instance = match instantiate(alloc, accepted, settings, clean) {
         Ok(instance) => instance,
@@ -108,7 +111,8 @@ pub(crate) fn run_alone(
 
 /// The line of a call for which no instance was made.
 fn refused_line(fault: StartFault) -> Line
-    ensures { (m : ModuleShape) (bodies : List BodyShape) (l : Limits) (f : ℕ) (args : List Value) → IsFault l.pages m bodies fault → EndsAlone m bodies l f args result }
+    ensures { (m : ModuleShape) (bodies : List BodyShape) (l : Limits) (f : ℕ) (args : List Value) →
+        IsFault l.pages m bodies fault → EndsAlone m bodies l f args result }
 {
     match fault {
         StartFault::Refused(refusal) => Line::NotStarted(refusal),

@@ -35,7 +35,8 @@ fn said_text<'a>(words: &'a [&'a str], name: &str, default: &'a str) -> Option<&
 
 // The text that a word gives, by what follows the option in it: what stands after `=`, or the next word.
 fn text_of<'a>(rest: &'a str, next: Option<&'a str>) -> Option<&'a str>
-    ensures { IfSome result (λ text. (rest.now ≡ codes "=" ++ text.now) ⊎ ((rest.now ≡ []) × (option_map (λ w. w.now) next.entry ≡ Some text.now))) }
+    ensures { IfSome result (λ text. (rest.now ≡ codes "=" ++ text.now)
+        ⊎ ((rest.now ≡ []) × (option_map (λ w. w.now) next.entry ≡ Some text.now))) }
 {
     if rest.is_empty() {
         next
@@ -46,7 +47,8 @@ fn text_of<'a>(rest: &'a str, next: Option<&'a str>) -> Option<&'a str>
 
 // What follows the option in the word, where it begins with it.
 fn after_option<'a>(word: &'a str, name: &str) -> Option<&'a str>
-    ensures { MatchOption result (LacksOption (codes "--" ++ name.now) word.now) (λ rest. word.now ≡ (codes "--" ++ name.now) ++ rest.now) }
+    ensures { MatchOption result (LacksOption (codes "--" ++ name.now) word.now)
+        (λ rest. word.now ≡ (codes "--" ++ name.now) ++ rest.now) }
 {
     word.strip_prefix("--")?.strip_prefix(name)
 }

@@ -4,7 +4,7 @@ use Rattle.std.specs.Prelude.{Contains}
 use Rattle.std.specs.Io.KnownBytes.{Appends}
 use Rattle.wsyntax.specs.Validation.Verdict.{Verdict, Accepted, TooLarge, Malformed, RuleBroken, BodyRefused}
 use Rattle.wsyntax.specs.Texts.Lines.{verdict_line}
-use Rattle.wstore.specs.Settings.{limits}
+use Rattle.wstore.specs.CallLimits.{limits_of}
 use Rattle.wstore.specs.declared.settings.Settings.{Settings}
 use Rattle.batch.specs.Report.{status_of}
 use Rattle.batch.specs.declared.status.Status.{Status}
@@ -58,7 +58,7 @@ not_calls_refused s a b = let e : Good ≡ CallsRefused = sym a ∙ b in absurd 
 
 -- a run that ends with an answer
 answer : (words : List (List ℕ)) (path calls : Bor (List ℕ)) (settings : Settings) (holds : List ℕ → Option (List ℕ)) (asked asked' : Option (List (List ℕ))) (old new : Option (List ℕ)) (s t : Status)
-    → Contains words path.now → Contains words calls.now → SaysLimits words settings.fuel settings.frames settings.pages → RunsOn (holds path.now) (holds calls.now) (limits settings.fuel settings.frames settings.pages) old new (Ok s) → ReadsPaths asked asked' (path.now ∷ calls.now ∷ []) → s ≡ t → PrintsAnswer words holds asked asked' old new t
+    → Contains words path.now → Contains words calls.now → SaysLimits words settings.fuel settings.frames settings.pages → RunsOn (holds path.now) (holds calls.now) (limits_of settings) old new (Ok s) → ReadsPaths asked asked' (path.now ∷ calls.now ∷ []) → s ≡ t → PrintsAnswer words holds asked asked' old new t
 answer words path calls settings holds asked asked' old new s t named calls_named said done order e = record {
   path = path.now;
   calls = calls.now;
@@ -70,7 +70,7 @@ answer words path calls settings holds asked asked' old new s t named calls_name
   pages = settings.pages;
   said = said;
   in_range = settings.in_range;
-  answered = subst (λ (x : Status). RunsOn (holds path.now) (holds calls.now) (limits settings.fuel settings.frames settings.pages) old new (Ok x)) e done;
+  answered = subst (λ (x : Status). RunsOn (holds path.now) (holds calls.now) (limits_of settings) old new (Ok x)) e done;
 }
 
 pub good : (words : List (List ℕ)) (request : Request) (holds : List ℕ → Option (List ℕ)) (asked asked' : Option (List (List ℕ))) (old new : Option (List ℕ)) (s : Status) → IsRequestOf words request → Does request holds old new (Ok s) → AsksFor request asked asked' (Ok s) → answer_status s ≡ 0 → PrintsGood words holds asked asked' old new

@@ -4,6 +4,7 @@ use Rattle.std.specs.Io.KnownBytes.{Keeps, Appends}
 use Rattle.wsyntax.specs.Validation.Verdict.{Verdict, Accepted}
 use Rattle.wsyntax.specs.Texts.Lines.{verdict_line}
 use Rattle.wstore.specs.Settings.{AreSettings, limits}
+use Rattle.wstore.specs.CallLimits.{limits_of}
 use Rattle.batch.specs.Output.{AppendsFront}
 use Rattle.batch.specs.Report.{status_of}
 use Rattle.batch.specs.declared.status.Status.{Status}
@@ -31,7 +32,7 @@ Shows text old new (Err _) = ⊥
 -- what is done for a request, over what paths hold
 abbrev pub Does : Request → (List ℕ → Option (List ℕ)) → Option (List ℕ) → Option (List ℕ) → Result Status Fault → Type 0
 Does (Check path plan) holds old new r = Checks (holds path.now) old new r
-Does (Run path calls s plan) holds old new r = RunsOn (holds path.now) (holds calls.now) (limits s.fuel s.frames s.pages) old new r
+Does (Run path calls s plan) holds old new r = RunsOn (holds path.now) (holds calls.now) (limits_of s) old new r
 Does (Text text) holds old new r = Shows (string_bytes text) old new r
 
 -- the paths that a request asks for, in their order

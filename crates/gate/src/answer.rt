@@ -1,5 +1,5 @@
 // Running calls of one module.
-ghost use Rattle.wstore.specs.Settings.{limits};
+ghost use Rattle.wstore.specs.CallLimits.{limits_of};
 ghost use Rattle.gate.specs.Reads.{ReadsInOrder};
 ghost use Rattle.gate.specs.Runs.{RunsOn};
 
@@ -25,7 +25,8 @@ pub fn answer_files<'a, R: Threads + Wait + Sync, S: Source, O: Write>(
     source: &mut S,
     out: &mut O,
 ) -> Result<Status, Fault<'a>>
-    ensures answer { RunsOn (S.holds source.old path.entry.now) (S.holds source.old calls.entry.now) (limits settings.fuel settings.frames settings.pages) (O.contents out.old) (O.contents out.new) result }
+    ensures answer { RunsOn (S.holds source.old path.entry.now) (S.holds source.old calls.entry.now) (limits_of settings)
+        (O.contents out.old) (O.contents out.new) result }
     ensures order { ReadsInOrder path.entry.now calls.entry.now (S.asked source.old) (S.asked source.new) result }
 {
     let bytes = read_file(alloc, path, MODULE_LIMIT, source)?;

@@ -26,11 +26,18 @@ pub fn run<R: Threads + Wait + Sync, S: Source, O: Write, E: Write>(
     err: &mut E,
 ) -> u8
     ensures named { IsStatus result }
-    ensures obeyed { Obeys (map (λ w. w.now) words.now) (S.holds source.old) (S.asked source.old) (S.asked source.new) (O.contents out.old) (O.contents out.new) result }
+    ensures obeyed { Obeys (map (λ w. w.now) words.now) (S.holds source.old) (S.asked source.old) (S.asked source.new)
+        (O.contents out.old) (O.contents out.new) result }
     ensures silent { (result ≡ 64) ⊎ (result ≡ 70) → Keeps (O.contents out.old) (O.contents out.new) }
-    ensures accepted { result ≡ 0 → PrintsGood (map (λ w. w.now) words.now) (S.holds source.old) (S.asked source.old) (S.asked source.new) (O.contents out.old) (O.contents out.new) }
-    ensures refused { result ≡ 2 → PrintsRefusal (map (λ w. w.now) words.now) (S.holds source.old) (S.asked source.old) (S.asked source.new) (O.contents out.old) (O.contents out.new) }
-    ensures calls_refused { result ≡ 3 → PrintsCallsRefusal (map (λ w. w.now) words.now) (S.holds source.old) (S.asked source.old) (S.asked source.new) (O.contents out.old) (O.contents out.new) }
+    ensures accepted { result ≡ 0 →
+        PrintsGood (map (λ w. w.now) words.now) (S.holds source.old) (S.asked source.old) (S.asked source.new)
+        (O.contents out.old) (O.contents out.new) }
+    ensures refused { result ≡ 2 →
+        PrintsRefusal (map (λ w. w.now) words.now) (S.holds source.old) (S.asked source.old) (S.asked source.new)
+        (O.contents out.old) (O.contents out.new) }
+    ensures calls_refused { result ≡ 3 →
+        PrintsCallsRefusal (map (λ w. w.now) words.now) (S.holds source.old) (S.asked source.old) (S.asked source.new)
+        (O.contents out.old) (O.contents out.new) }
 {
     let request = match read_words(alloc, words) {
         Ok(request) => request,

@@ -1,18 +1,18 @@
 -- 4.5.4 The segments of the code, their offsets computed.
 use Rattle.std.specs.Prelude.{ℕ, List, map}
-use Rattle.wsyntax.specs.Modules.{place_tokens, element_shape, data_shape}
+use Rattle.wsyntax.specs.Modules.{initial_tokens, element_shape, data_shape}
 use Rattle.wsyntax.specs.Validation.Rules.{ConstantOf}
 use Rattle.wsyntax.specs.declared.types.ValType.TheVariants.{I32}
 use Rattle.wsyntax.specs.declared.types.GlobalType.{GlobalType}
 use Rattle.wsyntax.specs.HeldElement.{HeldElement}
-use Rattle.wsyntax.specs.declared.module.Place.{Place}
+use Rattle.wsyntax.specs.declared.module.Initial.{Initial}
 use Rattle.wsyntax.specs.declared.module.Data.{Data}
 use Rattle.wsyntax.specs.Execution.Allocation.{Segment}
 use Rattle.wsyntax.specs.Execution.Start.{element_segment, data_segment}
 
 -- 3.4.5 and 3.4.6 the offset of a segment is a constant expression of type i32, under some imported globals
-abbrev pub IsOffset : Place → Type 0
-IsOffset p = (globals : List GlobalType) × ConstantOf globals I32 (place_tokens p)
+abbrev pub IsOffset : Initial → Type 0
+IsOffset e = (globals : List GlobalType) × ConstantOf globals I32 (initial_tokens e)
 
 abbrev pub element_segments : List HeldElement → List Segment
 element_segments all = map element_segment (map element_shape all)

@@ -17,14 +17,14 @@ fn ends_within(place: u32, count: usize, size: usize) -> bool
 /// The number of the first element segment that does not end within a table of that size.
 pub(crate) fn first_element_outside(size: usize, segments: &Elements) -> Option<u32>
     requires few { length segments.now < 2 ^ 32 }
-    requires offsets { All (λ s. IsOffset s.place) segments.now }
+    requires offsets { All (λ s. IsOffset s.offset) segments.now }
     ensures { result ≡ first_outside 0 size (element_segments segments.now) }
 {
     for number in 0..segments.len() {
         let Some(segment) = segments.get(number) else {
             unreachable!()
         };
-        if !ends_within(place_of(segment.place), segment.functions.len(), size) {
+        if !ends_within(place_of(segment.offset), segment.functions.len(), size) {
             return Some(number as u32);
         }
     }
@@ -34,11 +34,11 @@ pub(crate) fn first_element_outside(size: usize, segments: &Elements) -> Option<
 /// The number of the first data segment that does not end within a memory of that size.
 pub(crate) fn first_data_outside(size: usize, segments: &[Data<'_>]) -> Option<u32>
     requires few { length segments.now < 2 ^ 32 }
-    requires offsets { All (λ s. IsOffset s.place) segments.now }
+    requires offsets { All (λ s. IsOffset s.offset) segments.now }
     ensures { result ≡ first_outside 0 size (data_segments segments.now) }
 {
     for (number, segment) in segments.iter().enumerate() {
-        if !ends_within(place_of(&segment.place), segment.bytes.len(), size) {
+        if !ends_within(place_of(&segment.offset), segment.bytes.len(), size) {
             return Some(number as u32);
         }
     }

@@ -66,7 +66,7 @@ fn long_lists_again(alloc: Global) -> Result<Module<'static>, AllocError> {
     Ok(module)
 }
 
-/// So many types that what was compared is kept.
+/// So many types that the tree of ends has their fronts.
 const LONGER: [ValType; 300] = [I32; 300];
 
 /// A module with the types `[] -> []`, `[] -> [t*]` and `[u*] -> []`, where t* is 300 times i32 and u* one less, and functions

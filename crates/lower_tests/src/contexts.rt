@@ -2,7 +2,7 @@ use std::alloc::{AllocError, Global};
 use std::test::Fail;
 use wcontext::*;
 use wsyntax::{
-    Data, Export, ExportKind, GlobalType, Import, ImportKind, Limits, Module, Place, ValType,
+    Data, Export, ExportKind, GlobalType, Import, ImportKind, Initial, Limits, Module, ValType,
 };
 
 /// A module that imports one function of type `[i32 i64] -> [f32 i32]`.
@@ -129,7 +129,8 @@ fn breaks_a_rule_of_either_part(rt: HostRuntime) -> Result<(), Fail> {
 /// A data segment at address 0 of the memory of that index.
 fn segment_of<'a>(index: u32) -> Data<'a> {
     Data {
-        place: Place::I32Const { index, number: 0 },
+        memory: index,
+        offset: Initial::I32Const(0),
         bytes: b"abc",
     }
 }

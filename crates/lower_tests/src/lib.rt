@@ -11,6 +11,8 @@ mod checks;
 #[cfg(test)]
 mod contexts;
 #[cfg(test)]
+mod fronts;
+#[cfg(test)]
 mod memories;
 #[cfg(test)]
 mod modules;

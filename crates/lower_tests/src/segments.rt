@@ -1,15 +1,15 @@
 use std::alloc::{AllocError, Global};
 use std::test::Fail;
-use wsyntax::{Elements, Place};
+use wsyntax::{Elements, Initial};
 
 /// A segment of two functions, one of none, and one of one function.
 fn three_segments(alloc: Global) -> Result<Elements, AllocError> {
     let mut segments = Elements::with_capacity(alloc, 1)?;
-    segments.push(Place::Nothing { index: 0 })?;
+    segments.push(0, Initial::Nothing)?;
     segments.push_function(7)?;
     segments.push_function(8)?;
-    segments.push(Place::Nothing { index: 1 })?;
-    segments.push(Place::Nothing { index: 2 })?;
+    segments.push(1, Initial::Nothing)?;
+    segments.push(2, Initial::Nothing)?;
     segments.push_function(9)?;
     Ok(segments)
 }
@@ -17,7 +17,7 @@ fn three_segments(alloc: Global) -> Result<Elements, AllocError> {
 /// Whether the segment of that number goes to the table of the same number, and has these functions.
 fn is_at(segments: &Elements, number: u32, functions: &[u32]) -> bool {
     match segments.get(number as usize) {
-        Some(segment) => segment.place.index() == number && segment.functions == functions,
+        Some(segment) => segment.table == number && segment.functions == functions,
         None => false,
     }
 }

@@ -1,5 +1,6 @@
 -- 4.2.8 A memory instance in the buffer that holds its bytes.
-use Rattle.std.specs.Prelude.{◌≡◌, ℕ, ◌*◌, ◌/◌, ◌≤◌, ◌⊎◌, List, length, take, replicate, slice_index, slice_index_or, Bool, true, false, Option, Some, None}
+use Rattle.std.specs.Prelude.{◌≡◌, ℕ, ◌+◌, ◌*◌, ◌/◌, ◌<◌, ◌≤◌, ◌⊎◌, List, length, take, replicate, slice_index, slice_index_or, Bool, true, false, Option, Some, None, IsSome, Vec, vec_len}
+use Rattle.std.specs.declared.alloc.Global.{Global}
 use Rattle.wsyntax.specs.Execution.Store.{Memory, page, may_have, write, grown}
 use Rattle.wsyntax.specs.Execution.Allocation.{overwrite}
 use Rattle.memory.specs.Zeros.{AreZeroUnmarked}
@@ -13,7 +14,11 @@ pub record Buffered : Type 0 where
 abbrev pub front_of : List ℕ → ℕ → Option ℕ → ℕ → ℕ → Buffered
 front_of bytes n most pages room = record { memory = record { bytes = take n bytes; most = most; pages = pages }; room = room }
 
--- 4.5.3 a memory of so many pages of zeros, its declared maximum, and the setting
+-- memory was refused: the bytes are fewer than n, and stay as they were
+abbrev pub StaysShort : Vec ℕ Global → ℕ → Vec ℕ Global → Type 0
+StaysShort old n new = (vec_len new ≡ vec_len old) × (vec_len old < n) × (new.items ≡ old.items)
+
+-- 4.5.3 a memory of `min` pages of zeros, with its declared maximum and the setting
 abbrev pub zeros : ℕ → Option ℕ → ℕ → Memory
 zeros min most pages = record { bytes = replicate (min * page) 0; most = most; pages = pages }
 
@@ -32,11 +37,15 @@ abbrev pub Grows : Memory → ℕ → Option ℕ → Memory → Type 0
 Grows old more (Some size) new = (size ≡ length old.bytes / page) × (grown old more ≡ Some new)
 Grows old more None new = (grown old more ≡ None) × (new ≡ old)
 
+-- 4.4.4 the memory may grow by `more` pages, for which its buffer has no room
+abbrev pub LacksRoomFor : Buffered → ℕ → Type 0
+LacksRoomFor b more = IsSome (grown b.memory more) × (b.room < length b.memory.bytes + more * page)
+
 -- 4.5.4 what a data segment leaves: the definition's bytes
 abbrev pub Overwrites : Buffered → ℕ → List ℕ → Buffered → Type 0
 Overwrites old at bytes new = new ≡ record old { memory = record old.memory { bytes = overwrite at bytes old.memory.bytes } }
 
--- Whole pages stand in the buffer, within the bounds. Each block of the buffer has a mark. Behind the pages no block is marked
+-- Whole pages stand in the buffer, within the bounds. Each block of the buffer has a mark. After the pages no block is marked
 -- and every byte is zero, and in them every byte is zero that the marks do not tell of.
 pub record IsBuffered (bytes : List ℕ) (marks : List Bool) (length' : ℕ) (most : Option ℕ) (pages : ℕ) : Type 0 where
   pub count : ℕ

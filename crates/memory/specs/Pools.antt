@@ -36,7 +36,7 @@ pub record AreIssued (p : Pool) (tickets : List Ticket) : Type 0 where
   pub each : All (IsNew p) tickets
   pub numbered : map (λ (t : Ticket). (view_of t).ticket) tickets ≡ numbers (length tickets)
 
--- so many steps, one after another
+-- a number of steps, one after another
 abbrev pub Repeats : (TicketView → TicketView → Type 0) → ℕ → TicketView → TicketView → Type 0
 Repeats step zero v w = w ≡ v
 Repeats step (suc k) v w = (u : TicketView) × Repeats step k v u × step u w
@@ -49,13 +49,13 @@ AddsEmpty v w = Held 0 (Finds v) × Extends v (Gave 0) w
 abbrev pub DropsFirst : ℕ → TicketView → TicketView → Type 0
 DropsFirst capacity v w = Held capacity (Finds v) × ((n : ℕ) × Extends v (Lent n) w)
 
--- A memory of so many bytes was lent: the first that the pool kept, after empty ones were put in where it was found empty.
+-- A memory of n bytes was lent: the first that the pool kept, after empty ones were put in where it was found empty.
 -- That it is the first holds for any number of tickets. How many empty ones were put in is exact for a pool of one ticket, one
 -- where it kept none and else none; for more tickets it is left open.
 abbrev pub LendsFrom : TicketView → ℕ → TicketView → Type 0
 LendsFrom v n w = (k : ℕ) × (u : TicketView) × Repeats AddsEmpty k v u × Extends u (Lent n) w
 
--- A memory of so many bytes was given: it is kept after the others, after first ones were dropped where the pool was found full.
+-- A memory of n bytes was given: it is kept after the others, after first ones were dropped where the pool was found full.
 -- That it is kept holds for any number of tickets. How many were dropped is exact for a pool of one ticket, one where it was
 -- full and else none; for more tickets it is left open.
 abbrev pub GivesTo : ℕ → TicketView → ℕ → TicketView → Type 0

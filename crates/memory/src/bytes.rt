@@ -1,9 +1,13 @@
-//! Numbers in bytes, little-endian (4.3.1), and bytes made zero. Each access is one move of the machine.
+//! Numbers in bytes, little-endian (4.3.1), and bytes made zero.
 
-ghost use Rattle.std.specs.Prelude.{◌≡◌, ℕ, ◌+◌, ◌<◌, ◌≤◌, max, length, take, drop, slice_index, vec_len, OnOk, OnErr};
+// PERF: the bytes of a number are named one by one, and the compiler makes one move of them.
+
+ghost use Rattle.std.specs.Prelude.{◌≡◌, ℕ, ◌+◌, ◌<◌, ◌≤◌, max, length, take, drop};
+ghost use Rattle.std.specs.Prelude.{slice_index, vec_len, OnOk, OnErr};
 ghost use Rattle.wsyntax.specs.Table.{little_endian};
 ghost use Rattle.wsyntax.specs.Execution.Store.{to_bytes};
 ghost use Rattle.wsyntax.specs.Execution.Allocation.{overwrite};
+ghost use Rattle.memory.specs.Buffered.{StaysShort};
 
 use std::alloc::AllocError;
 
@@ -83,7 +87,7 @@ pub fn put_64(bytes: &mut [u8], at: usize, n: u64)
     bytes[at + 7] = (n / 0x100_0000_0000_0000 % 0x100) as u8;
 }
 
-/// Writes these bytes from a place on.
+/// Writes the bytes of `source` from place `at` on.
 pub fn put(bytes: &mut [u8], at: usize, source: &[u8])
     requires { at + length source.now ≤ length bytes.old }
     ensures { bytes.new ≡ overwrite at source.now bytes.old }
@@ -103,11 +107,11 @@ pub fn zero(bytes: &mut [u8], from: usize, to: usize)
     }
 }
 
-/// Makes the bytes at least so many, by zeros at their end. It takes memory only where they are fewer.
+/// Makes the bytes at least `length`, by zeros at their end. It takes memory only where they are fewer.
 pub fn provide(bytes: &mut Vec<u8>, length: usize) -> Result<(), AllocError>
     ensures len { OnOk result (vec_len bytes.new ≡ max (vec_len bytes.old) length) }
     ensures same { (k : ℕ) → slice_index bytes.new.items k ≡ slice_index bytes.old.items k }
-    ensures refused { OnErr result ((vec_len bytes.new ≡ vec_len bytes.old) × (vec_len bytes.old < length) × (bytes.new.items ≡ bytes.old.items)) }
+    ensures refused { OnErr result (StaysShort bytes.old length bytes.new) }
 {
     if bytes.len() < length {
         bytes.resize(length, 0)?;

@@ -3,7 +3,8 @@
 
 use std::collections::LinkedList;
 
-/// One step on a pool: a memory of so many bytes was put behind those that it keeps, or the first of those was taken.
+/// One step on a pool, with the number of bytes of its memory: it was put after those that the pool keeps, or the first of
+/// those was taken.
 #[derive(Clone, Copy, Drop)]
 pub enum PoolStep {
     Gave(usize),

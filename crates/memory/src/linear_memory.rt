@@ -1,5 +1,7 @@
 //! The memory instance of a running module (4.2.8) and what memory instructions do to it (4.4.4).
 
+// PERF: reads and writes of 8 to 64 bits are inlined into the interpreter's loop, each with one test of its bounds.
+
 ghost use Rattle.std.specs.Prelude.{◌≡◌};
 ghost use Rattle.wsyntax.specs.Execution.Store.{may_have};
 ghost use Rattle.memory.specs.Buffered.{zeros};
@@ -38,7 +40,7 @@ impl Model for LinearMemory {
     ghost invariant = { λ m. IsBuffered m.bytes.items m.marks.items m.length m.most m.pages };
 }
 
-// Whether a memory may have so many pages: no more than its declared maximum, than 65,536, and than the setting.
+// Whether a memory may have `count` pages: no more than its declared maximum `most`, than 65,536, and than the setting `pages`.
 fn allows(most: Option<u32>, pages: u32, count: u64) -> bool
     ensures { result ≡ may_have (zeros 0 most pages) count }
 {
@@ -50,11 +52,12 @@ fn allows(most: Option<u32>, pages: u32, count: u64) -> bool
 }
 
 impl LinearMemory {
-    ghost use Rattle.std.specs.Prelude.{ℕ, ◌+◌, ◌*◌, ◌/◌, ◌-◌, ◌^◌, ◌<◌, ◌≤◌, true, max, length, IfOk, OnOk, IfErr, OnErr, IsSome};
-    ghost use Rattle.wsyntax.specs.Execution.Store.{page, read, grown};
+    ghost use Rattle.std.specs.Prelude.{ℕ, ◌+◌, ◌*◌, ◌/◌, ◌-◌, ◌^◌, ◌<◌, ◌≤◌, true, max, length};
+    ghost use Rattle.std.specs.Prelude.{IfOk, OnOk, IfErr, OnErr};
+    ghost use Rattle.wsyntax.specs.Execution.Store.{page, read};
     ghost use Rattle.wsyntax.specs.Execution.Allocation.{overwrite};
     ghost use Rattle.wsyntax.specs.Execution.ConfigTyped.{MemoryTyped};
-    ghost use Rattle.memory.specs.Buffered.{IsWidth, Writes, Grows, Overwrites};
+    ghost use Rattle.memory.specs.Buffered.{IsWidth, Writes, Grows, LacksRoomFor, Overwrites};
 
     /// A memory of `min` pages of zeros in the bytes that are lent, with the declared maximum `most` and the
     /// setting `pages`. It takes memory only where fewer bytes are lent than it needs; where memory is refused,
@@ -164,7 +167,7 @@ impl LinearMemory {
         }
     }
 
-    /// The number in so many bytes from a place on, little-endian. `None` exactly where they reach past the end.
+    /// The number in `width` bytes from place `at` on, little-endian. `None` exactly where they reach past the end.
     pub fn read(&self, at: u64, width: u32) -> Option<u64>
         requires at { at < 2 ^ 33 }
         requires width { IsWidth width }
@@ -238,8 +241,8 @@ impl LinearMemory {
         true
     }
 
-    /// Writes the so many lowest bytes of a number from a place on, little-endian. Where they reach past the end
-    /// it answers false, and nothing changes.
+    /// Writes the `width` lowest bytes of `bits` from place `at` on, little-endian. Where they reach past the end it
+    /// answers false, and nothing changes.
     pub fn write(&mut self, at: u64, width: u32, bits: u64) -> bool
         requires at { at < 2 ^ 33 }
         requires width { IsWidth width }
@@ -253,7 +256,7 @@ impl LinearMemory {
         }
     }
 
-    /// Writes these bytes from a place on, as a data segment does.
+    /// Writes `bytes` from place `at` on, as a data segment does.
     pub fn overwrite(&mut self, at: u32, bytes: &[u8])
         requires { at + length bytes.now ≤ length self.old.memory.bytes }
         ensures { Overwrites self.old at bytes.now self.new }
@@ -263,14 +266,14 @@ impl LinearMemory {
         put(&mut self.bytes, from, bytes);
     }
 
-    /// Grows by so many pages of zeros, and answers the size before, in pages. `None` exactly where it may not have
-    /// so many pages. It takes memory only where its buffer has too few bytes; an error says that memory was
-    /// refused. Nothing changes after either.
+    /// Grows by `more` pages of zeros, and answers the size before, in pages. `None` exactly where it may not have that
+    /// many. It takes memory only where its buffer has too few bytes. An error says that memory was refused. In both of
+    /// these cases nothing changes.
     pub fn grow(&mut self, more: u32) -> Result<Option<u32>, AllocError>
         ensures grown { IfOk result (λ size. Grows self.old.memory more size self.new.memory) }
         ensures room { OnOk result (self.new.room ≡ max self.old.room (length self.new.memory.bytes)) }
         ensures refused { OnErr result (self.new ≡ self.old) }
-        ensures needed { OnErr result (IsSome (grown self.old.memory more) × (self.old.room < length self.old.memory.bytes + more * page)) }
+        ensures needed { OnErr result (LacksRoomFor self.old more) }
     {
         let size = self.length / PAGE;
         let count = size + more as usize;

@@ -1,18 +1,22 @@
 //! Marks of the blocks of a memory that were written.
 
-ghost use Rattle.std.specs.Prelude.{◌≡◌, ℕ, ◌+◌, ◌*◌, ◌/◌, ◌^◌, ◌<◌, ◌≤◌, max, true, false, length, slice_set, slice_index_or, vec_len, slice_index, OnOk, OnErr};
+ghost use Rattle.std.specs.Prelude.{◌≡◌, ℕ, ◌+◌, ◌*◌, ◌/◌, ◌^◌, ◌<◌, ◌≤◌, max, true, false, length};
+ghost use Rattle.std.specs.Prelude.{slice_set, slice_index_or, vec_len, slice_index, OnOk, OnErr};
 ghost use Rattle.memory.specs.Zeros.{AreZero, AreUnmarked, AreZeroUnmarked};
+ghost use Rattle.memory.specs.Buffered.{StaysShort};
 
 use crate::bytes::{provide, zero};
 use std::alloc::AllocError;
 
 /// The number of bytes of a block.
+// PERF: with marks of blocks, cleaning costs what was written, and not all between two far writes (docs/LAB.md, Instances and memory).
 pub const BLOCK: usize = 4_096;
 
-/// A store has at most so many bytes behind its first, and marks the block of its first alone.
+/// A store writes at most `REACH` bytes after its first.
+// PERF: a store marks the block of its first byte alone, so that it makes one mark, and `clear` looks `REACH` bytes further.
 pub const REACH: usize = 7;
 
-/// Marks the block of a place.
+/// Marks the block of place `at`.
 #[inline(always)]
 pub fn mark(marks: &mut [bool], at: usize)
     requires { at / 4096 < length marks.old }
@@ -33,7 +37,7 @@ pub fn mark_all(marks: &mut [bool], from: usize, to: usize)
     }
 }
 
-/// Makes the marks at least so many, by blocks that are not marked. It takes memory only where they are fewer.
+/// Makes the marks at least `count`, by blocks that are not marked. It takes memory only where they are fewer.
 fn provide_marks(marks: &mut Vec<bool>, count: usize) -> Result<(), AllocError>
     ensures len { OnOk result (vec_len marks.new ≡ max (vec_len marks.old) count) }
     ensures longer { vec_len marks.old ≤ vec_len marks.new }
@@ -46,7 +50,7 @@ fn provide_marks(marks: &mut Vec<bool>, count: usize) -> Result<(), AllocError>
     Ok(())
 }
 
-/// Makes the bytes at least so many, by zeros at their end, with a mark for each block. It takes memory only where
+/// Makes the bytes at least `length`, by zeros at their end, with a mark for each block. It takes memory only where
 /// they are fewer.
 pub fn provide_buffer(
     bytes: &mut Vec<u8>,
@@ -58,7 +62,7 @@ pub fn provide_buffer(
     ensures same { (k : ℕ) → slice_index bytes.new.items k ≡ slice_index bytes.old.items k }
     ensures marks { (b : ℕ) → slice_index_or marks.new.items b false ≡ slice_index_or marks.old.items b false }
     ensures covered { vec_len bytes.new ≤ vec_len marks.new * 4096 }
-    ensures refused { OnErr result ((vec_len bytes.new ≡ vec_len bytes.old) × (vec_len bytes.old < length) × (bytes.new.items ≡ bytes.old.items)) }
+    ensures refused { OnErr result (StaysShort bytes.old length bytes.new) }
 {
     provide_marks(marks, length.div_ceil(BLOCK))?;
     provide(bytes, length)

@@ -48,11 +48,13 @@ fn run_each<R: Threads + Wait + Sync, J: Job + Sync>(
     requires some { 0 < length crew.old }
     requires ready { All (IsReady bag.now mark.now (J.belongs job.now)) crew.old }
     ensures { (i : ℕ) (d : _) → i < length crew.old
-        → IsDone bag.now mark.now (J.passes job.now) (J.gives job.now) (J.refuses job.now) (slice_index_or crew.old i d) (slice_index_or crew.new i d) }
+        → IsDone bag.now mark.now (J.passes job.now) (J.gives job.now) (J.refuses job.now)
+        (slice_index_or crew.old i d) (slice_index_or crew.new i d) }
 {
     let one = |_: usize, member: &mut Member<J::Local, J::Out, J::Fault>|
         requires { (bag.now.n ≤ J.limit job.now) × IsReady bag.now mark.now (J.belongs job.now) member.old }
-        ensures { IsDone bag.entry.now mark.entry.now (J.passes job.entry.now) (J.gives job.entry.now) (J.refuses job.entry.now) member.old member.new }
+        ensures { IsDone bag.entry.now mark.entry.now (J.passes job.entry.now) (J.gives job.entry.now) (J.refuses job.entry.now)
+            member.old member.new }
     { run_member(rt, job, bag, mark, member) };
     each_beside(rt, &one, crew);
 }
@@ -70,7 +72,8 @@ pub(crate) fn run_crew<R: Threads + Wait + Sync, J: Job + Sync>(
     requires ready { All (IsReady bag.now mark.now (J.belongs job.now)) crew.items }
     ensures len { length result.items ≡ length crew.items }
     ensures each { (i : ℕ) (d : _) → i < length crew.items
-        → IsDone bag.now mark.now (J.passes job.now) (J.gives job.now) (J.refuses job.now) (slice_index_or crew.items i d) (slice_index_or result.items i d) }
+        → IsDone bag.now mark.now (J.passes job.now) (J.gives job.now) (J.refuses job.now)
+        (slice_index_or crew.items i d) (slice_index_or result.items i d) }
 {
     run_each(rt, job, bag, mark, crew.as_mut_slice());
     crew

@@ -94,7 +94,8 @@ pub(crate) fn work<R: Wait, J: Job>(
     requires mark { HasSeatAt mark.now share.old }
     requires fresh { IsFresh share.old × (answers.old.items ≡ []) }
     requires local { J.belongs job.now local.old }
-    ensures bag { IsShareOf bag.now share.new × (bag_parts share.new ≡ bag_parts share.old) × SameKind share.old.access share.new.access }
+    ensures bag { IsShareOf bag.now share.new × (bag_parts share.new ≡ bag_parts share.old)
+        × SameKind share.old.access share.new.access }
     ensures mark { HasSeatAt mark.now share.new × (mark_parts share.new ≡ mark_parts share.old) }
     ensures met { OnOk result (share.new.met ≡ true) }
     ensures allowed { OnOk result (All (Allowed (J.passes job.now) (J.gives job.now) (J.refuses job.now) bag.now.n) answers.new.items) }

@@ -6,7 +6,8 @@ ghost use Rattle.soundness.specs.Pair.{PairTyped};
 ghost use Rattle.soundness.specs.Slots.{EffectIsStep, StraightTyped, TeeIsSet};
 ghost use Rattle.soundness.specs.State.{BranchLands, FramesStand, ReturnEnds, ReturnGives, StateTyped, StepsThere, TrapFalls};
 ghost use Rattle.wsyntax.specs.Execution.Allocation.{FreshTyped};
-ghost use Rattle.wsyntax.specs.Execution.Laws.{CheckedIsTyped, Computed, CountsAdd, Joins, NeverStuck, OneEnd, OneOfThree, OneStep, Paid, Preservation, Progress, ResultsTyped, StoreKept};
+ghost use Rattle.wsyntax.specs.Execution.Laws.{CheckedIsTyped, Computed, CountsAdd, Joins, NeverStuck, OneEnd, OneOfThree};
+ghost use Rattle.wsyntax.specs.Execution.Laws.{OneStep, Paid, Preservation, Progress, ResultsTyped, StoreKept};
 ghost use Rattle.wsyntax.specs.Execution.Layers.{BranchTaken, ReturnTaken, StepsInside};
 ghost use Rattle.wsyntax.specs.Execution.Weight.{EndExists, Lighter};
 

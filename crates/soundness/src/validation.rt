@@ -2,7 +2,9 @@
 
 ghost use Rattle.soundness.specs.Rules.{RuleBack, SameRules};
 ghost use Rattle.wsyntax.specs.Validation.Inference.{RulesAgree};
-ghost use Rattle.wsyntax.specs.Validation.Laws.{AcceptedIsTyped, Composes, FaultInside, OneFault, ReachedIsKnown, RefusedAtFirstFault, RunsDecide, Splits, TypedIsAccepted, TypedOrFault, TypedWhereNoFault, UniqueTree};
+ghost use Rattle.wsyntax.specs.Validation.Laws.{AcceptedIsTyped, Composes, FaultInside, OneFault, ReachedIsKnown};
+ghost use Rattle.wsyntax.specs.Validation.Laws.{RefusedAtFirstFault, RunsDecide, Splits, TypedIsAccepted, TypedOrFault};
+ghost use Rattle.wsyntax.specs.Validation.Laws.{TypedWhereNoFault, UniqueTree};
 
 /// A body that the algorithm accepts is typed.
 pub fn accepted_is_typed()

@@ -23,7 +23,8 @@ pub fn report(alloc: Global, lines: &[Line]) -> Result<String, AllocError>
 /// The line of the total of a report that has these parts. Behind their texts it ends the report.
 pub fn last_line(alloc: Global, parts: &[Part]) -> Result<String, AllocError>
     requires { (ends : List CallEnd) × AreParts 0 ends parts.now × (length ends < 2 ^ 64) }
-    ensures { IfOk result (λ line. (ends : List CallEnd) → AreParts 0 ends parts.now → parts_text parts.now ++ string_bytes line ≡ report_text ends) }
+    ensures { IfOk result (λ line. (ends : List CallEnd) → AreParts 0 ends parts.now →
+        parts_text parts.now ++ string_bytes line ≡ report_text ends) }
 {
     let mut total = Total::new();
     for part in parts {

@@ -8,7 +8,8 @@ use wsyntax::LINE_LIMIT;
 
 // Where the first line ends that has its newline behind so many bytes of the text.
 fn line_end(text: &[u8], size: usize) -> Option<usize>
-    ensures { MatchOption result (All (λ b. b ≢ 0x0A) (drop size text.now)) (λ end. (end ≤ length text.now) × EndsLine size (take end text.now)) }
+    ensures { MatchOption result (All (λ b. b ≢ 0x0A) (drop size text.now))
+        (λ end. (end ≤ length text.now) × EndsLine size (take end text.now)) }
 {
     let behind = text.get(size..)?;
     let (line, after) = split_before(behind, b'\n');

@@ -19,18 +19,11 @@ use Rattle.wsyntax.specs.Validation.Verdict.{IsModule, IsVerdict, Accepted, Acce
 use Rattle.verdict.specs.declared.refusal.Class.{Class}
 use Rattle.verdict.specs.declared.refusal.Refusal.{Refusal}
 use Rattle.verdict.specs.declared.refusal.Refusal.TheVariants.{TooLarge, Malformed, Rule, Body, Memory}
+use Rattle.verdict.specs.Heads.{Known}
 use Rattle.verdict.specs.Judged.{class_of, given_class, class_at, PassBefore, IsFirstBody}
 use Rattle.verdict.specs.Refusals.{fault_of, verdict_of, of_decoding, of_rules}
 use Rattle.verdict.proofs.Sizes.{functions_fit}
 use Rattle.verdict.proofs.Bodies.{accepted_class, refused_class}
-
--- what the judge knows of the module
-pub record Known (bytes : List ℕ) (m : ModuleShape) : Type 0 where
-  pub whole : IsModule bytes m
-  pub rules : NoneBroken m
-  pub reads : Agrees body
-  pub typed : AcceptedIsTyped
-  pub faults : RefusedAtFirstFault
 
 -- the class of the bytes that stand at that place
 at_place : (C : Context) (imported : ℕ) (bodies : List (List ℕ)) (place : ℕ) (bytes : List ℕ) (o : Option Class) → slice_get bodies place ≡ Some bytes → class_at C imported bodies place ≡ o → class_of C (imported + place) bytes ≡ o
@@ -65,15 +58,19 @@ body_refused bytes m TooLarge k h = absurd h
 body_refused bytes m Malformed k h = absurd h
 body_refused bytes m (Rule n) k h = absurd h
 
--- ---- what the run over all bodies tells
+-- ---- what the run over all indices tells
+
+-- each index passes
+pub each_passes : {O : Type 0} (passes : ℕ → Type 0) (gives : ℕ → O → Type 0) (n : ℕ) (outs : List O) → AllPass n passes gives outs → (k : ℕ) → k < n → passes k
+each_passes passes gives n outs all k lt =
+    elim (slice_get_cases outs k).1 [
+      | inl h ↦ (all.each k h.0 h.2).0
+      | inr h ↦ let len : length outs ≡ n = all.len in let past : length outs ≤ k = h.0 in absurd (omega arith)
+    ]
 
 -- each body passes
 pub all_pass : {O : Type 0} (gives : ℕ → O → Type 0) (C : Context) (i j : ℕ) (bodies : List (List ℕ)) (n : ℕ) (outs : List O) → j ≡ i → AllPass n (λ k. class_at C j bodies k ≡ None) gives outs → PassBefore C i bodies n
-all_pass gives C i j bodies n outs is all k lt =
-    elim (slice_get_cases outs k).1 [
-      | inl h ↦ ap (λ (x : ℕ). class_at C x bodies k) (sym is) ∙ (all.each k h.0 h.2).0
-      | inr h ↦ let len : length outs ≡ n = all.len in let past : length outs ≤ k = h.0 in absurd (omega arith)
-    ]
+all_pass gives C i j bodies n outs is all k lt = ap (λ (x : ℕ). class_at C x bodies k) (sym is) ∙ each_passes (λ p. class_at C j bodies p ≡ None) gives n outs all k lt
 
 -- ---- the verdicts of the judge
 
@@ -119,9 +116,9 @@ judged bytes m x bodies n (Err r) k is all count h =
     (subst (λ (b : List (List ℕ)). IsFirstBody x.context x.imported b r) all h))
 
 -- the verdict is that of the refusal
-pub refused_so : {T : Type 0} (bytes : List ℕ) (r : Result T Refusal) (x : Refusal) → IsErrAnd r (λ y. y ≡ x) → IfSome (verdict_of x) (IsVerdict bytes) → MatchResult r (λ _. IsVerdict bytes Accepted) (λ y. IfSome (verdict_of y) (IsVerdict bytes))
-refused_so bytes (Ok t) x is h = absurd is
-refused_so bytes (Err y) x is h = subst (λ (z : Refusal). IfSome (verdict_of z) (IsVerdict bytes)) (sym is) h
+pub refused_so : {T : Type 0} (P : T → Type 0) (bytes : List ℕ) (r : Result T Refusal) (x : Refusal) → IsErrAnd r (λ y. y ≡ x) → IfSome (verdict_of x) (IsVerdict bytes) → MatchResult r P (λ y. IfSome (verdict_of y) (IsVerdict bytes))
+refused_so P bytes (Ok t) x is h = absurd is
+refused_so P bytes (Err y) x is h = subst (λ (z : Refusal). IfSome (verdict_of z) (IsVerdict bytes)) (sym is) h
 
 -- the indices of all functions are numbers of 32 bits
 pub indices_fit : (bytes : List ℕ) (m : ModuleShape) (x : IndexedContext) (n : ℕ) → IsModule bytes m → x ≡ indexed_context m → n ≡ length m.bodies → x.imported + n < 4294967296

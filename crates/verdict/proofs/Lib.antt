@@ -4,7 +4,7 @@ pub mod Smallness
 pub mod SegmentBytes
 pub mod Bodies
 pub mod Firsts
-pub mod Cuts
+pub mod Groups
 pub mod Rests
 pub mod Parts
 pub mod OnePass

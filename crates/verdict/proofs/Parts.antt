@@ -1,171 +1,158 @@
 -- From what is known of each part of a module to the verdict on it.
-use Rattle.std.proofs.Common.{◌≡◌, ◌≢◌, ℕ, zero, suc, ◌+◌, ◌^◌, ◌-◌, ◌<◌, ◌≤◌, List, length, Option, Some, None, refl, sym, ap, subst, ◌∙◌, arith, inl, inr}
+use Rattle.std.proofs.Common.{Bor, get_or, map, Option, ◌≡◌, ◌≢◌, ℕ, zero, suc, ◌+◌, ◌-◌, ◌*◌, ◌<◌, ◌≤◌, min, List, length, Some, None, refl, sym, ap, subst, ◌∙◌, arith, inl, inr}
 use Rattle.std.specs.Prelude.{Result, Ok, Err, MatchResult, IfSome, IsErrAnd, ◌↔◌}
-use Rattle.std.specs.Int.{div_ceil}
-use Rattle.std.proofs.lemmas.Option.{slice_get_cases}
+use Rattle.std.proofs.Math.Nat.{min-eq_left, min-eq_right}
+use Rattle.std.proofs.lemmas.Bool.{cases_lt}
+use mathlib.Core.Logic.{dite}
+use native.Mathlib.Decide.{dec_le}
 use Rattle.pieces.specs.declared.job.JobFault.{JobFault}
 use Rattle.pieces.specs.declared.job.JobFault.TheVariants as fault
 use Rattle.pieces.specs.Faults.{AllowsFault}
 use Rattle.pieces.specs.TryAll.{AllPass, StopsAt}
 use Rattle.pieces.specs.declared.trying.TryFault.{TryFault}
 use Rattle.pieces.specs.declared.trying.TryFault.TheVariants.{Stopped}
-use Rattle.pieces.specs.declared.trying.TryFault.TheVariants as trying
 use Rattle.wsyntax.specs.Modules.{ModuleShape, module_shape}
-use Rattle.wsyntax.specs.Binary.Production.{Agrees}
-use Rattle.wsyntax.specs.Binary.Sections.{body}
-use Rattle.wsyntax.specs.Binary.Shell.{Shell, module_limit}
-use Rattle.wsyntax.specs.Validation.Context.{Context}
-use Rattle.wsyntax.specs.Validation.Laws.{AcceptedIsTyped, RefusedAtFirstFault}
-use Rattle.wsyntax.specs.Validation.ModuleContext.{IndexedContext, indexed_context}
+use Rattle.wsyntax.specs.Binary.Shell.{Shell}
+use Rattle.wsyntax.specs.Validation.ModuleContext.{IndexedContext, indexed_context, imported_functions, functions_of, type_at}
+use Rattle.std.proofs.lemmas.List.{length-map, length-append}
 use Rattle.wsyntax.specs.Validation.Rules.{NoneBroken, LeastBroken}
 use Rattle.wsyntax.specs.Validation.Verdict.{IsVerdict, Accepted}
 use Rattle.wcontext.specs.declared.fault.ModuleFault.{ModuleFault}
 use Rattle.wcontext.specs.declared.fault.ModuleFault.TheVariants as rules
 use Rattle.wdecode.specs.declared.front.Front.{Front}
+use Rattle.verdict.specs.declared.head.Head.{Head}
+use Rattle.wsyntax.specs.Validation.Context.{Context}
 use Rattle.verdict.specs.declared.refusal.Class.{Class}
 use Rattle.verdict.specs.declared.refusal.Refusal.{Refusal}
 use Rattle.verdict.specs.declared.refusal.Refusal.TheVariants.{TooLarge, Malformed, Rule, Body, Memory}
-use Rattle.verdict.specs.declared.part_fault.RestFault.{RestFault}
 use Rattle.verdict.specs.declared.part_fault.RestFault.TheVariants as rest
 use Rattle.verdict.specs.declared.part_fault.PartFault.{PartFault}
 use Rattle.verdict.specs.declared.part_fault.PartFault.TheVariants as part
 use Rattle.verdict.specs.declared.refused_body.RefusedBody.{RefusedBody}
-use Rattle.verdict.specs.Judged.{class_at, PassBefore}
-use Rattle.verdict.specs.declared.cut.Cut.{Cut}
-use Rattle.verdict.specs.declared.cut.Span.{Span}
-use Rattle.verdict.specs.Cuts.{IsInSpan, SpanPasses, IsFirstOfSpan, span_at, IsCutOf}
-use Rattle.verdict.specs.Parts.{IsWhole, OneWhole, RestPasses, RestRefused, PartPasses, PartRefused, IsBodyAt, StopsAtPart, IsFirstFault, IsFirstPart, IsEarlyRefusal}
+use Rattle.verdict.specs.Judged.{class_of, class_at}
+use Rattle.verdict.specs.Groups.{IsInGroup, IsFirstOfGroup}
+use Rattle.verdict.specs.Heads.{IsWhole, OneWhole, Decoded, Known, RestPasses, IsEarlyRefusal}
+use Rattle.verdict.specs.Parts.{bodies_of, class_in, BodiesPass, parts_of, PartPasses, PartRefused, IsOfRest, IsBodyAt, IsFirstPart, refusal_for, FitsIn, IsFirstFault, HasRun}
 use Rattle.verdict.specs.Refusals.{verdict_of, of_rules}
-use Rattle.verdict.proofs.Firsts.{Known, judged}
-use Rattle.verdict.proofs.Cuts.{below_count, parts_pass, pass_before}
+use Rattle.verdict.proofs.Firsts.{each_passes, judged}
+use Rattle.verdict.proofs.Groups.{class_there, groups_pass, pass_before}
 use Rattle.verdict.proofs.Rests.{least_of_whole}
 
--- ---- parts
+-- ---- one part
 
-behind_the_first : (i : ℕ) → i ≢ 0 → suc (i - 1) ≡ i
+pub behind_the_first : (i : ℕ) → i ≢ 0 → suc (i - 1) ≡ i
 behind_the_first zero ne = absurd (ne refl)
 behind_the_first (suc i) ne = omega arith
 
--- a body is refused, and those of its span before it are accepted
-pub body_part : {T : Type 0} (f : Front) (C : Context) (imported : ℕ) (bodies : List (List ℕ)) (cut : Cut) (i place : ℕ) (s : Span) (o : Option Class) (r : Result T (JobFault PartFault)) (x : JobFault PartFault) → IsErrAnd r (λ y. y ≡ x) → i ≢ 0 → s ≡ span_at cut (i - 1)
-    → IsInSpan bodies s place → ((k : ℕ) → IsInSpan bodies s k → k < place → class_at C imported bodies k ≡ None) → ((c : Option Class) → o ≡ c → class_at C imported bodies place ≡ c) → AllowsFault (IsBodyAt place o) x
-    → MatchResult r (λ _. PartPasses f C imported bodies cut i × Unit {0}) (AllowsFault (PartRefused f C imported bodies cut i))
-body_part f C imported bodies cut i place s o (Ok t) x is ne same inside before stands h = absurd is
-body_part f C imported bodies cut i place s o (Err y) x is ne same inside before stands h = subst (AllowsFault (PartRefused f C imported bodies cut i)) (sym is) (allowed x h)
+-- what was found of the bytes of a body is found of the body
+pub body_there : {T : Type 0} (C D : Context) (i j place : ℕ) (bodies : List (Bor (List ℕ))) (d : Bor (List ℕ)) (r : Result T (JobFault PartFault)) → D ≡ C → j ≡ i → place < length bodies
+    → MatchResult r (λ _. class_of D (j + place) (get_or bodies place d).now ≡ None) (AllowsFault (IsBodyAt place (class_of D (j + place) (get_or bodies place d).now)))
+    → MatchResult r (λ _. class_at C i (map (λ b. b.now) bodies) place ≡ None) (AllowsFault (IsBodyAt place (class_at C i (map (λ b. b.now) bodies) place)))
+body_there C D i j place bodies d r same is lt h = subst (λ (o : Option Class). MatchResult r (λ _. o ≡ None) (AllowsFault (IsBodyAt place o))) (class_there C D i j place bodies d same is lt) h
+
+-- a body is refused, and those of its group before it are accepted
+pub body_part : {T : Type 0} (h : Head) (size index place : ℕ) (r : Result T (JobFault PartFault)) (x : JobFault PartFault) → IsErrAnd r (λ y. y ≡ x) → index ≢ 0
+    → IsInGroup size (length (bodies_of h)) (index - 1) place
+    → ((k : ℕ) → IsInGroup size (length (bodies_of h)) (index - 1) k → k < place → class_in h k ≡ None)
+    → AllowsFault (IsBodyAt place (class_in h place)) x
+    → MatchResult r (λ _. PartPasses h size index × Unit {0}) (AllowsFault (PartRefused h size index))
+body_part h size index place (Ok t) x is ne inside before a = absurd is
+body_part h size index place (Err y) x is ne inside before a = subst (AllowsFault (PartRefused h size index)) (sym is) (allowed x a)
   where
-    first : (r : RefusedBody) → r.place ≡ place → o ≡ Some r.class → IsFirstOfSpan C imported bodies s r
+    first : (r : RefusedBody) → r.place ≡ place → class_in h place ≡ Some r.class → IsFirstOfGroup h.context.context h.context.imported (bodies_of h) size (index - 1) r
     first r at class = record {
-      inside = subst (IsInSpan bodies s) (sym at) inside;
-      refused = ap (class_at C imported bodies) at ∙ stands (Some r.class) class;
+      inside = subst (IsInGroup size (length (bodies_of h)) (index - 1)) (sym at) inside;
+      refused = ap (class_in h) at ∙ class;
       before = λ k within lt. before k within (omega (arith, lt, at));
     }
 
-    allowed : (x : JobFault PartFault) → AllowsFault (IsBodyAt place o) x → AllowsFault (PartRefused f C imported bodies cut i) x
-    allowed (fault.Refused (part.Rest r)) h = absurd h
-    allowed (fault.Refused (part.Body r)) h =
-        subst (λ (k : ℕ). PartRefused f C imported bodies cut k (part.Body r)) (behind_the_first i ne)
-        (subst (λ (t : Span). IsFirstOfSpan C imported bodies t r) same (first r h.0 h.1))
-    allowed fault.Memory h = tt
+    allowed : (x : JobFault PartFault) → AllowsFault (IsBodyAt place (class_in h place)) x → AllowsFault (PartRefused h size index) x
+    allowed (fault.Refused (part.Rest r)) a = absurd a
+    allowed (fault.Refused (part.Body r)) a = subst (λ (k : ℕ). PartRefused h size k (part.Body r)) (behind_the_first index ne) (first r a.0 a.1)
+    allowed fault.Memory a = tt
 
--- each body of a span is accepted
-pub span_part : (f : Front) (C : Context) (imported : ℕ) (bodies : List (List ℕ)) (cut : Cut) (i end : ℕ) (s : Span) → i ≢ 0 → s ≡ span_at cut (i - 1) → s.to ≤ end → ((k : ℕ) → IsInSpan bodies s k → k < end → class_at C imported bodies k ≡ None) → PartPasses f C imported bodies cut i
-span_part f C imported bodies cut i end s ne same whole before =
-    subst (PartPasses f C imported bodies cut) (behind_the_first i ne)
-    (subst (SpanPasses C imported bodies) same (λ place inside. before place inside (let to = inside.to in omega (arith, whole, to))))
+-- each body of a group is accepted
+pub group_part : (h : Head) (size index end : ℕ) → index ≢ 0
+    → (index - 1) * size + min size (length (bodies_of h) - (index - 1) * size) ≤ end
+    → ((k : ℕ) → IsInGroup size (length (bodies_of h)) (index - 1) k → k < end → class_in h k ≡ None)
+    → PartPasses h size index
+group_part h size index end ne whole before =
+    subst (PartPasses h size) (behind_the_first index ne) (λ place inside. before place inside (let to = inside.to in let there = inside.there in ends place to there))
+  where
+    ends : (place : ℕ) → place < (index - 1) * size + size → place < length (bodies_of h) → place < end
+    ends place to there =
+        dite (dec_le size (length (bodies_of h) - (index - 1) * size))
+        (λ le. let e : min size (length (bodies_of h) - (index - 1) * size) ≡ size = min-eq_left le in omega (arith, e, whole, to))
+        (λ no. let e : min size (length (bodies_of h) - (index - 1) * size) ≡ length (bodies_of h) - (index - 1) * size = min-eq_right (omega (arith, no)) in omega (arith, e, whole, there))
 
 -- ---- the run over all parts
 
-each_passes : {O : Type 0} (passes : ℕ → Type 0) (gives : ℕ → O → Type 0) (n i : ℕ) (outs : List O) → AllPass n passes gives outs → i < n → passes i
-each_passes passes gives n i outs all lt =
-    elim (slice_get_cases outs i).1 [
-      | inl h ↦ (all.each i h.0 h.2).0
-      | inr h ↦ let len : length outs ≡ n = all.len in let past : length outs ≤ i = h.0 in absurd (omega arith)
-    ]
-
 -- each part passes
-pub all_passed : {O : Type 0} (f : Front) (C : Context) (imported : ℕ) (bodies : List (List ℕ)) (cut : Cut) (gives : ℕ → O → Type 0) (n : ℕ) (outs : List O) → 0 < cut.size → IsCutOf bodies cut → n ≡ suc (length cut.long.items + div_ceil cut.count cut.size) → AllPass n (PartPasses f C imported bodies cut) gives outs → RestPasses f × PassBefore C imported bodies cut.count
-all_passed f C imported bodies cut gives n outs some of count all =
-    let passes = λ (i : ℕ) (lt : i < n). each_passes (PartPasses f C imported bodies cut) gives n i outs all lt in
-    (passes 0 (omega (arith, count)), parts_pass C imported bodies cut some of (λ i lt. passes (suc i) (omega (arith, count, lt))))
+pub all_passed : {O : Type 0} (h : Head) (size n : ℕ) (gives : ℕ → O → Type 0) (outs : List O) → 0 < size → n ≡ parts_of h size → AllPass n (PartPasses h size) gives outs → RestPasses h.front × BodiesPass h (length (bodies_of h))
+all_passed h size n gives outs some count all =
+    let passes = each_passes (PartPasses h size) gives n outs all in
+    (passes 0 (omega (arith, count)), groups_pass h.context.context h.context.imported (bodies_of h) size some (λ i lt. passes (suc i) (omega (arith, count, lt))))
+
+-- a part is refused, and all before it pass
+pub first_part : (h : Head) (size n i : ℕ) (r : PartFault) → 0 < size → StopsAt n (PartPasses h size) (PartRefused h size) (Stopped i r) → IsFirstFault h r
+first_part h size n zero (part.Rest rest.Malformed) some stop = (tt, stop.1)
+first_part h size n zero (part.Rest (rest.Rule k)) some stop = (tt, stop.1)
+first_part h size n zero (part.Body r) some stop = absurd stop.1
+first_part h size n (suc i) (part.Rest r) some stop = absurd stop.1
+first_part h size n (suc i) (part.Body r) some stop =
+    let first : IsFirstOfGroup h.context.context h.context.imported (bodies_of h) size i r = stop.1 in
+    let inside = first.inside in
+    let there : r.place < length (bodies_of h) = inside.there in
+    let few = h.few in (
+      omega (arith, there, few),
+      (stop.2 0 (omega arith), (r.place, there, refl, first.refused, pass_before h.context.context h.context.imported (bodies_of h) size i r some first (λ k lt. stop.2 (suc k) (omega (arith, lt))))),
+    )
 
 -- the run stops at a part
-pub stopped_at : (f : Front) (C : Context) (imported : ℕ) (bodies : List (List ℕ)) (cut : Cut) (n : ℕ) (e : TryFault PartFault) → StopsAt n (PartPasses f C imported bodies cut) (PartRefused f C imported bodies cut) e → StopsAtPart f C imported bodies cut e
-stopped_at f C imported bodies cut n (Stopped i r) h = (h.1, h.2)
-stopped_at f C imported bodies cut n trying.Memory h = tt
+pub first_stop : (h : Head) (size n i : ℕ) (e : TryFault PartFault) (r : PartFault) → 0 < size → e ≡ Stopped i r → StopsAt n (PartPasses h size) (PartRefused h size) e → IsFirstFault h r
+first_stop h size n i e r some is stop = first_part h size n i r some (subst (StopsAt n (PartPasses h size) (PartRefused h size)) is stop)
 
--- the rest is the first part
-rest_refused : (f : Front) (C : Context) (imported : ℕ) (bodies : List (List ℕ)) (cut : Cut) (i : ℕ) (r : RestFault) → PartRefused f C imported bodies cut i (part.Rest r) → RestRefused f r
-rest_refused f C imported bodies cut zero r h = h
-rest_refused f C imported bodies cut (suc i) r h = absurd h
-
--- a body is of a part behind the rest
-record Later (f : Front) (C : Context) (imported : ℕ) (bodies : List (List ℕ)) (cut : Cut) (i : ℕ) (r : RefusedBody) : Type 0 where
-  pub at : ℕ
-  pub next : i ≡ suc at
-  pub rest : RestPasses f
-  pub below : r.place < cut.count
-  pub first : IsFirstOfSpan C imported bodies (span_at cut at) r
-  pub before : (h : ℕ) → h < at → SpanPasses C imported bodies (span_at cut h)
-
-body_refused : (f : Front) (C : Context) (imported : ℕ) (bodies : List (List ℕ)) (cut : Cut) (i : ℕ) (r : RefusedBody) → StopsAtPart f C imported bodies cut (Stopped i (part.Body r)) → Later f C imported bodies cut i r
-body_refused f C imported bodies cut zero r stop = absurd stop.0
-body_refused f C imported bodies cut (suc i) r stop =
-    let h : IsFirstOfSpan C imported bodies (span_at cut i) r = stop.0 in
-    let inside = h.inside in
-    record {
-      at = i;
-      next = refl;
-      rest = stop.1 0 (omega arith);
-      below = below_count cut i r.place cut.each inside.from inside.to;
-      first = h;
-      before = λ k lt. stop.1 (suc k) (omega (arith, lt));
-    }
-
-pub refused_within : (f : Front) (C : Context) (imported : ℕ) (bodies : List (List ℕ)) (cut : Cut) (i : ℕ) (r : RefusedBody) → StopsAtPart f C imported bodies cut (Stopped i (part.Body r)) → r.place ≤ cut.count
-refused_within f C imported bodies cut i r stop = let below : r.place < cut.count = (body_refused f C imported bodies cut i r stop).below in omega (arith, below)
-
--- a body is refused, and all before it are accepted
-first_body : (f : Front) (C : Context) (imported : ℕ) (bodies : List (List ℕ)) (cut : Cut) (i : ℕ) (r : RefusedBody) → imported + length bodies < 2 ^ 32 → IsCutOf bodies cut → Later f C imported bodies cut i r → PassBefore C imported bodies r.place → IsFirstFault f C imported bodies (part.Body r)
-first_body f C imported bodies cut i r few of l before =
-    let below : r.place < cut.count = l.below in
-    let within : cut.count ≤ length bodies = of.within in
-    (omega (arith, few, below, within), (l.rest, (r.place, omega (arith, below, within), refl, l.first.refused, before)))
-
--- it is a long one
-pub long_first : (f : Front) (C : Context) (imported : ℕ) (bodies : List (List ℕ)) (cut : Cut) (i : ℕ) (r : RefusedBody) → imported + length bodies < 2 ^ 32 → IsCutOf bodies cut → StopsAtPart f C imported bodies cut (Stopped i (part.Body r)) → PassBefore C imported bodies r.place → IsFirstFault f C imported bodies (part.Body r)
-long_first f C imported bodies cut i r few of stop before = first_body f C imported bodies cut i r few of (body_refused f C imported bodies cut i r stop) before
-
--- it is one of a group
-pub group_first : (f : Front) (C : Context) (imported : ℕ) (bodies : List (List ℕ)) (cut : Cut) (i : ℕ) (r : RefusedBody) → imported + length bodies < 2 ^ 32 → IsCutOf bodies cut → StopsAtPart f C imported bodies cut (Stopped i (part.Body r)) → length cut.long.items < i → IsFirstFault f C imported bodies (part.Body r)
-group_first f C imported bodies cut i r few of stop past =
-    let l = body_refused f C imported bodies cut i r stop in
-    let next = l.next in
-    first_body f C imported bodies cut i r few of l (pass_before C imported bodies cut l.at r cut.sized of (omega (arith, past, next)) l.below l.first l.before)
+-- ---- one body after the other
 
 -- the rest is refused
-rest_first : (f : Front) (C : Context) (imported : ℕ) (bodies : List (List ℕ)) (cut : Cut) (i : ℕ) (r : RestFault) → StopsAtPart f C imported bodies cut (Stopped i (part.Rest r)) → IsFirstFault f C imported bodies (part.Rest r)
-rest_first f C imported bodies cut i rest.Malformed stop = (tt, rest_refused f C imported bodies cut i rest.Malformed stop.0)
-rest_first f C imported bodies cut i (rest.Rule n) stop = (tt, rest_refused f C imported bodies cut i (rest.Rule n) stop.0)
+pub rest_run : {T : Type 0} (h : Head) (r : Result T (JobFault PartFault)) (x : JobFault PartFault) → IsErrAnd r (λ y. y ≡ x) → AllowsFault (IsOfRest h) x → HasRun h r
+rest_run h (Ok t) x is a = absurd is
+rest_run h (Err y) x is a = subst (AllowsFault (IsFirstFault h)) (sym is) (allowed x a)
+  where
+    allowed : (x : JobFault PartFault) → AllowsFault (IsOfRest h) x → AllowsFault (IsFirstFault h) x
+    allowed (fault.Refused (part.Rest rest.Malformed)) a = (tt, a)
+    allowed (fault.Refused (part.Rest (rest.Rule k))) a = (tt, a)
+    allowed (fault.Refused (part.Body r)) a = absurd a
+    allowed fault.Memory a = tt
 
--- no body is cut off as a long one
-pub part_first : (f : Front) (C : Context) (imported : ℕ) (bodies : List (List ℕ)) (cut : Cut) (i : ℕ) (r : PartFault) → imported + length bodies < 2 ^ 32 → IsCutOf bodies cut → length cut.long.items ≡ 0 → StopsAtPart f C imported bodies cut (Stopped i r) → IsFirstFault f C imported bodies r
-part_first f C imported bodies cut i (part.Rest r) few of none stop = rest_first f C imported bodies cut i r stop
-part_first f C imported bodies cut i (part.Body r) few of none stop =
-    let next = (body_refused f C imported bodies cut i r stop).next in
-    group_first f C imported bodies cut i r few of stop (omega (arith, none, next))
+-- a body is refused, and all before it are accepted
+pub body_run : {T : Type 0} (h : Head) (place : ℕ) (r : Result T (JobFault PartFault)) (x : JobFault PartFault) → IsErrAnd r (λ y. y ≡ x) → place < length (bodies_of h) → RestPasses h.front → BodiesPass h place → AllowsFault (IsBodyAt place (class_in h place)) x → HasRun h r
+body_run h place (Ok t) x is lt passes before a = absurd is
+body_run h place (Err y) x is lt passes before a = subst (AllowsFault (IsFirstFault h)) (sym is) (allowed x a)
+  where
+    first : (r : RefusedBody) → place ≡ r.place → class_in h place ≡ Some r.class → IsFirstFault h (part.Body r)
+    first r at class =
+        let few = h.few in
+        (omega (arith, at, lt, few), (passes, (place, lt, ap (λ (k : ℕ). h.context.imported + k) (sym at), class, before)))
+
+    allowed : (x : JobFault PartFault) → AllowsFault (IsBodyAt place (class_in h place)) x → AllowsFault (IsFirstFault h) x
+    allowed (fault.Refused (part.Rest r)) a = absurd a
+    allowed (fault.Refused (part.Body r)) a = first r (sym a.0) a.1
+    allowed fault.Memory a = tt
+
+-- one body more is accepted
+pub pass_more : (h : Head) (place : ℕ) → BodiesPass h place → class_in h place ≡ None → BodiesPass h (place + 1)
+pass_more h place before here k lt =
+    elim (cases_lt k place) [
+      | inl below ↦ before k below
+      | inr past ↦ subst (λ (x : ℕ). class_in h x ≡ None) (let same : place ≡ k = omega (arith, past, lt) in same) here
+    ]
 
 -- ---- the verdict
 
--- what is known of the bytes whose front was decoded, and of that
-pub record Decoded (bytes : List ℕ) (f : Front) : Type 0 where
-  pub small : length bytes ≤ module_limit
-  pub whole : (m : ModuleShape) → Shell bytes m ↔ IsWhole f m
-  pub reads : Agrees body
-  pub typed : AcceptedIsTyped
-  pub faults : RefusedAtFirstFault
-
 known : (bytes : List ℕ) (f : Front) (m : ModuleShape) → Decoded bytes f → IsWhole f m → NoneBroken m → Known bytes m
-known bytes f m d is kept = record { whole = record { small = d.small; shell = (d.whole m).1 is }; rules = kept; reads = d.reads; typed = d.typed; faults = d.faults }
+known bytes f m d is kept =
+    record { whole = record { small = d.small; shell = (d.whole m).1 is }; rules = kept; reads = d.reads; typed = d.typed; faults = d.faults }
 
 -- the context and the bodies are those of the front
 same_context : (f : Front) (m : ModuleShape) → IsWhole f m → indexed_context (module_shape f.«module») ≡ indexed_context m
@@ -174,22 +161,37 @@ same_context f m is = ap indexed_context (sym is.2)
 same_bodies : (f : Front) (m : ModuleShape) → IsWhole f m → (module_shape f.«module»).bodies ≡ m.bodies
 same_bodies f m is = ap (λ (n : ModuleShape). n.bodies) (sym is.2)
 
-pub parts_judged : (T : Type 0) (bytes : List ℕ) (f : Front) (x : IndexedContext) (r : Result T Refusal) → Decoded bytes f → x ≡ indexed_context (module_shape f.«module»)
-    → MatchResult r (λ _. RestPasses f × PassBefore x.context x.imported (module_shape f.«module»).bodies (length (module_shape f.«module»).bodies)) (IsFirstPart f x.context x.imported (module_shape f.«module»).bodies)
-    → MatchResult r (λ _. IsVerdict bytes Accepted) (λ r. IfSome (verdict_of r) (IsVerdict bytes))
+-- all pass
+pub all_judged : (h : Head) → Decoded h.bytes.now h.front → RestPasses h.front × BodiesPass h (length (bodies_of h)) → IsVerdict h.bytes.now Accepted
+all_judged h d x =
+    let m = x.0.0 in
+    let w : IsWhole h.front m = x.0.1 in
+    judged {T = Unit {0}} h.bytes.now m h.context (bodies_of h) (length (bodies_of h)) (Ok tt) (known h.bytes.now h.front m d w x.0.2)
+    (h.indexed ∙ same_context h.front m w) (same_bodies h.front m w) (ap length (same_bodies h.front m w)) x.1
+
+-- the first refusal of all parts is that of the module
+pub first_judged : (h : Head) (r : Refusal) → Decoded h.bytes.now h.front → IsFirstPart h r → IfSome (verdict_of r) (IsVerdict h.bytes.now)
 unfolding IsVerdict
-parts_judged T bytes f x (Ok t) d is h =
-    let m = h.0.0 in
-    let w : IsWhole f m = h.0.1 in
-    judged {T = T} bytes m x (module_shape f.«module»).bodies (length (module_shape f.«module»).bodies) (Ok t) (known bytes f m d w h.0.2) (is ∙ same_context f m w) (same_bodies f m w) (ap length (same_bodies f m w)) h.1
-parts_judged T bytes f x (Err TooLarge) d is h = absurd h
-parts_judged T bytes f x (Err Malformed) d is h = (d.small, λ m s. h m ((d.whole m).0 s))
-parts_judged T bytes f x (Err (Rule k)) d is h = (h.0, record { small = d.small; shell = (d.whole h.0).1 h.1 }, h.2)
-parts_judged T bytes f x (Err (Body g c)) d is h =
-    let m = h.0.0 in
-    let w : IsWhole f m = h.0.1 in
-    judged {T = T} bytes m x (module_shape f.«module»).bodies (length (module_shape f.«module»).bodies) (Err (Body g c)) (known bytes f m d w h.0.2) (is ∙ same_context f m w) (same_bodies f m w) (ap length (same_bodies f m w)) h.1
-parts_judged T bytes f x (Err Memory) d is h = tt
+first_judged h TooLarge d x = absurd x
+first_judged h Malformed d x = (d.small, λ m s. x m ((d.whole m).0 s))
+first_judged h (Rule k) d x = (x.0, record { small = d.small; shell = (d.whole x.0).1 x.1 }, x.2)
+first_judged h (Body g c) d x =
+    let m = x.0.0 in
+    let w : IsWhole h.front m = x.0.1 in
+    judged {T = Unit {0}} h.bytes.now m h.context (bodies_of h) (length (bodies_of h)) (Err (Body g c)) (known h.bytes.now h.front m d w x.0.2)
+    (h.indexed ∙ same_context h.front m w) (same_bodies h.front m w) (ap length (same_bodies h.front m w)) x.1
+first_judged h Memory d x = tt
+
+-- what a run that is refused says of the fault
+pub fault_first : {T : Type 0} (h : Head) (run : Result T (JobFault PartFault)) (e : JobFault PartFault) (r : PartFault) → run ≡ Err e → e ≡ fault.Refused r → HasRun h run → IsFirstFault h r
+fault_first {T} h run e r stops is ran = subst (AllowsFault (IsFirstFault h)) is (subst (HasRun {T = T} h) stops ran)
+
+pub fault_fits : (h : Head) (r : PartFault) (i : ℕ) → i ≡ h.context.imported → IsFirstFault h r → FitsIn i r
+fault_fits h r i same first = subst (λ (k : ℕ). FitsIn k r) (sym same) first.0
+
+pub fault_judged : (h : Head) (r : PartFault) (i : ℕ) (x : Refusal) → Decoded h.bytes.now h.front → x ≡ refusal_for i r → i ≡ h.context.imported → IsFirstFault h r → IfSome (verdict_of x) (IsVerdict h.bytes.now)
+fault_judged h r i x d is same first =
+    subst (λ (y : Refusal). IfSome (verdict_of y) (IsVerdict h.bytes.now)) (sym (is ∙ ap (λ (k : ℕ). refusal_for k r) same)) (first_judged h (refusal_for h.context.imported r) d first.1)
 
 -- ---- an early rule is broken
 
@@ -212,3 +214,17 @@ is_early f bytes e Memory d broken h = tt
 -- there is one whole
 pub one_whole : (bytes : List ℕ) (f : Front) → ((m : ModuleShape) → Shell bytes m ↔ IsWhole f m) → ((bytes : List ℕ) (m n : ModuleShape) → Shell bytes m → Shell bytes n → m ≡ n) → OneWhole f
 one_whole bytes f whole determined m n a b = determined bytes m n ((whole m).1 a) ((whole n).1 b)
+
+-- ---- the functions
+
+-- each function that has a body, behind those that are imported, is one of the context
+pub each_has_type : (m : ModuleShape) (x : IndexedContext) → x ≡ indexed_context m → length m.functions ≡ length m.bodies → x.imported + length m.bodies ≡ length x.context.functions
+each_has_type m x is paired =
+    let imported : x.imported ≡ length (imported_functions m) = ap (λ (y : IndexedContext). y.imported) is in
+    let typed : length x.context.functions ≡ length (functions_of m) = ap (λ (y : IndexedContext). length y.context.functions) is ∙ length-map (functions_of m) (type_at m.types) in
+    let both : length (functions_of m) ≡ length (imported_functions m) + length m.functions = length-append (imported_functions m) m.functions in
+    omega arith
+
+-- so these are fewer than a number that the functions of the context are below
+pub fewer : (m : ModuleShape) (x : IndexedContext) (count most : ℕ) → x ≡ indexed_context m → length m.functions ≡ length m.bodies → count ≡ length x.context.functions → count < most → x.imported + length m.bodies < most
+fewer m x count most is paired functions few = subst (λ (n : ℕ). n < most) (functions ∙ sym (each_has_type m x is paired)) few

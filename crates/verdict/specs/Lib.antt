@@ -1,6 +1,7 @@
 pub mod Refusals
 pub mod Judged
-pub mod Cuts
+pub mod Groups
+pub mod Heads
 pub mod Parts
 pub mod OnePass
 pub mod WholeBodies

@@ -1,10 +1,11 @@
 -- The class of a body, while its tokens are read one after the other.
-use Rattle.std.specs.Prelude.{◌≡◌, ℕ, List, [], ◌∷◌, Option, Some, None, Result, Ok, Err}
+use Rattle.std.specs.Prelude.{◌≡◌, ℕ, ◌+◌, List, [], ◌∷◌, Option, Some, None, Result, Ok, Err}
 use Rattle.wdecode.specs.declared.fault.Fault.{Fault}
 use Rattle.wdecode.specs.declared.fault.Fault.TheVariants as fault
 use Rattle.wsyntax.specs.Instructions.{Token}
 use Rattle.wsyntax.specs.Validation.Context.{Context}
 use Rattle.wsyntax.specs.Validation.Algorithm.{Frame, alg_from}
+use Rattle.wcheck.specs.Checking.{Checking}
 use Rattle.verdict.specs.declared.refusal.Class.{Class}
 use Rattle.verdict.specs.declared.refusal.Class.TheVariants.{Malformed}
 use Rattle.verdict.specs.Judged.{typing_class}
@@ -13,6 +14,10 @@ use Rattle.verdict.specs.Judged.{typing_class}
 abbrev pub class_from : Context → Option Class → List Frame → ℕ → List Token → Option Class
 class_from C (Some c) fs k ts = Some c
 class_from C None fs k ts = typing_class (alg_from C ts fs k)
+
+-- with this token next, of that number, and whatever behind it: what is known after it gives the same
+abbrev pub GoesOn : Checking → Option Class → ℕ → Token → Checking → Option Class → Type 0
+GoesOn old fault k t new now = (after : List Token) → class_from old.inside fault old.frames k (t ∷ after) ≡ class_from old.inside now new.frames (k + 1) after
 
 -- no byte is behind the body
 abbrev pub class_behind : List ℕ → Option Class → Option Class

@@ -1,10 +1,9 @@
-ghost use Rattle.std.specs.Prelude.{◌≡◌, ◌∷◌, ◌+◌, ◌<◌, List, [], Some, None, IfOk, MatchResult, length};
+ghost use Rattle.std.specs.Prelude.{◌≡◌, ◌+◌, ◌<◌, [], Some, None, IfOk, MatchResult, length};
 ghost use Rattle.pieces.specs.Faults.{AllowsFault};
-ghost use Rattle.wsyntax.specs.Instructions.{Token as Instruction};
 ghost use Rattle.wsyntax.specs.Modules.{seen};
 ghost use Rattle.wsyntax.specs.Binary.Nesting.{expression};
 ghost use Rattle.verdict.specs.Judged.{class_of};
-ghost use Rattle.verdict.specs.WholeBodies.{class_from, class_read, Tells};
+ghost use Rattle.verdict.specs.WholeBodies.{class_from, class_read, GoesOn, Tells};
 
 use crate::refusal::Class;
 use pieces::JobFault;
@@ -24,8 +23,7 @@ fn look(
 ) -> Result<Option<Class>, AllocError>
     ensures outside { checker.new.outside ≡ checker.old.outside }
     ensures inside { IfOk result (λ _. checker.new.inside ≡ checker.old.inside) }
-    ensures goes_on { IfOk result (λ now. (after : List Instruction)
-        → class_from checker.old.inside fault checker.old.frames at (seen targets.now token ∷ after) ≡ class_from checker.old.inside now checker.new.frames (at + 1) after) }
+    ensures goes_on { IfOk result (λ now. GoesOn checker.old fault at (seen targets.now token) checker.new now) }
 {
     if fault.is_some() {
         return Ok(fault);

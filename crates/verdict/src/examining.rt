@@ -1,45 +1,93 @@
-ghost use Rattle.std.specs.Prelude.{◌≡◌, ◌+◌, MatchResult, IfOk, IfSome, All, length, map, vec_len};
-ghost use Rattle.pieces.specs.declared.trying.TryFault.TheVariants.{Stopped};
-ghost use Rattle.wsyntax.specs.Modules.{module_shape};
+ghost use Rattle.std.specs.Prelude.{◌≡◌, MatchResult, IfOk, IfSome, All, vec_len};
 ghost use Rattle.wsyntax.specs.Validation.Verdict.{IsVerdict, Accepted};
-ghost use Rattle.verdict.specs.Cuts.{IsCutOf};
-ghost use Rattle.verdict.specs.Judged.{PassBefore};
-ghost use Rattle.verdict.specs.Parts.{OneWhole, IsAwaited, RestPasses, StopsAtPart, IsFirstFault, IsFirstPart, FitsIn, refusal_for, IsEarlyRefusal};
+ghost use Rattle.verdict.specs.Heads.{IsAwaited, IsHead};
+ghost use Rattle.verdict.specs.Parts.{HasRun, FitsIn, refusal_for};
 ghost use Rattle.verdict.specs.Refusals.{verdict_of};
 
-use crate::cutting::cut_for;
-use crate::jobs::Parts;
+use crate::grouping::groups_for;
+use crate::head::Head;
+use crate::jobs::{ModuleParts, judge_at};
 use crate::part_fault::{PartFault, RestFault};
 use crate::passing::Scratch;
 use crate::refusal::Refusal;
-use pieces::{Plan, TryFault, Watch, try_all};
-use soundness::validation::{accepted_is_typed, refused_at_first_fault};
+use crate::rest::judge_rest;
+use pieces::{JobFault, Plan, Stage, TryFault, Watch, try_all};
 use std::alloc::{AllocError, Global};
 use std::sync::Wait;
 use std::thread::Threads;
-use wcontext::{Context, Counts, ModuleFault, check_early};
-use wdecode::{Fault, Front, decode_front, grammar_is_read, shells_are_determined};
+
+/// What one worker needs.
+fn new_scratch<'a, 'b>(alloc: Global, head: &'a Head<'b>) -> Result<Scratch<'a, 'b>, AllocError>
+    ensures { IfOk result (λ s. s.checker.outside ≡ head.now.context.context) }
+{
+    Scratch::new(alloc, &head.context, head.front.module.exports.len())
+}
 
 /// A scratch for each worker.
 fn new_scratches<'a, 'b>(
     alloc: Global,
-    context: &'a Context,
-    exports: usize,
+    head: &'a Head<'b>,
     workers: u32,
 ) -> Result<Vec<Scratch<'a, 'b>>, AllocError>
     ensures count { IfOk result (λ v. vec_len v ≡ workers) }
-    ensures outside { IfOk result (λ v. All (λ s. s.checker.outside ≡ context.now.context) v.items) }
+    ensures outside { IfOk result (λ v. All (λ s. s.checker.outside ≡ head.now.context.context) v.items) }
 {
     let mut scratches = Vec::new(alloc);
     for _ in 0..workers {
-        let scratch = Scratch::new(alloc, context, exports)?;
+        let scratch = new_scratch(alloc, head)?;
         scratches.push(scratch)?;
     }
     Ok(scratches)
 }
 
-/// More functions than any module has that is not too large.
-const MOST_FUNCTIONS: usize = 1 << 31;
+/// Judges the rest of a module and its bodies, up to the first fault.
+fn judge_parts<R: Threads + Wait + Sync, W: Watch + Sync>(
+    rt: &R,
+    alloc: Global,
+    head: &Head<'_>,
+    plan: Plan,
+    watch: &W,
+) -> Result<(), JobFault<PartFault>>
+    requires { IsAwaited head.now.front head.now.counts }
+    ensures { HasRun head.now result }
+{
+    let bodies = head.front.module.bodies.len() as u32;
+    let (size, plan) = groups_for(bodies, head.bytes.len(), plan);
+    let parts = ModuleParts {
+        alloc,
+        head,
+        size,
+        watch,
+    };
+    let Ok(scratches) = new_scratches(alloc, head, plan.workers()) else {
+        return Err(JobFault::Memory);
+    };
+    match try_all(rt, alloc, &parts, scratches, parts.count(), plan) {
+        Ok(_) => Ok(()),
+        Err(TryFault::Stopped { fault, .. }) => Err(JobFault::Refused(fault)),
+        Err(TryFault::Memory) => Err(JobFault::Memory),
+    }
+}
+
+/// Does the same on the calling thread, one body after the other.
+fn judge_in_order<W: Watch + Sync>(
+    alloc: Global,
+    head: &Head<'_>,
+    watch: &W,
+) -> Result<(), JobFault<PartFault>>
+    requires { IsAwaited head.now.front head.now.counts }
+    ensures { HasRun head.now result }
+{
+    let Ok(mut scratch) = new_scratch(alloc, head) else {
+        return Err(JobFault::Memory);
+    };
+    judge_rest(alloc, head, &mut scratch.names)?;
+    for place in 0..head.front.module.bodies.len() as u32 {
+        watch.note(Stage::Body, place);
+        judge_at(alloc, head, &mut scratch, place)?;
+    }
+    Ok(())
+}
 
 /// The refusal of a part.
 fn refusal_of(fault: PartFault, imported: u32) -> Refusal
@@ -56,110 +104,21 @@ fn refusal_of(fault: PartFault, imported: u32) -> Refusal
     }
 }
 
-/// Judges these parts of a module, up to the least index that is refused.
-fn judge_parts<R: Threads + Wait + Sync, W: Watch + Sync>(
-    rt: &R,
-    parts: &Parts<'_, '_, W>,
-    plan: Plan,
-) -> Result<(), TryFault<PartFault>>
-    requires awaited { IsAwaited parts.now.front.now parts.now.counts.now }
-    requires cut { IsCutOf (map (λ b. b.now) parts.now.bodies.now) parts.now.cut }
+/// What a module is refused for, by what judging its parts found.
+fn examined(head: &Head<'_>, run: Result<(), JobFault<PartFault>>) -> Result<(), Refusal>
+    requires head { IsHead head.now.bytes.now head.now.front head.now.counts }
+    requires ran { HasRun head.now run }
     ensures { MatchResult result
-        (λ _. RestPasses parts.now.front.now × PassBefore parts.now.context.now.context parts.now.imported (map (λ b. b.now) parts.now.bodies.now) parts.now.cut.count)
-        (StopsAtPart parts.now.front.now parts.now.context.now.context parts.now.imported (map (λ b. b.now) parts.now.bodies.now) parts.now.cut) }
+        (λ _. IsVerdict head.now.bytes.now Accepted)
+        (λ r. IfSome (verdict_of r) (IsVerdict head.now.bytes.now)) }
 {
-    let exports = parts.front.module.exports.len();
-    let Ok(scratches) = new_scratches(parts.alloc, parts.context, exports, plan.workers()) else {
-        return Err(TryFault::Memory);
-    };
-    let count = 1 + parts.cut.count_parts();
-    match try_all(rt, parts.alloc, parts, scratches, count, plan) {
-        Ok(_) => Ok(()),
-        Err(fault) => Err(fault),
-    }
-}
-
-/// The fault that is the first one in a module whose least refused part has that index and fault. Before a long body, which
-/// is judged early, others may be refused too.
-fn first_fault<R: Threads + Wait + Sync, W: Watch + Sync>(
-    rt: &R,
-    parts: &Parts<'_, '_, W>,
-    plan: Plan,
-    index: u32,
-    fault: PartFault,
-) -> Result<PartFault, AllocError>
-    requires awaited { IsAwaited parts.now.front.now parts.now.counts.now }
-    requires cut { IsCutOf (map (λ b. b.now) parts.now.bodies.now) parts.now.cut }
-    requires stopped { StopsAtPart parts.now.front.now parts.now.context.now.context parts.now.imported (map (λ b. b.now) parts.now.bodies.now) parts.now.cut (Stopped index fault) }
-    ensures { IfOk result (IsFirstFault parts.now.front.now parts.now.context.now.context parts.now.imported (map (λ b. b.now) parts.now.bodies.now)) }
-{
-    let PartFault::Body(body) = fault else {
-        return Ok(fault);
-    };
-    if index > parts.cut.count_long() {
-        return Ok(fault);
-    }
-    match judge_parts(rt, &parts.before(body.place), plan) {
-        Ok(()) => Ok(fault),
-        Err(TryFault::Stopped { fault, .. }) => Ok(fault),
-        Err(TryFault::Memory) => Err(AllocError),
-    }
-}
-
-/// Judges the parts of a module of so many bytes, up to the first that is refused.
-fn examine_parts<R: Threads + Wait + Sync, W: Watch + Sync>(
-    rt: &R,
-    alloc: Global,
-    front: &Front<'_>,
-    counts: &Counts,
-    context: &Context,
-    bytes: usize,
-    plan: Plan,
-    watch: &W,
-) -> Result<(), Refusal>
-    requires each_has_type { context.now.imported + length (module_shape front.now.module).bodies ≡ length context.now.context.functions }
-    requires awaited { IsAwaited front.now counts.now }
-    requires one { OneWhole front.now }
-    ensures { MatchResult result
-        (λ _. RestPasses front.now × PassBefore context.now.context context.now.imported (module_shape front.now.module).bodies (length (module_shape front.now.module).bodies))
-        (IsFirstPart front.now context.now.context context.now.imported (module_shape front.now.module).bodies) }
-{
-    if context.function_count() >= MOST_FUNCTIONS {
-        return Err(Refusal::Memory);
-    }
-    let bodies = front.module.bodies.as_slice();
-    let Ok((cut, plan)) = cut_for(alloc, bodies, bytes, plan) else {
-        return Err(Refusal::Memory);
-    };
-    let parts = Parts {
-        alloc,
-        front,
-        counts,
-        context,
-        bodies,
-        imported: context.imported_functions() as u32,
-        cut,
-        watch,
-    };
-    let (index, fault) = match judge_parts(rt, &parts, plan) {
-        Ok(()) => return Ok(()),
-        Err(TryFault::Stopped { index, fault }) => (index, fault),
-        Err(TryFault::Memory) => return Err(Refusal::Memory),
-    };
-    match first_fault(rt, &parts, plan, index, fault) {
-        Ok(fault) => Err(refusal_of(fault, parts.imported)),
-        Err(AllocError) => Err(Refusal::Memory),
-    }
-}
-
-/// The refusal of a module that breaks an early rule. That its bytes spell no module goes before.
-fn refused_early(alloc: Global, front: Front<'_>, fault: ModuleFault) -> Refusal
-    ensures { IsEarlyRefusal front.entry fault result }
-{
-    match front.whole(alloc) {
-        Ok(_) => fault.into(),
-        Err(Fault::Malformed) => Refusal::Malformed,
-        Err(Fault::Memory) => Refusal::Memory,
+    match run {
+        Ok(()) => Ok(()),
+        Err(JobFault::Refused(fault)) => {
+            let imported = head.context.imported_functions() as u32;
+            Err(refusal_of(fault, imported))
+        }
+        Err(JobFault::Memory) => Err(Refusal::Memory),
     }
 }
 
@@ -173,23 +132,16 @@ pub fn examine<R: Threads + Wait + Sync, W: Watch + Sync>(
 ) -> Result<(), Refusal>
     ensures { MatchResult result (λ _. IsVerdict bytes.now Accepted) (λ r. IfSome (verdict_of r) (IsVerdict bytes.now)) }
 {
-    grammar_is_read();
-    accepted_is_typed();
-    refused_at_first_fault();
-    shells_are_determined();
-    let front = decode_front(alloc, bytes)?;
-    let (context, counts) = match check_early(alloc, &front.module) {
-        Ok(both) => both,
-        Err(fault) => return Err(refused_early(alloc, front, fault)),
-    };
-    examine_parts(
-        rt,
-        alloc,
-        &front,
-        &counts,
-        &context,
-        bytes.len(),
-        plan,
-        watch,
-    )
+    let head = Head::of(alloc, bytes)?;
+    let run = judge_parts(rt, alloc, &head, plan, watch);
+    examined(&head, run)
+}
+
+/// Judges a module and keeps nothing of it, on the calling thread: it takes no right to start threads or to wait.
+pub fn examine_alone<W: Watch + Sync>(alloc: Global, bytes: &[u8], watch: &W) -> Result<(), Refusal>
+    ensures { MatchResult result (λ _. IsVerdict bytes.now Accepted) (λ r. IfSome (verdict_of r) (IsVerdict bytes.now)) }
+{
+    let head = Head::of(alloc, bytes)?;
+    let run = judge_in_order(alloc, &head, watch);
+    examined(&head, run)
 }

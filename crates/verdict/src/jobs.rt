@@ -1,12 +1,12 @@
-ghost use Rattle.std.specs.Prelude.{◌≡◌, ◌+◌, ◌<◌, ◌≤◌, ◌^◌, ℕ, List, suc, Some, None, MatchResult, length, map, vec_len};
+ghost use Rattle.std.specs.Prelude.{◌≡◌, ◌+◌, ◌*◌, ◌-◌, ◌<◌, min, suc, Some, None, MatchResult, length};
 ghost use Rattle.std.specs.Int.{div_ceil};
 ghost use Rattle.pieces.specs.Faults.{AllowsFault};
-ghost use Rattle.verdict.specs.Cuts.{IsCutOf};
 ghost use Rattle.verdict.specs.Judged.{class_of};
-ghost use Rattle.verdict.specs.Parts.{OneWhole, IsAwaited, IsBodyAt};
+ghost use Rattle.verdict.specs.Heads.{IsAwaited};
+ghost use Rattle.verdict.specs.Parts.{bodies_of, class_in, parts_of, IsBodyAt};
 
 use crate::body::judge_body;
-use crate::cut::Cut;
+use crate::head::Head;
 use crate::part_fault::PartFault;
 use crate::passing::Scratch;
 use crate::refused_body::RefusedBody;
@@ -14,31 +14,22 @@ use crate::rest::judge_rest;
 use pieces::{Job, JobFault, Stage, Watch};
 use std::alloc::Global;
 use std::sync::Wait;
-use wcontext::{Context, Counts};
-use wdecode::Front;
 
-/// The parts of a module that can be judged side by side, of which nothing is kept. Index 0 of the job is the rest of the
-/// module, since a refusal of that goes before one of a body; each index behind is a long body or a group of consecutive
-/// ones, to be judged under the module's context.
+/// The parts of a module that can be judged side by side, of which nothing is kept. Part 0 is what is left of the module
+/// once its head is known, since a refusal of that goes before one of a body; each part behind is a group of consecutive
+/// bodies. So the order of parts is that of judging.
 #[derive(Drop)]
-pub(crate) struct Parts<'a, 'b, W> {
+pub(crate) struct ModuleParts<'a, 'b, W> {
     pub(crate) alloc: Global,
-    pub(crate) front: &'a Front<'b>,
-    pub(crate) counts: &'a Counts,
-    pub(crate) context: &'a Context,
-    pub(crate) bodies: &'a [&'a [u8]],
-    /// How many functions are imported: the index of the first body's function.
-    pub(crate) imported: u32,
-    pub(crate) cut: Cut,
+    pub(crate) head: &'a Head<'b>,
+    /// How many bodies a group has. The last group may have fewer.
+    pub(crate) size: u32,
     pub(crate) watch: &'a W,
-    ghost one: { OneWhole front.now },
-    ghost each_has_type: { imported + length bodies.now ≡ length context.now.context.functions },
-    ghost few: { imported + length bodies.now < 2 ^ 32 },
-    ghost within: { cut.count ≤ length bodies.now },
+    ghost sized: { 0 < size },
 }
 
 /// Judges the bytes of the body at that place, which is that of the function of that index, imported ones counted.
-fn judge_at(
+fn judge_bytes(
     alloc: Global,
     scratch: &mut Scratch<'_, '_>,
     place: u32,
@@ -69,33 +60,52 @@ fn judge_at(
     }
 }
 
-impl<'a, 'b, W> Parts<'a, 'b, W> {
-    /// The parts of the same module with the bodies before a place alone, none of which is judged apart.
-    pub(crate) fn before(&self, place: u32) -> Parts<'a, 'b, W>
-        requires { place ≤ self.now.cut.count }
-        ensures front { result.front.now ≡ self.now.front.now }
-        ensures counts { result.counts.now ≡ self.now.counts.now }
-        ensures context { result.context.now ≡ self.now.context.now }
-        ensures imported { result.imported ≡ self.now.imported }
-        ensures bodies { result.bodies.now ≡ self.now.bodies.now }
-        ensures count { result.cut.count ≡ place }
-        ensures cut { (bodies : List (List ℕ)) → IsCutOf bodies self.now.cut → IsCutOf bodies result.cut }
-        ensures together { vec_len result.cut.long ≡ 0 }
+/// Judges the body at that place.
+pub(crate) fn judge_at(
+    alloc: Global,
+    head: &Head<'_>,
+    scratch: &mut Scratch<'_, '_>,
+    place: u32,
+) -> Result<(), JobFault<PartFault>>
+    requires place { place < length (bodies_of head.now) }
+    requires outside { scratch.old.checker.outside ≡ head.now.context.context }
+    ensures outside { scratch.new.checker.outside ≡ head.now.context.context }
+    ensures verdict { MatchResult result
+        (λ _. class_in head.now place ≡ None)
+        (AllowsFault (IsBodyAt place (class_in head.now place))) }
+{
+    let imported = head.context.imported_functions() as u32;
+    let bodies = head.front.module.bodies.as_slice();
+    judge_bytes(
+        alloc,
+        scratch,
+        place,
+        imported + place,
+        bodies[place as usize],
+    )
+}
+
+impl<'a, 'b, W> ModuleParts<'a, 'b, W> {
+    /// How many parts there are.
+    pub(crate) fn count(&self) -> u32
+        ensures { result ≡ parts_of self.now.head.now self.now.size }
     {
-        Parts {
-            alloc: self.alloc,
-            front: self.front,
-            counts: self.counts,
-            context: self.context,
-            bodies: self.bodies,
-            imported: self.imported,
-            cut: self.cut.before(self.alloc, place),
-            watch: self.watch,
-        }
+        1 + (self.head.front.module.bodies.len() as u32).div_ceil(self.size)
+    }
+
+    /// The places of the bodies of a group: the first, and that behind the last.
+    fn group(&self, group: u32) -> (u32, u32)
+        requires { group < div_ceil (length (bodies_of self.now.head.now)) self.now.size }
+        ensures from { result.0 ≡ group * self.now.size }
+        ensures to { result.1 ≡ group * self.now.size + min self.now.size (length (bodies_of self.now.head.now) - group * self.now.size) }
+    {
+        let from = group * self.size;
+        let left = self.head.front.module.bodies.len() as u32 - from;
+        (from, from + self.size.min(left))
     }
 }
 
-impl<'a, 'b, W: Watch> Job for Parts<'a, 'b, W> {
+impl<'a, 'b, W: Watch> Job for ModuleParts<'a, 'b, W> {
     type Local = Scratch<'a, 'b>;
 
     type Out = ();
@@ -104,15 +114,15 @@ impl<'a, 'b, W: Watch> Job for Parts<'a, 'b, W> {
 
     ghost use Rattle.verdict.specs.Parts.{PartPasses, PartRefused, part_passes_or_refused, one_part};
 
-    ghost limit = { λ j. suc (vec_len j.cut.long + div_ceil j.cut.count j.cut.size) };
+    ghost limit = { λ j. parts_of j.head.now j.size };
 
-    ghost belongs = { λ j s. (s.checker.outside ≡ j.context.now.context) × IsAwaited j.front.now j.counts.now };
+    ghost belongs = { λ j s. (s.checker.outside ≡ j.head.now.context.context) × IsAwaited j.head.now.front j.head.now.counts };
 
-    ghost passes = { λ j i. PartPasses j.front.now j.context.now.context j.imported (map (λ b. b.now) j.bodies.now) j.cut i };
+    ghost passes = { λ j i. PartPasses j.head.now j.size i };
 
     ghost gives = { λ j i out. Unit {0} };
 
-    ghost refuses = { λ j i r. PartRefused j.front.now j.context.now.context j.imported (map (λ b. b.now) j.bodies.now) j.cut i r };
+    ghost refuses = { λ j i r. PartRefused j.head.now j.size i r };
 
     fn run<R: Wait>(
         &self,
@@ -121,20 +131,17 @@ impl<'a, 'b, W: Watch> Job for Parts<'a, 'b, W> {
         index: u32,
     ) -> Result<(), JobFault<PartFault>> {
         if index == 0 {
-            return judge_rest(self.alloc, self.front, self.counts, &mut scratch.names);
+            return judge_rest(self.alloc, self.head, &mut scratch.names);
         }
-        let span = self.cut.span(index - 1);
-        for place in span.from..span.to {
-            let bytes = self.bodies[place as usize];
-            if !span.leaves_out(bytes) {
-                self.watch.note(Stage::Body, place);
-                judge_at(self.alloc, scratch, place, self.imported + place, bytes)?;
-            }
+        let (from, to) = self.group(index - 1);
+        for place in from..to {
+            self.watch.note(Stage::Body, place);
+            judge_at(self.alloc, self.head, scratch, place)?;
         }
         Ok(())
     }
 
-    ghost never_both = { λ j i r. part_passes_or_refused j.front.now j.context.now.context j.imported (map (λ b. b.now) j.bodies.now) j.cut i r j.one };
+    ghost never_both = { λ j i r. part_passes_or_refused j.head.now j.size i r };
 
-    ghost one_fault = { λ j i r s. one_part j.front.now j.context.now.context j.imported (map (λ b. b.now) j.bodies.now) j.cut i r s j.one };
+    ghost one_fault = { λ j i r s. one_part j.head.now j.size i r s };
 }

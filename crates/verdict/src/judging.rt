@@ -31,7 +31,8 @@ fn judge_bodies<R: Threads + Wait + Sync, W: Watch + Sync>(
     ensures verdict { MatchResult result
         (λ _. PassBefore context.now.context context.now.imported (map (λ b. b.now) bodies.now) (length bodies.now))
         (IsFirstBody context.now.context context.now.imported (map (λ b. b.now) bodies.now)) }
-    ensures bodies { IfOk result (λ v. AreChecked context.now.context context.now.imported (map (λ b. b.now) bodies.now) (length bodies.now) v.items) }
+    ensures bodies { IfOk result (λ v.
+        AreChecked context.now.context context.now.imported (map (λ b. b.now) bodies.now) (length bodies.now) v.items) }
 {
     let Ok(locals) = Vec::from_elem(alloc, (), plan.workers() as usize) else {
         return Err(Refusal::Memory);

@@ -1,10 +1,10 @@
-//! Judging a module: the grammar, the module rules and every body, on many workers.
+//! Judging a module: the grammar, the module rules and every body, on many workers or on the calling thread alone.
 #![tactic(auto)]
 
 mod body;
-mod cut;
-mod cutting;
 mod examining;
+mod grouping;
+mod head;
 mod jobs;
 mod judging;
 mod keeping;
@@ -17,7 +17,7 @@ mod refused_body;
 mod rest;
 
 pub use accepted::Accepted;
-pub use examining::examine;
+pub use examining::{examine, examine_alone};
 pub use judging::judge;
 pub use laws::{one_verdict, segments_hold_bytes};
 pub use refusal::{Class, Refusal};

@@ -1,3 +1,17 @@
+//! Bodies that pass, read and checked in one loop.
+//!
+//! The source tells a token apart five times, each time by what the step before gave:
+//!
+//! ```text
+//! opcode byte    frequent_passes, access_passes, number_passes    which reader, and whether the operands may be known
+//! opcode byte    wdecode::frequent: load_at, variable_at, ..      the Token, with its immediates
+//! Token          wcheck::rule: rule_of_token                      the OperandRule; frames, branches and calls have their own
+//! OperandRule    wcheck::apply: apply_known, apply                 which methods of the operands
+//! Entry          wcheck::operand_stack, operand_rules              whether the types on top are those that are taken
+//! ```
+//!
+//! All of them are inlined, and each arm below gives the opcode as a constant. So the compiler folds the five into one jump
+//! by the opcode. Two opcodes that shared an arm would be told apart again behind it.
 ghost use Rattle.std.specs.Prelude.{◌≡◌, ◌<◌, List, [], ◌∷◌, None, true, IfOk, length};
 ghost use Rattle.wsyntax.specs.Instructions.{Token as Instruction};
 ghost use Rattle.verdict.specs.Judged.{class_of};
@@ -7,8 +21,8 @@ use std::alloc::{AllocError, Global};
 use wcheck::Checker;
 use wcontext::Context;
 use wdecode::{
-    branch_at, call_at, constant_at, has_too_many_locals, jump_at, load_at, locals_into,
-    long_constant_at, numeric_at, opening_at, store_at, token_at, variable_at,
+    block_start, br, br_if, call_at, has_too_many_locals, i32_const, i64_const, load_at,
+    locals_into, numeric_at, op, store_at, token_at, variable_at,
 };
 use wsyntax::{LocalRun, Opcode, Token};
 
@@ -82,8 +96,8 @@ enum FirstToken<'a> {
     Other,
 }
 
-/// Lets the checker look at a token.
-macro_rules! look {
+/// Lets the checker look at a token that is its opcode alone.
+macro_rules! step_bare {
     ($checker:expr, $token:expr, $after:expr) => {
         match $checker.step($token, &[]) {
             Ok(true) => FirstToken::Taken($after),
@@ -92,18 +106,18 @@ macro_rules! look {
     };
 }
 
-/// Lets the checker look at what was read.
-macro_rules! look_at {
+/// Lets the checker look at a token that was read with its immediates.
+macro_rules! step_read {
     ($checker:expr, $read:expr) => {
         match $read {
             None => FirstToken::Other,
-            Some((token, after)) => look!($checker, token, after),
+            Some((token, after)) => step_bare!($checker, token, after),
         }
     };
 }
 
-/// Lets the checker look at what was read, where the operands that it takes are known to be there.
-macro_rules! look_known {
+/// The same in less time, where the operands that it takes are known to be there; where they are not, nothing is done.
+macro_rules! step_known_read {
     ($checker:expr, $read:expr) => {
         match $read {
             None => FirstToken::Other,
@@ -127,9 +141,9 @@ fn number_passes<'a>(checker: &mut Checker<'_>, byte: u8, rest: &'a [u8]) -> Fir
     ensures passes { Passes (byte ∷ rest.now) checker.old checker.new result }
 {
     match Opcode::from_byte(byte) {
-        Some(Opcode::Numeric(_)) => look_known!(checker, numeric_at(byte, rest)),
-        Some(Opcode::Load(_)) => look_known!(checker, load_at(byte, rest)),
-        Some(Opcode::Store(_)) => look_known!(checker, store_at(byte, rest)),
+        Some(Opcode::Numeric(_)) => step_known_read!(checker, numeric_at(byte, rest)),
+        Some(Opcode::Load(_)) => step_known_read!(checker, load_at(byte, rest)),
+        Some(Opcode::Store(_)) => step_known_read!(checker, store_at(byte, rest)),
         _ => FirstToken::Other,
     }
 }
@@ -143,18 +157,18 @@ fn access_passes<'a>(checker: &mut Checker<'_>, byte: u8, rest: &'a [u8]) -> Fir
     ensures passes { Passes (byte ∷ rest.now) checker.old checker.new result }
 {
     match byte {
-        0x28 => look_known!(checker, load_at(byte, rest)),
-        0x29 => look_known!(checker, load_at(byte, rest)),
-        0x2C => look_known!(checker, load_at(byte, rest)),
-        0x2D => look_known!(checker, load_at(byte, rest)),
-        0x2E => look_known!(checker, load_at(byte, rest)),
-        0x2F => look_known!(checker, load_at(byte, rest)),
-        0x36 => look_known!(checker, store_at(byte, rest)),
-        0x37 => look_known!(checker, store_at(byte, rest)),
-        0x3A => look_known!(checker, store_at(byte, rest)),
-        0x3B => look_known!(checker, store_at(byte, rest)),
-        0x23 => look_known!(checker, variable_at(byte, rest)),
-        0x24 => look_known!(checker, variable_at(byte, rest)),
+        op::I32_LOAD => step_known_read!(checker, load_at(byte, rest)),
+        op::I64_LOAD => step_known_read!(checker, load_at(byte, rest)),
+        op::I32_LOAD8_S => step_known_read!(checker, load_at(byte, rest)),
+        op::I32_LOAD8_U => step_known_read!(checker, load_at(byte, rest)),
+        op::I32_LOAD16_S => step_known_read!(checker, load_at(byte, rest)),
+        op::I32_LOAD16_U => step_known_read!(checker, load_at(byte, rest)),
+        op::I32_STORE => step_known_read!(checker, store_at(byte, rest)),
+        op::I64_STORE => step_known_read!(checker, store_at(byte, rest)),
+        op::I32_STORE8 => step_known_read!(checker, store_at(byte, rest)),
+        op::I32_STORE16 => step_known_read!(checker, store_at(byte, rest)),
+        op::GLOBAL_GET => step_known_read!(checker, variable_at(byte, rest)),
+        op::GLOBAL_SET => step_known_read!(checker, variable_at(byte, rest)),
         _ => number_passes(checker, byte, rest),
     }
 }
@@ -171,24 +185,24 @@ fn frequent_passes<'a>(checker: &mut Checker<'_>, bytes: &'a [u8]) -> FirstToken
         return FirstToken::Other;
     };
     match *byte {
-        0x0B => look!(checker, Token::End, rest),
-        0x0D => look_at!(checker, branch_at(rest)),
-        0x10 => look_at!(checker, call_at(rest)),
-        0x1A => look!(checker, Token::Drop, rest),
-        0x1B => look!(checker, Token::Select, rest),
-        0x05 => look!(checker, Token::Else, rest),
-        0x0F => look!(checker, Token::Return, rest),
-        0x00 => look!(checker, Token::Unreachable, rest),
-        0x01 => look!(checker, Token::Nop, rest),
-        0x20 => look_known!(checker, variable_at(0x20, rest)),
-        0x21 => look_known!(checker, variable_at(0x21, rest)),
-        0x22 => look_known!(checker, variable_at(0x22, rest)),
-        0x41 => look_known!(checker, constant_at(rest)),
-        0x42 => look_known!(checker, long_constant_at(rest)),
-        0x02 => look_at!(checker, opening_at(0x02, rest)),
-        0x03 => look_at!(checker, opening_at(0x03, rest)),
-        0x04 => look_at!(checker, opening_at(0x04, rest)),
-        0x0C => look_at!(checker, jump_at(rest)),
+        op::END => step_bare!(checker, Token::End, rest),
+        op::BR_IF => step_read!(checker, br_if(rest)),
+        op::CALL => step_read!(checker, call_at(rest)),
+        op::DROP => step_bare!(checker, Token::Drop, rest),
+        op::SELECT => step_bare!(checker, Token::Select, rest),
+        op::ELSE => step_bare!(checker, Token::Else, rest),
+        op::RETURN => step_bare!(checker, Token::Return, rest),
+        op::UNREACHABLE => step_bare!(checker, Token::Unreachable, rest),
+        op::NOP => step_bare!(checker, Token::Nop, rest),
+        op::LOCAL_GET => step_known_read!(checker, variable_at(op::LOCAL_GET, rest)),
+        op::LOCAL_SET => step_known_read!(checker, variable_at(op::LOCAL_SET, rest)),
+        op::LOCAL_TEE => step_known_read!(checker, variable_at(op::LOCAL_TEE, rest)),
+        op::I32_CONST => step_known_read!(checker, i32_const(rest)),
+        op::I64_CONST => step_known_read!(checker, i64_const(rest)),
+        op::BLOCK => step_read!(checker, block_start(op::BLOCK, rest)),
+        op::LOOP => step_read!(checker, block_start(op::LOOP, rest)),
+        op::IF => step_read!(checker, block_start(op::IF, rest)),
+        op::BR => step_read!(checker, br(rest)),
         _ => access_passes(checker, *byte, rest),
     }
 }

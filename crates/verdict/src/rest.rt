@@ -2,13 +2,15 @@
 ghost use Rattle.std.specs.Prelude.{◌≡◌, MatchResult};
 ghost use Rattle.pieces.specs.declared.job.JobFault.TheVariants.{Refused};
 ghost use Rattle.pieces.specs.Faults.{AllowsFault};
-ghost use Rattle.verdict.specs.Parts.{IsAwaited, RestPasses, IsOfRest};
+ghost use Rattle.verdict.specs.Heads.{IsAwaited, RestPasses};
+ghost use Rattle.verdict.specs.Parts.{IsOfRest};
 
+use crate::head::Head;
 use crate::part_fault::{PartFault, RestFault};
 use pieces::JobFault;
 use std::alloc::Global;
 use wcontext::{Counts, ModuleFault, SEGMENTS_RULE, check_late};
-use wdecode::{Fault, Front, SegmentRule};
+use wdecode::{Fault, SegmentRule};
 use wsyntax::Data;
 
 /// A data segment is valid (3.4.6) in a module of these counts.
@@ -38,19 +40,19 @@ fn refused(fault: RestFault) -> JobFault<PartFault>
 /// the bytes spell no module goes before every rule. The list is room for the names of exports.
 pub(crate) fn judge_rest<'a>(
     alloc: Global,
-    front: &Front<'a>,
-    counts: &Counts,
+    head: &Head<'a>,
     names: &mut Vec<&'a [u8]>,
 ) -> Result<(), JobFault<PartFault>>
-    requires { IsAwaited front.now counts.now }
-    ensures { MatchResult result (λ _. RestPasses front.now) (AllowsFault (IsOfRest front.now)) }
+    requires { IsAwaited head.now.front head.now.counts }
+    ensures { MatchResult result (λ _. RestPasses head.now.front) (AllowsFault (IsOfRest head.now)) }
 {
-    let segments = match front.segments_pass(alloc, &ValidSegment { counts }) {
+    let counts = &head.counts;
+    let segments = match head.front.segments_pass(alloc, &ValidSegment { counts }) {
         Ok(segments) => segments,
         Err(Fault::Malformed) => return Err(refused(RestFault::Malformed)),
         Err(Fault::Memory) => return Err(JobFault::Memory),
     };
-    match check_late(names, &front.module, counts) {
+    match check_late(names, &head.front.module, counts) {
         Err(ModuleFault::Rule(rule)) => Err(refused(RestFault::Rule(rule))),
         Err(ModuleFault::Memory) => Err(JobFault::Memory),
         Ok(()) if segments => Ok(()),

@@ -3,10 +3,10 @@ use Rattle.std.proofs.Common.{◌≡◌, ℕ, zero, suc, ◌-◌, ◌≤◌, ◌
 use Rattle.std.proofs.lemmas.List.{reverse-append, map-append, get_or-reverse, length-reverse, get_or-map, length-map}
 use Rattle.std.proofs.lemmas.Option.{slice_get-get_or, slice_get_past}
 use Rattle.wsyntax.specs.declared.ValType.{ValType}
-use Rattle.wcheck.proofs.Basics.{same_types-true}
+use Rattle.wcheck.proofs.SameTypes.{same_types-true}
 use Rattle.wsyntax.specs.Validation.Algorithm.{Frame}
 use Rattle.wsyntax.specs.Types.{FuncType, same_types}
-use Rattle.wcheck.specs.declared.frames.Level.{Level}
+use Rattle.wcheck.specs.declared.frames.OuterFrame.{OuterFrame}
 use Rattle.wcheck.specs.Views.{cut, label_of}
 
 pub map-reverse : {A B : Type 0} (f : A → B) (xs : List A) → map f (reverse xs) ≡ reverse (map f xs)
@@ -49,12 +49,12 @@ differ a b ne true e =
 differ a b ne false e = sym e
 
 -- the labels of the frames outside
-pub labels_same : (types : List FuncType) (xs : List Level) (below : List (Option ValType)) → map (λ (f : Frame). f.label) (cut types xs below) ≡ map (λ y. label_of types y.shape) xs
+pub labels_same : (types : List FuncType) (xs : List OuterFrame) (below : List (Option ValType)) → map (λ (f : Frame). f.label) (cut types xs below) ≡ map (λ y. label_of types y.frame) xs
 labels_same types [] below = refl
-labels_same types (x ∷ xs) below = ap (λ z. label_of types x.shape ∷ z) (labels_same types xs (take x.base below))
+labels_same types (x ∷ xs) below = ap (λ z. label_of types x.frame ∷ z) (labels_same types xs (take x.height below))
 
-pub labels_outside : (types : List FuncType) (xs : List Level) (below : List (Option ValType)) → map (λ (f : Frame). f.label) (cut types (reverse xs) below) ≡ reverse (map (λ y. label_of types y.shape) xs)
-labels_outside types xs below = labels_same types (reverse xs) below ∙ map-reverse (λ (y : Level). label_of types y.shape) xs
+pub labels_outside : (types : List FuncType) (xs : List OuterFrame) (below : List (Option ValType)) → map (λ (f : Frame). f.label) (cut types (reverse xs) below) ≡ reverse (map (λ y. label_of types y.frame) xs)
+labels_outside types xs below = labels_same types (reverse xs) below ∙ map-reverse (λ (y : OuterFrame). label_of types y.frame) xs
 
 pub reversed_last : {A : Type 0} (xs : List A) (x : A) → reverse (xs ++ x ∷ []) ≡ x ∷ reverse xs
 reversed_last xs x = reverse-append xs (x ∷ [])

@@ -1,15 +1,4 @@
-pub mod Basics
-pub mod Match
-pub mod Walk
-pub mod Trees
-pub mod Trail
-pub mod Ran
-pub mod Kept
-pub mod Live
-pub mod Jump
-pub mod Fitted
-pub mod Whole
-pub mod Bounds
+pub mod SameTypes
 pub mod ListFacts
 pub mod Cuts
 pub mod Behind
@@ -30,8 +19,6 @@ pub mod Topmost
 pub mod Known
 pub mod KnownSteps
 pub mod Singles
-pub mod Putting
+pub mod Above
 pub mod Taking
-pub mod Repeating
-pub mod Alike
 pub mod Written

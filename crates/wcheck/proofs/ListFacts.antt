@@ -1,9 +1,6 @@
 -- What the code's proofs need.
-use Rattle.std.proofs.Common.{◌≡◌, ◌≤◌, ◌<◌, ◌+◌, ◌-◌, ℕ, zero, suc, true, false, List, [], ◌∷◌, ◌++◌, map, take, drop, reverse, length, get_or, Some, None, refl, sym, ap, ◌∙◌, subst, arith, length-drop, length-take}
-use Rattle.std.specs.Prelude.{set, nat_eq}
+use Rattle.std.proofs.Common.{◌≡◌, ◌≤◌, ◌<◌, ℕ, true, false, List, [], ◌∷◌, take, reverse, length, Some, None, refl, sym, ap, ◌∙◌, subst, arith, length-take}
 use Rattle.std.proofs.lemmas.List.{length-reverse}
-use Rattle.std.proofs.lemmas.Bool.{eq-eqb}
-use Rattle.std.specs.Prelude.{◌≢◌}
 use Rattle.wsyntax.specs.Validation.Context.{Stack}
 use Rattle.wsyntax.specs.Validation.Algorithm.{Operands, take_all, is_nil, when}
 
@@ -42,26 +39,6 @@ pub taken_empty : (ts : Stack) (i : ℕ) (o : Operands) → 0 < i → i ≤ leng
 taken_empty ts i o lt le e =
     let n : 0 < length (reverse (take i ts)) = omega (arith, length-reverse (take i ts), length-take i ts) in
     taken_none (reverse (take i ts)) o (not_nil _ n) e
-
-differs : (n b : ℕ) → n ≢ b → nat_eq n b ≡ false
-differs n b ne = grind (arith, ne)
-
-pub nil_length : {A : Type 0} (xs : List A) (b n : ℕ) → n ≡ length xs → b ≤ length xs → nat_eq n b ≡ is_nil (reverse (drop b xs))
-nil_length {A} xs b n q le = go (reverse (drop b xs)) (length-reverse (drop b xs) ∙ length-drop b xs)
-  where
-    go : (ys : List A) → length ys ≡ length xs - b → nat_eq n b ≡ is_nil ys
-    go [] e = eq-eqb n b (omega (arith, e, le, q))
-    go (y ∷ ys) e = (let ne : n ≢ b = λ h. omega (arith, e, le, q, h) in differs n b ne)
-
-write_at : {A : Type 0} (f : A → A) (ys : List A) (i : ℕ) (d : A) → i < length ys → set (map f (take i ys) ++ drop i ys) i (f (get_or (map f (take i ys) ++ drop i ys) i d)) ≡ map f (take (suc i) ys) ++ drop (suc i) ys
-write_at f [] i d lt = absurd (omega (arith, lt))
-write_at f (y ∷ ys) zero d lt = refl
-write_at f (y ∷ ys) (suc i) d lt = ap (λ z. f y ∷ z) (write_at f ys i d (omega (arith, lt)))
-
-pub write_next : {A : Type 0} (f : A → A) (xs ys : List A) (i : ℕ) (d e : A) → xs ≡ map f (take i ys) ++ drop i ys → i < length ys → e ≡ f (get_or xs i d) → set xs i e ≡ map f (take (i + 1) ys) ++ drop (i + 1) ys
-write_next f xs ys i d e q lt h =
-    let k : suc i ≡ i + 1 = omega arith in
-    ap (set xs i) h ∙ ap (λ l. set l i (f (get_or l i d))) q ∙ write_at f ys i d lt ∙ ap (λ m. map f (take m ys) ++ drop m ys) k
 
 pub reverse_length : {A : Type 0} (xs ys : List A) (n : ℕ) → n ≡ length xs → reverse xs ≡ ys → n ≡ length ys
 reverse_length xs ys n e h = e ∙ sym (length-reverse xs) ∙ ap length h

@@ -6,19 +6,19 @@ use Rattle.std.proofs.Math.Seq.{take-length}
 use Rattle.wsyntax.specs.declared.ValType.{ValType}
 use Rattle.wsyntax.specs.Types.{FuncType}
 use Rattle.wcontext.specs.declared.lists.TypeList.{TypeList}
-use Rattle.wcontext.specs.Lists.{list_of}
-use Rattle.wcheck.specs.declared.operand.Operand.{Operand}
-use Rattle.wcheck.specs.declared.operand.Run.{Run}
-use Rattle.wcheck.specs.declared.operand.Operand.TheVariants.{Several}
+use Rattle.wcontext.specs.Lists.{list_of, front_of}
+use Rattle.wcheck.specs.declared.entry.Entry.{Entry}
+use Rattle.wcontext.specs.declared.lists.Front.{Front}
+use Rattle.wcheck.specs.declared.entry.Entry.TheVariants.{Run}
 use Rattle.wcheck.specs.Heights.{type_of}
-use Rattle.wcheck.specs.Runs.{is_several, types_of_run, of_run, types_in, IsCounted}
+use Rattle.wcheck.specs.Runs.{is_several, of_run, types_in, IsCounted}
 use Rattle.wcheck.proofs.Stretched.{single, several, whole_run, counted_single, counted_run}
 
-pub pushed : (xs ys : List Operand) (rs : List (List ValType)) (v : List (Option ValType)) (x : Operand) (t : Option ValType) → ys ≡ xs ++ x ∷ [] → types_in xs rs ≡ v → is_several x ≡ false → type_of x ≡ t → types_in ys rs ≡ v ++ t ∷ []
+pub pushed : (xs ys : List Entry) (rs : List (List ValType)) (v : List (Option ValType)) (x : Entry) (t : Option ValType) → ys ≡ xs ++ x ∷ [] → types_in xs rs ≡ v → is_several x ≡ false → type_of x ≡ t → types_in ys rs ≡ v ++ t ∷ []
 pushed xs ys rs v x t e w q k =
     ap (λ z. types_in z rs) e ∙ single xs rs x q ∙ ap (λ z. z ++ type_of x ∷ []) w ∙ ap (λ z. v ++ z ∷ []) k
 
-pub pushed_counted : (xs ys : List Operand) (rs : List (List ValType)) (x : Operand) (m : ℕ) → ys ≡ xs ++ x ∷ [] → is_several x ≡ false → IsCounted xs rs m → IsCounted ys rs m
+pub pushed_counted : (xs ys : List Entry) (rs : List (List ValType)) (x : Entry) (m : ℕ) → ys ≡ xs ++ x ∷ [] → is_several x ≡ false → IsCounted xs rs m → IsCounted ys rs m
 pushed_counted xs ys rs x m e q c = subst (λ z. IsCounted z rs m) (sym e) (counted_single xs rs x m c q)
 
 -- what was pushed, where no error came
@@ -27,28 +27,28 @@ ok_items (Ok t) failed zs a b h f q = q
 ok_items (Err t) failed zs a b h f q = absurd cc
 
 -- so many of the front of a list as there are
-pub whole_list : (types : List FuncType) (list : TypeList) (left : ℕ) → left ≡ length (list_of types list) → types_of_run types record { list = list; left = left } ≡ list_of types list
+pub whole_list : (types : List FuncType) (list : TypeList) (left : ℕ) → left ≡ length (list_of types list) → front_of types record { list = list; count = left } ≡ list_of types list
 whole_list types list left e = take-all_at (list_of types list) left e
   where
     take-all_at : (xs : List ValType) (n : ℕ) → n ≡ length xs → take n xs ≡ xs
     take-all_at xs n h = ap (λ k. take k xs) h ∙ take-length xs
 
 -- the run stands for the types r
-module _ (types : List FuncType) (xs ys : List Operand) (rs qs : List Run) (run : Run) (r : List ValType) (k : types_of_run types run ≡ r) (e : ys ≡ xs ++ Several ∷ []) (f : qs ≡ rs ++ run ∷ []) where
-  runs_are : map (types_of_run types) qs ≡ map (types_of_run types) rs ++ r ∷ []
+module _ (types : List FuncType) (xs ys : List Entry) (rs qs : List Front) (run : Front) (r : List ValType) (k : front_of types run ≡ r) (e : ys ≡ xs ++ Run ∷ []) (f : qs ≡ rs ++ run ∷ []) where
+  runs_are : map (front_of types) qs ≡ map (front_of types) rs ++ r ∷ []
   runs_are =
-      ap (map (types_of_run types)) f
-      ∙ map-append (types_of_run types) rs (run ∷ [])
-      ∙ ap (λ z. map (types_of_run types) rs ++ z ∷ []) k
+      ap (map (front_of types)) f
+      ∙ map-append (front_of types) rs (run ∷ [])
+      ∙ ap (λ z. map (front_of types) rs ++ z ∷ []) k
 
-  pub run_pushed : (v : List (Option ValType)) → types_in xs (map (types_of_run types) rs) ≡ v → 0 < length r → types_in ys (map (types_of_run types) qs) ≡ v ++ map Some r
+  pub run_pushed : (v : List (Option ValType)) → types_in xs (map (front_of types) rs) ≡ v → 0 < length r → types_in ys (map (front_of types) qs) ≡ v ++ map Some r
   run_pushed v w lt =
-      ap (λ z. types_in z (map (types_of_run types) qs)) e
-      ∙ ap (types_in (xs ++ Several ∷ [])) runs_are
-      ∙ several xs (map (types_of_run types) rs) r
+      ap (λ z. types_in z (map (front_of types) qs)) e
+      ∙ ap (types_in (xs ++ Run ∷ [])) runs_are
+      ∙ several xs (map (front_of types) rs) r
       ∙ ap (λ z. z ++ of_run r) w
       ∙ ap (λ z. v ++ z) (whole_run r lt)
 
-  pub run_pushed_counted : (m more : ℕ) → more ≡ m + (length r - 1) → more ≤ 2 ^ 63 → IsCounted xs (map (types_of_run types) rs) m → IsCounted ys (map (types_of_run types) qs) more
+  pub run_pushed_counted : (m more : ℕ) → more ≡ m + (length r - 1) → more ≤ 2 ^ 63 → IsCounted xs (map (front_of types) rs) m → IsCounted ys (map (front_of types) qs) more
   run_pushed_counted m more h le c =
-      subst (λ z. IsCounted z (map (types_of_run types) qs) more) (sym e) (subst (λ z. IsCounted (xs ++ Several ∷ []) z more) (sym runs_are) (counted_run xs (map (types_of_run types) rs) r m more c h le))
+      subst (λ z. IsCounted z (map (front_of types) qs) more) (sym e) (subst (λ z. IsCounted (xs ++ Run ∷ []) z more) (sym runs_are) (counted_run xs (map (front_of types) rs) r m more c h le))

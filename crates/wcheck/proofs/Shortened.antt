@@ -6,21 +6,21 @@ use Rattle.std.proofs.lemmas.Option.{get_or_from_slice_get}
 use Rattle.std.proofs.lemmas.List.{get_or-map, append_assoc, length-map, map-append, take-append-drop, take-map, map-set}
 use Rattle.wsyntax.specs.declared.ValType.{ValType}
 use Rattle.wsyntax.specs.Types.{FuncType}
-use Rattle.wcontext.specs.Lists.{list_of}
-use Rattle.wcheck.specs.declared.operand.Operand.{Operand}
-use Rattle.wcheck.specs.declared.operand.Run.{Run}
-use Rattle.wcheck.specs.declared.operand.Operand.TheVariants.{Several}
+use Rattle.wcontext.specs.Lists.{list_of, front_of}
+use Rattle.wcheck.specs.declared.entry.Entry.{Entry}
+use Rattle.wcontext.specs.declared.lists.Front.{Front}
+use Rattle.wcheck.specs.declared.entry.Entry.TheVariants.{Run}
 use Rattle.wcheck.specs.Heights.{type_of}
-use Rattle.wcheck.specs.Runs.{run_at, types_of_run, of_run, types_in, IsCounted}
+use Rattle.wcheck.specs.Runs.{run_at, of_run, types_in, IsCounted}
 use Rattle.wcheck.proofs.Lasts.{front, set_last}
 use Rattle.wcheck.proofs.Stretched.{none, several, whole_run, run_length, counted_front, run_counted, counted_less, no_run, a_run}
 
-pub nonempty : (xs : List Operand) (rs : List (List ValType)) (v : List (Option ValType)) → types_in xs rs ≡ v → 0 < length v → 0 < length xs
+pub nonempty : (xs : List Entry) (rs : List (List ValType)) (v : List (Option ValType)) → types_in xs rs ≡ v → 0 < length v → 0 < length xs
 nonempty [] rs v w lt = absurd (omega (arith, lt, ap length w, ap length (none rs)))
 nonempty (x ∷ xs) rs v w lt = omega arith
 
 -- the places xs with the runs rs stand for v, and x is the topmost place
-module _ (xs : List Operand) (rs : List (List ValType)) (x : Operand) (v : List (Option ValType)) (n : ℕ) (w : types_in xs rs ≡ v) (s : xs ≡ take n xs ++ x ∷ []) where
+module _ (xs : List Entry) (rs : List (List ValType)) (x : Entry) (v : List (Option ValType)) (n : ℕ) (w : types_in xs rs ≡ v) (s : xs ≡ take n xs ++ x ∷ []) where
   pub one_less : run_at x rs ≡ None → types_in (take n xs) rs ≡ take (length v - 1) v
   one_less q = front v (types_in (take n xs) rs) (type_of x ∷ []) (sym w ∙ ap (λ z. types_in z rs) s ∙ no_run (take n xs) rs x q)
 
@@ -34,13 +34,13 @@ module _ (xs : List Operand) (rs : List (List ValType)) (x : Operand) (v : List 
       let e = a_run rs x r q in
       sym w
       ∙ ap (λ z. types_in z rs) (s ∙ ap (λ z. take n xs ++ z ∷ []) e.0)
-      ∙ ap (types_in (take n xs ++ Several ∷ [])) e.1
+      ∙ ap (types_in (take n xs ++ Run ∷ [])) e.1
       ∙ several (take n xs) (take (length rs - 1) rs) r
 
-  whole_counted : (m : ℕ) (r : List ValType) → run_at x rs ≡ Some r → IsCounted xs rs m → IsCounted (take n xs ++ Several ∷ []) (take (length rs - 1) rs ++ r ∷ []) m
+  whole_counted : (m : ℕ) (r : List ValType) → run_at x rs ≡ Some r → IsCounted xs rs m → IsCounted (take n xs ++ Run ∷ []) (take (length rs - 1) rs ++ r ∷ []) m
   whole_counted m r q c =
       let e = a_run rs x r q in
-      subst (λ z. IsCounted (take n xs ++ Several ∷ []) z m) e.1 (subst (λ z. IsCounted z rs m) (s ∙ ap (λ z. take n xs ++ z ∷ []) e.0) c)
+      subst (λ z. IsCounted (take n xs ++ Run ∷ []) z m) e.1 (subst (λ z. IsCounted z rs m) (s ∙ ap (λ z. take n xs ++ z ∷ []) e.0) c)
 
   pub there_is : (r : List ValType) → run_at x rs ≡ Some r → 0 < length rs
   there_is r q =
@@ -90,11 +90,11 @@ module _ (xs : List Operand) (rs : List (List ValType)) (x : Operand) (v : List 
       }
 
 -- the runs with another in the place of the last
-pub last_run_written : (types : List FuncType) (rs : List Run) (count n : ℕ) (run : Run) (r : List ValType) → types_of_run types run ≡ r → count ≡ length rs → n ≡ count - 1 → 0 < length (map (types_of_run types) rs) → map (types_of_run types) (set rs n run) ≡ take (length (map (types_of_run types) rs) - 1) (map (types_of_run types) rs) ++ r ∷ []
+pub last_run_written : (types : List FuncType) (rs : List Front) (count n : ℕ) (run : Front) (r : List ValType) → front_of types run ≡ r → count ≡ length rs → n ≡ count - 1 → 0 < length (map (front_of types) rs) → map (front_of types) (set rs n run) ≡ take (length (map (front_of types) rs) - 1) (map (front_of types) rs) ++ r ∷ []
 last_run_written types rs count n run r k c e lt =
-    map-set (types_of_run types) rs n run
-    ∙ set_last (map (types_of_run types) rs) n (types_of_run types run) lt (omega (arith, c, e, length-map rs (types_of_run types)))
-    ∙ ap (λ z. take (length (map (types_of_run types) rs) - 1) (map (types_of_run types) rs) ++ z ∷ []) k
+    map-set (front_of types) rs n run
+    ∙ set_last (map (front_of types) rs) n (front_of types run) lt (omega (arith, c, e, length-map rs (front_of types)))
+    ∙ ap (λ z. take (length (map (front_of types) rs) - 1) (map (front_of types) rs) ++ z ∷ []) k
 
 -- less of the front is less of what there was
 take_less : (xs : List ValType) (n left : ℕ) → left ≤ length (take n xs) → take left xs ≡ take left (take n xs)
@@ -104,22 +104,22 @@ take_less (x ∷ xs) (suc n) zero le = refl
 take_less (x ∷ xs) (suc n) (suc left) le = ap (λ z. x ∷ z) (take_less xs n left (omega (arith, le)))
 
 -- the last run, cut
-pub last_run_cut : (types : List FuncType) (rs : List Run) (count n left : ℕ) (run : Run) (x : Operand) (r : List ValType) → run_at x (map (types_of_run types) rs) ≡ Some r → count ≡ length rs → n ≡ count - 1 → run ≡ get_or rs n run → left ≤ length r → types_of_run types (record run { left = left }) ≡ take left r
+pub last_run_cut : (types : List FuncType) (rs : List Front) (count n left : ℕ) (run : Front) (x : Entry) (r : List ValType) → run_at x (map (front_of types) rs) ≡ Some r → count ≡ length rs → n ≡ count - 1 → run ≡ get_or rs n run → left ≤ length r → front_of types (record run { count = left }) ≡ take left r
 last_run_cut types rs count n left run x r q c e h le =
-    let there = a_run (map (types_of_run types) rs) x r q in
-    let size : length (map (types_of_run types) rs) ≡ length rs = length-map rs (types_of_run types) in
-    let some : 0 < length (map (types_of_run types) rs) =
-    omega (arith, ap length there.1, length-append (take (length (map (types_of_run types) rs) - 1) (map (types_of_run types) rs)) (r ∷ [])) in
-    let at : n ≡ length (map (types_of_run types) rs) - 1 = omega (arith, c, e, size) in
-    let is : types_of_run types run ≡ r =
-    ap (types_of_run types) h
-    ∙ sym (get_or-map (types_of_run types) rs n run (types_of_run types run) (omega (arith, c, e, size, some)))
-    ∙ ap (λ i. get_or (map (types_of_run types) rs) i (types_of_run types run)) at
-    ∙ get_or_from_slice_get (map (types_of_run types) rs) (length (map (types_of_run types) rs) - 1) r (types_of_run types run) (sym (ap (λ z. run_at z (map (types_of_run types) rs)) there.0) ∙ q) in
-    take_less (list_of types run.list) run.left left (subst (λ z. left ≤ length z) (sym is) le) ∙ ap (take left) is
+    let there = a_run (map (front_of types) rs) x r q in
+    let size : length (map (front_of types) rs) ≡ length rs = length-map rs (front_of types) in
+    let some : 0 < length (map (front_of types) rs) =
+    omega (arith, ap length there.1, length-append (take (length (map (front_of types) rs) - 1) (map (front_of types) rs)) (r ∷ [])) in
+    let at : n ≡ length (map (front_of types) rs) - 1 = omega (arith, c, e, size) in
+    let is : front_of types run ≡ r =
+    ap (front_of types) h
+    ∙ sym (get_or-map (front_of types) rs n run (front_of types run) (omega (arith, c, e, size, some)))
+    ∙ ap (λ i. get_or (map (front_of types) rs) i (front_of types run)) at
+    ∙ get_or_from_slice_get (map (front_of types) rs) (length (map (front_of types) rs) - 1) r (front_of types run) (sym (ap (λ z. run_at z (map (front_of types) rs)) there.0) ∙ q) in
+    take_less (list_of types run.list) run.count left (subst (λ z. left ≤ length z) (sym is) le) ∙ ap (take left) is
 
 -- the runs without the last
-pub last_run_gone : (types : List FuncType) (rs qs : List Run) (count n : ℕ) → count ≡ length rs → n ≡ count - 1 → qs ≡ take n rs → map (types_of_run types) qs ≡ take (length (map (types_of_run types) rs) - 1) (map (types_of_run types) rs)
+pub last_run_gone : (types : List FuncType) (rs qs : List Front) (count n : ℕ) → count ≡ length rs → n ≡ count - 1 → qs ≡ take n rs → map (front_of types) qs ≡ take (length (map (front_of types) rs) - 1) (map (front_of types) rs)
 last_run_gone types rs qs count n c e h =
-    let k : n ≡ length (map (types_of_run types) rs) - 1 = omega (arith, c, e, length-map rs (types_of_run types)) in
-    ap (map (types_of_run types)) h ∙ sym (take-map (types_of_run types) n rs) ∙ ap (λ z. take z (map (types_of_run types) rs)) k
+    let k : n ≡ length (map (front_of types) rs) - 1 = omega (arith, c, e, length-map rs (front_of types)) in
+    ap (map (front_of types)) h ∙ sym (take-map (front_of types) n rs) ∙ ap (λ z. take z (map (front_of types) rs)) k

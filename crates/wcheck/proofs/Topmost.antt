@@ -1,33 +1,33 @@
 -- The topmost operand of a list.
-use Rattle.std.proofs.Common.{◌≡◌, ℕ, ◌-◌, ◌≤◌, ◌<◌, true, false, Bool, List, [], ◌∷◌, ◌++◌, map, length, take, get_or, slice_get, Option, Some, None, refl, sym, ap, ◌∙◌, arith}
-use Rattle.std.proofs.lemmas.List.{append_assoc, map-append, length-map, length-take}
-use Rattle.std.specs.Prelude.{option_map, ◌==◌}
+use Rattle.std.proofs.Common.{◌≡◌, ℕ, ◌-◌, ◌<◌, true, false, Bool, List, [], ◌∷◌, ◌++◌, map, length, take, get_or, slice_get, Option, Some, None, refl, sym, ap, ◌∙◌, arith}
+use Rattle.std.proofs.lemmas.List.{append_assoc, append-nil, map-append, length-map, take-append-drop}
+use Rattle.std.proofs.Math.ListN.{drop_of_length-le}
+use Rattle.std.specs.Prelude.{option_map, ◌==◌, IfSome}
 use Rattle.std.proofs.lemmas.Option.{slice_get-get_or, slice_get-map}
 use Rattle.wsyntax.specs.declared.ValType.{ValType}
 use Rattle.wsyntax.specs.Types.{FuncType}
-use Rattle.wcontext.specs.declared.lists.TypeList.{TypeList}
-use Rattle.wcontext.specs.Lists.{list_of}
-use Rattle.wcheck.specs.declared.operand.Run.{Run}
-use Rattle.wcheck.specs.declared.operand.Operand.{Operand}
-use Rattle.wcheck.specs.declared.operand.Operand.TheVariants.{I32, I64, F32, F64, Unknown, Several}
+use Rattle.wcontext.specs.Lists.{front_of}
+use Rattle.wcontext.specs.declared.lists.Front.{Front}
+use Rattle.wcheck.specs.declared.entry.Entry.{Entry}
+use Rattle.wcheck.specs.declared.entry.Entry.TheVariants.{I32, I64, F32, F64, Unknown, Run}
 use Rattle.wcheck.specs.Heights.{type_of}
-use Rattle.wcheck.specs.Runs.{is_several, run_at, types_of_run, of_run, types_in}
+use Rattle.wcheck.specs.Runs.{is_several, run_at, of_run, types_in, last_types, types_before}
 use Rattle.wcheck.proofs.Lasts.{last_split, no_last, is_there}
 use Rattle.wcheck.proofs.Stretched.{none, whole_run, no_run}
 use Rattle.wcheck.proofs.Shortened.{split_run}
 
-pub known_single : (x : Operand) (t : ValType) → type_of x ≡ Some t → is_several x ≡ false
+pub known_single : (x : Entry) (t : ValType) → type_of x ≡ Some t → is_several x ≡ false
 known_single I32 t e = refl
 known_single I64 t e = refl
 known_single F32 t e = refl
 known_single F64 t e = refl
 known_single Unknown t e = absurd cc
-known_single Several t e = absurd cc
+known_single Run t e = absurd cc
 
-pub nothing_there : (xs : List Operand) (rs : List (List ValType)) (v : List (Option ValType)) → types_in xs rs ≡ v → None ≡ slice_get xs (length xs - 1) → v ≡ []
+pub nothing_there : (xs : List Entry) (rs : List (List ValType)) (v : List (Option ValType)) → types_in xs rs ≡ v → None ≡ slice_get xs (length xs - 1) → v ≡ []
 nothing_there xs rs v w e = sym w ∙ ap (λ z. types_in z rs) (no_last xs (sym e)) ∙ none rs
 
-pub last_single : (xs : List Operand) (rs : List (List ValType)) (v : List (Option ValType)) (x : Operand) (t : Option ValType) → types_in xs rs ≡ v → Some x ≡ slice_get xs (length xs - 1) → run_at x rs ≡ None → t ≡ type_of x → (rest : List (Option ValType)) × (v ≡ rest ++ t ∷ [])
+pub last_single : (xs : List Entry) (rs : List (List ValType)) (v : List (Option ValType)) (x : Entry) (t : Option ValType) → types_in xs rs ≡ v → Some x ≡ slice_get xs (length xs - 1) → run_at x rs ≡ None → t ≡ type_of x → (rest : List (Option ValType)) × (v ≡ rest ++ t ∷ [])
 last_single xs rs v x t w e q k =
     (types_in (take (length xs - 1) xs) rs, sym w ∙ ap (λ z. types_in z rs) (is_there xs x (sym e)) ∙ no_run (take (length xs - 1) xs) rs x q ∙ ap (λ z. types_in (take (length xs - 1) xs) rs ++ z ∷ []) (sym k))
 
@@ -42,7 +42,7 @@ last_of_run (u ∷ us) t e =
           ∙ ap (λ z. map Some (take (length (u ∷ us) - 1) (u ∷ us)) ++ z ∷ []) (sym (e ∙ there)),
     )
 
-pub last_in_run : (xs : List Operand) (rs : List (List ValType)) (v : List (Option ValType)) (x : Operand) (r : List ValType) (t : Option ValType) → types_in xs rs ≡ v → Some x ≡ slice_get xs (length xs - 1) → run_at x rs ≡ Some r → t ≡ slice_get r (length r - 1) → (rest : List (Option ValType)) × (v ≡ rest ++ t ∷ [])
+pub last_in_run : (xs : List Entry) (rs : List (List ValType)) (v : List (Option ValType)) (x : Entry) (r : List ValType) (t : Option ValType) → types_in xs rs ≡ v → Some x ≡ slice_get xs (length xs - 1) → run_at x rs ≡ Some r → t ≡ slice_get r (length r - 1) → (rest : List (Option ValType)) × (v ≡ rest ++ t ∷ [])
 last_in_run xs rs v x r t w e q k =
     let l = last_of_run r t k in (
       types_in (take (length xs - 1) xs) (take (length rs - 1) rs) ++ l.0,
@@ -51,37 +51,46 @@ last_in_run xs rs v x r t w e q k =
           ∙ sym (append_assoc (types_in (take (length xs - 1) xs) (take (length rs - 1) rs)) l.0 (t ∷ [])),
     )
 
-a_several : (x : Operand) → is_several x ≡ true → x ≡ Several
+a_several : (x : Entry) → is_several x ≡ true → x ≡ Run
 a_several I32 e = absurd cc
 a_several I64 e = absurd cc
 a_several F32 e = absurd cc
 a_several F64 e = absurd cc
 a_several Unknown e = absurd cc
-a_several Several e = refl
+a_several Run e = refl
 
 -- the last operands, where the run on top has some
-pub last_of_run_on_top : (xs : List Operand) (rs : List (List ValType)) (v : List (Option ValType)) (x : Operand) (r : List ValType) → types_in xs rs ≡ v → Some x ≡ slice_get xs (length xs - 1) → run_at x rs ≡ Some r → 0 < length r → (rest : List (Option ValType)) × (v ≡ rest ++ map Some r)
+pub last_of_run_on_top : (xs : List Entry) (rs : List (List ValType)) (v : List (Option ValType)) (x : Entry) (r : List ValType) → types_in xs rs ≡ v → Some x ≡ slice_get xs (length xs - 1) → run_at x rs ≡ Some r → 0 < length r → (rest : List (Option ValType)) × (v ≡ rest ++ map Some r)
 last_of_run_on_top xs rs v x r w e q some =
     (types_in (take (length xs - 1) xs) (take (length rs - 1) rs), split_run xs rs x v (length xs - 1) w (is_there xs x (sym e)) r q ∙ ap (λ z. types_in (take (length xs - 1) xs) (take (length rs - 1) rs) ++ z) (whole_run r some))
 
 -- the last operands, where this run is on top
-pub last_of_front : (types u : List FuncType) (xs : List Operand) (rs : List Run) (v : List (Option ValType)) (x : Operand) (run : Run) → types_in xs (map (types_of_run types) rs) ≡ v → Some x ≡ slice_get xs (length xs - 1) → is_several x ≡ true → Some run ≡ slice_get rs (length rs - 1) → types ≡ u → 0 < length (types_of_run u run) → (rest : List (Option ValType)) × (v ≡ rest ++ map Some (types_of_run u run))
+pub last_of_front : (types u : List FuncType) (xs : List Entry) (rs : List Front) (v : List (Option ValType)) (x : Entry) (run : Front) → types_in xs (map (front_of types) rs) ≡ v → Some x ≡ slice_get xs (length xs - 1) → is_several x ≡ true → Some run ≡ slice_get rs (length rs - 1) → types ≡ u → 0 < length (front_of u run) → (rest : List (Option ValType)) × (v ≡ rest ++ map Some (front_of u run))
 last_of_front types u xs rs v x run w e several q same some =
-    let size : length (map (types_of_run types) rs) - 1 ≡ length rs - 1 = ap (λ k. k - 1) (length-map rs (types_of_run types)) in
-    let top : run_at Several (map (types_of_run types) rs) ≡ Some (types_of_run u run) =
-    ap (slice_get (map (types_of_run types) rs)) size
-    ∙ slice_get-map (types_of_run types) rs (length rs - 1)
-    ∙ ap (option_map (types_of_run types)) (sym q)
-    ∙ ap (λ z. Some (types_of_run z run)) same in
-    last_of_run_on_top xs (map (types_of_run types) rs) v Several (types_of_run u run) w (ap Some (sym (a_several x several)) ∙ e) top some
+    let size : length (map (front_of types) rs) - 1 ≡ length rs - 1 = ap (λ k. k - 1) (length-map rs (front_of types)) in
+    let top : run_at Run (map (front_of types) rs) ≡ Some (front_of u run) =
+    ap (slice_get (map (front_of types) rs)) size
+    ∙ slice_get-map (front_of types) rs (length rs - 1)
+    ∙ ap (option_map (front_of types)) (sym q)
+    ∙ ap (λ z. Some (front_of z run)) same in
+    last_of_run_on_top xs (map (front_of types) rs) v Run (front_of u run) w (ap Some (sym (a_several x several)) ∙ e) top some
 
--- the same, where the run is the first so many of a list
-pub last_of_list : (types u : List FuncType) (xs : List Operand) (rs : List Run) (v : List (Option ValType)) (x : Operand) (run : Run) (list : TypeList) (count : ℕ) → types_in xs (map (types_of_run types) rs) ≡ v → Some x ≡ slice_get xs (length xs - 1) → is_several x ≡ true → Some run ≡ slice_get rs (length rs - 1) → run.left ≡ count → run.list ≡ list → types ≡ u → 0 < count → count ≤ length (list_of u list) → (rest : List (Option ValType)) × (v ≡ rest ++ map Some (take count (list_of u list)))
-last_of_list types u xs rs v x run list count w e several q l n same lt le =
-    let stands : types_of_run u run ≡ take count (list_of u list) = ap (λ k. take k (list_of u run.list)) l ∙ ap (λ z. take count (list_of u z)) n in
-    let some : 0 < length (types_of_run u run) = omega (arith, lt, le, ap length stands, length-take count (list_of u list)) in
-    let last = last_of_front types u xs rs v x run w e several q same some in
-    (last.0, last.1 ∙ ap (λ z. last.0 ++ map Some z) stands)
+-- the last none of some types
+pub ends_in_none : (v : List (Option ValType)) (us : List ValType) → (rest : List (Option ValType)) × (v ≡ rest ++ map Some (last_types 0 us))
+ends_in_none v us =
+    (v, sym (ap (λ z. v ++ map Some z) (drop_of_length-le us (omega arith)) ∙ append-nil v))
+
+-- what the types of the run on top share with others
+pub ends_in_shared : (v rest : List (Option ValType)) (us ts : List ValType) (r : Option ℕ) → v ≡ rest ++ map Some ts → IfSome r (λ n. last_types n us ≡ last_types n ts) → IfSome r (λ n. (x : List (Option ValType)) × (v ≡ x ++ map Some (last_types n us)))
+ends_in_shared v rest us ts None e same = tt
+ends_in_shared v rest us ts (Some n) e same = (
+  rest ++ map Some (types_before n ts),
+  e
+      ∙ ap (λ z. rest ++ map Some z) (sym (take-append-drop (length ts - n) ts))
+      ∙ ap (λ z. rest ++ z) (map-append Some (types_before n ts) (last_types n ts))
+      ∙ sym (append_assoc rest (map Some (types_before n ts)) (map Some (last_types n ts)))
+      ∙ ap (λ z. (rest ++ map Some (types_before n ts)) ++ map Some z) (sym same),
+)
 
 pub has_some : (xs : List ValType) (b : Bool) → b ≡ (length xs == 0) → b ≡ false → 0 < length xs
 has_some [] b e f = absurd (let h : true ≡ false = sym e ∙ f in cc)

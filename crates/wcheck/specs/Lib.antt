@@ -1,16 +1,12 @@
-pub mod Pass
-pub mod Laws
 pub mod Heights
 pub mod Runs
-pub mod Periods
-pub mod Compared
 pub mod Packed
 pub mod Views
 pub mod OperandRules
 pub mod Frames
 pub mod Checking
 pub mod Checked
-pub mod TableViews
+pub mod Passing
 pub mod Outcomes
 pub mod Refusals
 pub mod LocalRuns

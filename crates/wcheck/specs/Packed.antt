@@ -17,14 +17,14 @@ list_from n =
 
 -- the height whose upper part is in the lower 13 bits of a number
 abbrev pub height_from : ℕ → ℕ → ℕ
-height_from base top = base + 4294967296 * (top % 8192)
+height_from low top = low + 4294967296 * (top % 8192)
 
 -- the marks in the 3 bits above those
 abbrev pub is_loop : ℕ → Bool
 is_loop top = top / 8192 % 2 == 1
 
-abbrev pub is_then : ℕ → Bool
-is_then top = top / 16384 % 2 == 1
+abbrev pub is_if : ℕ → Bool
+is_if top = top / 16384 % 2 == 1
 
-abbrev pub is_dead : ℕ → Bool
-is_dead top = top / 32768 == 1
+abbrev pub unreachable : ℕ → Bool
+unreachable top = top / 32768 == 1

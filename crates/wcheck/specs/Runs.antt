@@ -1,29 +1,32 @@
--- A list of operands in which a long list of types has one place.
-use Rattle.std.specs.Prelude.{◌≡◌, ℕ, ◌+◌, ◌-◌, ◌^◌, ◌≤◌, Bool, true, false, List, [], ◌∷◌, ◌++◌, map, length, take, reverse, Option, Some, None, slice_get}
+-- A list of operands in which a long list of types has one entry.
+use Rattle.std.specs.Prelude.{◌≡◌, ℕ, ◌+◌, ◌-◌, ◌^◌, ◌≤◌, Bool, true, false, List, [], ◌∷◌, ◌++◌, map, length, take, drop, reverse, Option, Some, None, slice_get}
 use Rattle.wsyntax.specs.declared.ValType.{ValType}
 use Rattle.wsyntax.specs.Types.{FuncType}
-use Rattle.wcontext.specs.Lists.{list_of}
-use Rattle.wcheck.specs.declared.operand.Operand.{Operand}
-use Rattle.wcheck.specs.declared.operand.Operand.TheVariants.{I32, I64, F32, F64, Unknown, Several}
-use Rattle.wcheck.specs.declared.operand.Run.{Run}
+use Rattle.wcontext.specs.declared.lists.Front.{Front}
+use Rattle.wcontext.specs.Lists.{front_of}
+use Rattle.wcheck.specs.declared.entry.Entry.{Entry}
+use Rattle.wcheck.specs.declared.entry.Entry.TheVariants.{I32, I64, F32, F64, Unknown, Run}
 use Rattle.wcheck.specs.Heights.{type_of}
 
--- whether the place is that of a run
-abbrev pub is_several : Operand → Bool
-is_several Several = true
+-- whether the entry is that of a run
+abbrev pub is_several : Entry → Bool
+is_several Run = true
 is_several I32 = false
 is_several I64 = false
 is_several F32 = false
 is_several F64 = false
 is_several Unknown = false
 
--- what is left of the front of its list, where these are the function types
-abbrev pub types_of_run : List FuncType → Run → List ValType
-types_of_run types r = take r.left (list_of types r.list)
+-- the last n of some types, and those before them
+abbrev pub last_types : ℕ → List ValType → List ValType
+last_types n ts = drop (length ts - n) ts
 
--- the run at the topmost place, if one stands there
-abbrev pub run_at : Operand → List (List ValType) → Option (List ValType)
-run_at Several rs = slice_get rs (length rs - 1)
+abbrev pub types_before : ℕ → List ValType → List ValType
+types_before n ts = take (length ts - n) ts
+
+-- the run of the topmost entry, if it has one
+abbrev pub run_at : Entry → List (List ValType) → Option (List ValType)
+run_at Run rs = slice_get rs (length rs - 1)
 run_at I32 rs = None
 run_at I64 rs = None
 run_at F32 rs = None
@@ -35,11 +38,11 @@ abbrev pub of_run : List ValType → List (Option ValType)
 of_run [] = None ∷ []
 of_run (t ∷ ts) = Some t ∷ map Some ts
 
--- the operands of these places with these runs, each topmost first
-abbrev pub stretched : List Operand → List (List ValType) → List (Option ValType)
+-- the operands of these entries with these runs, each topmost first
+abbrev pub stretched : List Entry → List (List ValType) → List (Option ValType)
 stretched [] rs = []
-stretched (Several ∷ xs) [] = None ∷ stretched xs []
-stretched (Several ∷ xs) (r ∷ rs) = reverse (of_run r) ++ stretched xs rs
+stretched (Run ∷ xs) [] = None ∷ stretched xs []
+stretched (Run ∷ xs) (r ∷ rs) = reverse (of_run r) ++ stretched xs rs
 stretched (I32 ∷ xs) rs = type_of I32 ∷ stretched xs rs
 stretched (I64 ∷ xs) rs = type_of I64 ∷ stretched xs rs
 stretched (F32 ∷ xs) rs = type_of F32 ∷ stretched xs rs
@@ -47,15 +50,19 @@ stretched (F64 ∷ xs) rs = type_of F64 ∷ stretched xs rs
 stretched (Unknown ∷ xs) rs = type_of Unknown ∷ stretched xs rs
 
 -- the same, each the lowest first
-unfoldable pub types_in : List Operand → List (List ValType) → List (Option ValType)
+unfoldable pub types_in : List Entry → List (List ValType) → List (Option ValType)
 types_in xs rs = reverse (stretched (reverse xs) (reverse rs))
 
--- a list of operands, the lowest first, and the function types that its lists are of
-pub record Listing : Type 0 where
-  pub items : List (Option ValType)
-  pub types : List FuncType
+-- there are `extra` more operands than entries
+pub record IsCounted (xs : List Entry) (rs : List (List ValType)) (extra : ℕ) : Type 0 where
+  pub count : length (types_in xs rs) ≡ length xs + extra
+  pub small : extra ≤ 2 ^ 63
 
--- so many more operands than places
-pub record IsCounted (xs : List Operand) (rs : List (List ValType)) (more : ℕ) : Type 0 where
-  pub count : length (types_in xs rs) ≡ length xs + more
-  pub small : more ≤ 2 ^ 63
+-- the operands of these entries with these runs, where these are the function types
+abbrev pub items_of : List FuncType → List Entry → List Front → List (Option ValType)
+items_of types xs runs = types_in xs (map (front_of types) runs)
+
+-- they are counted, and the innermost frame begins among them
+abbrev pub IsStanding : List FuncType → List Entry → List Front → ℕ → ℕ → Type 0
+IsStanding types xs runs extra base =
+    IsCounted xs (map (front_of types) runs) extra × (base ≤ length (items_of types xs runs))

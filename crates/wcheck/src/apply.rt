@@ -2,9 +2,9 @@ ghost use Rattle.std.specs.Prelude.{◌≡◌, [], ◌∷◌, true, false, Optio
 ghost use Rattle.wsyntax.specs.Validation.Algorithm.{when, apply, join};
 ghost use Rattle.wcheck.specs.OperandRules.{rule_of};
 
-use crate::operand::is_same;
-use crate::operands::OperandStack;
+use crate::operand_stack::OperandStack;
 use crate::rule::OperandRule;
+use crate::types::is_same;
 use std::alloc::AllocError;
 use wcontext::TypeList;
 use wsyntax::ValType;
@@ -24,7 +24,8 @@ fn joined(x: Option<ValType>, y: Option<ValType>) -> Option<Option<ValType>>
 /// Takes an i32 and two operands that may be of one type, and puts one of that type.
 #[inline]
 fn selects(operands: &mut OperandStack) -> Result<bool, AllocError>
-    ensures above { IfOk result (λ yes. apply (rule_of operands.old.types OperandRule.Selects) operands.old.above ≡ when yes (Some operands.new.above)) }
+    ensures above { IfOk result (λ yes. apply (rule_of operands.old.types OperandRule.Selects) operands.old.above
+        ≡ when yes (Some operands.new.above)) }
     ensures below { operands.new.below ≡ operands.old.below }
     ensures types { operands.new.types ≡ operands.old.types }
 {
@@ -40,7 +41,7 @@ fn selects(operands: &mut OperandStack) -> Result<bool, AllocError>
     let Some(z) = joined(x, y) else {
         return Ok(false);
     };
-    operands.put_one(z)?;
+    operands.push(z)?;
     Ok(true)
 }
 
@@ -52,7 +53,8 @@ fn moves(
     takes: TypeList,
     gives: TypeList,
 ) -> Result<bool, AllocError>
-    ensures above { IfOk result (λ yes. apply (rule_of operands.old.types (OperandRule.Moves has_index takes gives)) operands.old.above ≡ when yes (Some operands.new.above)) }
+    ensures above { IfOk result (λ yes. apply (rule_of operands.old.types (OperandRule.Moves has_index takes gives)) operands.old.above
+        ≡ when yes (Some operands.new.above)) }
     ensures below { operands.new.below ≡ operands.old.below }
     ensures types { operands.new.types ≡ operands.old.types }
 {
@@ -69,7 +71,8 @@ fn moves(
 /// Takes some types, and what follows is not reached.
 #[inline]
 fn ends(operands: &mut OperandStack, has_index: bool, takes: TypeList) -> bool
-    ensures above { apply (rule_of operands.old.types (OperandRule.Ends has_index takes)) operands.old.above ≡ when result (Some operands.new.above) }
+    ensures above { apply (rule_of operands.old.types (OperandRule.Ends has_index takes)) operands.old.above
+        ≡ when result (Some operands.new.above) }
     ensures below { operands.new.below ≡ operands.old.below }
     ensures types { operands.new.types ≡ operands.old.types }
 {
@@ -86,14 +89,15 @@ fn ends(operands: &mut OperandStack, has_index: bool, takes: TypeList) -> bool
 /// Does to the operands what the instruction does. After a refusal or an error nothing is said of them.
 #[inline(always)]
 pub(crate) fn apply_rule(operands: &mut OperandStack, rule: OperandRule) -> Result<bool, AllocError>
-    ensures above { IfOk result (λ yes. apply (rule_of operands.old.types rule) operands.old.above ≡ when yes (Some operands.new.above)) }
+    ensures above { IfOk result (λ yes.
+        apply (rule_of operands.old.types rule) operands.old.above ≡ when yes (Some operands.new.above)) }
     ensures below { operands.new.below ≡ operands.old.below }
     ensures types { operands.new.types ≡ operands.old.types }
 {
     match rule {
         OperandRule::Nothing => Ok(true),
         OperandRule::Puts(t) => {
-            operands.put_one(Some(t))?;
+            operands.push(Some(t))?;
             Ok(true)
         }
         OperandRule::Takes(t) => Ok(operands.take_one(t)),

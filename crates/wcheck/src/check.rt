@@ -6,6 +6,7 @@ use crate::body::{Outcome, pass_body};
 use checked::CheckedBody;
 use soundness::validation::{accepted_is_typed, refused_at_first_fault};
 use std::alloc::Global;
+use tables::{pass_is_algorithm, passed_bounded, passed_fits, passed_is_code};
 use thiserror::Error;
 use wcontext::Context;
 use wsyntax::Body;
@@ -39,6 +40,10 @@ pub fn check_body(
 {
     accepted_is_typed();
     refused_at_first_fault();
+    pass_is_algorithm();
+    passed_is_code();
+    passed_fits();
+    passed_bounded();
     match pass_body(alloc, context, func, &body) {
         Ok(Outcome::Passes { table, has_floats }) => Ok(CheckedBody::new(body, table, has_floats)),
         Ok(Outcome::Refused(at)) => Err(CheckFault::IllTyped { at }),

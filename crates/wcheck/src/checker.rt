@@ -1,14 +1,14 @@
-ghost use Rattle.std.specs.Prelude.{◌≡◌, ◌+◌, ◌<◌, ◌^◌, ◌↔◌, Bool, true, false, Some, List, [], IsTrue, IfOk, length};
+ghost use Rattle.std.specs.Prelude.{◌≡◌, ◌<◌, ◌^◌, ◌↔◌, true, false, [], IsTrue, IfOk, length};
 ghost use Rattle.wsyntax.specs.Modules.{seen};
 ghost use Rattle.wsyntax.specs.Validation.Algorithm.{when, step};
 ghost use Rattle.wcheck.specs.Checking.{begun, with_frames};
-ghost use Rattle.wcheck.specs.Pass.{height, below_size, label_size, in_then};
+ghost use Rattle.tables.specs.Pass.{height, below_size, label_size, in_if};
 
 use crate::control::{Control, step_control, step_known};
-use crate::frames::{Shape, label};
-use crate::levels::Levels;
+use crate::frames::{ControlFrame, label};
 use crate::locals::Locals;
-use crate::operands::OperandStack;
+use crate::operand_stack::OperandStack;
+use crate::outer_frames::OuterFrames;
 use crate::scope::{Scope, none};
 use std::alloc::{AllocError, Global};
 use std::marker::Model;
@@ -42,7 +42,7 @@ const FEW_RUNS: usize = 64;
 const FEW_OPERANDS: usize = 1_024;
 
 /// How many blocks of them are open at once: Go's compiler opens one for each place where a function may go on.
-const FEW_LEVELS: usize = 1_024;
+const FEW_FRAMES: usize = 1_024;
 
 impl<'a> Checker<'a> {
     /// A checker for the bodies of a module, at the beginning of none.
@@ -55,16 +55,16 @@ impl<'a> Checker<'a> {
             locals: Locals::new(alloc, none()),
             results: TypeList::Nothing,
         };
-        let top = Shape {
-            is_then: false,
+        let top = ControlFrame {
+            is_if: false,
             is_loop: false,
-            starts: TypeList::Nothing,
-            gives: TypeList::Nothing,
+            start_types: TypeList::Nothing,
+            end_types: TypeList::Nothing,
         };
         let control = Control {
             operands: OperandStack::new(alloc, context),
             top,
-            outer: Levels::new(alloc),
+            outer: OuterFrames::new(alloc),
             is_open: false,
         };
         Checker { scope, control }
@@ -77,7 +77,7 @@ impl<'a> Checker<'a> {
     {
         self.scope.locals.reserve(FEW_RUNS)?;
         self.control.operands.reserve(FEW_OPERANDS)?;
-        self.control.outer.reserve(FEW_LEVELS)
+        self.control.outer.reserve(FEW_FRAMES)
     }
 
     /// Goes to the beginning of the body of the function of that index, imported ones counted, whose declared locals
@@ -95,11 +95,11 @@ impl<'a> Checker<'a> {
         self.scope.locals.set(context.list(params), runs)?;
         self.control.operands.clear();
         self.control.outer.clear();
-        self.control.top = Shape {
-            is_then: false,
+        self.control.top = ControlFrame {
+            is_if: false,
             is_loop: false,
-            starts: TypeList::Nothing,
-            gives: results,
+            start_types: TypeList::Nothing,
+            end_types: results,
         };
         self.control.is_open = true;
         Ok(())
@@ -109,7 +109,8 @@ impl<'a> Checker<'a> {
     /// body begins with the tokens so far.
     #[inline(always)]
     pub fn step(&mut self, token: Token, targets: &[u32]) -> Result<bool, AllocError>
-        ensures step { IfOk result (λ ok. step self.old.inside (seen targets.now token) self.old.frames ≡ when ok (Some self.new.frames)) }
+        ensures step { IfOk result (λ ok. step self.old.inside (seen targets.now token) self.old.frames
+            ≡ when ok (Some self.new.frames)) }
         ensures same { IfOk result (λ _. self.new ≡ with_frames self.old self.new.frames) }
         ensures outside { self.new.outside ≡ self.old.outside }
     {
@@ -174,9 +175,9 @@ impl<'a> Checker<'a> {
     }
 
     /// Whether the innermost frame is an if whose else may still come.
-    pub(crate) fn is_then(&self) -> bool
-        ensures { result ≡ in_then self.now.frames }
+    pub(crate) fn is_if(&self) -> bool
+        ensures { result ≡ in_if self.now.frames }
     {
-        self.control.is_open && self.control.top.is_then
+        self.control.is_open && self.control.top.is_if
     }
 }

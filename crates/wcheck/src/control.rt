@@ -1,18 +1,19 @@
-ghost use Rattle.std.specs.Prelude.{◌≡◌, ◌≤◌, ◌+◌, List, [], ◌∷◌, ◌++◌, Bool, true, false, cond, Option, MatchOption, IfOk, IfErr, reverse, map, length};
-ghost use Rattle.wcontext.specs.Lists.{list_of};
+ghost use Rattle.std.specs.Prelude.{◌≡◌, [], ◌∷◌, ◌++◌, true, false, IfOk, IfErr, reverse};
 ghost use Rattle.wsyntax.specs.Instructions.{Op, Do};
 ghost use Rattle.wsyntax.specs.Modules.{seen};
-ghost use Rattle.wsyntax.specs.Validation.Algorithm.{on, when, apply, open_frame, ends_with, may_lack_else, pass_on, fresh, step};
-ghost use Rattle.wcheck.specs.Views.{scope_context, context_at, token_rule, cut, frame_of, under_all};
-ghost use Rattle.wcheck.specs.Frames.{inner_of, frames_of, IsTight};
+ghost use Rattle.wsyntax.specs.Validation.Algorithm.{when, pass_on, step};
+ghost use Rattle.wcheck.specs.Views.{scope_context, under_all};
+ghost use Rattle.wcheck.specs.Frames.{innermost_of, outside_of, inner_of, frames_of, IsTight};
+ghost use Rattle.wcheck.specs.Frames.{outer_frame_of, gone_back, opened, switched, closed};
 
 use crate::apply::{apply_known, apply_rule};
-use crate::frames::{Level, Shape};
-use crate::levels::Levels;
-use crate::operands::OperandStack;
+use crate::frames::{ControlFrame, OuterFrame};
+use crate::operand_stack::OperandStack;
+use crate::outer_frames::OuterFrames;
 use crate::rule::rule_of_token;
 use crate::scope::{Scope, block_signature};
 use std::alloc::AllocError;
+use tables::Opener;
 use wcontext::{ListPair, TypeList};
 use wsyntax::{Token, ValType};
 
@@ -20,38 +21,41 @@ use wsyntax::{Token, ValType};
 #[derive(Drop)]
 pub(crate) struct Control<'a> {
     pub(crate) operands: OperandStack<'a>,
-    pub(crate) top: Shape,
-    pub(crate) outer: Levels,
+    pub(crate) top: ControlFrame,
+    pub(crate) outer: OuterFrames,
     /// False once the function is closed.
     pub(crate) is_open: bool,
 }
 
-/// Lays the innermost frame down on the others. After an error these are as before.
+/// Pushes the innermost frame on the others. After an error these are as before.
 #[inline(never)]
-fn push_level(outer: &mut Levels, top: &Shape, operands: &OperandStack) -> Result<(), AllocError>
-    ensures laid { IfOk result (λ _. outer.new ≡ outer.old ++ record { shape = top.now; is_dead = operands.now.above.is_dead; base = length operands.now.below } ∷ []) }
+fn push_outer(
+    outer: &mut OuterFrames,
+    top: &ControlFrame,
+    operands: &OperandStack,
+) -> Result<(), AllocError>
+    ensures laid { IfOk result (λ _. outer.new ≡ outer.old ++ outer_frame_of top.now operands.now ∷ []) }
     ensures refused { IfErr result (λ _. outer.new ≡ outer.old) }
 {
-    let level = Level {
-        shape: *top,
-        is_dead: operands.is_dead(),
-        base: operands.base(),
+    let frame = OuterFrame {
+        frame: *top,
+        unreachable: operands.is_unreachable(),
+        height: operands.base(),
     };
-    outer.push(level)?;
+    outer.push(frame)?;
     Ok(())
 }
 
 /// Opens a frame.
 #[inline(always)]
 #[tactic(auto, using(crate::proofs::Cuts::opened_frames, crate::proofs::Cuts::opened_under))]
-pub(crate) fn open_level(
+pub(crate) fn open_frame(
     control: &mut Control,
-    is_then: bool,
-    is_loop: bool,
+    opener: Opener,
     params: TypeList,
     results: TypeList,
 ) -> Result<bool, AllocError>
-    ensures frames { IfOk result (λ yes. open_frame is_then (cond is_loop (reverse (list_of control.old.operands.types params)) (reverse (list_of control.old.operands.types results))) record { params = list_of control.old.operands.types params; results = list_of control.old.operands.types results } (frame_of control.old.operands.types control.old.top control.old.operands.above) (cut control.old.operands.types (reverse control.old.outer) control.old.operands.below) control.old.operands.above ≡ when yes (Some (inner_of control.new))) }
+    ensures frames { IfOk result (λ yes. opened opener params results control.old ≡ when yes (Some (inner_of control.new))) }
     ensures open { IfOk result (λ yes. control.new.is_open ≡ control.old.is_open) }
     ensures tight { IsTight control.old → IsTight control.new }
     ensures types { control.new.operands.types ≡ control.old.operands.types }
@@ -59,48 +63,49 @@ pub(crate) fn open_level(
     if !control.operands.take_all(params) {
         return Ok(false);
     }
-    push_level(&mut control.outer, &control.top, &control.operands)?;
+    push_outer(&mut control.outer, &control.top, &control.operands)?;
     control.operands.open();
     control.operands.put(params)?;
-    control.top = Shape {
-        is_then,
-        is_loop,
-        starts: params,
-        gives: results,
+    control.top = ControlFrame {
+        is_if: opener.is_if(),
+        is_loop: opener.is_loop(),
+        start_types: params,
+        end_types: results,
     };
     Ok(true)
 }
 
 /// Goes on from the first branch of an if to the second.
 pub(crate) fn other_branch(control: &mut Control) -> Result<bool, AllocError>
-    ensures frames { IfOk result (λ yes. when control.old.top.is_then (when (ends_with (reverse (list_of control.old.operands.types control.old.top.gives)) control.old.operands.above) (Some (record (frame_of control.old.operands.types control.old.top control.old.operands.above) { is_then = false; operands = fresh (reverse (list_of control.old.operands.types control.old.top.starts)) } ∷ cut control.old.operands.types (reverse control.old.outer) control.old.operands.below))) ≡ when yes (Some (inner_of control.new))) }
+    ensures frames { IfOk result (λ yes.
+        switched (innermost_of control.old) (outside_of control.old) ≡ when yes (Some (inner_of control.new))) }
     ensures open { IfOk result (λ yes. control.new.is_open ≡ control.old.is_open) }
     ensures tight { IsTight control.old → IsTight control.new }
     ensures types { control.new.operands.types ≡ control.old.operands.types }
 {
-    if !control.top.is_then {
+    if !control.top.is_if {
         return Ok(false);
     }
-    if !control.operands.ends_with(control.top.gives) {
+    if !control.operands.ends_with(control.top.end_types) {
         return Ok(false);
     }
     control.operands.begin_again();
-    control.operands.put(control.top.starts)?;
-    control.top.is_then = false;
+    control.operands.put(control.top.start_types)?;
+    control.top.is_if = false;
     Ok(true)
 }
 
-/// Goes back to the frame outside the innermost one, and leaves there what this one gives.
+/// Pops the innermost frame, whose end types go to `outer`, the frame outside it.
 #[inline(always)]
-fn go_back(control: &mut Control, level: Level) -> Result<(), AllocError>
-    ensures frames { IfOk result (λ _. inner_of control.new ≡ pass_on (reverse (list_of control.old.operands.types control.old.top.gives)) (cut control.old.operands.types (level ∷ reverse control.old.outer) control.old.operands.below)) }
-    ensures tight { under_all (level ∷ reverse control.old.outer) control.old.operands.below ≡ [] → IsTight control.new }
+fn go_back(control: &mut Control, outer: OuterFrame) -> Result<(), AllocError>
+    ensures frames { IfOk result (λ _. inner_of control.new ≡ gone_back outer control.old) }
+    ensures tight { under_all (outer ∷ reverse control.old.outer) control.old.operands.below ≡ [] → IsTight control.new }
     ensures open { control.new.is_open ≡ control.old.is_open }
     ensures types { control.new.operands.types ≡ control.old.operands.types }
 {
-    control.operands.close(level.base, level.is_dead);
-    control.operands.put(control.top.gives)?;
-    control.top = level.shape;
+    control.operands.close(outer.height, outer.unreachable);
+    control.operands.put(control.top.end_types)?;
+    control.top = outer.frame;
     Ok(())
 }
 
@@ -111,10 +116,11 @@ fn leave_far(control: &mut Control) -> Result<bool, AllocError>
     requires { control.old.is_open ≡ true }
     ensures tight { IsTight control.old → IsTight control.new }
     ensures types { control.new.operands.types ≡ control.old.operands.types }
-    ensures frames { IfOk result (λ yes. Some (pass_on (reverse (list_of control.old.operands.types control.old.top.gives)) (cut control.old.operands.types (reverse control.old.outer) control.old.operands.below)) ≡ when yes (Some (frames_of control.new))) }
+    ensures frames { IfOk result (λ yes.
+        Some (pass_on (innermost_of control.old).gives (outside_of control.old)) ≡ when yes (Some (frames_of control.new))) }
 {
     match control.outer.pop() {
-        Some(level) => go_back(control, level)?,
+        Some(outer) => go_back(control, outer)?,
         None => control.is_open = false,
     }
     Ok(true)
@@ -123,24 +129,25 @@ fn leave_far(control: &mut Control) -> Result<bool, AllocError>
 /// Closes the innermost frame.
 #[inline(always)]
 #[tactic(auto, using(crate::proofs::Cuts::closed_under, crate::proofs::Behind::reversed_last))]
-pub(crate) fn close_level(control: &mut Control) -> Result<bool, AllocError>
+pub(crate) fn close_frame(control: &mut Control) -> Result<bool, AllocError>
     requires { control.old.is_open ≡ true }
     ensures tight { IsTight control.old → IsTight control.new }
     ensures types { control.new.operands.types ≡ control.old.operands.types }
-    ensures frames { IfOk result (λ yes. when (ends_with (reverse (list_of control.old.operands.types control.old.top.gives)) control.old.operands.above) (when (may_lack_else (frame_of control.old.operands.types control.old.top control.old.operands.above)) (Some (pass_on (reverse (list_of control.old.operands.types control.old.top.gives)) (cut control.old.operands.types (reverse control.old.outer) control.old.operands.below)))) ≡ when yes (Some (frames_of control.new))) }
+    ensures frames { IfOk result (λ yes.
+        closed (innermost_of control.old) (outside_of control.old) ≡ when yes (Some (frames_of control.new))) }
 {
-    if !control.operands.ends_with(control.top.gives) {
+    if !control.operands.ends_with(control.top.end_types) {
         return Ok(false);
     }
-    if control.top.is_then {
+    if control.top.is_if {
         control.operands.begin_again();
-        control.operands.put(control.top.starts)?;
-        if !control.operands.ends_with(control.top.gives) {
+        control.operands.put(control.top.start_types)?;
+        if !control.operands.ends_with(control.top.end_types) {
             return Ok(false);
         }
     }
     match control.outer.pop_near() {
-        Some(level) => go_back(control, level)?,
+        Some(outer) => go_back(control, outer)?,
         None => return leave_far(control),
     }
     Ok(true)
@@ -157,7 +164,9 @@ fn act(
 ) -> Result<bool, AllocError>
     requires open { control.old.is_open ≡ true }
     requires types { control.old.operands.types ≡ scope.now.context.now.context.types }
-    ensures frames { IfOk result (λ yes. (i : Op) → seen targets.now token ≡ Do i → step (scope_context scope.now) (seen targets.now token) (frames_of control.old) ≡ when yes (Some (frames_of control.new))) }
+    ensures frames { IfOk result (λ yes. (i : Op) → seen targets.now token ≡ Do i →
+        step (scope_context scope.now) (seen targets.now token) (frames_of control.old)
+        ≡ when yes (Some (frames_of control.new))) }
     ensures tight { IsTight control.old → IsTight control.new }
     ensures types { control.new.operands.types ≡ control.old.operands.types }
 {
@@ -188,7 +197,8 @@ fn is_far(scope: &Scope, token: Token) -> bool {
 pub(crate) fn step_known(scope: &Scope, control: &mut Control, token: Token) -> bool
     requires open { control.old.is_open ≡ true }
     requires types { control.old.operands.types ≡ scope.now.context.now.context.types }
-    ensures frames { result ≡ true → step (scope_context scope.now) (seen [] token) (frames_of control.old) ≡ Some (frames_of control.new) }
+    ensures frames { result ≡ true →
+        step (scope_context scope.now) (seen [] token) (frames_of control.old) ≡ Some (frames_of control.new) }
     ensures others { result ≡ false → frames_of control.new ≡ frames_of control.old }
     ensures tight { IsTight control.old → IsTight control.new }
     ensures types { control.new.operands.types ≡ control.old.operands.types }
@@ -211,7 +221,9 @@ pub(crate) fn step_control(
     token: Token,
 ) -> Result<bool, AllocError>
     requires { control.old.operands.types ≡ scope.now.context.now.context.types }
-    ensures frames { IfOk result (λ yes. step (scope_context scope.now) (seen targets.now token) (frames_of control.old) ≡ when yes (Some (frames_of control.new))) }
+    ensures frames { IfOk result (λ yes.
+        step (scope_context scope.now) (seen targets.now token) (frames_of control.old)
+        ≡ when yes (Some (frames_of control.new))) }
     ensures tight { IsTight control.old → IsTight control.new }
     ensures types { control.new.operands.types ≡ control.old.operands.types }
 {
@@ -220,19 +232,27 @@ pub(crate) fn step_control(
     }
     match token {
         Token::Block(block) => match block_signature(scope.context, block) {
-            Some(ListPair { params, results }) => open_level(
-                control, false, false, params, results,
+            Some(ListPair { params, results }) => open_frame(
+                control,
+                Opener::Block,
+                params,
+                results,
             ),
             None => Ok(false),
         },
         Token::Loop(block) => match block_signature(scope.context, block) {
-            Some(ListPair { params, results }) => open_level(control, false, true, params, results),
+            Some(ListPair { params, results }) => open_frame(
+                control,
+                Opener::Loop,
+                params,
+                results,
+            ),
             None => Ok(false),
         },
         Token::If(block) => match block_signature(scope.context, block) {
             Some(ListPair { params, results }) => {
                 if control.operands.take_one(ValType::I32) {
-                    open_level(control, true, false, params, results)
+                    open_frame(control, Opener::If, params, results)
                 } else {
                     Ok(false)
                 }
@@ -240,7 +260,7 @@ pub(crate) fn step_control(
             None => Ok(false),
         },
         Token::Else => other_branch(control),
-        Token::End => close_level(control),
+        Token::End => close_frame(control),
         _ => act(scope, targets, control, token),
     }
 }

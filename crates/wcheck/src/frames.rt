@@ -1,51 +1,54 @@
-ghost use Rattle.std.specs.Prelude.{◌≡◌, ◌+◌, ◌≤◌, List, [], ◌∷◌, ◌++◌, Bool, true, false, cond, Option, MatchOption, IfOk, reverse, map, length, slice_get, take, drop};
+ghost use Rattle.std.specs.Prelude.{◌≡◌, List, MatchOption, length, reverse, slice_get};
 ghost use Rattle.wsyntax.specs.Types.{FuncType, same_types};
-ghost use Rattle.wcontext.specs.Lists.{list_of};
+ghost use Rattle.wcontext.specs.Lists.{list_of, front_of};
 ghost use Rattle.wsyntax.specs.Validation.Algorithm.{all_take};
 ghost use Rattle.wcheck.specs.Views.{label_of, labels_in};
 
-use crate::levels::Levels;
-use crate::operand::is_same;
-use wcontext::{Context, TypeList};
+use crate::outer_frames::OuterFrames;
+use crate::types::is_same;
+use wcontext::{Context, Front, TypeList};
 use wsyntax::ValType;
 
-/// What a frame takes at its beginning, and what it gives.
+/// A control frame (7.3), its operands aside: its opcode, the types that it takes at its start, and those that it leaves at
+/// its end.
 #[derive(Clone, Copy)]
-pub(crate) struct Shape {
-    /// Whether it is an if whose else may still come.
-    pub(crate) is_then: bool,
+pub(crate) struct ControlFrame {
+    /// An `if` whose else may still come.
+    pub(crate) is_if: bool,
     pub(crate) is_loop: bool,
-    pub(crate) starts: TypeList,
-    pub(crate) gives: TypeList,
+    pub(crate) start_types: TypeList,
+    pub(crate) end_types: TypeList,
 }
 
-/// A frame that is not the innermost: where its operands begin, and whether its rest can be reached.
+/// A control frame that is not the innermost one: the height of the operands below it, and whether its rest is unreachable.
 #[derive(Clone, Copy)]
-pub(crate) struct Level {
-    pub(crate) shape: Shape,
-    pub(crate) is_dead: bool,
-    pub(crate) base: usize,
+pub(crate) struct OuterFrame {
+    pub(crate) frame: ControlFrame,
+    pub(crate) unreachable: bool,
+    pub(crate) height: usize,
 }
 
 /// What a branch to this frame takes.
 #[inline]
-pub(crate) fn label(shape: Shape) -> TypeList
-    ensures { (types : List FuncType) → reverse (list_of types result) ≡ label_of types shape }
+pub(crate) fn label(frame: ControlFrame) -> TypeList
+    ensures { (types : List FuncType) → reverse (list_of types result) ≡ label_of types frame }
 {
-    if shape.is_loop {
-        shape.starts
+    if frame.is_loop {
+        frame.start_types
     } else {
-        shape.gives
+        frame.end_types
     }
 }
 
 /// What a branch to this label takes.
 #[inline]
-pub(crate) fn label_at(shape: Shape, outer: &Levels, l: u32) -> Option<TypeList>
-    ensures { (types : List FuncType) → MatchOption result (slice_get (labels_in types shape outer.now) l ≡ None) (λ r. slice_get (labels_in types shape outer.now) l ≡ Some (reverse (list_of types r))) }
+pub(crate) fn label_at(frame: ControlFrame, outer: &OuterFrames, l: u32) -> Option<TypeList>
+    ensures { (types : List FuncType) → MatchOption result
+        (slice_get (labels_in types frame outer.now) l ≡ None)
+        (λ r. slice_get (labels_in types frame outer.now) l ≡ Some (reverse (list_of types r))) }
 {
     if l == 0 {
-        return Some(label(shape));
+        return Some(label(frame));
     }
     outer.label(l as usize)
 }
@@ -67,29 +70,56 @@ fn are_same(a: &[ValType], b: &[ValType]) -> bool
     true
 }
 
+/// All of a list.
+#[inline]
+fn whole(context: &Context, list: TypeList) -> Front
+    ensures types { front_of context.now.context.types result ≡ list_of context.now.context.types list }
+    ensures count { result.count ≡ length (list_of context.now.context.types list) }
+{
+    Front {
+        list,
+        count: context.list(list).len() as u32,
+    }
+}
+
+/// Up to so many types are compared one by one, which takes no longer than to ask for them.
+const FEW: usize = 8;
+
+/// Whether two lists of types are the same, which is mostly known without comparing them.
 #[tactic(auto, using(crate::proofs::Taking::same_place))]
-/// Whether two lists of types are the same, which needs no look at them where they stand at one place.
 pub(crate) fn are_same_lists(context: &Context, a: TypeList, b: TypeList) -> bool
     ensures { result ≡ same_types (reverse (list_of context.now.context.types a)) (reverse (list_of context.now.context.types b)) }
 {
     if a.is_at(b) {
         return true;
     }
-    are_same(context.list(a), context.list(b))
+    let types = context.list(a);
+    let others = context.list(b);
+    if types.len() > FEW {
+        let one = whole(context, a);
+        let other = whole(context, b);
+        if one.count == other.count && context.is_end(one, other) {
+            return true;
+        }
+    }
+    are_same(types, others)
 }
 
 /// Whether all these labels take the types of a list.
 pub(crate) fn all_labels_take(
     context: &Context,
-    shape: Shape,
-    outer: &Levels,
+    frame: ControlFrame,
+    outer: &OuterFrames,
     r: TypeList,
     ls: &[u32],
 ) -> bool
-    ensures { result ≡ all_take (labels_in context.now.context.types shape outer.now) (reverse (list_of context.now.context.types r)) ls.now }
+    ensures { result ≡ all_take
+        (labels_in context.now.context.types frame outer.now)
+        (reverse (list_of context.now.context.types r))
+        ls.now }
 {
     for l in ls {
-        let Some(s) = label_at(shape, outer, *l) else {
+        let Some(s) = label_at(frame, outer, *l) else {
             return false;
         };
         if !are_same_lists(context, s, r) {

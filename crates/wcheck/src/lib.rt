@@ -1,4 +1,5 @@
-//! The typing of function bodies (Core 1.0, 3.3 and 3.4.1), and the side table that a checked body carries.
+//! The typing of function bodies (Core 1.0, 3.3 and 3.4.1): the checker, a token at a time (7.3), and the check of a whole body,
+//! which joins it to the maker of the side table (`side_table`).
 #![tactic(auto)]
 
 mod apply;
@@ -6,20 +7,17 @@ mod body;
 mod building;
 mod check;
 mod checker;
-mod compared;
 mod control;
+mod entry;
 mod frames;
-mod laws;
-mod levels;
 mod locals;
-mod operand;
-mod operands;
+mod operand_rules;
+mod operand_stack;
+mod outer_frames;
 mod packed;
-mod parts;
-mod periods;
 mod rule;
 mod scope;
-mod table;
+mod types;
 
 pub use check::{CheckFault, check_body};
 pub use checked::CheckedBody;

@@ -2,7 +2,7 @@ ghost use Rattle.std.specs.Prelude.{◌≡◌, ◌+◌, ◌<◌, min, List, [], 
 ghost use Rattle.wsyntax.specs.Validation.ModuleContext.{declared};
 ghost use Rattle.wcheck.specs.LocalRuns.{run_of, AreEnds, AreFirst};
 
-use crate::operand::first_of;
+use crate::types::first_of;
 use std::alloc::{AllocError, Global};
 use std::marker::Model;
 use wsyntax::{LocalRun, ValType};

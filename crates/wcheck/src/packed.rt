@@ -1,7 +1,7 @@
 ghost use Rattle.std.specs.Prelude.{◌≡◌, ◌+◌, ◌*◌, ◌%◌, ◌<◌, ◌==◌, IfSome};
-ghost use Rattle.wcheck.specs.Packed.{list_from, is_loop, is_then, is_dead};
+ghost use Rattle.wcheck.specs.Packed.{list_from, is_loop, is_if, unreachable};
 
-use crate::frames::{Level, Shape};
+use crate::frames::{ControlFrame, OuterFrame};
 use std::marker::Model;
 use std::mem::size_of;
 use wcontext::TypeList;
@@ -19,40 +19,49 @@ const FIRST_PARAMS: u32 = 5;
 /// The number of the first function type's results.
 const FIRST_RESULTS: u32 = 8_388_608;
 
-/// How many upper parts a height may have, of 13 bits. The marks of a level stand above them.
+/// How many upper parts a height may have, of 13 bits. The marks of a frame stand above them.
 const UPPER_PARTS: u16 = 8_192;
 
 /// The mark of a loop.
 const LOOP: u16 = 8_192;
 
 /// The mark of an if whose else may still come.
-const THEN: u16 = 16_384;
+const IF: u16 = 16_384;
 
-/// The mark of a level whose rest cannot be reached.
-const DEAD: u16 = 32_768;
+/// The mark of a frame whose rest cannot be reached.
+const UNREACHABLE: u16 = 32_768;
 
-/// A level in 12 bytes in place of 32: each list of types is one number, and each number is in parts, the lower first.
+/// An outer frame in 12 bytes in place of 32: each list of types is one number, and each number is in parts, the lower first.
 #[derive(Drop)]
-pub(crate) struct PackedLevel {
-    base: u32,
-    /// The upper part of the base, and above it the marks.
+pub(crate) struct PackedFrame {
+    height: u32,
+    /// The upper part of the height, and above it the marks.
     top: u16,
-    starts_at: u16,
-    gives_at: u16,
-    starts_above: u8,
-    gives_above: u8,
+    start_types_at: u16,
+    end_types_at: u16,
+    start_types_above: u8,
+    end_types_above: u8,
 }
 
-const _: () = prove!(size_of::<PackedLevel>() == 12);
+const _: () = prove!(size_of::<PackedFrame>() == 12);
 
-impl Model for PackedLevel {
+impl Model for PackedFrame {
     ghost use Rattle.std.specs.Prelude.{◌+◌, ◌*◌};
-    ghost use Rattle.wcheck.specs.declared.frames.Level.{Level};
-    ghost use Rattle.wcheck.specs.Packed.{list_from, height_from, is_loop, is_then, is_dead};
+    ghost use Rattle.wcheck.specs.declared.frames.OuterFrame.{OuterFrame};
+    ghost use Rattle.wcheck.specs.Packed.{list_from, height_from, is_loop, is_if, unreachable};
 
-    ghost Value = { Level };
+    ghost Value = { OuterFrame };
 
-    ghost view = { λ p. record { shape = record { is_then = is_then p.top; is_loop = is_loop p.top; starts = list_from (p.starts_at + 65536 * p.starts_above); gives = list_from (p.gives_at + 65536 * p.gives_above) }; is_dead = is_dead p.top; base = height_from p.base p.top } };
+    ghost view = { λ p. record {
+      frame = record {
+        is_if = is_if p.top;
+        is_loop = is_loop p.top;
+        start_types = list_from (p.start_types_at + 65536 * p.start_types_above);
+        end_types = list_from (p.end_types_at + 65536 * p.end_types_above);
+      };
+      unreachable = unreachable p.top;
+      height = height_from p.height p.top;
+    } };
 }
 
 /// The number of a list. `None`: the index of its function type is too great.
@@ -119,57 +128,57 @@ fn bit(is_set: bool) -> u16
     if is_set { 1 } else { 0 }
 }
 
-/// The upper part of a level's base, and above it the marks.
-fn top_of(above: u16, level: Level) -> u16
+/// The upper part of a frame's height, and above it the marks.
+fn top_of(above: u16, outer: OuterFrame) -> u16
     requires { above < 8192 }
     ensures above { result % 8192 ≡ above }
-    ensures is_loop { is_loop result ≡ level.shape.is_loop }
-    ensures is_then { is_then result ≡ level.shape.is_then }
-    ensures is_dead { is_dead result ≡ level.is_dead }
+    ensures is_loop { is_loop result ≡ outer.frame.is_loop }
+    ensures is_if { is_if result ≡ outer.frame.is_if }
+    ensures unreachable { unreachable result ≡ outer.unreachable }
 {
     above
-        + LOOP * bit(level.shape.is_loop)
-        + THEN * bit(level.shape.is_then)
-        + DEAD * bit(level.is_dead)
+        + LOOP * bit(outer.frame.is_loop)
+        + IF * bit(outer.frame.is_if)
+        + UNREACHABLE * bit(outer.unreachable)
 }
 
-impl PackedLevel {
-    /// The level in few bytes. `None`: a number of it is too great for them, as in no module of the greatest length. A function
+impl PackedFrame {
+    /// The frame in few bytes. `None`: a number of it is too great for them, as in no module of the greatest length. A function
     /// type takes three bytes at least, so there are fewer than 5,600,000; and a height is below 2^45, since 8,388,608 results
     /// of one type and 4,194,304 calls, of two bytes each, leave no byte for anything else.
-    pub(crate) fn of(level: Level) -> Option<PackedLevel>
-        ensures { IfSome result (λ p. p ≡ level) }
+    pub(crate) fn of(outer: OuterFrame) -> Option<PackedFrame>
+        ensures { IfSome result (λ p. p ≡ outer) }
     {
-        let (starts_at, starts_above) = parts_of(level.shape.starts)?;
-        let (gives_at, gives_above) = parts_of(level.shape.gives)?;
-        let above = u16::try_from(level.base / U32_NUMBERS).ok()?;
+        let (start_types_at, start_types_above) = parts_of(outer.frame.start_types)?;
+        let (end_types_at, end_types_above) = parts_of(outer.frame.end_types)?;
+        let above = u16::try_from(outer.height / U32_NUMBERS).ok()?;
         if above >= UPPER_PARTS {
             return None;
         }
-        Some(PackedLevel {
-            base: (level.base % U32_NUMBERS) as u32,
-            top: top_of(above, level),
-            starts_at,
-            gives_at,
-            starts_above,
-            gives_above,
+        Some(PackedFrame {
+            height: (outer.height % U32_NUMBERS) as u32,
+            top: top_of(above, outer),
+            start_types_at,
+            end_types_at,
+            start_types_above,
+            end_types_above,
         })
     }
 
-    /// The level as it was.
-    pub(crate) fn level(&self) -> Level
+    /// The frame as it was.
+    pub(crate) fn unpacked(&self) -> OuterFrame
         ensures { result ≡ self.now }
     {
-        let shape = Shape {
-            is_then: self.top / THEN % 2 == 1,
+        let frame = ControlFrame {
+            is_if: self.top / IF % 2 == 1,
             is_loop: self.top / LOOP % 2 == 1,
-            starts: list_of_parts(self.starts_at, self.starts_above),
-            gives: list_of_parts(self.gives_at, self.gives_above),
+            start_types: list_of_parts(self.start_types_at, self.start_types_above),
+            end_types: list_of_parts(self.end_types_at, self.end_types_above),
         };
-        Level {
-            shape,
-            is_dead: self.top / DEAD == 1,
-            base: self.base as usize + U32_NUMBERS * (self.top % UPPER_PARTS) as usize,
+        OuterFrame {
+            frame,
+            unreachable: self.top / UNREACHABLE == 1,
+            height: self.height as usize + U32_NUMBERS * (self.top % UPPER_PARTS) as usize,
         }
     }
 }

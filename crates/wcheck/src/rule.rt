@@ -1,4 +1,5 @@
-ghost use Rattle.std.specs.Prelude.{◌≡◌, ◌+◌, ◌<◌, ◌^◌, ℕ, length, nat_le, List, [], ◌∷◌, Option, reverse, slice_range, slice_index_or, option_map};
+ghost use Rattle.std.specs.Prelude.{◌≡◌, ◌+◌, ◌<◌, ◌^◌, ℕ, List, length, nat_le, reverse};
+ghost use Rattle.std.specs.Prelude.{slice_range, slice_index_or, option_map};
 ghost use Rattle.wsyntax.specs.Types.{FuncType};
 ghost use Rattle.wsyntax.specs.Table.{num_op, load_access, store_access};
 ghost use Rattle.wsyntax.specs.Instructions.{MemoryLoad, MemoryStore};
@@ -8,8 +9,8 @@ ghost use Rattle.wsyntax.specs.Validation.Algorithm.{rule, Takes};
 ghost use Rattle.wcheck.specs.Views.{context_at, token_rule};
 ghost use Rattle.wcheck.specs.OperandRules.{rule_of};
 
-use crate::frames::{Shape, all_labels_take, label_at};
-use crate::levels::Levels;
+use crate::frames::{ControlFrame, all_labels_take, label_at};
+use crate::outer_frames::OuterFrames;
 use crate::scope::Scope;
 use wcontext::{Context, ListPair, TypeList};
 use wsyntax::{AccessRow, Arity, Load, Operator, OperatorRow, Store, Token, ValType};
@@ -67,7 +68,8 @@ fn is_aligned(align: u32, natural: u32) -> bool
 /// A load whose alignment is at most its width, where there is a memory.
 #[inline(always)]
 fn load_rule(context: &Context, load: Load, align: u32) -> Option<OperandRule>
-    ensures { (offset : ℕ) → option_map (rule_of context.now.context.types) result ≡ rule context.now.context (MemoryLoad (load_access load align offset)) }
+    ensures { (offset : ℕ) → option_map (rule_of context.now.context.types) result
+        ≡ rule context.now.context (MemoryLoad (load_access load align offset)) }
 {
     let AccessRow { of_type, natural } = load.row();
     if !context.has_memory() {
@@ -82,7 +84,8 @@ fn load_rule(context: &Context, load: Load, align: u32) -> Option<OperandRule>
 /// A store whose alignment is at most its width, where there is a memory.
 #[inline(always)]
 fn store_rule(context: &Context, store: Store, align: u32) -> Option<OperandRule>
-    ensures { (offset : ℕ) → option_map (rule_of context.now.context.types) result ≡ rule context.now.context (MemoryStore (store_access store align offset)) }
+    ensures { (offset : ℕ) → option_map (rule_of context.now.context.types) result
+        ≡ rule context.now.context (MemoryStore (store_access store align offset)) }
 {
     let AccessRow { of_type, natural } = store.row();
     if !context.has_memory() {
@@ -128,12 +131,13 @@ pub(crate) fn table_default(targets: &[u32], first: usize, count: u32) -> u32
 #[inline(always)]
 pub(crate) fn rule_of_token(
     scope: &Scope,
-    shape: Shape,
-    outer: &Levels,
+    frame: ControlFrame,
+    outer: &OuterFrames,
     targets: &[u32],
     token: Token,
 ) -> Option<OperandRule>
-    ensures { option_map (rule_of scope.now.context.now.context.types) result ≡ token_rule (context_at scope.now shape outer.now) (seen targets.now token) }
+    ensures { option_map (rule_of scope.now.context.now.context.types) result
+        ≡ token_rule (context_at scope.now frame outer.now) (seen targets.now token) }
 {
     let context = scope.context;
     match token {
@@ -143,14 +147,14 @@ pub(crate) fn rule_of_token(
         }),
         Token::Nop => Some(OperandRule::Nothing),
         Token::Br(l) => {
-            let takes = label_at(shape, outer, l)?;
+            let takes = label_at(frame, outer, l)?;
             Some(OperandRule::Ends {
                 has_index: false,
                 takes,
             })
         }
         Token::BrIf(l) => {
-            let takes = label_at(shape, outer, l)?;
+            let takes = label_at(frame, outer, l)?;
             Some(OperandRule::Moves {
                 has_index: true,
                 takes,
@@ -158,10 +162,10 @@ pub(crate) fn rule_of_token(
             })
         }
         Token::BrTable { count, first } => {
-            let takes = label_at(shape, outer, table_default(targets, first, count))?;
+            let takes = label_at(frame, outer, table_default(targets, first, count))?;
             if !all_labels_take(
                 context,
-                shape,
+                frame,
                 outer,
                 takes,
                 table_labels(targets, first, count),

@@ -2,6 +2,9 @@ pub mod Shapes
 pub mod Constants
 pub mod Counted
 pub mod Distinct
-pub mod FirstPlaces
 pub mod Made
 pub mod Kept
+pub mod EndsOfLists
+pub mod Tries
+pub mod Walks
+pub mod Gathering

@@ -1,7 +1,8 @@
 -- What callers see of a context.
-use Rattle.std.specs.Prelude.{◌<◌, ◌≤◌, [], None, length, map, All}
+use Rattle.std.specs.Prelude.{◌<◌, ◌≤◌, [], None, length, map, IfSome}
+use Rattle.std.specs.List.{All}
 use Rattle.wsyntax.specs.Validation.ModuleContext.{IndexedContext, type_at}
-use Rattle.wcontext.specs.Lists.{ArePlaces}
+use Rattle.wcontext.specs.EndTree.{IsEndTree}
 use Rattle.wcontext.specs.declared.context.Context.TheInside.{Inside}
 
 -- what callers see
@@ -21,8 +22,8 @@ indexed a = record {
   imported = a.imported;
 }
 
--- the places are right, each function has a type, the imported ones are among them
+-- the tree is one of the types, each function has a type, the imported ones are among them
 pub record IsHeld (a : Inside) : Type 0 where
-  pub places : ArePlaces a.types a.places.items
+  pub ends : IfSome a.ends (IsEndTree a.types)
   pub typed : All (λ y. y < length a.types) a.functions.items
   pub imported : a.imported ≤ length a.functions.items

@@ -4,3 +4,6 @@ pub mod Constants
 pub mod Spaces
 pub mod Segments
 pub mod Counted
+pub mod Trie
+pub mod Walk
+pub mod EndTree

@@ -1,7 +1,7 @@
 -- 3.4.4 and 3.4.5 Globals and element segments that are valid, by the numbers of items and the imported globals.
 use Rattle.std.specs.Prelude.{ℕ, ◌<◌, List, All}
 use Rattle.wsyntax.specs.HeldElement.{HeldElement}
-use Rattle.wsyntax.specs.Modules.{initial_tokens, place_index, place_tokens}
+use Rattle.wsyntax.specs.Modules.{initial_tokens}
 use Rattle.wsyntax.specs.Validation.Rules.{ConstantOf}
 use Rattle.wsyntax.specs.declared.ValType.TheVariants.{I32}
 use Rattle.wsyntax.specs.declared.GlobalType.{GlobalType}
@@ -14,4 +14,4 @@ IsGlobalConstant globals g = ConstantOf globals g.content.content (initial_token
 -- 3.4.5 where so many tables and functions exist
 abbrev pub IsElementValid : ℕ → ℕ → List GlobalType → HeldElement → Type 0
 IsElementValid tables functions globals s =
-    (place_index s.place < tables) × ConstantOf globals I32 (place_tokens s.place) × All (λ f. f < functions) s.functions
+    (s.table < tables) × ConstantOf globals I32 (initial_tokens s.offset) × All (λ f. f < functions) s.functions

@@ -64,7 +64,8 @@ pub fn check_early(alloc: Global, module: &Module<'_>) -> Result<(Context, Count
     ensures context { IfOk result (λ x. x.0 ≡ indexed_context (module_shape «module».now)) }
     ensures counts { IfOk result (λ x. AreCountsOf (module_shape «module».now) x.1) }
     ensures valid { OnOk result ((k : ℕ) → k < 9 → Keeps (module_shape «module».now) k) }
-    ensures broken { IfErr result (λ e. (k : ℕ) → e ≡ ModuleFault.Rule k → (k < 9) × LeastBroken (module_shape «module».now) k) }
+    ensures broken { IfErr result (λ e. (k : ℕ) → e ≡ ModuleFault.Rule k →
+        (k < 9) × LeastBroken (module_shape «module».now) k) }
 {
     let spaces = Spaces::new(alloc, module)?;
     for rule in 1..LATE {
@@ -87,7 +88,8 @@ pub fn check_late<'a>(
     requires counts { AreCountsOf (module_shape «module».now) counts.now }
     requires early { (k : ℕ) → k < 9 → Keeps (module_shape «module».now) k }
     ensures valid { OnOk result ((k : ℕ) → k < 13 → Keeps (module_shape «module».now) k) }
-    ensures broken { IfErr result (λ e. (k : ℕ) → e ≡ ModuleFault.Rule k → (k < 13) × LeastBroken (module_shape «module».now) k) }
+    ensures broken { IfErr result (λ e. (k : ℕ) → e ≡ ModuleFault.Rule k →
+        (k < 13) × LeastBroken (module_shape «module».now) k) }
 {
     for rule in LATE..SEGMENTS_RULE {
         if !keeps_late(names, module, counts, rule)? {

@@ -1,10 +1,10 @@
 ghost use Rattle.std.specs.Prelude.{◌≡◌, ◌↔◌, IsTrue, All, Some, option_and_then};
-ghost use Rattle.wsyntax.specs.Modules.{initial_tokens, place_tokens};
+ghost use Rattle.wsyntax.specs.Modules.{initial_tokens};
 ghost use Rattle.wsyntax.specs.Validation.Rules.{ConstantOf};
 ghost use Rattle.wcontext.specs.Segments.{IsGlobalConstant};
 ghost use Rattle.wcontext.specs.Constants.{constant_type};
 
-use wsyntax::{Global, GlobalType, Initial, Place, Token, ValType};
+use wsyntax::{Global, GlobalType, Initial, Token, ValType};
 
 /// The type of the value that an instruction of a constant expression leaves (3.3.7.2), under these imported globals.
 fn constant_type(token: &Token, globals: &[GlobalType]) -> Option<ValType>
@@ -44,12 +44,12 @@ fn is_constant(initial: &Initial, of_type: ValType, globals: &[GlobalType]) -> b
 /// Whether the offset of a segment is a constant expression of type i32 (3.3.7.2), under these imported globals.
 /// A constant i32, as nearly each offset is, is one in place.
 #[inline(always)]
-pub fn is_offset(place: &Place, globals: &[GlobalType]) -> bool
-    ensures { IsTrue result ↔ ConstantOf globals.now ValType.I32 (place_tokens place.now) }
+pub fn is_offset(offset: &Initial, globals: &[GlobalType]) -> bool
+    ensures { IsTrue result ↔ ConstantOf globals.now ValType.I32 (initial_tokens offset.now) }
 {
-    match place {
-        Place::I32Const { .. } => true,
-        _ => leaves(place.only(), ValType::I32, globals),
+    match offset {
+        Initial::I32Const(_) => true,
+        _ => leaves(offset.only(), ValType::I32, globals),
     }
 }
 

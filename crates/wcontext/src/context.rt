@@ -1,5 +1,5 @@
+use crate::end_tree::EndTree;
 use crate::lists::{ListPair, TypeList, no_types, one_type};
-use crate::places::first_places;
 use crate::spaces::Spaces;
 use std::alloc::{AllocError, Global};
 use std::marker::Model;
@@ -11,8 +11,8 @@ use wsyntax::{FuncType, FuncTypes, GlobalType, Module, ValType};
 #[derive(Debug, Drop)]
 pub struct Context {
     types: FuncTypes,
-    /// Of each function type the first places of its lists; none where no list is long.
-    places: Vec<ListPair>,
+    /// The fronts of the long lists; `None` where no list is long, or where memory for them was refused.
+    pub(crate) ends: Option<EndTree>,
     functions: Vec<u32>,
     imported: usize,
     globals: Vec<GlobalType>,
@@ -52,17 +52,17 @@ impl Context {
         requires functions { FunctionsTyped (module_shape «module».now) }
         ensures { IfOk result (λ c. c ≡ indexed_context (module_shape «module».now)) }
     {
-        let mut context = Context {
-            types: module.types.copy(alloc)?,
-            places: Vec::new(alloc),
+        let types = module.types.copy(alloc)?;
+        let ends = EndTree::new(alloc, &types);
+        Ok(Context {
+            types,
+            ends,
             imported: spaces.imported_functions,
             has_table: !spaces.tables.is_empty(),
             has_memory: !spaces.memories.is_empty(),
             functions: spaces.functions,
             globals: spaces.globals,
-        };
-        context.places = first_places(alloc, &context)?;
-        Ok(context)
+        })
     }
 
     /// The function type of that index, whose lists have fewer than 2^32 types each; `None` where the module has none.
@@ -83,15 +83,11 @@ impl Context {
         self.signature(*type_index)
     }
 
-    /// The two lists of the function type of that index, each by the first place where it stands if it is long; `None`
-    /// where the module has none.
+    /// The two lists of the function type of that index; `None` where the module has none.
     #[inline]
     pub fn lists(&self, type_index: u32) -> Option<ListPair>
         ensures { option_map (pair_type self.now.context.types) result ≡ slice_get self.now.context.types type_index }
     {
-        if let Some(pair) = self.places.get(type_index as usize) {
-            return Some(*pair);
-        }
         if type_index as usize >= self.types.len() {
             return None;
         }
@@ -162,13 +158,6 @@ impl Context {
         ensures { result ≡ self.now.context.has_memory }
     {
         self.has_memory
-    }
-
-    /// How many function types there are.
-    pub(crate) fn type_count(&self) -> usize
-        ensures { result ≡ length self.now.context.types }
-    {
-        self.types.len()
     }
 
     /// How many functions there are, imported ones counted.

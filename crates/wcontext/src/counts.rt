@@ -61,7 +61,7 @@ impl Counts {
     pub fn takes_segment(&self, segment: &Data<'_>) -> bool
         ensures { IsTrue result ↔ IsSegmentValid self.now (data_shape segment.now) }
     {
-        (segment.place.index() as usize) < self.memories
-            && is_offset(&segment.place, &self.constant_globals)
+        (segment.memory as usize) < self.memories
+            && is_offset(&segment.offset, &self.constant_globals)
     }
 }

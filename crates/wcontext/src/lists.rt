@@ -22,6 +22,13 @@ pub struct ListPair {
     pub results: TypeList,
 }
 
+/// The first `count` types of a list.
+#[derive(Clone, Copy, Debug)]
+pub struct Front {
+    pub list: TypeList,
+    pub count: u32,
+}
+
 impl TypeList {
     /// Whether both are the same place, and so the same list. The lists at two places may be the same too.
     #[inline]

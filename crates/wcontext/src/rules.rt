@@ -2,7 +2,9 @@
 //! Rule 1, at most one result a function type, is no longer asked; the others keep their numbers.
 ghost use Rattle.std.specs.Prelude.{◌↔◌, IsTrue, IfOk};
 ghost use Rattle.wsyntax.specs.Modules.{module_shape};
-ghost use Rattle.wsyntax.specs.Validation.Rules.{ImportsTyped, FunctionsTyped, TablesLimited, MemoriesLimited, OneTable, OneMemory, GlobalsConstant, ExportsExist, ExportsDistinct, StartsPlainly, ElementsValid, SegmentsValid};
+ghost use Rattle.wsyntax.specs.Validation.Rules.{ImportsTyped, FunctionsTyped, TablesLimited, MemoriesLimited, OneTable, OneMemory};
+ghost use Rattle.wsyntax.specs.Validation.Rules.{GlobalsConstant, ExportsExist, ExportsDistinct};
+ghost use Rattle.wsyntax.specs.Validation.Rules.{StartsPlainly, ElementsValid, SegmentsValid};
 ghost use Rattle.wcontext.specs.Spaces.{AreSpacesOf};
 ghost use Rattle.wcontext.specs.Counted.{AreCountsOf};
 

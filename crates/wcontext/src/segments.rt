@@ -14,8 +14,8 @@ fn is_element_valid(
 ) -> bool
     ensures { IsTrue result ↔ IsElementValid tables functions globals.now (element_of segment.entry) }
 {
-    (segment.place.index() as usize) < tables
-        && is_offset(segment.place, globals)
+    (segment.table as usize) < tables
+        && is_offset(segment.offset, globals)
         && segment
             .functions
             .iter()

@@ -52,7 +52,7 @@ seen_bracket targets (held.Numeric f) = refl
 open_is : (a c : List Bool) → Some (Some a) ≡ Some (Some c) → a ≡ c
 open_is a c e = cc
 
--- a token behind which blocks stay open, or the expression
+-- a token after which blocks stay open, or the expression
 behind_open : (t : Token) (s now : List Bool) (more : List Bool → Bool) (last : Bool) → nest s t ≡ Some (Some now) → behind (bracket_of t) s more last ≡ more now
 behind_open (Do i) s now more last e = ap more (open_is s now e)
 behind_open (OpenBlock t) s now more last e = ap more (open_is (false ∷ s) now e)

@@ -71,7 +71,7 @@ ends_here last m bytes is = ([], is, tt, refl)
 
 -- ---- from the data segments on
 
--- behind them stand custom sections, which say nothing
+-- after them stand custom sections, which say nothing
 put_customs : (ss : List SectionShape) (m : ModuleShape) → IsOrdered 11 ss → put_all m ss ≡ m
 put_customs [] m ordered = refl
 put_customs (Custom ∷ ss) m ordered = put_customs ss m ordered.1
@@ -135,14 +135,14 @@ whole_made last m whole bytes next e =
 
 -- ---- the section of data segments, read in place
 
--- the bytes from the section of data segments on, behind its id
-abbrev pub behind_id : List ℕ → List ℕ
-behind_id bytes = take (length bytes - 1) (drop 1 bytes)
+-- the bytes from the section of data segments on, after its id
+abbrev pub after_id : List ℕ → List ℕ
+after_id bytes = take (length bytes - 1) (drop 1 bytes)
 
-pub begin : (bytes : List ℕ) → 0 < length bytes → ((id : ℕ) (tail : List ℕ) → bytes ≡ id ∷ tail → id ≡ 11) → bytes ≡ 11 ∷ behind_id bytes
+pub begin : (bytes : List ℕ) → 0 < length bytes → ((id : ℕ) (tail : List ℕ) → bytes ≡ id ∷ tail → id ≡ 11) → bytes ≡ 11 ∷ after_id bytes
 begin [] some next = absurd (omega arith)
 begin (b ∷ bytes) some next =
-    let all : behind_id (b ∷ bytes) ≡ bytes = take_all (length (b ∷ bytes) - 1) bytes (omega arith) in
+    let all : after_id (b ∷ bytes) ≡ bytes = take_all (length (b ∷ bytes) - 1) bytes (omega arith) in
     ap (λ (n : ℕ). n ∷ bytes) (next b bytes refl) ∙ ap (λ (r : List ℕ). 11 ∷ r) (sym all)
 
 segments_read : (rest contents after : List ℕ) (segments : List DataShape) → blob.read rest ≡ Some (contents, after) → whole_at (vector_at data_segment.read) contents ≡ Some segments → section.read (11 ∷ rest) ≡ Some (Segments segments, after)
@@ -175,7 +175,7 @@ no_customs last m rest contents after segments early b w none to ends =
 
 -- ---- the whole
 
--- nothing ends so, where the sections behind the header do not
+-- nothing ends so, where the sections after the header do not
 pub no_shell : (bytes tail : List ℕ) (start : ModuleShape) → strip header bytes ≡ Some tail → start ≡ empty_module → ((to : ModuleShape) → EndsAs 0 start tail to → ⊥) → (m : ModuleShape) → Shell bytes m → ⊥
 no_shell bytes tail start stripped empty none m s = none m (subst (λ (e : ModuleShape). EndsAs 0 e tail m) (sym empty) (shell_ends bytes tail m stripped s))
 
@@ -214,7 +214,7 @@ all_last P (x ∷ xs) n a =
 pub passes_on : {X : Type 0} (P : X → Type 0) (done : List X) (n : X) (old new accepted : Bool) → old ≡ true → (IsTrue accepted ↔ P n) → new ≡ accepted → (IsTrue old ↔ All P done) → IsTrue new ↔ All P (done ++ n ∷ [])
 passes_on P done n old new accepted passed one is so_far = (λ t. All-push P done n (so_far.0 passed) (one.0 (sym is ∙ t)), λ a. is ∙ one.1 (all_last P done n a).1)
 
--- one behind another that is not accepted
+-- one after another that is not accepted
 pub passes_no_more : {X : Type 0} (P : X → Type 0) (done : List X) (n : X) (old new : Bool) → old ≡ false → new ≡ false → (IsTrue old ↔ All P done) → IsTrue new ↔ All P (done ++ n ∷ [])
 passes_no_more P done n old new failed is so_far = (there, back)
   where

@@ -16,7 +16,6 @@ pub mod Closed
 pub mod ClosedTrees
 pub mod BranchTables
 pub mod OneLoop
-pub mod OnePush
 pub mod OneRead
 pub mod Initials
 pub mod Segments

@@ -1,18 +1,18 @@
 -- One loop that reads an expression token by token, and may do more with each: what it keeps, how it goes on, and what it has at the end.
 use Rattle.std.specs.Prelude.{IsTrue}
 use Rattle.std.specs.List.{list_all}
-use Rattle.std.proofs.Common.{◌≡◌, ℕ, suc, ◌+◌, ◌-◌, ◌≤◌, Bool, true, false, cond, List, [], ◌∷◌, ◌++◌, length, map, Some, None, sym, ap, subst, ◌∙◌, append_assoc, arith}
+use Rattle.std.proofs.Common.{◌≡◌, ℕ, suc, ◌+◌, ◌-◌, ◌≤◌, Bool, true, false, cond, List, [], ◌∷◌, ◌++◌, length, map, Some, None, refl, sym, ap, subst, ◌∙◌, append_assoc, arith}
 use Rattle.std.proofs.lemmas.List.{map_push, append-nil, length-append}
 use Rattle.wsyntax.specs.declared.instructions.Token.{Token as Held}
 use Rattle.wsyntax.specs.Brackets.{closes, lies_within}
 use Rattle.wsyntax.specs.Instructions.{Token}
 use Rattle.wsyntax.specs.Modules.{seen}
 use Rattle.wsyntax.specs.Binary.Nesting.{token_at, nest, tokens_at, expression}
-use Rattle.wdecode.specs.Gives.{GivesToken}
+use Rattle.wdecode.specs.Gives.{GivesToken, ReadsPlain}
 use Rattle.wdecode.proofs.Trees.{push, Tokens}
 use Rattle.wdecode.proofs.FlatLoop.{token_shorter, goes_on, comes_to_end}
 use Rattle.wdecode.specs.BranchTables.{Follows, FollowAll}
-use Rattle.wdecode.proofs.BranchTables.{follows_next}
+use Rattle.wdecode.proofs.BranchTables.{follows_next, no_table}
 use Rattle.wdecode.proofs.Closed.{Leaves, leaves_next, leaves_none, within_next}
 
 -- Of the bytes of an expression these tokens were read, with these targets; s is open, from the innermost block on, and the rest is to be read.
@@ -62,6 +62,16 @@ pub continues : (bytes : List ℕ) (tokens pushed : List Held) (old new : List �
 continues bytes tokens pushed old new s now rest after t ends h g fits adds moves open_still is =
     let opened : (targets : List ℕ) → nest s (seen targets t) ≡ Some (Some now) = λ targets. moves targets ∙ ap (λ (b : Bool). Some (cond b None (Some now))) open_still in
     subst (λ (x : List Held). SoFar bytes x new now after) (sym is) (one_more bytes tokens old new s now rest after t h g fits adds opened)
+
+-- a token is read that has no labels and is no bracket
+pub reads_on : (bytes : List ℕ) (tokens pushed : List Held) (targets : List ℕ) (s : List Bool) (rest after : List ℕ) (t : Held) → SoFar bytes tokens targets s rest
+    → ReadsPlain rest t after → pushed ≡ tokens ++ t ∷ [] → SoFar bytes pushed targets s after
+reads_on bytes tokens pushed targets s rest after t h plain is =
+    continues bytes tokens pushed targets targets s s rest after t false h
+    ([], sym (append-nil targets), λ more. let i = plain.2 (targets ++ more) in i.2 ∙ ap (λ (u : Token). Some (u, after)) (sym i.1))
+    (plain.1 (length targets)) (no_table t plain.1 (length targets))
+    (λ u. rw (plain.2 u).1 refl)
+    refl is
 
 -- what the loop has when a token closes the expression
 pub record AllRead (bytes : List ℕ) (tokens : List Held) (targets rest : List ℕ) : Type 0 where

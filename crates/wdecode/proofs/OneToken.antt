@@ -152,7 +152,7 @@ token_complete front End rest s = ap (λ (x : List ℕ). token_at (x ++ rest)) s
 pub token_reads : Reads token_at SpellsToken
 token_reads = record { sound = token_sound; complete = token_complete }
 
--- the immediates that are read behind an opcode
+-- the immediates that are read after an opcode
 pub plain_is : (bytes : List ℕ) (o : Opcode) → 1 ≤ length bytes → opcode_of (get_or bytes 0 0) ≡ Some o → plain_instruction.read bytes ≡ (immediates o).read (take (length bytes - 1) (drop 1 bytes))
 unfolding plain_instruction
 plain_is [] o le e = absurd (omega arith)

@@ -4,8 +4,8 @@ use Rattle.std.proofs.lemmas.List.{append-nil}
 use Rattle.wsyntax.specs.HeldElement.{HeldElement}
 use Rattle.wsyntax.specs.Elements.{with_function}
 use Rattle.wsyntax.specs.Instructions.{Token}
-use Rattle.wsyntax.specs.Modules.{place_index, place_tokens}
-use Rattle.wsyntax.specs.declared.module.Place.{Place}
+use Rattle.wsyntax.specs.Modules.{initial_tokens}
+use Rattle.wsyntax.specs.declared.module.Initial.{Initial}
 use Rattle.wsyntax.specs.Binary.Production.{times_at}
 use Rattle.wsyntax.specs.Binary.Values.{u32}
 use Rattle.wsyntax.specs.Binary.Nesting.{expression}
@@ -59,11 +59,11 @@ unfolding element
 is_read bytes rest after behind end t n offset fs a b c h = rw (a, b, c, h) refl
 
 -- its functions come last
-pub element_given : {X : Type 0} (view : X → List ℕ) (old between new : List HeldElement) (r : Result X Fault) (place : Place) (bytes rest after behind : List ℕ) (t n : ℕ) → u32.read bytes ≡ Some (t, rest) → expression.read rest ≡ Some (place_tokens place, after) → place_index place ≡ t → between ≡ old ++ record { place = place; functions = [] } ∷ [] → u32.read after ≡ Some (n, behind) → GivesFunctions view between new r (times_at u32.read n behind) → GivesElement view old new r (element.read bytes)
-element_given view old between new (Ok x) place bytes rest after behind t n a b index one c g =
-    let e : HeldElement = record { place = place; functions = g.0 } in (
+pub element_given : {X : Type 0} (view : X → List ℕ) (old between new : List HeldElement) (r : Result X Fault) (offset : Initial) (bytes rest after behind : List ℕ) (t n : ℕ) → u32.read bytes ≡ Some (t, rest) → expression.read rest ≡ Some (initial_tokens offset, after) → between ≡ old ++ record { table = t; offset = offset; functions = [] } ∷ [] → u32.read after ≡ Some (n, behind) → GivesFunctions view between new r (times_at u32.read n behind) → GivesElement view old new r (element.read bytes)
+element_given view old between new (Ok x) offset bytes rest after behind t n a b one c g =
+    let e : HeldElement = record { table = t; offset = offset; functions = g.0 } in (
       e,
-      is_read bytes rest after behind (view x) t n (place_tokens place) g.0 a b c g.1 ∙ ap (λ (i : ℕ). Some (record { table = i; offset = place_tokens place; functions = g.0 }, view x)) (sym index),
-      g.2 ∙ ap (λ (es : List HeldElement). with_functions es g.0) one ∙ all_in_last old (record { place = place; functions = [] }) g.0,
+      is_read bytes rest after behind (view x) t n (initial_tokens offset) g.0 a b c g.1,
+      g.2 ∙ ap (λ (es : List HeldElement). with_functions es g.0) one ∙ all_in_last old (record { table = t; offset = offset; functions = [] }) g.0,
     )
-element_given view old between new (Err e) place bytes rest after behind t n a b index one c g = fails_last e bytes rest after behind t n (place_tokens place) a b c g
+element_given view old between new (Err e) offset bytes rest after behind t n a b one c g = fails_last e bytes rest after behind t n (initial_tokens offset) a b c g

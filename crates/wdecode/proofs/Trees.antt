@@ -75,7 +75,7 @@ grows_else : (h x z : List ℕ) (t : BlockType) (c e : Code) → block_type.spel
     → Grows (0x04 ∷ (h ++ (x ++ (0x05 ∷ (z ++ (0x0B ∷ [])))))) (OpenIf t ∷ (flat c ++ (Else ∷ (flat e ++ (End ∷ []))))) (IfElse t c e)
 grows_else h x z t c e b s r = record { spelled = λ y d sd. (h, x, z, y, else_bytes h x z y, b, s, r, sd); flattened = λ d. else_tokens (OpenIf t) (flat c) (flat e) (flat d) }
 
--- a Block that a token opens, and what is behind its end
+-- a Block that a token opens, and what is after its end
 opens : (s : List Bool) (rest front r : List ℕ) (us : List Token) (k : ℕ) (h : List ℕ) (t : Token) (f : Code → Code → Code)
     → front ≡ k ∷ h → ((x : List ℕ) (c : Code) → SpellsCode x c → Grows (k ∷ (h ++ (x ++ (0x0B ∷ [])))) (t ∷ (flat c ++ (End ∷ []))) (f c))
     → ClosesOne r us (Closes s rest) → Closes s rest (front ++ r) (t ∷ us)
@@ -96,7 +96,7 @@ opens_else s rest front r us h t is b o =
 abbrev pub put : Token → List Token × List ℕ → Tokens
 put t x = Some (t ∷ x.0, x.1)
 
--- what is read behind a token
+-- what is read after a token
 after : (read : Tokens) (t : Token) (ts : List Token) (rest : List ℕ) (P : List ℕ → List Token → Type 0) → ((us : List Token) (left : List ℕ) → read ≡ Some (us, left) → P left (t ∷ us)) → (read >>= put t) ≡ Some (ts, rest) → P rest ts
 after read t ts rest P made e =
     let f = bind_some read (put t) (ts, rest) e in

@@ -14,12 +14,12 @@ abbrev pub targets_of : List Token → List ℕ
 targets_of [] = []
 targets_of (t ∷ ts) = table_targets t ++ targets_of ts
 
--- a branch table begins after so many targets, and after its labels and its default there are so many; by another token there are no more
+-- a branch table begins after `before` targets, and after its labels and its default there are `after`; by another token there are no more
 abbrev pub Follows : ℕ → Held → ℕ → Type 0
 Follows before (held.BrTable count first) after = (first ≡ before) × (after ≡ before + count + 1)
 Follows before _ after = after ≡ before
 
--- the branch tables follow one another, from so many targets up to so many
+-- the branch tables follow one another, from `before` targets up to `after`
 abbrev pub FollowAll : ℕ → List Held → ℕ → Type 0
 FollowAll before [] after = after ≡ before
 FollowAll before (t ∷ ts) after = (next : ℕ) × Follows before t next × FollowAll next ts after

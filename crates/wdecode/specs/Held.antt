@@ -3,7 +3,8 @@ use Rattle.std.specs.Prelude.{List, map}
 use Rattle.wsyntax.specs.Types.{FuncType}
 use Rattle.wsyntax.specs.declared.ValType.{ValType}
 use Rattle.wsyntax.specs.Modules.{import_shape, export_shape, global_shape, element_shape, data_shape}
-use Rattle.wsyntax.specs.Binary.Sections.{SectionShape, Custom, Types, Imports, Functions, Tables, Memories, Globals, Exports, Start, Elements, Bodies, Segments}
+use Rattle.wsyntax.specs.Binary.Sections.{SectionShape, Custom, Types, Imports, Functions, Tables, Memories, Globals, Exports, Start}
+use Rattle.wsyntax.specs.Binary.Sections.{Elements, Bodies, Segments}
 use Rattle.wdecode.specs.declared.section.Section.{Section}
 use Rattle.wdecode.specs.declared.section.Section.TheVariants as held
 
@@ -22,5 +23,5 @@ section_shape (held.Globals v) = Globals (map global_shape v.items)
 section_shape (held.Exports v) = Exports (map export_shape v.items)
 section_shape (held.Start x) = Start x
 section_shape (held.Elements v) = Elements (map element_shape v)
-section_shape (held.Bodies v) = Bodies (map (λ s. s.now) v.items)
-section_shape (held.Segments v) = Segments (map data_shape v.items)
+section_shape (held.Code v) = Bodies (map (λ s. s.now) v.items)
+section_shape (held.Data v) = Segments (map data_shape v.items)

@@ -12,11 +12,13 @@ with_functions es [] = es
 with_functions es (f ∷ fs) = with_functions (with_function es f) fs
 
 -- the last segment has the functions that are read
-abbrev pub GivesFunctions : {X : Type 0} → (X → List ℕ) → List HeldElement → List HeldElement → Result X Fault → Option (List ℕ × List ℕ) → Type 0
+abbrev pub GivesFunctions : {X : Type 0} → (X → List ℕ) → List HeldElement → List HeldElement
+    → Result X Fault → Option (List ℕ × List ℕ) → Type 0
 GivesFunctions view old new (Ok rest) read = (fs : List ℕ) × (read ≡ Some (fs, view rest)) × (new ≡ with_functions old fs)
 GivesFunctions view old new (Err e) read = Fails e read
 
--- the segment that is read stands behind the others
-abbrev pub GivesElement : {X : Type 0} → (X → List ℕ) → List HeldElement → List HeldElement → Result X Fault → Option (ElementShape × List ℕ) → Type 0
+-- the segment that is read stands after the others
+abbrev pub GivesElement : {X : Type 0} → (X → List ℕ) → List HeldElement → List HeldElement
+    → Result X Fault → Option (ElementShape × List ℕ) → Type 0
 GivesElement view old new (Ok rest) read = (e : HeldElement) × (read ≡ Some (element_shape e, view rest)) × (new ≡ old ++ e ∷ [])
 GivesElement view old new (Err e) read = Fails e read

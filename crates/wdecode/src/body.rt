@@ -1,4 +1,5 @@
-ghost use Rattle.std.specs.Prelude.{◌≡◌, ◌≤◌, ◌<◌, ◌^◌, ℕ, List, length, nat_lt, IfOk, IsErrOf, Option, Some, None, if◌then◌else◌};
+ghost use Rattle.std.specs.Prelude.{◌≡◌, ◌≤◌, ◌<◌, ◌^◌, ℕ, List, length, nat_lt, Option, Some, None};
+ghost use Rattle.std.specs.Prelude.{IfOk, IsErrOf, if◌then◌else◌};
 ghost use Rattle.wdecode.specs.BranchTables.{targets_of, FollowAll};
 ghost use Rattle.wdecode.specs.Gives.{Gives};
 ghost use Rattle.wsyntax.specs.Modules.{BodyShape, body_shape, tokens_of};
@@ -93,7 +94,8 @@ pub fn decode_body(alloc: Alloc, bytes: &[u8]) -> Result<Body, BodyFault>
     // Malformed are bytes that spell no body.
     ensures malformed { IsErrOf result BodyFault.Malformed → (b : BodyShape) → SpellsBody bytes.now b → ⊥ }
     // Only a spelled body has too many locals.
-    ensures too_many { IsErrOf result BodyFault.TooManyLocals → (b : BodyShape) × SpellsBody bytes.now b × (local_limit < locals_of b.runs) }
+    ensures too_many { IsErrOf result BodyFault.TooManyLocals
+        → (b : BodyShape) × SpellsBody bytes.now b × (local_limit < locals_of b.runs) }
 {
     match whole_body(alloc, bytes) {
         Err(Fault::Malformed) => Err(BodyFault::Malformed),

@@ -7,12 +7,12 @@ ghost use Rattle.wsyntax.specs.Binary.Values.{u32 as u32_production, vector_at a
 ghost use Rattle.wsyntax.specs.Binary.Sections.{element};
 
 use crate::fault::Fault;
-use crate::initial::place_at;
+use crate::initial::offset_at;
 use crate::values::u32_at;
 use std::alloc::Global;
 use wsyntax::Elements;
 
-/// So many functions, which are put behind those of the last segment.
+/// Reads `count` functions into the last segment, after those that it has.
 fn functions_at<'a>(elements: &mut Elements, count: u32, bytes: &'a [u8]) -> Result<&'a [u8], Fault>
     ensures { GivesFunctions (λ x. x.now) elements.old elements.new result (times_of u32_production.read count bytes.now) }
 {
@@ -25,7 +25,7 @@ fn functions_at<'a>(elements: &mut Elements, count: u32, bytes: &'a [u8]) -> Res
     Ok(rest)
 }
 
-/// An element segment (5.5.12), which is put behind the others.
+/// An element segment (5.5.12), which is put after the others.
 fn element_at<'a>(
     alloc: Global,
     elements: &mut Elements,
@@ -34,8 +34,8 @@ fn element_at<'a>(
     ensures { GivesElement (λ x. x.now) elements.old elements.new result (element.read bytes.now) }
 {
     let (table, rest) = u32_at(bytes)?;
-    let (place, rest) = place_at(alloc, table, rest)?;
-    elements.push(place)?;
+    let (offset, rest) = offset_at(alloc, rest)?;
+    elements.push(table, offset)?;
     let (count, rest) = u32_at(rest)?;
     functions_at(elements, count, rest)
 }
@@ -43,7 +43,7 @@ fn element_at<'a>(
 /// The fewest bytes of an element segment.
 const LEAST_ELEMENT: usize = 3;
 
-/// So many element segments, one behind the other. Room is made for as many as the bytes can hold, and for no more.
+/// Element segments, `count` of them in a row. Room is made for as many as the bytes can hold, and for no more.
 fn elements_at(alloc: Global, count: u32, bytes: &[u8]) -> Result<(Elements, &[u8]), Fault>
     ensures { Gives (λ x. (map element_shape x.0, x.1.now)) result (times_of element.read count bytes.now) }
 {

@@ -5,70 +5,71 @@ ghost use Rattle.wdecode.specs.Gives.{ReadsPlain, ReadsBracket};
 ghost use Rattle.wsyntax.specs.Table.{opcode_of};
 ghost use Rattle.wsyntax.specs.Binary.Types.{block_type};
 
+use crate::op;
 use wsyntax::{BlockType, Load, Opcode, Store, Token, ValType};
 
-/// The load with that opcode.
+/// The load whose opcode is `byte`.
 #[inline(always)]
 #[tactic(auto, unfolding(wsyntax::specs::Table::opcode_of))]
 fn load_of(byte: u8) -> Option<Load>
     ensures { IfSome result (λ x. opcode_of byte ≡ Some (Opcode.Load x)) }
 {
     match byte {
-        0x28 => Some(Load::I32Load),
-        0x29 => Some(Load::I64Load),
-        0x2A => Some(Load::F32Load),
-        0x2B => Some(Load::F64Load),
-        0x2C => Some(Load::I32Load8S),
-        0x2D => Some(Load::I32Load8U),
-        0x2E => Some(Load::I32Load16S),
-        0x2F => Some(Load::I32Load16U),
-        0x30 => Some(Load::I64Load8S),
-        0x31 => Some(Load::I64Load8U),
-        0x32 => Some(Load::I64Load16S),
-        0x33 => Some(Load::I64Load16U),
-        0x34 => Some(Load::I64Load32S),
-        0x35 => Some(Load::I64Load32U),
+        op::I32_LOAD => Some(Load::I32Load),
+        op::I64_LOAD => Some(Load::I64Load),
+        op::F32_LOAD => Some(Load::F32Load),
+        op::F64_LOAD => Some(Load::F64Load),
+        op::I32_LOAD8_S => Some(Load::I32Load8S),
+        op::I32_LOAD8_U => Some(Load::I32Load8U),
+        op::I32_LOAD16_S => Some(Load::I32Load16S),
+        op::I32_LOAD16_U => Some(Load::I32Load16U),
+        op::I64_LOAD8_S => Some(Load::I64Load8S),
+        op::I64_LOAD8_U => Some(Load::I64Load8U),
+        op::I64_LOAD16_S => Some(Load::I64Load16S),
+        op::I64_LOAD16_U => Some(Load::I64Load16U),
+        op::I64_LOAD32_S => Some(Load::I64Load32S),
+        op::I64_LOAD32_U => Some(Load::I64Load32U),
         _ => None,
     }
 }
 
-/// The store with that opcode.
+/// The store whose opcode is `byte`.
 #[inline(always)]
 #[tactic(auto, unfolding(wsyntax::specs::Table::opcode_of))]
 fn store_of(byte: u8) -> Option<Store>
     ensures { IfSome result (λ x. opcode_of byte ≡ Some (Opcode.Store x)) }
 {
     match byte {
-        0x36 => Some(Store::I32Store),
-        0x37 => Some(Store::I64Store),
-        0x38 => Some(Store::F32Store),
-        0x39 => Some(Store::F64Store),
-        0x3A => Some(Store::I32Store8),
-        0x3B => Some(Store::I32Store16),
-        0x3C => Some(Store::I64Store8),
-        0x3D => Some(Store::I64Store16),
-        0x3E => Some(Store::I64Store32),
+        op::I32_STORE => Some(Store::I32Store),
+        op::I64_STORE => Some(Store::I64Store),
+        op::F32_STORE => Some(Store::F32Store),
+        op::F64_STORE => Some(Store::F64Store),
+        op::I32_STORE8 => Some(Store::I32Store8),
+        op::I32_STORE16 => Some(Store::I32Store16),
+        op::I64_STORE8 => Some(Store::I64Store8),
+        op::I64_STORE16 => Some(Store::I64Store16),
+        op::I64_STORE32 => Some(Store::I64Store32),
         _ => None,
     }
 }
 
-/// The instruction of a local or a global with that opcode, and the bytes after it.
+/// The instruction of a local or a global whose opcode is `byte`, and the bytes after it.
 #[inline(always)]
 pub fn variable_at(byte: u8, bytes: &[u8]) -> Option<(Token, &[u8])>
     ensures { IfSome result (λ x. ReadsPlain (byte ∷ bytes.now) x.0 x.1.now) }
 {
     let (index, rest) = wnum::front_u32(bytes)?;
     match byte {
-        0x20 => Some((Token::LocalGet(index), rest)),
-        0x21 => Some((Token::LocalSet(index), rest)),
-        0x22 => Some((Token::LocalTee(index), rest)),
-        0x23 => Some((Token::GlobalGet(index), rest)),
-        0x24 => Some((Token::GlobalSet(index), rest)),
+        op::LOCAL_GET => Some((Token::LocalGet(index), rest)),
+        op::LOCAL_SET => Some((Token::LocalSet(index), rest)),
+        op::LOCAL_TEE => Some((Token::LocalTee(index), rest)),
+        op::GLOBAL_GET => Some((Token::GlobalGet(index), rest)),
+        op::GLOBAL_SET => Some((Token::GlobalSet(index), rest)),
         _ => None,
     }
 }
 
-/// The load with that opcode, and the bytes after it.
+/// The load whose opcode is `byte`, and the bytes after it.
 #[inline(always)]
 pub fn load_at(byte: u8, bytes: &[u8]) -> Option<(Token, &[u8])>
     ensures { IfSome result (λ x. ReadsPlain (byte ∷ bytes.now) x.0 x.1.now) }
@@ -86,7 +87,7 @@ pub fn load_at(byte: u8, bytes: &[u8]) -> Option<(Token, &[u8])>
     ))
 }
 
-/// The store with that opcode, and the bytes after it.
+/// The store whose opcode is `byte`, and the bytes after it.
 #[inline(always)]
 pub fn store_at(byte: u8, bytes: &[u8]) -> Option<(Token, &[u8])>
     ensures { IfSome result (λ x. ReadsPlain (byte ∷ bytes.now) x.0 x.1.now) }
@@ -104,7 +105,7 @@ pub fn store_at(byte: u8, bytes: &[u8]) -> Option<(Token, &[u8])>
     ))
 }
 
-/// The numeric instruction with that opcode, and the bytes after it.
+/// The numeric instruction whose opcode is `byte`, and the bytes after it.
 #[inline(always)]
 pub fn numeric_at(byte: u8, bytes: &[u8]) -> Option<(Token, &[u8])>
     ensures { IfSome result (λ x. ReadsPlain (byte ∷ bytes.now) x.0 x.1.now) }
@@ -115,16 +116,25 @@ pub fn numeric_at(byte: u8, bytes: &[u8]) -> Option<(Token, &[u8])>
     }
 }
 
-/// A branch under a condition behind its opcode, and the bytes after it.
+/// The branch `br`, its opcode apart, and the bytes after it.
 #[inline(always)]
-pub fn branch_at(bytes: &[u8]) -> Option<(Token, &[u8])>
+pub fn br(bytes: &[u8]) -> Option<(Token, &[u8])>
+    ensures { IfSome result (λ x. ReadsPlain (0x0C ∷ bytes.now) x.0 x.1.now) }
+{
+    let (label, rest) = wnum::front_u32(bytes)?;
+    Some((Token::Br(label), rest))
+}
+
+/// The branch `br_if`, its opcode apart, and the bytes after it.
+#[inline(always)]
+pub fn br_if(bytes: &[u8]) -> Option<(Token, &[u8])>
     ensures { IfSome result (λ x. ReadsPlain (0x0D ∷ bytes.now) x.0 x.1.now) }
 {
     let (label, rest) = wnum::front_u32(bytes)?;
     Some((Token::BrIf(label), rest))
 }
 
-/// A call behind its opcode, and the bytes after it.
+/// A call, its opcode apart, and the bytes after it.
 #[inline(always)]
 pub fn call_at(bytes: &[u8]) -> Option<(Token, &[u8])>
     ensures { IfSome result (λ x. ReadsPlain (0x10 ∷ bytes.now) x.0 x.1.now) }
@@ -133,31 +143,22 @@ pub fn call_at(bytes: &[u8]) -> Option<(Token, &[u8])>
     Some((Token::Call(index), rest))
 }
 
-/// A constant i32 behind its opcode, and the bytes after it.
+/// A constant i32, its opcode apart, and the bytes after it.
 #[inline(always)]
-pub fn constant_at(bytes: &[u8]) -> Option<(Token, &[u8])>
+pub fn i32_const(bytes: &[u8]) -> Option<(Token, &[u8])>
     ensures { IfSome result (λ x. ReadsPlain (0x41 ∷ bytes.now) x.0 x.1.now) }
 {
     let (value, rest) = wnum::front_s32(bytes)?;
     Some((Token::I32Const(value), rest))
 }
 
-/// A constant i64 behind its opcode, and the bytes after it.
+/// A constant i64, its opcode apart, and the bytes after it.
 #[inline(always)]
-pub fn long_constant_at(bytes: &[u8]) -> Option<(Token, &[u8])>
+pub fn i64_const(bytes: &[u8]) -> Option<(Token, &[u8])>
     ensures { IfSome result (λ x. ReadsPlain (0x42 ∷ bytes.now) x.0 x.1.now) }
 {
     let (value, rest) = wnum::front_s64(bytes)?;
     Some((Token::I64Const(value), rest))
-}
-
-/// A branch behind its opcode, and the bytes after it.
-#[inline(always)]
-pub fn jump_at(bytes: &[u8]) -> Option<(Token, &[u8])>
-    ensures { IfSome result (λ x. ReadsPlain (0x0C ∷ bytes.now) x.0 x.1.now) }
-{
-    let (label, rest) = wnum::front_u32(bytes)?;
-    Some((Token::Br(label), rest))
 }
 
 /// A block type of one byte, and the bytes after it.
@@ -176,17 +177,39 @@ fn short_block_at(bytes: &[u8]) -> Option<(BlockType, &[u8])>
     }
 }
 
-/// The beginning of a block, a loop or an if with that opcode, where its block type is of one byte, and the bytes after
-/// it.
+/// The beginning of a block, a loop or an if whose opcode is `byte`, where its block type is of one byte, and the bytes
+/// after it.
 #[inline(always)]
-pub fn opening_at(byte: u8, bytes: &[u8]) -> Option<(Token, &[u8])>
+pub fn block_start(byte: u8, bytes: &[u8]) -> Option<(Token, &[u8])>
     ensures { IfSome result (λ x. ReadsBracket (byte ∷ bytes.now) x.0 x.1.now) }
 {
     let (block, rest) = short_block_at(bytes)?;
     match byte {
-        0x02 => Some((Token::Block(block), rest)),
-        0x03 => Some((Token::Loop(block), rest)),
-        0x04 => Some((Token::If(block), rest)),
+        op::BLOCK => Some((Token::Block(block), rest)),
+        op::LOOP => Some((Token::Loop(block), rest)),
+        op::IF => Some((Token::If(block), rest)),
+        _ => None,
+    }
+}
+
+/// The instruction at the front, where it is one of those that bodies are mostly made of, and the bytes after it.
+#[inline(always)]
+pub(crate) fn frequent_at(bytes: &[u8]) -> Option<(Token, &[u8])>
+    ensures { IfSome result (λ x. ReadsPlain bytes.now x.0 x.1.now) }
+{
+    let [byte, rest @ ..] = bytes else {
+        return None;
+    };
+    match *byte {
+        op::BR => br(rest),
+        op::BR_IF => br_if(rest),
+        op::CALL => call_at(rest),
+        op::LOCAL_GET..=op::GLOBAL_SET => variable_at(*byte, rest),
+        op::I32_LOAD..=op::I64_LOAD32_U => load_at(*byte, rest),
+        op::I32_STORE..=op::I64_STORE32 => store_at(*byte, rest),
+        op::I32_CONST => i32_const(rest),
+        op::I64_CONST => i64_const(rest),
+        op::I32_EQZ..=op::I64_EXTEND32_S => numeric_at(*byte, rest),
         _ => None,
     }
 }

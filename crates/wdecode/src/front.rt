@@ -1,4 +1,5 @@
 ghost use Rattle.std.specs.Prelude.{◌≡◌, ◌<◌, ℕ, List, ◌∷◌, length};
+ghost use Rattle.wdecode.specs.declared.section.TheConstants.{DATA_SECTION};
 ghost use Rattle.wsyntax.specs.Modules.{module_shape};
 
 use crate::fault::Fault;
@@ -15,11 +16,11 @@ pub struct Front<'a> {
     pub module: Module<'a>,
     /// The id of the last section that was read, custom ones aside.
     pub(crate) last: u8,
-    /// The bytes from the section of data segments on; none where the module has no such section.
+    /// The bytes from the data section on; none where the module has no such section.
     pub(crate) rest: &'a [u8],
     ghost without: { length (module_shape «module»).segments ≡ 0 },
-    ghost early: { last < 11 },
-    ghost next: { (id : ℕ) (tail : List ℕ) → rest.now ≡ id ∷ tail → id ≡ 11 },
+    ghost early: { last < DATA_SECTION },
+    ghost next: { (id : ℕ) (tail : List ℕ) → rest.now ≡ id ∷ tail → id ≡ DATA_SECTION },
 }
 
 impl<'a> Front<'a> {
@@ -29,7 +30,8 @@ impl<'a> Front<'a> {
 
     /// The whole module, its data segments kept.
     pub fn whole(self, alloc: Alloc) -> Result<Module<'a>, Fault>
-        ensures found { IfOk result (λ m. (segments : List DataShape) × EndsFront self.entry segments × (module_shape m ≡ with_segments (module_shape self.entry.module) segments)) }
+        ensures found { IfOk result (λ m. (segments : List DataShape) × EndsFront self.entry segments
+            × (module_shape m ≡ with_segments (module_shape self.entry.module) segments)) }
         ensures malformed { IsErrOf result Fault.Malformed → (segments : List DataShape) → EndsFront self.entry segments → ⊥ }
     {
         let Front { module, last, rest } = self;
@@ -37,10 +39,11 @@ impl<'a> Front<'a> {
         Ok(end.module)
     }
 
-    /// Reads the data segments one behind the other, keeps none, and says whether the rule accepts all of them. Sections
-    /// behind them are read too, which can only be custom ones.
+    /// Reads the data segments one after the other, keeps none, and says whether the rule accepts all of them. Sections
+    /// after them are read too, which can only be custom ones.
     pub fn segments_pass<R: SegmentRule>(&self, alloc: Alloc, rule: &R) -> Result<bool, Fault>
-        ensures found { IfOk result (λ b. (segments : List DataShape) × EndsFront self.now segments × (IsTrue b ↔ All (R.holds rule.now) segments)) }
+        ensures found { IfOk result (λ b. (segments : List DataShape) × EndsFront self.now segments
+            × (IsTrue b ↔ All (R.holds rule.now) segments)) }
         ensures malformed { IsErrOf result Fault.Malformed → (segments : List DataShape) → EndsFront self.now segments → ⊥ }
     {
         let [_id, rest @ ..] = self.rest else {

@@ -1,19 +1,21 @@
 //! The expressions of first values and offsets.
-ghost use Rattle.std.specs.Prelude.{◌≡◌, ℕ, List, [], ◌∷◌, Some, IfSome, IfOk};
+ghost use Rattle.std.specs.Prelude.{◌≡◌, ℕ, List, [], ◌∷◌, Some, IfSome};
 ghost use Rattle.wdecode.specs.Gives.{Gives};
 ghost use Rattle.wsyntax.specs.Instructions.{Op, Do, End};
-ghost use Rattle.wsyntax.specs.Modules.{seen, initial_tokens, place_index, place_tokens};
+ghost use Rattle.wsyntax.specs.Modules.{seen, initial_tokens};
 ghost use Rattle.wsyntax.specs.Binary.Nesting.{expression};
 
 use crate::fault::Fault;
-use crate::frequent::constant_at;
+use crate::frequent::i32_const;
 use crate::instructions::{expression_at, token_at};
+use crate::op;
 use std::alloc::Global;
-use wsyntax::{Initial, Place, Token};
+use wsyntax::{Initial, Token};
 
 /// The expression of that instruction and its end, where it has its place in an `Initial`.
 fn alone(token: Token) -> Option<Initial>
-    ensures { IfSome result (λ x. (targets : List ℕ) → (i : Op) × (seen targets token ≡ Do i) × (initial_tokens x ≡ Do i ∷ End ∷ [])) }
+    ensures { IfSome result (λ x. (targets : List ℕ) → (i : Op) × (seen targets token ≡ Do i)
+        × (initial_tokens x ≡ Do i ∷ End ∷ [])) }
 {
     match token {
         Token::I32Const(number) => Some(Initial::I32Const(number)),
@@ -25,9 +27,9 @@ fn alone(token: Token) -> Option<Initial>
     }
 }
 
-/// The bytes behind that byte at the front.
+/// The bytes after `byte` at the front.
 #[inline(always)]
-fn behind(byte: u8, bytes: &[u8]) -> Option<&[u8]>
+fn after_byte(byte: u8, bytes: &[u8]) -> Option<&[u8]>
     ensures { IfSome result (λ rest. bytes.now ≡ byte ∷ rest.now) }
 {
     match bytes {
@@ -41,9 +43,9 @@ fn behind(byte: u8, bytes: &[u8]) -> Option<&[u8]>
 pub fn number_at(bytes: &[u8]) -> Option<(i32, &[u8])>
     ensures { IfSome result (λ x. expression.read bytes.now ≡ Some (initial_tokens (Initial.I32Const x.0), x.1.now)) }
 {
-    let rest = behind(0x41, bytes)?;
-    let (token, rest) = constant_at(rest)?;
-    let rest = behind(0x0B, rest)?;
+    let rest = after_byte(op::I32_CONST, bytes)?;
+    let (token, rest) = i32_const(rest)?;
+    let rest = after_byte(op::END, rest)?;
     match token {
         Token::I32Const(number) => Some((number, rest)),
         _ => None,
@@ -54,14 +56,14 @@ pub fn number_at(bytes: &[u8]) -> Option<(i32, &[u8])>
 fn short_at(alloc: Global, bytes: &[u8]) -> Option<(Initial, &[u8])>
     ensures { IfSome result (λ x. expression.read bytes.now ≡ Some (initial_tokens x.0, x.1.now)) }
 {
-    if let Some(rest) = behind(0x0B, bytes) {
+    if let Some(rest) = after_byte(op::END, bytes) {
         return Some((Initial::Nothing, rest));
     }
     let mut targets = Vec::new(alloc);
     let Ok((token, rest)) = token_at(&mut targets, bytes) else {
         return None;
     };
-    let rest = behind(0x0B, rest)?;
+    let rest = after_byte(op::END, rest)?;
     let initial = alone(token)?;
     Some((initial, rest))
 }
@@ -79,16 +81,13 @@ pub fn initial_at(alloc: Global, bytes: &[u8]) -> Result<(Initial, &[u8]), Fault
     Ok((Initial::Other(expression), rest))
 }
 
-/// Where a segment of the table or memory of that index goes: the expression of its offset at the front, and the bytes
-/// after it.
+/// The expression of an offset at the front, which nearly always is a constant i32, and the bytes after it.
 #[inline(always)]
-pub fn place_at(alloc: Global, index: u32, bytes: &[u8]) -> Result<(Place, &[u8]), Fault>
-    ensures offset { Gives (λ x. (place_tokens x.0, x.1.now)) result (expression.read bytes.now) }
-    ensures index { IfOk result (λ x. place_index x.0 ≡ index) }
+pub fn offset_at(alloc: Global, bytes: &[u8]) -> Result<(Initial, &[u8]), Fault>
+    ensures { Gives (λ x. (initial_tokens x.0, x.1.now)) result (expression.read bytes.now) }
 {
-    if let Some((number, rest)) = number_at(bytes) {
-        return Ok((Place::I32Const { index, number }, rest));
+    match number_at(bytes) {
+        Some((number, rest)) => Ok((Initial::I32Const(number), rest)),
+        None => initial_at(alloc, bytes),
     }
-    let (offset, rest) = initial_at(alloc, bytes)?;
-    Ok((offset.within(index), rest))
 }

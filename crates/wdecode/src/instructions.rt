@@ -1,7 +1,8 @@
-ghost use Rattle.std.specs.Prelude.{◌≡◌, ◌≢◌, ◌<◌, ℕ, Bool, List, ◌++◌, Option, Some, None, reverse, length, if◌then◌else◌, IfOk, IfErr, IsTrue};
+ghost use Rattle.std.specs.Prelude.{◌≡◌, ◌≢◌, ◌<◌, ℕ, Bool, List, ◌++◌, Option, Some, None, reverse, length};
+ghost use Rattle.std.specs.Prelude.{IfOk, IfErr, IsTrue, if◌then◌else◌};
 ghost use Rattle.wsyntax.specs.Brackets.{lies_within};
 ghost use Rattle.wdecode.specs.BranchTables.{targets_of, Follows, FollowAll};
-ghost use Rattle.wdecode.specs.Gives.{Gives, GivesToken, Fails};
+ghost use Rattle.wdecode.specs.Gives.{Gives, GivesImmediates, GivesToken, Fails};
 ghost use Rattle.wsyntax.specs.Instructions.{Do};
 ghost use Rattle.wsyntax.specs.Modules.{seen, tokens_of};
 ghost use Rattle.wsyntax.specs.Binary.Production.{exactly, raw, times_at as times_of};
@@ -10,7 +11,8 @@ ghost use Rattle.wsyntax.specs.Binary.Instructions.{immediates, plain_instructio
 ghost use Rattle.wsyntax.specs.Binary.Nesting.{seen_as, nest, token_at as token_of, expression};
 
 use crate::fault::Fault;
-use crate::pushing::push_frequent;
+use crate::frequent::frequent_at;
+use crate::op;
 use crate::types::block_type_at;
 use crate::values::u32_at;
 use smallvec::SmallVec;
@@ -48,10 +50,10 @@ fn eight_at(bytes: &[u8]) -> Result<([u8; 8], &[u8]), Fault>
     }
 }
 
-/// A load behind its opcode (5.4.4): its alignment and its offset.
+/// A load after its opcode (5.4.4): its alignment and its offset.
 #[inline(always)]
 fn load_immediates(load: Load, bytes: &[u8]) -> Result<(Token, &[u8]), Fault>
-    ensures value { (targets : List ℕ) → Gives (λ x. (seen targets x.0, x.1.now)) result (seen_as Do ((immediates (Opcode.Load load)).read bytes.now)) }
+    ensures value { GivesImmediates result (Opcode.Load load) bytes.now }
     ensures within { IfOk result (λ x. (targets : ℕ) → IsTrue (lies_within targets x.0)) }
 {
     let (align, rest) = u32_at(bytes)?;
@@ -64,10 +66,10 @@ fn load_immediates(load: Load, bytes: &[u8]) -> Result<(Token, &[u8]), Fault>
     Ok((token, rest))
 }
 
-/// A store behind its opcode (5.4.4): its alignment and its offset.
+/// A store after its opcode (5.4.4): its alignment and its offset.
 #[inline(always)]
 fn store_immediates(store: Store, bytes: &[u8]) -> Result<(Token, &[u8]), Fault>
-    ensures value { (targets : List ℕ) → Gives (λ x. (seen targets x.0, x.1.now)) result (seen_as Do ((immediates (Opcode.Store store)).read bytes.now)) }
+    ensures value { GivesImmediates result (Opcode.Store store) bytes.now }
     ensures within { IfOk result (λ x. (targets : ℕ) → IsTrue (lies_within targets x.0)) }
 {
     let (align, rest) = u32_at(bytes)?;
@@ -80,10 +82,10 @@ fn store_immediates(store: Store, bytes: &[u8]) -> Result<(Token, &[u8]), Fault>
     Ok((token, rest))
 }
 
-/// An indirect call behind its opcode (5.4.1): the index of a type, and the byte of the table.
+/// An indirect call after its opcode (5.4.1): the index of a type, and the byte of the table.
 #[inline(always)]
 fn indirect_call_immediates(bytes: &[u8]) -> Result<(Token, &[u8]), Fault>
-    ensures value { (targets : List ℕ) → Gives (λ x. (seen targets x.0, x.1.now)) result (seen_as Do ((immediates Opcode.CallIndirect).read bytes.now)) }
+    ensures value { GivesImmediates result Opcode.CallIndirect bytes.now }
     ensures within { IfOk result (λ x. (targets : ℕ) → IsTrue (lies_within targets x.0)) }
 {
     let (index, rest) = u32_at(bytes)?;
@@ -91,10 +93,10 @@ fn indirect_call_immediates(bytes: &[u8]) -> Result<(Token, &[u8]), Fault>
     Ok((Token::CallIndirect(index), rest))
 }
 
-/// A constant i32 behind its opcode (5.4.5).
+/// A constant i32 after its opcode (5.4.5).
 #[inline(always)]
 fn i32_immediates(bytes: &[u8]) -> Result<(Token, &[u8]), Fault>
-    ensures value { (targets : List ℕ) → Gives (λ x. (seen targets x.0, x.1.now)) result (seen_as Do ((immediates Opcode.I32Const).read bytes.now)) }
+    ensures value { GivesImmediates result Opcode.I32Const bytes.now }
     ensures within { IfOk result (λ x. (targets : ℕ) → IsTrue (lies_within targets x.0)) }
 {
     match wnum::front_s32(bytes) {
@@ -103,10 +105,10 @@ fn i32_immediates(bytes: &[u8]) -> Result<(Token, &[u8]), Fault>
     }
 }
 
-/// A constant i64 behind its opcode (5.4.5).
+/// A constant i64 after its opcode (5.4.5).
 #[inline(always)]
 fn i64_immediates(bytes: &[u8]) -> Result<(Token, &[u8]), Fault>
-    ensures value { (targets : List ℕ) → Gives (λ x. (seen targets x.0, x.1.now)) result (seen_as Do ((immediates Opcode.I64Const).read bytes.now)) }
+    ensures value { GivesImmediates result Opcode.I64Const bytes.now }
     ensures within { IfOk result (λ x. (targets : ℕ) → IsTrue (lies_within targets x.0)) }
 {
     match wnum::front_s64(bytes) {
@@ -115,20 +117,20 @@ fn i64_immediates(bytes: &[u8]) -> Result<(Token, &[u8]), Fault>
     }
 }
 
-/// A constant f32 behind its opcode (5.4.5).
+/// A constant f32 after its opcode (5.4.5).
 #[inline(always)]
 fn f32_immediates(bytes: &[u8]) -> Result<(Token, &[u8]), Fault>
-    ensures value { (targets : List ℕ) → Gives (λ x. (seen targets x.0, x.1.now)) result (seen_as Do ((immediates Opcode.F32Const).read bytes.now)) }
+    ensures value { GivesImmediates result Opcode.F32Const bytes.now }
     ensures within { IfOk result (λ x. (targets : ℕ) → IsTrue (lies_within targets x.0)) }
 {
     let (value, rest) = four_at(bytes)?;
     Ok((Token::F32Const(value), rest))
 }
 
-/// A constant f64 behind its opcode (5.4.5).
+/// A constant f64 after its opcode (5.4.5).
 #[inline(always)]
 fn f64_immediates(bytes: &[u8]) -> Result<(Token, &[u8]), Fault>
-    ensures value { (targets : List ℕ) → Gives (λ x. (seen targets x.0, x.1.now)) result (seen_as Do ((immediates Opcode.F64Const).read bytes.now)) }
+    ensures value { GivesImmediates result Opcode.F64Const bytes.now }
     ensures within { IfOk result (λ x. (targets : ℕ) → IsTrue (lies_within targets x.0)) }
 {
     let (value, rest) = eight_at(bytes)?;
@@ -155,11 +157,11 @@ macro_rules! with_zero {
     };
 }
 
-/// An instruction without a body behind its opcode (5.4), but for `br_table`.
+/// An instruction without a body after its opcode (5.4), but for `br_table`.
 #[inline(always)]
 fn immediates_at(opcode: Opcode, bytes: &[u8]) -> Result<(Token, &[u8]), Fault>
     requires { opcode ≢ Opcode.BrTable }
-    ensures value { (targets : List ℕ) → Gives (λ x. (seen targets x.0, x.1.now)) result (seen_as Do ((immediates opcode).read bytes.now)) }
+    ensures value { GivesImmediates result opcode bytes.now }
     ensures within { IfOk result (λ x. (targets : ℕ) → IsTrue (lies_within targets x.0)) }
 {
     match opcode {
@@ -191,7 +193,7 @@ fn immediates_at(opcode: Opcode, bytes: &[u8]) -> Result<(Token, &[u8]), Fault>
     }
 }
 
-/// Labels, which go behind the targets, and the bytes after them.
+/// Reads `count` labels into the targets, after those that are there; the answer is the bytes after the labels.
 fn labels_at<'a>(targets: &mut Vec<u32>, count: u32, bytes: &'a [u8]) -> Result<&'a [u8], Fault>
     ensures ok { IfOk result (λ rest. (added : List ℕ) × (targets.new.items ≡ targets.old.items ++ added)
         × (times_of u32_production.read count bytes.now ≡ Some (added, rest.now))) }
@@ -206,9 +208,10 @@ fn labels_at<'a>(targets: &mut Vec<u32>, count: u32, bytes: &'a [u8]) -> Result<
     Ok(rest)
 }
 
-/// The labels and the default of `br_table`, behind its opcode; they go behind the targets.
+/// The labels and the default of `br_table`, after its opcode; they go to the end of the targets.
 fn table_at<'a>(targets: &mut Vec<u32>, bytes: &'a [u8]) -> Result<(Token, &'a [u8]), Fault>
-    ensures ok { IfOk result (λ x. GivesToken seen targets.old.items targets.new.items (x.0, x.1.now) (seen_as Do ((immediates Opcode.BrTable).read bytes.now))) }
+    ensures ok { IfOk result (λ x. GivesToken seen targets.old.items targets.new.items (x.0, x.1.now)
+        (seen_as Do ((immediates Opcode.BrTable).read bytes.now))) }
     ensures within { IfOk result (λ x. IsTrue (lies_within (length targets.new.items) x.0)) }
     ensures follows { IfOk result (λ x. Follows (length targets.old.items) x.0 (length targets.new.items)) }
     ensures err { IfErr result (λ e. Fails e (seen_as Do ((immediates Opcode.BrTable).read bytes.now))) }
@@ -225,7 +228,8 @@ fn table_at<'a>(targets: &mut Vec<u32>, bytes: &'a [u8]) -> Result<(Token, &'a [
 #[inline(always)]
 #[tactic(auto, unfolding(wsyntax::specs::Binary::Instructions::plain_instruction))]
 fn plain_at<'a>(targets: &mut Vec<u32>, bytes: &'a [u8]) -> Result<(Token, &'a [u8]), Fault>
-    ensures ok { IfOk result (λ x. GivesToken seen targets.old.items targets.new.items (x.0, x.1.now) (seen_as Do (plain_instruction.read bytes.now))) }
+    ensures ok { IfOk result (λ x. GivesToken seen targets.old.items targets.new.items (x.0, x.1.now)
+        (seen_as Do (plain_instruction.read bytes.now))) }
     ensures within { IfOk result (λ x. IsTrue (lies_within (length targets.new.items) x.0)) }
     ensures follows { IfOk result (λ x. Follows (length targets.old.items) x.0 (length targets.new.items)) }
     ensures err { IfErr result (λ e. Fails e (seen_as Do (plain_instruction.read bytes.now))) }
@@ -243,7 +247,7 @@ fn plain_at<'a>(targets: &mut Vec<u32>, bytes: &'a [u8]) -> Result<(Token, &'a [
     }
 }
 
-/// The token at the front (5.4), and the bytes after it; its labels go behind the targets.
+/// The token at the front (5.4), and the bytes after it; its labels go to the end of the targets.
 #[inline(always)]
 #[tactic(auto, unfolding(wsyntax::specs::Binary::Nesting::token_at))]
 fn front_token<'a>(targets: &mut Vec<u32>, bytes: &'a [u8]) -> Result<(Token, &'a [u8]), Fault>
@@ -256,25 +260,25 @@ fn front_token<'a>(targets: &mut Vec<u32>, bytes: &'a [u8]) -> Result<(Token, &'
         return Err(Fault::Malformed);
     };
     match *byte {
-        0x02 => {
+        op::BLOCK => {
             let (block_type, rest) = block_type_at(rest)?;
             Ok((Token::Block(block_type), rest))
         }
-        0x03 => {
+        op::LOOP => {
             let (block_type, rest) = block_type_at(rest)?;
             Ok((Token::Loop(block_type), rest))
         }
-        0x04 => {
+        op::IF => {
             let (block_type, rest) = block_type_at(rest)?;
             Ok((Token::If(block_type), rest))
         }
-        0x05 => Ok((Token::Else, rest)),
-        0x0B => Ok((Token::End, rest)),
+        op::ELSE => Ok((Token::Else, rest)),
+        op::END => Ok((Token::End, rest)),
         _ => plain_at(targets, bytes),
     }
 }
 
-/// The token at the front (5.4), and the bytes after it; its labels go behind the targets.
+/// The token at the front (5.4), and the bytes after it; its labels go to the end of the targets.
 ///
 /// A caller that decodes and checks in one loop calls this, and `enter` with what is open.
 #[inline(always)]
@@ -335,7 +339,8 @@ pub fn expression_at(alloc: Global, bytes: &[u8]) -> Result<(Expression, &[u8]),
     let mut opened = SmallVec::new(alloc);
     let mut rest = bytes;
     'each: loop {
-        if let Some(after) = push_frequent(&mut tokens, rest)? {
+        if let Some((token, after)) = frequent_at(rest) {
+            tokens.push(token)?;
             rest = after;
             continue 'each;
         }

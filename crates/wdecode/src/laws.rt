@@ -33,9 +33,10 @@ pub fn grammar_is_read()
     ensures section { Agrees section }
 {}
 
-/// The tokens that an expression holds are those of one tree, the last end behind them.
+/// The tokens that an expression holds are those of one tree, the last end after them.
 pub fn tokens_have_one_tree()
-    ensures some { (targets : List ℕ) (tokens : List Held) → IsTrue (closes [] tokens) → (code : Code) × (map (seen targets) tokens ≡ flat_body code) }
+    ensures some { (targets : List ℕ) (tokens : List Held) → IsTrue (closes [] tokens)
+        → (code : Code) × (map (seen targets) tokens ≡ flat_body code) }
     ensures one { (c d : Code) → flat_body c ≡ flat_body d → c ≡ d }
 {}
 
@@ -51,5 +52,6 @@ pub fn shells_are_determined()
 
 /// Bytes spell one module at most, and each of its bodies is one.
 pub fn modules_are_determined()
-    ensures { (bytes : List ℕ) (m n : ModuleShape) (bs ds : List BodyShape) → Spells bytes m bs → Spells bytes n ds → (m ≡ n) × (bs ≡ ds) }
+    ensures { (bytes : List ℕ) (m n : ModuleShape) (bs ds : List BodyShape) → Spells bytes m bs → Spells bytes n ds
+        → (m ≡ n) × (bs ≡ ds) }
 {}

@@ -11,7 +11,7 @@ mod initial;
 mod instructions;
 mod laws;
 mod module;
-mod pushing;
+pub mod op;
 mod rule;
 mod section;
 mod sections;
@@ -21,8 +21,8 @@ mod values;
 pub use body::{decode_body, has_too_many_locals, locals_at, locals_into};
 pub use fault::{BodyFault, DecodeFault, Fault};
 pub use frequent::{
-    branch_at, call_at, constant_at, jump_at, load_at, long_constant_at, numeric_at, opening_at,
-    store_at, variable_at,
+    block_start, br, br_if, call_at, i32_const, i64_const, load_at, numeric_at, store_at,
+    variable_at,
 };
 pub use front::Front;
 pub use instructions::{enter, expression_at, token_at};

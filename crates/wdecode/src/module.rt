@@ -1,34 +1,15 @@
 ghost use Rattle.std.specs.Prelude.{◌≡◌, ◌≤◌, ◌<◌, true, List, length, ◌↔◌, IfOk, IsErrOf, option_map};
 ghost use Rattle.wdecode.specs.Held.{section_shape};
+ghost use Rattle.wdecode.specs.declared.section.TheConstants.{DATA_SECTION};
 ghost use Rattle.wdecode.specs.Fronts.{with_segments, EndsAs, EndsFront, EndsProgress, IsBeforeSegments, stops};
 ghost use Rattle.wsyntax.specs.Modules.{ModuleShape, DataShape, module_shape};
-ghost use Rattle.wsyntax.specs.Binary.Shell.{rank as rank_of, put as put_section, empty_module as empty_shape, strip, header, Shell, module_limit};
+ghost use Rattle.wsyntax.specs.Binary.Shell.{put as put_section, empty_module as empty_shape, strip, header, Shell, module_limit};
 
 use crate::fault::{DecodeFault, Fault};
 use crate::front::Front;
-use crate::section::{Section, section_at};
+use crate::section::{DATA_SECTION, Section, section_at};
 use std::alloc::Global as Alloc;
 use wsyntax::{MODULE_LIMIT, Module};
-
-/// The id of a section (5.5.2).
-fn rank(section: &Section<'_>) -> u8
-    ensures { result ≡ rank_of (section_shape section.now) }
-{
-    match section {
-        Section::Custom => 0,
-        Section::Types(_) => 1,
-        Section::Imports(_) => 2,
-        Section::Functions(_) => 3,
-        Section::Tables(_) => 4,
-        Section::Memories(_) => 5,
-        Section::Globals(_) => 6,
-        Section::Exports(_) => 7,
-        Section::Start(_) => 8,
-        Section::Elements(_) => 9,
-        Section::Bodies(_) => 10,
-        Section::Segments(_) => 11,
-    }
-}
 
 /// A module with what a section holds.
 fn put<'a>(whole: Module<'a>, section: Section<'a>) -> Module<'a>
@@ -48,8 +29,8 @@ fn put<'a>(whole: Module<'a>, section: Section<'a>) -> Module<'a>
             ..whole
         },
         Section::Elements(elements) => Module { elements, ..whole },
-        Section::Bodies(bodies) => Module { bodies, ..whole },
-        Section::Segments(data) => Module { data, ..whole },
+        Section::Code(bodies) => Module { bodies, ..whole },
+        Section::Data(data) => Module { data, ..whole },
     }
 }
 
@@ -59,7 +40,7 @@ pub(crate) struct Progress<'a> {
     pub(crate) module: Module<'a>,
     /// The id of the last section, custom ones aside.
     pub(crate) last: u8,
-    /// The bytes behind them.
+    /// The bytes after them.
     pub(crate) rest: &'a [u8],
 }
 
@@ -69,7 +50,7 @@ fn is_over(rest: &[u8], before_segments: bool) -> bool
 {
     match rest {
         [] => true,
-        [id, ..] => before_segments && *id == 11,
+        [id, ..] => before_segments && *id == DATA_SECTION,
     }
 }
 
@@ -81,7 +62,8 @@ pub(crate) fn advance<'a>(
 ) -> Result<Progress<'a>, Fault>
     ensures same { IfOk result (λ p. (whole : ModuleShape) → EndsProgress start.entry whole ↔ EndsProgress p whole) }
     ensures over { IfOk result (λ p. stops before_segments p.rest.now ≡ true) }
-    ensures early { IfOk result (λ p. before_segments ≡ true → IsBeforeSegments start.entry.last (module_shape start.entry.module) → IsBeforeSegments p.last (module_shape p.module)) }
+    ensures early { IfOk result (λ p. before_segments ≡ true → IsBeforeSegments start.entry.last (module_shape start.entry.module)
+        → IsBeforeSegments p.last (module_shape p.module)) }
     ensures malformed { IsErrOf result Fault.Malformed → (whole : ModuleShape) → EndsProgress start.entry whole → ⊥ }
 {
     let Progress {
@@ -91,7 +73,7 @@ pub(crate) fn advance<'a>(
     } = start;
     'each: while !is_over(rest, before_segments) {
         let (section, after) = section_at(alloc, rest)?;
-        let id = rank(&section);
+        let id = section.id();
         if id != 0 {
             if id <= last {
                 return Err(Fault::Malformed);
@@ -104,22 +86,22 @@ pub(crate) fn advance<'a>(
     Ok(Progress { module, last, rest })
 }
 
-/// Refuses bytes that are not sections behind the one of the data segments, which custom ones alone can be.
+/// Refuses bytes that are not sections after the one of the data segments, which custom ones alone can be.
 pub(crate) fn only_customs(alloc: Alloc, bytes: &[u8]) -> Result<(), Fault>
-    ensures found { IfOk result (λ _. EndsAs 11 empty_shape bytes.now empty_shape) }
-    ensures malformed { IsErrOf result Fault.Malformed → EndsAs 11 empty_shape bytes.now empty_shape → ⊥ }
+    ensures found { IfOk result (λ _. EndsAs DATA_SECTION empty_shape bytes.now empty_shape) }
+    ensures malformed { IsErrOf result Fault.Malformed → EndsAs DATA_SECTION empty_shape bytes.now empty_shape → ⊥ }
 {
     let start = Progress {
         module: Module::empty(alloc),
-        last: 11,
+        last: DATA_SECTION,
         rest: bytes,
     };
     let _end = advance(alloc, start, false)?;
     Ok(())
 }
 
-/// The bytes behind the magic and the version (5.5.15); `None` where they are not at the front.
-fn behind_header(bytes: &[u8]) -> Option<&[u8]>
+/// The bytes after the magic and the version (5.5.15); `None` where they are not at the front.
+fn after_header(bytes: &[u8]) -> Option<&[u8]>
     ensures { option_map (λ tail. tail.now) result ≡ strip header bytes.now }
 {
     match bytes {
@@ -130,11 +112,12 @@ fn behind_header(bytes: &[u8]) -> Option<&[u8]>
 
 /// All that stands before the data segments of a module, its bodies left as bytes (5.5.15).
 fn front_at(alloc: Alloc, bytes: &[u8]) -> Result<Front<'_>, Fault>
-    ensures whole { IfOk result (λ f. (m : ModuleShape) → Shell bytes.now m ↔ ((segments : List DataShape) × EndsFront f segments × (m ≡ with_segments (module_shape f.module) segments))) }
+    ensures whole { IfOk result (λ f. (m : ModuleShape) → Shell bytes.now m
+        ↔ ((segments : List DataShape) × EndsFront f segments × (m ≡ with_segments (module_shape f.module) segments))) }
     ensures paired { IfOk result (λ f. length (module_shape f.module).functions ≡ length (module_shape f.module).bodies) }
     ensures malformed { IsErrOf result Fault.Malformed → (m : ModuleShape) → Shell bytes.now m → ⊥ }
 {
-    let Some(tail) = behind_header(bytes) else {
+    let Some(tail) = after_header(bytes) else {
         return Err(Fault::Malformed);
     };
     let start = Progress {
@@ -156,7 +139,8 @@ fn front_at(alloc: Alloc, bytes: &[u8]) -> Result<Front<'_>, Fault>
 /// The work is linear in the bytes before them, and nothing is allocated by a count that the bytes left cannot fill.
 pub fn decode_front(alloc: Alloc, bytes: &[u8]) -> Result<Front<'_>, DecodeFault>
     // The bytes spell the module that is this one with the data segments that end it, and no other.
-    ensures whole { IfOk result (λ f. (m : ModuleShape) → Shell bytes.now m ↔ ((segments : List DataShape) × EndsFront f segments × (m ≡ with_segments (module_shape f.module) segments))) }
+    ensures whole { IfOk result (λ f. (m : ModuleShape) → Shell bytes.now m
+        ↔ ((segments : List DataShape) × EndsFront f segments × (m ≡ with_segments (module_shape f.module) segments))) }
     // It has a body for each function.
     ensures paired { IfOk result (λ f. length (module_shape f.module).functions ≡ length (module_shape f.module).bodies) }
     // Malformed are bytes that spell no module.

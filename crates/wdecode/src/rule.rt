@@ -19,14 +19,15 @@ pub trait SegmentRule {
         ensures { IsTrue result ↔ holds self.now (data_shape segment.now) };
 }
 
-/// Whether the rule accepts each data segment of a vector that fills bytes (5.1.3, 5.5.14). One is read behind the other,
-/// and none is kept; behind one that is not accepted the others are still read, since they may be malformed.
+/// Whether the rule accepts each data segment of a vector that fills bytes (5.1.3, 5.5.14). They are read one by one, and
+/// none is kept; after one that is not accepted the others are still read, since they may be malformed.
 pub(crate) fn each_passes<R: SegmentRule>(
     alloc: Alloc,
     rule: &R,
     bytes: &[u8],
 ) -> Result<bool, Fault>
-    ensures found { IfOk result (λ b. (segments : List DataShape) × (whole_at (vector_of data_segment.read) bytes.now ≡ Some segments) × (IsTrue b ↔ All (R.holds rule.now) segments)) }
+    ensures found { IfOk result (λ b. (segments : List DataShape) × (whole_at (vector_of data_segment.read) bytes.now ≡ Some segments)
+        × (IsTrue b ↔ All (R.holds rule.now) segments)) }
     ensures malformed { IsErrOf result Fault.Malformed → whole_at (vector_of data_segment.read) bytes.now ≡ None }
 {
     let (count, mut rest) = u32_at(bytes)?;

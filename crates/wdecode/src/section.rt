@@ -4,6 +4,7 @@ ghost use Rattle.wdecode.specs.Held.{section_shape};
 ghost use Rattle.wsyntax.specs.Binary.Production.{whole_at};
 ghost use Rattle.wsyntax.specs.Binary.Values.{vector_at as vector_of};
 ghost use Rattle.wsyntax.specs.Binary.Sections.{contents, section};
+ghost use Rattle.wsyntax.specs.Binary.Shell.{rank};
 
 use crate::elements::filled_elements;
 use crate::fault::Fault;
@@ -25,8 +26,33 @@ pub enum Section<'a> {
     Exports(Vec<Export<'a>>),
     Start(u32),
     Elements(Elements),
-    Bodies(Vec<&'a [u8]>),
-    Segments(Vec<Data<'a>>),
+    Code(Vec<&'a [u8]>),
+    Data(Vec<Data<'a>>),
+}
+
+/// The id of the section of data segments (5.5.14).
+pub(crate) const DATA_SECTION: u8 = 11;
+
+impl<'a> Section<'a> {
+    /// Its id (5.5.2).
+    pub(crate) fn id(&self) -> u8
+        ensures { result ≡ rank (section_shape self.now) }
+    {
+        match self {
+            Section::Custom => 0,
+            Section::Types(_) => 1,
+            Section::Imports(_) => 2,
+            Section::Functions(_) => 3,
+            Section::Tables(_) => 4,
+            Section::Memories(_) => 5,
+            Section::Globals(_) => 6,
+            Section::Exports(_) => 7,
+            Section::Start(_) => 8,
+            Section::Elements(_) => 9,
+            Section::Code(_) => 10,
+            Section::Data(_) => DATA_SECTION,
+        }
+    }
 }
 
 /// A vector that fills bytes.
@@ -66,8 +92,8 @@ fn contents_at(alloc: Alloc, id: u8, bytes: &[u8]) -> Result<Section<'_>, Fault>
             }
         }
         9 => Ok(Section::Elements(filled_elements(alloc, bytes)?)),
-        10 => Ok(Section::Bodies(filled(alloc, bytes)?)),
-        11 => Ok(Section::Segments(filled(alloc, bytes)?)),
+        10 => Ok(Section::Code(filled(alloc, bytes)?)),
+        DATA_SECTION => Ok(Section::Data(filled(alloc, bytes)?)),
         _ => Err(Fault::Malformed),
     }
 }

@@ -1,6 +1,7 @@
 ghost use Rattle.std.specs.Prelude.{◌≡◌, ℕ, List, Option, Some, IfSome, map};
 ghost use Rattle.wdecode.specs.Gives.{Gives};
-ghost use Rattle.wsyntax.specs.Modules.{ImportShape, ExportShape, GlobalShape, DataShape, import_shape, export_shape, global_shape, data_shape};
+ghost use Rattle.wsyntax.specs.Modules.{ImportShape, ExportShape, GlobalShape, DataShape};
+ghost use Rattle.wsyntax.specs.Modules.{import_shape, export_shape, global_shape, data_shape};
 ghost use Rattle.wsyntax.specs.declared.module.LocalRun.{LocalRun as LocalRunShape};
 ghost use Rattle.wsyntax.specs.Binary.Sections.{import_kind, an_import, an_export, global, data_segment, run};
 
@@ -9,7 +10,7 @@ use crate::initial::{initial_at, number_at};
 use crate::types::{global_type_at, limits_at, table_type_at, val_type_at};
 use crate::values::{Item, blob_at, name_at, u32_at};
 use std::alloc::Global as Alloc;
-use wsyntax::{Data, Export, ExportKind, Global, Import, ImportKind, LocalRun, Place};
+use wsyntax::{Data, Export, ExportKind, Global, Import, ImportKind, Initial, LocalRun};
 
 /// What an import asks for (5.5.5).
 #[tactic(auto, unfolding(wsyntax::specs::Binary::Sections::import_kind))]
@@ -91,13 +92,20 @@ fn run_at(bytes: &[u8]) -> Result<(LocalRun, &[u8]), Fault>
 fn frequent_data_at(bytes: &[u8]) -> Option<(Data<'_>, &[u8])>
     ensures { IfSome result (λ x. data_segment.read bytes.now ≡ Some (data_shape x.0, x.1.now)) }
 {
-    let (index, rest) = wnum::front_u32(bytes)?;
+    let (memory, rest) = wnum::front_u32(bytes)?;
     let (number, rest) = number_at(rest)?;
     let Ok((bytes, rest)) = blob_at(rest) else {
         return None;
     };
-    let place = Place::I32Const { index, number };
-    Some((Data { place, bytes }, rest))
+    let offset = Initial::I32Const(number);
+    Some((
+        Data {
+            memory,
+            offset,
+            bytes,
+        },
+        rest,
+    ))
 }
 
 /// A data segment at the front, whatever its offset is.
@@ -109,8 +117,14 @@ fn seldom_data_at(alloc: Alloc, bytes: &[u8]) -> Result<(Data<'_>, &[u8]), Fault
     let (memory, rest) = u32_at(bytes)?;
     let (offset, rest) = initial_at(alloc, rest)?;
     let (bytes, rest) = blob_at(rest)?;
-    let place = offset.within(memory);
-    Ok((Data { place, bytes }, rest))
+    Ok((
+        Data {
+            memory,
+            offset,
+            bytes,
+        },
+        rest,
+    ))
 }
 
 /// A data segment (5.5.14).

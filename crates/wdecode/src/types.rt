@@ -74,7 +74,7 @@ fn func_type_at(alloc: Global, bytes: &[u8]) -> Result<(Vec<ValType>, Vec<ValTyp
 /// The fewest bytes of a function type.
 const LEAST_TYPE: usize = 3;
 
-/// So many function types, one behind the other. Room is made for as many as the bytes can hold, and for no more.
+/// Function types, `count` of them in a row. Room is made for as many as the bytes can hold, and for no more.
 fn func_types_at(alloc: Global, count: u32, bytes: &[u8]) -> Result<(FuncTypes, &[u8]), Fault>
     ensures { Gives (λ x. (x.0, x.1.now)) result (times_of func_type.read count bytes.now) }
 {

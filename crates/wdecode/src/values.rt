@@ -75,8 +75,7 @@ pub trait Item<'a>: Sized + Drop {
         ensures { Gives (λ x. (shape x.0, x.1.now)) result (at bytes.now) };
 }
 
-/// So many values, one behind the other, into an empty list. Room is made for as many as the bytes can hold, and for no
-/// more.
+/// Reads `count` values into an empty list. Room is made for as many as the bytes can hold, and for no more.
 #[inline(never)]
 fn times_into<'a, T: Item<'a>>(
     alloc: Global,

@@ -32,14 +32,14 @@ abbrev pub NeverStuck : ModuleShape → List BodyShape → Store → ℕ → Lis
 NeverStuck m bodies s f args =
     (i : Module) (kinds : List Kind) (c : Config) → InstanceOf m bodies i → Chain i (start s f args) kinds c → IsStuck i c → ⊥
 
--- the call on the instance is given up where it has come to, with so much fuel left there
+-- the call on the instance is given up where it has come to, with some fuel left there
 abbrev pub IsGivenUp : Instance → ℕ → List Value → ℕ → ℕ → Instance → Type 0
 IsGivenUp old f args fuel frames new = (left : ℕ) × GivesUp old f args fuel frames new left new.dispatches
 
--- no more tokens were taken than L for each unit that was charged, of so much fuel
+-- no more tokens were taken than L for each unit of the fuel that was charged
 abbrev pub TookAtMost : ℕ → ℕ → ℕ → Type 0
 TookAtMost L fuel dispatches = (charged : ℕ) × (charged ≤ fuel) × (dispatches ≤ charged * L)
 
--- a call may meet want of memory: the instance had failed before, or there is fuel and a frame
+-- a call may run out of memory: the instance had failed before, or there is fuel and a frame
 abbrev pub MayWant : Instance → ℕ → ℕ → Type 0
 MayWant old fuel frames = (old.failed ≡ true) ⊎ ((0 < fuel) × (0 < frames))

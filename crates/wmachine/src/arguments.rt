@@ -10,7 +10,7 @@ ghost use Rattle.wmachine.specs.Arguments.{is_of_type, are_of_types};
 use accepted::Accepted;
 use wsyntax::{ValType, Value};
 
-/// Whether a value is of this type (4.2.1).
+/// Whether `value` is of type `of_type` (4.2.1).
 fn has_type(value: &Value, of_type: &ValType) -> bool
     ensures { result ≡ same_type (type_of value.now) of_type.now }
 {
@@ -30,14 +30,14 @@ fn each_has_type(values: &[Value], of_types: &[ValType]) -> bool
         .all(|(value, of_type)| has_type(value, of_type))
 }
 
-/// Whether values are of these types, in order.
+/// Whether the values are as many as the types, and each of the type beside it.
 fn have_types(values: &[Value], of_types: &[ValType]) -> bool
     ensures { result ≡ are_of_types values.now of_types.now }
 {
     values.len() == of_types.len() && each_has_type(values, of_types)
 }
 
-/// Whether there is a function of that index, imported ones counted, and the arguments are of its parameter types, in
+/// Whether there is a function of the index `function`, imported ones counted, and the arguments are of its parameter types, in
 /// order.
 pub fn fits(accepted: &Accepted<'_>, function: u32, args: &[Value]) -> bool
     ensures { IsTrue result ↔ HasParams (module_context (module_shape accepted.now.module)) function args.now }

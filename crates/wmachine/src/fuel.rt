@@ -4,8 +4,8 @@ ghost use Rattle.wmachine.specs.Fuel.{limit_in_range};
 /// The most units of fuel.
 const MOST: u32 = 1_000_000_000;
 
-/// Fuel, of which each entry of a function and each turn of a loop takes a unit. One serves the start function and the
-/// call.
+/// Fuel, of which each entry of a function and each turn of a loop takes a unit. The start function and the call take theirs from
+/// the same one.
 #[derive(Drop)]
 pub struct Fuel {
     limit: u32,
@@ -14,7 +14,7 @@ pub struct Fuel {
 }
 
 impl Fuel {
-    /// Fuel of so many units; `None` exactly where there would be more than 1,000,000,000.
+    /// Fuel of `limit` units. `None` exactly where that is more than 1,000,000,000.
     pub fn new(limit: u32) -> Option<Fuel>
         ensures limit { option_map (λ f. f.limit) result ≡ limit_in_range limit }
         ensures whole { option_map (λ f. f.left) result ≡ limit_in_range limit }
@@ -39,7 +39,7 @@ impl Fuel {
         self.left
     }
 
-    /// So many units are left now.
+    /// Sets the units that are left to `left`.
     pub(crate) fn lower(&mut self, left: u32)
         requires { left ≤ self.old.left }
         ensures left { self.new.left ≡ left }

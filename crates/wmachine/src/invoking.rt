@@ -3,9 +3,8 @@ ghost use Rattle.ends.specs.Outcomes.{outcome_of};
 ghost use Rattle.wsyntax.specs.Execution.Store.{Store};
 ghost use Rattle.wsyntax.specs.Execution.Ends.{Outcome as MeantOutcome};
 ghost use Rattle.parts.specs.Buffers.{room_with};
-ghost use Rattle.accepted.specs.Judgement.{shapes_of};
-ghost use Rattle.wstore.specs.Views.{module_in, context_in, store_in};
-ghost use Rattle.wstore.specs.Runs.{Fits, Runs, longest};
+ghost use Rattle.wstore.specs.Views.{module_in, bodies_in, context_in, store_in};
+ghost use Rattle.wstore.specs.Runs.{Fits, Runs, RunsOn, longest};
 ghost use Rattle.wmachine.specs.Calls.{HasParams, GivesTyped, NeverStuck, IsGivenUp, TookAtMost, MayWant};
 
 use crate::arguments::are_words;
@@ -15,21 +14,24 @@ use std::alloc::{AllocError, Global};
 use wstore::Instance;
 use wsyntax::Value;
 
-/// The law that a call on an instance is typed where its arguments have the parameter types: they are of the type of the
-/// function, nothing that the call reaches is stuck, and where it ends in values they are of the result types.
+/// The law that a call on an instance is typed where its arguments have the parameter types: they fit the function, nothing that
+/// the call reaches is stuck, and where it ends in values they are of the result types.
 fn call_is_typed(instance: &Instance<'_>, function: u32, args: &[Value])
     requires { HasParams (context_in instance.now) function args.now }
     ensures fit { Fits (context_in instance.now) function args.now }
-    ensures never_stuck { NeverStuck (module_in instance.now) (shapes_of instance.now.accepted.now.bodies.items) (store_in instance.now) function args.now }
-    ensures typed { (fuel frames left dispatches : ℕ) (o : MeantOutcome) (s : Store) → Runs (module_in instance.now) (shapes_of instance.now.accepted.now.bodies.items) (store_in instance.now) function args.now fuel frames o s left dispatches → GivesTyped (context_in instance.now) function o }
+    ensures never_stuck { NeverStuck (module_in instance.now) (bodies_in instance.now) (store_in instance.now) function args.now }
+    ensures typed { (fuel frames left dispatches : ℕ) (o : MeantOutcome) (s : Store)
+        → Runs (module_in instance.now) (bodies_in instance.now) (store_in instance.now) function args.now fuel frames o s left dispatches
+        → GivesTyped (context_in instance.now) function o }
 {
     are_words(args);
     instance.holds();
 }
 
-/// Calls a function of an instance (4.5.5) with the fuel that is left. An error says that memory was refused, now or on an
-/// earlier call of the instance; then the instance has failed, and no fuel is taken. Memory is asked for only where there is
-/// fuel and a frame. The instance's `dispatches` are the tokens that this call took, however it ends.
+/// Calls `function` of an instance (4.5.5) with the arguments `args`, the fuel that is left and at most `frames` frames. It asks
+/// for memory only where there is fuel and a frame. An error says that memory was refused, now or on an earlier call of the
+/// instance. Then the instance has failed, and no fuel is taken. The instance's `dispatches` are the tokens that this call took,
+/// however it ends.
 pub fn invoke(
     alloc: Global,
     instance: &mut Instance<'_>,
@@ -39,9 +41,10 @@ pub fn invoke(
     frames: u32,
 ) -> Result<Outcome, AllocError>
     requires { HasParams (context_in instance.old) function args.now }
-    ensures ends { IfOk result (λ o. Runs (module_in instance.old) (shapes_of instance.old.accepted.now.bodies.items) (store_in instance.old) function args.now fuel.old.left frames (outcome_of o) (store_in instance.new) fuel.new.left instance.new.dispatches) }
+    ensures ends { IfOk result (λ o. RunsOn instance.old function args.now fuel.old.left frames
+        (outcome_of o) instance.new fuel.new.left instance.new.dispatches) }
     ensures typed { IfOk result (λ o. GivesTyped (context_in instance.old) function (outcome_of o)) }
-    ensures never_stuck { NeverStuck (module_in instance.old) (shapes_of instance.old.accepted.now.bodies.items) (store_in instance.old) function args.now }
+    ensures never_stuck { NeverStuck (module_in instance.old) (bodies_in instance.old) (store_in instance.old) function args.now }
     ensures limit { fuel.new.limit ≡ fuel.old.limit }
     ensures room { room_with instance.old.parts.memory instance.old.lent ≤ room_with instance.new.parts.memory instance.new.lent }
     ensures of { instance.new.accepted.now ≡ instance.old.accepted.now }
@@ -50,8 +53,7 @@ pub fn invoke(
     ensures untouched { OnErr result (fuel.new.left ≡ fuel.old.left) }
     ensures needed { OnErr result (MayWant instance.old fuel.old.left frames) }
     ensures given_up { OnErr result (IsGivenUp instance.old function args.now fuel.old.left frames instance.new) }
-    ensures bounded { OnErr result
-        (TookAtMost (longest (shapes_of instance.old.accepted.now.bodies.items)) fuel.old.left instance.new.dispatches) }
+    ensures bounded { OnErr result (TookAtMost (longest (bodies_in instance.old)) fuel.old.left instance.new.dispatches) }
     ensures idle { instance.old.failed ≡ true → (instance.new.dispatches ≡ 0) × (instance.new.parts ≡ instance.old.parts) }
 {
     call_is_typed(instance, function, args);

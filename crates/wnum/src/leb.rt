@@ -1,4 +1,5 @@
-ghost use Rattle.std.specs.Prelude.{◌≡◌, ◌≤◌, ◌<◌, ◌*◌, ◌+◌, ℕ, List, ◌++◌, length, drop, slice_range, Option, Some, IfSome, IfNone};
+ghost use Rattle.std.specs.Prelude.{◌≡◌, ◌≤◌, ◌<◌, ◌*◌, ◌+◌, ℕ, List, ◌++◌, length, drop, slice_range};
+ghost use Rattle.std.specs.Prelude.{Option, Some, IfSome, IfNone};
 ghost use Rattle.std.specs.Option.{option_map};
 ghost use Rattle.wnum.specs.Reading.{sums_at, ranged, signed_value, fits_signed_bits, unsigned_at, signed_at};
 ghost use Rattle.wnum.specs.Number.{five, SpellsUnsigned, SpellsSigned, IsSpelledAt, NoneSpelledAt};
@@ -31,7 +32,8 @@ fn five_groups(bytes: &[u8]) -> Option<Groups<'_>>
     Some(Groups { sum, sign, rest })
 }
 
-/// The groups of a number of at most five bytes, each worth a power of 128. What a byte has above its group is taken off with the next byte.
+/// The groups of a number of at most five bytes, each worth a power of 128. What a byte has above its group is taken off with
+/// the next byte.
 #[inline(always)]
 fn groups_5(bytes: &[u8]) -> Option<Groups<'_>>
     ensures value { sums_at 5 bytes.now ≡ option_map (λ x. ((x.sum, x.sign), x.rest.now)) result }
@@ -231,7 +233,8 @@ fn joined_s64(low: u64, high: Groups<'_>) -> Option<(i64, &[u8])>
     requires low { low < 34359738368 }
     requires high { (high.sum < 34359738368) × (high.sign ≤ 34359738368) }
     ensures { option_map (λ x. (x.0, x.1.now)) result
-        ≡ ranged signed_value (fits_signed_bits 64) (Some ((low + 34359738368 * high.entry.sum, 34359738368 * high.entry.sign), high.entry.rest.now)) }
+        ≡ ranged signed_value (fits_signed_bits 64)
+        (Some ((low + 34359738368 * high.entry.sum, 34359738368 * high.entry.sign), high.entry.rest.now)) }
 {
     let value = high.sum as i64 - high.sign as i64;
     if value >= -268435456 && value < 268435456 {

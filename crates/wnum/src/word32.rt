@@ -1,7 +1,9 @@
 //! The integer operators on words of 32 bits (4.3.2). Of two operands `x` is the one pushed first.
 
 ghost use Rattle.std.specs.Prelude.{◌≡◌, ◌%◌, ◌^◌, nat_eq};
-ghost use Rattle.wnum.specs.Arithmetic.{unary, binary, compare_by, extended, Clz, Ctz, Popcnt, Add, Sub, Mul, DivS, DivU, RemS, RemU, And, Or, Xor, Shl, ShrS, ShrU, Rotl, Rotr, Eq, Ne, LtS, LtU, GtS, GtU, LeS, LeU, GeS, GeU};
+ghost use Rattle.wnum.specs.Arithmetic.{unary, binary, compare_by, extended, Clz, Ctz, Popcnt, Add, Sub, Mul, DivS, DivU};
+ghost use Rattle.wnum.specs.Arithmetic.{RemS, RemU, And, Or, Xor, Shl, ShrS, ShrU, Rotl, Rotr, Eq, Ne, LtS, LtU, GtS, GtU};
+ghost use Rattle.wnum.specs.Arithmetic.{LeS, LeU, GeS, GeU};
 
 use crate::trap::NumTrap;
 
@@ -53,7 +55,8 @@ pub fn mul(x: u32, y: u32) -> u32
     x.wrapping_mul(y)
 }
 
-/// The quotient of the signed numbers, rounded toward zero (idiv_s). `DivideByZero` where `y` is 0, `IntegerOverflow` where -2^31 is divided by -1.
+/// The quotient of the signed numbers, rounded toward zero (idiv_s). `DivideByZero` where `y` is 0, `IntegerOverflow` where
+/// -2^31 is divided by -1.
 #[inline(always)]
 pub fn div_s(x: u32, y: u32) -> Result<u32, NumTrap>
     ensures { result ≡ binary 32 DivS x y }

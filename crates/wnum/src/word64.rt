@@ -1,7 +1,9 @@
 //! The integer operators on words of 64 bits (4.3.2). Of two operands `x` is the one pushed first.
 
 ghost use Rattle.std.specs.Prelude.{◌≡◌, ◌%◌, ◌^◌, nat_eq};
-ghost use Rattle.wnum.specs.Arithmetic.{unary, binary, compare_by, extended, Clz, Ctz, Popcnt, Add, Sub, Mul, DivS, DivU, RemS, RemU, And, Or, Xor, Shl, ShrS, ShrU, Rotl, Rotr, Eq, Ne, LtS, LtU, GtS, GtU, LeS, LeU, GeS, GeU};
+ghost use Rattle.wnum.specs.Arithmetic.{unary, binary, compare_by, extended, Clz, Ctz, Popcnt, Add, Sub, Mul, DivS, DivU};
+ghost use Rattle.wnum.specs.Arithmetic.{RemS, RemU, And, Or, Xor, Shl, ShrS, ShrU, Rotl, Rotr, Eq, Ne, LtS, LtU, GtS, GtU};
+ghost use Rattle.wnum.specs.Arithmetic.{LeS, LeU, GeS, GeU};
 
 use crate::trap::NumTrap;
 
@@ -53,7 +55,8 @@ pub fn mul(x: u64, y: u64) -> u64
     x.wrapping_mul(y)
 }
 
-/// The quotient of the signed numbers, rounded toward zero (idiv_s). `DivideByZero` where `y` is 0, `IntegerOverflow` where -2^63 is divided by -1.
+/// The quotient of the signed numbers, rounded toward zero (idiv_s). `DivideByZero` where `y` is 0, `IntegerOverflow` where
+/// -2^63 is divided by -1.
 #[inline(always)]
 pub fn div_s(x: u64, y: u64) -> Result<u64, NumTrap>
     ensures { result ≡ binary 64 DivS x y }

@@ -6,7 +6,7 @@ use Rattle.ends.specs.StartRefusals.{refusal_of}
 use Rattle.wstore.specs.declared.fault.StartFault.{StartFault}
 use Rattle.wstore.specs.declared.fault.StartFault.TheVariants.{Refused, Memory}
 
--- the refusal is the definition's; memory is wanting only where nothing refuses the instance
+-- the refusal is the definition's; there is not enough memory only where nothing refuses the instance
 abbrev pub IsFault : ℕ → ModuleShape → List BodyShape → StartFault → Type 0
 IsFault pages m bodies (Refused r) = start_refusal pages m bodies ≡ Some (refusal_of r)
 IsFault pages m bodies Memory = start_refusal pages m bodies ≡ None

@@ -1,4 +1,4 @@
--- 4.2.3 The store behind slots without tags.
+-- 4.2.3 The store that slots without tags stand for.
 use Rattle.std.specs.Prelude.{◌≡◌, map}
 use Rattle.wsyntax.specs.declared.types.GlobalType.{GlobalType}
 use Rattle.wsyntax.specs.Validation.Context.{Context}
@@ -6,7 +6,7 @@ use Rattle.wsyntax.specs.Execution.Store.{Store}
 use Rattle.wsyntax.specs.Execution.ConfigTyped.{StoreTyped}
 use Rattle.soundness.specs.Slots.{SlotStore, slot_store, all_tagged}
 
--- the store that stands behind slots without tags: its globals have the types of the context
+-- the store that slots without tags stand for: its globals have the types of the context
 abbrev pub store_of : Context → SlotStore → Store
 store_of C s = record { memory = s.memory; table = s.table; globals = all_tagged (map (λ (g : GlobalType). g.content) C.globals) s.globals }
 

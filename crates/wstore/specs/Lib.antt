@@ -2,6 +2,7 @@ pub mod Buffers
 pub mod Faults
 pub mod LaidOut
 pub mod Settings
+pub mod CallLimits
 pub mod Stores
 pub mod Held
 pub mod Views

@@ -17,10 +17,9 @@ use Rattle.interpreter.specs.declared.code.Code.{Code}
 use Rattle.interpreter.specs.Code.{program_of, IsCode}
 use Rattle.interpreter.specs.Ended.{WithinBound}
 use Rattle.interpreter.specs.Execution.{IsCall}
-use Rattle.accepted.specs.Judgement.{shapes_of}
 use Rattle.wstore.specs.declared.instance.Instance.{Instance}
 use Rattle.wstore.specs.Held.{store_of}
-use Rattle.wstore.specs.Views.{module_in, store_in}
+use Rattle.wstore.specs.Views.{module_in, bodies_in, store_in}
 
 -- the function is there, and the arguments are of its type
 pub record Fits (C : Context) (f : ℕ) (args : List Value) : Type 0 where
@@ -33,14 +32,15 @@ abbrev pub longest : List BodyShape → ℕ
 longest [] = 0
 longest (b ∷ bs) = max (length b.code) (longest bs)
 
--- the call of f on store s ends so, and leaves store s'; so much fuel is left; the tokens that were taken are no more than the longest body has for each unit that was spent (one more where fuel ran out), and no fewer than there is work in the chain
+-- the call of f on store s ends with outcome o, and leaves store s' and `left` units of fuel; the tokens that were taken are no more than the
+-- longest body has for each unit that was spent (one more where fuel ran out), and no fewer than there is work in the chain
 pub record Runs (m : ModuleShape) (bodies : List BodyShape) (s : Store) (f : ℕ) (args : List Value) (fuel frames : ℕ) (o : Outcome) (s' : Store) (left dispatches : ℕ) : Type 0 where
   pub spent : ℕ
   pub ends : (i : Module) → InstanceOf m bodies i → (e : Ends i s f args fuel frames o spent s') × (worked e.kinds ≤ dispatches)
   pub paid : spent + left ≡ fuel
   pub most : WithinBound (longest bodies) spent dispatches o
 
--- the call of f on store s is given up where it has come to, with store s' and so much fuel; the tokens that were taken are no more than the
+-- the call of f on store s is given up where it has come to, with store s' and `left` units of fuel; the tokens that were taken are no more than the
 -- longest body has for each unit that was charged, and no fewer than there is work in the chain
 pub record StopsShort (m : ModuleShape) (bodies : List BodyShape) (s : Store) (f : ℕ) (args : List Value) (fuel frames : ℕ) (s' : Store) (left dispatches : ℕ) : Type 0 where
   pub there : Config
@@ -51,10 +51,15 @@ pub record StopsShort (m : ModuleShape) (bodies : List BodyShape) (s : Store) (f
   pub most : dispatches ≤ charged kinds * longest bodies
   pub least : worked kinds ≤ dispatches
 
--- so of a call on an instance
+-- the call of f on the store of an instance ends so
+abbrev pub RunsOn : Instance → ℕ → List Value → ℕ → ℕ → Outcome → Instance → ℕ → ℕ → Type 0
+RunsOn old f args fuel frames o new left dispatches =
+    Runs (module_in old) (bodies_in old) (store_in old) f args fuel frames o (store_in new) left dispatches
+
+-- the call of f on the store of an instance is given up so
 abbrev pub GivesUp : Instance → ℕ → List Value → ℕ → ℕ → Instance → ℕ → ℕ → Type 0
 GivesUp old f args fuel frames new left dispatches =
-    StopsShort (module_in old) (shapes_of old.accepted.now.bodies.items) (store_in old) f args fuel frames (store_in new) left dispatches
+    StopsShort (module_in old) (bodies_in old) (store_in old) f args fuel frames (store_in new) left dispatches
 
 -- the code is that of the module with these bodies, and the call is a typed call of it
 pub record IsTypedCall (m : ModuleShape) (bodies : List BodyShape) (code : Code) (store : SlotStore) (f : ℕ) (args : List Value) (fuel frames : ℕ) : Type 0 where

@@ -1,17 +1,26 @@
--- 4.2.5 What an instance is of: its module, the context of that, and its store.
-use Rattle.wsyntax.specs.Modules.{ModuleShape, module_shape}
+-- 4.2.5 What an instance is of: its module, the bodies and the context of that, and its store.
+use Rattle.std.specs.Prelude.{◌≡◌, List}
+use Rattle.wsyntax.specs.Modules.{ModuleShape, BodyShape, module_shape}
 use Rattle.wsyntax.specs.Validation.Context.{Context}
 use Rattle.wsyntax.specs.Validation.ModuleContext.{module_context}
 use Rattle.wsyntax.specs.Execution.Store.{Store}
 use Rattle.parts.specs.Seen.{seen}
+use Rattle.accepted.specs.Judgement.{shapes_of}
 use Rattle.wstore.specs.Held.{store_of}
 use Rattle.wstore.specs.declared.instance.Instance.{Instance}
 
 abbrev pub module_in : Instance → ModuleShape
 module_in i = module_shape i.accepted.now.«module»
 
+abbrev pub bodies_in : Instance → List BodyShape
+bodies_in i = shapes_of i.accepted.now.bodies.items
+
 abbrev pub context_in : Instance → Context
 context_in i = module_context (module_in i)
 
 abbrev pub store_in : Instance → Store
 store_in i = store_of (context_in i) (seen i.parts)
+
+-- the module stays, and so does what was noted of calls
+abbrev pub KeepsMarks : Instance → Instance → Type 0
+KeepsMarks old new = (new.accepted.now ≡ old.accepted.now) × (new.failed ≡ old.failed) × (new.dispatches ≡ old.dispatches)

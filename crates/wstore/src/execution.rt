@@ -4,9 +4,8 @@ ghost use Rattle.std.specs.Prelude.{◌≡◌, ◌<◌, ◌≤◌, IfOk, IfErr, 
 ghost use Rattle.ends.specs.Outcomes.{outcome_of};
 ghost use Rattle.parts.specs.Seen.{seen};
 ghost use Rattle.parts.specs.Buffers.{room_with};
-ghost use Rattle.accepted.specs.Judgement.{shapes_of};
-ghost use Rattle.wstore.specs.Views.{module_in, context_in, store_in};
-ghost use Rattle.wstore.specs.Runs.{Fits, IsTypedCall, Runs, GivesUp};
+ghost use Rattle.wstore.specs.Views.{module_in, bodies_in, context_in, KeepsMarks};
+ghost use Rattle.wstore.specs.Runs.{Fits, IsTypedCall, RunsOn, GivesUp};
 
 use crate::instance::Instance;
 use accepted::Accepted;
@@ -32,8 +31,8 @@ fn code_of<'a>(accepted: &'a Accepted<'_>) -> Code<'a>
     }
 }
 
-/// The law that a call is typed where it is merely known that there is a proof of it: no promise tells one proof from
-/// another, so the proof may be taken in hand.
+/// The law that a call is typed where it is merely known that there is a proof of it. No promise tells one proof from another,
+/// so the proof may be taken in hand.
 fn is_typed_call(
     instance: &Instance<'_>,
     code: &Code<'_>,
@@ -42,14 +41,16 @@ fn is_typed_call(
     fuel: u32,
     frames: u32,
 )
-    requires { ∥ IsTypedCall (module_in instance.now) (shapes_of instance.now.accepted.now.bodies.items) code.now (seen instance.now.parts) function args.now fuel frames ∥₁ }
-    ensures { IsTypedCall (module_in instance.now) (shapes_of instance.now.accepted.now.bodies.items) code.now (seen instance.now.parts) function args.now fuel frames }
+    requires { ∥ IsTypedCall (module_in instance.now) (bodies_in instance.now) code.now (seen instance.now.parts)
+        function args.now fuel frames ∥₁ }
+    ensures { IsTypedCall (module_in instance.now) (bodies_in instance.now) code.now (seen instance.now.parts)
+        function args.now fuel frames }
 {}
 
 impl<'a> Instance<'a> {
-    /// Calls a function on its store (4.5.5), under limits of fuel and frames. Fuel is tested first, then frames; then
-    /// memory is asked for: for the results, and for the frames as they are entered. An error says that memory was
-    /// refused, which is asked for only where there is fuel and a frame; the store is then one that the call had reached.
+    /// Calls `function` on its store (4.5.5) with the arguments `args`, under the limits `fuel` and `frames`. It tests fuel
+    /// first, then frames. Then it asks for memory: for the results, and for the frames as they are entered. So it asks only
+    /// where there is fuel and a frame. An error says that memory was refused. The store is then one that the call had reached.
     pub fn execute(
         &mut self,
         alloc: Global,
@@ -59,11 +60,12 @@ impl<'a> Instance<'a> {
         frames: u32,
     ) -> Result<Execution, OutOfMemory>
         requires { Fits (context_in self.old) function args.now }
-        ensures runs { IfOk result (λ x. Runs (module_in self.old) (shapes_of self.old.accepted.now.bodies.items) (store_in self.old) function args.now fuel frames (outcome_of x.outcome) (store_in self.new) x.left x.dispatches) }
+        ensures runs { IfOk result
+            (λ x. RunsOn self.old function args.now fuel frames (outcome_of x.outcome) self.new x.left x.dispatches) }
         ensures refused { IfErr result (λ e. GivesUp self.old function args.now fuel frames self.new e.left e.dispatches) }
         ensures needed { OnErr result ((0 < fuel) × (0 < frames)) }
         ensures room { room_with self.old.parts.memory self.old.lent ≤ room_with self.new.parts.memory self.new.lent }
-        ensures marks { (self.new.accepted.now ≡ self.old.accepted.now) × (self.new.failed ≡ self.old.failed) × (self.new.dispatches ≡ self.old.dispatches) }
+        ensures marks { KeepsMarks self.old self.new }
     {
         self.accepted.accepted_holds();
         self.accepted.types_are_numbered();

@@ -15,8 +15,8 @@ use parts::Parts;
 use std::alloc::Global;
 use wsyntax::Module;
 
-/// The parts of a fresh store, and what is left of the memory that was lent, which comes back whole where memory is
-/// refused.
+/// The parts of a fresh store, and what is left of the memory `clean` that was lent. Where memory is refused, all of it comes
+/// back.
 pub(crate) fn fresh_parts(
     alloc: Global,
     module: &Module<'_>,

@@ -16,9 +16,9 @@ use parts::Parts;
 pub struct Instance<'a> {
     pub(crate) accepted: &'a Accepted<'a>,
     pub(crate) parts: Parts,
-    /// What was lent, where the module has no memory; else nothing.
+    /// What was lent, where the module has no memory. Else it is empty.
     pub(crate) lent: CleanMem,
-    /// Whether a call met want of memory.
+    /// Whether a call ran out of memory.
     pub(crate) failed: bool,
     /// How many tokens the latest call on it took.
     pub(crate) dispatches: u64,
@@ -43,7 +43,7 @@ impl<'a> Instance<'a> {
         self.accepted
     }
 
-    /// Whether a call met want of memory.
+    /// Whether a call ran out of memory.
     pub fn failed(&self) -> bool
         ensures { result ≡ self.now.failed }
     {
@@ -51,7 +51,7 @@ impl<'a> Instance<'a> {
     }
 
     /// Ends it, and gives the memory back clean: as many bytes as its buffer has, or as were lent where the module has no
-    /// memory. It takes no memory.
+    /// memory. It asks for no memory.
     pub fn close(self) -> CleanMem
         ensures room { result ≡ room_with self.entry.parts.memory self.entry.lent }
         ensures bytes { length (bytes_of self.entry.parts.memory) ≤ result }

@@ -18,22 +18,25 @@ use memory::CleanMem;
 use soundness::instances::starts_typed;
 use std::alloc::Global;
 
-/// Makes an instance in the memory that is lent (4.5.4), and runs nothing. What refuses it is asked before any memory is;
-/// then the element segments are written, and the data segments, each in order. Where there is no instance, what was lent
-/// comes back as it was.
+/// Makes an instance (4.5.4) in the memory `clean` that is lent, and runs nothing. It tests what may refuse the instance before it
+/// asks for memory. Then it writes the element segments, and then the data segments, each in order. Where there is no instance,
+/// what was lent comes back as it was.
 pub fn instantiate<'a>(
     alloc: Global,
     accepted: &'a Accepted<'a>,
     settings: Settings,
     clean: CleanMem,
 ) -> Result<Instance<'a>, NotStarted>
-    ensures allowed { OnOk result (start_refusal settings.pages (module_shape accepted.now.module) (shapes_of accepted.now.bodies.items) ≡ None) }
+    ensures allowed { OnOk result
+        (start_refusal settings.pages (module_shape accepted.now.module) (shapes_of accepted.now.bodies.items) ≡ None) }
     ensures fresh { IfOk result (λ i. store_in i ≡ fresh_store settings.pages (module_shape accepted.now.module)) }
-    ensures parts { IfOk result (λ i. seen i.parts ≡ slot_store (fresh_store settings.pages (module_shape accepted.now.module))) }
+    ensures parts { IfOk result
+        (λ i. seen i.parts ≡ slot_store (fresh_store settings.pages (module_shape accepted.now.module))) }
     ensures of { IfOk result (λ i. i.accepted.now ≡ accepted.now) }
     ensures marks { IfOk result (λ i. (i.failed ≡ false) × (i.dispatches ≡ 0)) }
     ensures room { IfOk result (λ i. clean ≤ room_with i.parts.memory i.lent) }
-    ensures refused { IfErr result (λ e. IsFault settings.pages (module_shape accepted.now.module) (shapes_of accepted.now.bodies.items) e.fault) }
+    ensures refused { IfErr result
+        (λ e. IsFault settings.pages (module_shape accepted.now.module) (shapes_of accepted.now.bodies.items) e.fault) }
     ensures back { IfErr result (λ e. e.clean ≡ clean) }
 {
     accepted.accepted_holds();

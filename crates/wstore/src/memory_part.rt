@@ -18,7 +18,7 @@ use memory::{CleanMem, LinearMemory};
 use std::alloc::Global;
 use wsyntax::{Data, Limits, Module};
 
-/// Writes the data segments in order, each from its place on.
+/// Writes the data segments in order, each from its place in `places` on.
 fn put_data(memory: &mut LinearMemory, segments: &[Data<'_>], places: &[u32])
     requires within { AllWithin (length memory.old.memory.bytes) (data_segments segments.now) }
     requires placed { places.now ≡ places_of (data_segments segments.now) }
@@ -29,8 +29,8 @@ fn put_data(memory: &mut LinearMemory, segments: &[Data<'_>], places: &[u32])
     }
 }
 
-/// A memory of its minimum with zeros, and then the data segments in order. Where memory is refused, what was lent comes
-/// back as it was.
+/// A memory of its minimum with zeros, and then the data segments in order. Where memory is refused, what was lent comes back
+/// as it was.
 pub(crate) fn fresh_memory(
     clean: CleanMem,
     limits: &Limits,
@@ -60,7 +60,9 @@ pub(crate) fn module_memory(
 ) -> Result<(Option<LinearMemory>, CleanMem), CleanMem>
     requires allowed { IsLaidOut pages (module_shape «module».now) }
     requires laid { IsLayoutOf (module_shape «module».now) layout.now }
-    ensures memory { IfOk result (λ r. memory_of r.0 ≡ option_map (fresh_memory pages (layout_of (module_shape «module».now)).data') (layout_of (module_shape «module».now)).memory) }
+    ensures memory { IfOk result
+        (λ r. memory_of r.0 ≡ option_map (fresh_memory pages (layout_of (module_shape «module».now)).data')
+        (layout_of (module_shape «module».now)).memory) }
     ensures room { IfOk result (λ r. clean ≤ room_with r.0 r.1) }
     ensures refused { IfErr result (λ back. back ≡ clean) }
 {

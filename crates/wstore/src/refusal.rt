@@ -8,10 +8,11 @@ use ends::StartRefusal;
 use layout::{Layout, memory_pages, table_size};
 use wsyntax::Module;
 
-/// The most entries of a table that an instance may have.
+/// The most entries that the table of an instance may have.
 const TABLE_LIMIT: u32 = 65_536;
 
-/// Why there is no instance of a module that mentions floats or does not, the least number first. Takes constant time.
+/// Why there is no instance of a module, the refusal of the least number where there are several. `mentions_floats` says whether
+/// the module mentions floats. It takes constant time.
 pub(crate) fn refusal(
     module: &Module<'_>,
     layout: &Layout,
@@ -19,7 +20,8 @@ pub(crate) fn refusal(
     pages: u32,
 ) -> Option<StartRefusal>
     requires { IsLayoutOf (module_shape «module».now) layout.now }
-    ensures { (bodies : List BodyShape) → mentions_floats ≡ has_floats (module_shape «module».now) bodies → option_map refusal_of result ≡ start_refusal pages (module_shape «module».now) bodies }
+    ensures { (bodies : List BodyShape) → mentions_floats ≡ has_floats (module_shape «module».now) bodies
+        → option_map refusal_of result ≡ start_refusal pages (module_shape «module».now) bodies }
 {
     if !module.imports.is_empty() {
         return Some(StartRefusal::HasImports);

@@ -15,7 +15,7 @@ use parts::TableEntry;
 use std::alloc::{AllocError, Global};
 use wsyntax::{Elements, Module, Table};
 
-/// Sets the entries from a place on to these functions.
+/// Sets the entries from `place` on to the functions `functions`.
 fn put_functions(entries: &mut [TableEntry], place: usize, functions: &[u32])
     requires { place + length functions.now ≤ length entries.old }
     ensures { map entry_of entries.new ≡ overwrite place (map SetTo functions.now) (map entry_of entries.old) }
@@ -25,7 +25,7 @@ fn put_functions(entries: &mut [TableEntry], place: usize, functions: &[u32])
     }
 }
 
-/// Writes the element segments in order, each from its place on.
+/// Writes the element segments in order, each from its place in `places` on.
 fn put_elements(entries: &mut [TableEntry], segments: &Elements, places: &[u32])
     requires within { AllWithin (length entries.old) (element_segments segments.now) }
     requires placed { places.now ≡ places_of (element_segments segments.now) }
@@ -48,7 +48,8 @@ pub(crate) fn fresh_table(
 ) -> Result<Vec<TableEntry>, AllocError>
     requires within { AllWithin table.now.limits.min (element_segments segments.now) }
     requires placed { places.now ≡ places_of (element_segments segments.now) }
-    ensures { IfOk result (λ t. map entry_of t.items ≡ put_elements (element_segments segments.now) (replicate table.now.limits.min Unset)) }
+    ensures { IfOk result
+        (λ t. map entry_of t.items ≡ put_elements (element_segments segments.now) (replicate table.now.limits.min Unset)) }
 {
     let mut entries = Vec::from_elem(alloc, TableEntry::Unset, table.limits.min as usize)?;
     put_elements(&mut entries, segments, places);
@@ -63,7 +64,10 @@ pub(crate) fn module_table(
 ) -> Result<Option<Vec<TableEntry>>, AllocError>
     requires within { AllWithin (table_size (module_shape «module».now)) (layout_of (module_shape «module».now)).elements }
     requires laid { IsLayoutOf (module_shape «module».now) layout.now }
-    ensures { IfOk result (λ t. option_map (λ v. map entry_of v.items) t ≡ option_map (λ n. put_elements (layout_of (module_shape «module».now)).elements (replicate n Unset)) (layout_of (module_shape «module».now)).table) }
+    ensures { IfOk result
+        (λ t. option_map (λ v. map entry_of v.items) t
+        ≡ option_map (λ n. put_elements (layout_of (module_shape «module».now)).elements (replicate n Unset))
+        (layout_of (module_shape «module».now)).table) }
 {
     let Some(table) = module.tables.first() else {
         return Ok(None);

@@ -11,8 +11,6 @@ use Rattle.wsyntax.specs.declared.module.Module.{Module}
 use Rattle.wsyntax.specs.declared.module.Expression.{Expression}
 use Rattle.wsyntax.specs.declared.module.Initial.{Initial}
 use Rattle.wsyntax.specs.declared.module.Initial.TheVariants as initial
-use Rattle.wsyntax.specs.declared.module.Place.{Place}
-use Rattle.wsyntax.specs.declared.module.Place.TheVariants as place
 use Rattle.wsyntax.specs.declared.module.Table.{Table}
 use Rattle.wsyntax.specs.declared.module.Global.{Global}
 use Rattle.wsyntax.specs.declared.module.Data.{Data}
@@ -66,7 +64,7 @@ abbrev pub only : List Flat → Option Flat
 only (t ∷ flat.End ∷ []) = Some t
 only _ = None
 
--- what the expression of a first value holds: the tokens of the code, the list of targets, and what they stand for
+-- what the expression of a first value or an offset holds: the tokens of the code, the list of targets, and what they stand for
 abbrev pub initial_held : Initial → List Flat
 initial_held initial.Nothing = flat.End ∷ []
 initial_held (initial.I32Const n) = flat.I32Const n ∷ flat.End ∷ []
@@ -82,32 +80,6 @@ initial_targets _ = []
 
 abbrev pub initial_tokens : Initial → List Token
 initial_tokens i = map (seen (initial_targets i)) (initial_held i)
-
--- the same of the offset of a segment, and the index of its table or memory
-abbrev pub place_index : Place → ℕ
-place_index (place.Nothing x) = x
-place_index (place.I32Const x n) = x
-place_index (place.I64Const x n) = x
-place_index (place.F32Const x bytes) = x
-place_index (place.F64Const x bytes) = x
-place_index (place.GlobalGet x y) = x
-place_index (place.Other x e) = x
-
-abbrev pub place_held : Place → List Flat
-place_held (place.Nothing x) = flat.End ∷ []
-place_held (place.I32Const x n) = flat.I32Const n ∷ flat.End ∷ []
-place_held (place.I64Const x n) = flat.I64Const n ∷ flat.End ∷ []
-place_held (place.F32Const x bytes) = flat.F32Const bytes ∷ flat.End ∷ []
-place_held (place.F64Const x bytes) = flat.F64Const bytes ∷ flat.End ∷ []
-place_held (place.GlobalGet x y) = flat.GlobalGet y ∷ flat.End ∷ []
-place_held (place.Other x e) = e.value.tokens.items
-
-abbrev pub place_targets : Place → List ℕ
-place_targets (place.Other x e) = e.value.targets.items
-place_targets _ = []
-
-abbrev pub place_tokens : Place → List Token
-place_tokens p = map (seen (place_targets p)) (place_held p)
 
 -- ---- 2.5 modules
 
@@ -144,7 +116,7 @@ pub record ElementShape : Type 0 where
   pub functions : List ℕ
 
 abbrev pub element_shape : HeldElement → ElementShape
-element_shape e = record { table = place_index e.place; offset = place_tokens e.place; functions = e.functions }
+element_shape e = record { table = e.table; offset = initial_tokens e.offset; functions = e.functions }
 
 -- 2.5.8 a data segment
 pub record DataShape : Type 0 where
@@ -153,7 +125,7 @@ pub record DataShape : Type 0 where
   pub bytes : List ℕ
 
 abbrev pub data_shape : Data → DataShape
-data_shape d = record { memory = place_index d.place; offset = place_tokens d.place; bytes = d.bytes.now }
+data_shape d = record { memory = d.memory; offset = initial_tokens d.offset; bytes = d.bytes.now }
 
 -- 2.5.3 a body: runs of declared locals, and the tokens of its expression
 pub record BodyShape : Type 0 where

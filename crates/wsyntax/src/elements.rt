@@ -1,23 +1,52 @@
-ghost use Rattle.std.specs.Prelude.{◌≡◌, IfOk};
+ghost use Rattle.std.specs.Prelude.{◌≡◌, ◌<◌, ◌≤◌, IfOk, length, slice_range};
+ghost use Rattle.wsyntax.specs.Elements.{start_at};
 
-use crate::module::Place;
+use crate::module::Initial;
 use crate::places::place_in_list;
 use std::alloc::{AllocError, Global as Alloc};
 use std::marker::Model;
+use std::mem::size_of;
 
-/// An element segment (2.5.7) that is lent: where it goes, and the indices of its functions.
+/// An element segment (2.5.7) that is lent: the index of its table, the expression of its offset, and the indices of its
+/// functions.
 #[derive(Clone, Copy, Debug)]
 pub struct Element<'a> {
-    pub place: &'a Place,
+    pub table: u32,
+    pub offset: &'a Initial,
     pub functions: &'a [u32],
 }
 
-/// Where one segment goes, and the part of the list that is its functions.
+/// The table and the offset of one segment, and where its functions end in the list: they begin where those of the segment
+/// before it end.
 #[derive(Debug, Drop)]
 pub(crate) struct Segment {
-    pub(crate) place: Place,
-    pub(crate) start: u32,
+    pub(crate) table: u32,
     pub(crate) end: u32,
+    pub(crate) offset: Initial,
+}
+
+const _: () = prove!(size_of::<Segment>() == 24);
+
+/// Where the functions of the segment of that number begin.
+fn start_of(segments: &[Segment], number: usize) -> u32
+    requires { number < length segments.now }
+    ensures { result ≡ start_at 0 segments.now number }
+{
+    if number == 0 {
+        0
+    } else {
+        segments[number - 1].end
+    }
+}
+
+/// The functions from a place in the list to another.
+#[inline]
+fn part(functions: &[u32], start: u32, end: u32) -> &[u32]
+    requires ordered { start ≤ end }
+    requires within { end ≤ length functions.now }
+    ensures { result.now ≡ slice_range functions.now start end }
+{
+    &functions[start as usize..end as usize]
 }
 
 /// Element segments, by their numbers: the functions of all of them in one list, and of each its part of the list. A
@@ -31,13 +60,13 @@ pub struct Elements {
 impl Model for Elements {
     ghost use Rattle.std.specs.Prelude.{List};
     ghost use Rattle.wsyntax.specs.HeldElement.{HeldElement};
-    ghost use Rattle.wsyntax.specs.Elements.{held_elements, AreWithin};
+    ghost use Rattle.wsyntax.specs.Elements.{held_elements, AreAll};
 
     ghost Value = { List HeldElement };
 
     ghost view = { held_elements };
 
-    ghost invariant = { AreWithin };
+    ghost invariant = { AreAll };
 }
 
 impl Elements {
@@ -64,36 +93,27 @@ impl Elements {
         })
     }
 
-    /// Puts a segment that goes to this place, and has no functions yet, behind the others.
-    pub fn push(&mut self, place: Place) -> Result<(), AllocError>
-        ensures { IfOk result (λ _. self.new ≡ self.old ++ (record { place = place; functions = [] }) ∷ []) }
+    /// Pushes a segment that has no functions yet.
+    pub fn push(&mut self, table: u32, offset: Initial) -> Result<(), AllocError>
+        ensures { IfOk result (λ _. self.new ≡ self.old ++ (record { table = table; offset = offset; functions = [] }) ∷ []) }
     {
-        let start = place_in_list(self.functions.len())?;
-        self.segments.push(Segment {
-            place,
-            start,
-            end: start,
-        })?;
+        let end = place_in_list(self.functions.len())?;
+        self.segments.push(Segment { table, end, offset })?;
         Ok(())
     }
 
-    /// Puts a function after those of the last segment; nothing changes where there is none. Want of memory is the answer
-    /// too where the last does not end where the list does, which it always does, or where the list has 2^32 functions.
+    /// Pushes a function of the last segment; nothing changes where there is no segment. 2^32 functions are answered by out
+    /// of memory.
     pub fn push_function(&mut self, function: u32) -> Result<(), AllocError>
         ensures { IfOk result (λ _. self.new ≡ with_function self.old function) }
     {
-        let Some(Segment { place, start, end }) = self.segments.pop() else {
+        if self.segments.is_empty() {
             return Ok(());
-        };
-        if end as usize != self.functions.len() || end == u32::MAX {
-            return Err(AllocError);
         }
+        let last = self.segments.len() - 1;
+        let end = place_in_list(self.functions.len() + 1)?;
         self.functions.push(function)?;
-        self.segments.push(Segment {
-            place,
-            start,
-            end: end + 1,
-        })?;
+        self.segments[last].end = end;
         Ok(())
     }
 
@@ -111,9 +131,11 @@ impl Elements {
         ensures { option_map element_of result ≡ slice_get self.now number }
     {
         let segment = self.segments.get(number)?;
+        let start = start_of(&self.segments, number);
         Some(Element {
-            place: &segment.place,
-            functions: &self.functions[segment.start as usize..segment.end as usize],
+            table: segment.table,
+            offset: &segment.offset,
+            functions: part(&self.functions, start, segment.end),
         })
     }
 }

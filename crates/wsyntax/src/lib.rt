@@ -25,7 +25,7 @@ pub use instruction_row::{Immediates, Row};
 pub use instructions::{BlockType, Load, Operator, Store, Token};
 pub use module::{
     Body, Data, Export, ExportKind, Expression, Global, Import, ImportKind, Initial, LocalRun,
-    Module, Place, Table,
+    Module, Table,
 };
 pub use opcode::Opcode;
 pub use operator_rows::{Arity, OperatorRow};

@@ -18,8 +18,8 @@ pub struct Expression {
     pub ghost within: { IsTrue (list_all (lies_within (length targets.items)) tokens.items) },
 }
 
-/// The expression of a first value (2.5.6): in place where it is empty, one constant or one look at a global, and in an
-/// allocation of its own where it is any other.
+/// The expression of a first value (2.5.6) or of an offset (2.5.7, 2.5.8): in place where it is empty, one constant or one
+/// `global.get`, and in an allocation of its own where it is any other.
 #[derive(Debug, Drop)]
 pub enum Initial {
     Nothing,
@@ -33,21 +33,6 @@ pub enum Initial {
 }
 
 const _: () = prove!(size_of::<Initial>() == 16);
-
-/// Where a segment goes (2.5.7, 2.5.8): the index of its table or memory, and the expression of its offset, in place where
-/// an `Initial` is. The index lies in each variant, where it takes no room.
-#[derive(Debug, Drop)]
-pub enum Place {
-    Nothing { index: u32 },
-    I32Const { index: u32, number: i32 },
-    I64Const { index: u32, number: i64 },
-    F32Const { index: u32, bytes: [u8; 4] },
-    F64Const { index: u32, bytes: [u8; 8] },
-    GlobalGet { index: u32, global: u32 },
-    Other { index: u32, offset: Box<Expression> },
-}
-
-const _: () = prove!(size_of::<Place>() == 16);
 
 impl Expression {
     ghost use Rattle.std.specs.Prelude.{◌≡◌};
@@ -66,7 +51,7 @@ impl Expression {
 
 impl Initial {
     ghost use Rattle.std.specs.Prelude.{◌≡◌};
-    ghost use Rattle.wsyntax.specs.Modules.{only, initial_held, initial_tokens, place_index, place_tokens};
+    ghost use Rattle.wsyntax.specs.Modules.{only, initial_held};
 
     /// The one instruction of the expression, where it is one and its end.
     pub fn only(&self) -> Option<Token>
@@ -80,57 +65,6 @@ impl Initial {
             Initial::F64Const(bytes) => Some(Token::F64Const(*bytes)),
             Initial::GlobalGet(global) => Some(Token::GlobalGet(*global)),
             Initial::Other(expression) => expression.only(),
-        }
-    }
-
-    /// The place in the table or memory of that index, at this offset.
-    pub fn within(self, index: u32) -> Place
-        ensures index { place_index result ≡ index }
-        ensures offset { place_tokens result ≡ initial_tokens self }
-    {
-        match self {
-            Initial::Nothing => Place::Nothing { index },
-            Initial::I32Const(number) => Place::I32Const { index, number },
-            Initial::I64Const(number) => Place::I64Const { index, number },
-            Initial::F32Const(bytes) => Place::F32Const { index, bytes },
-            Initial::F64Const(bytes) => Place::F64Const { index, bytes },
-            Initial::GlobalGet(global) => Place::GlobalGet { index, global },
-            Initial::Other(offset) => Place::Other { index, offset },
-        }
-    }
-}
-
-impl Place {
-    ghost use Rattle.std.specs.Prelude.{◌≡◌};
-    ghost use Rattle.wsyntax.specs.Modules.{only, place_index, place_held};
-
-    /// The index of the table or memory.
-    pub fn index(&self) -> u32
-        ensures { result ≡ place_index self.now }
-    {
-        match self {
-            Place::Nothing { index }
-            | Place::I32Const { index, .. }
-            | Place::I64Const { index, .. }
-            | Place::F32Const { index, .. }
-            | Place::F64Const { index, .. }
-            | Place::GlobalGet { index, .. }
-            | Place::Other { index, .. } => *index,
-        }
-    }
-
-    /// The one instruction of the offset, where it is one and its end.
-    pub fn only(&self) -> Option<Token>
-        ensures { result ≡ only (place_held self.now) }
-    {
-        match self {
-            Place::Nothing { .. } => None,
-            Place::I32Const { number, .. } => Some(Token::I32Const(*number)),
-            Place::I64Const { number, .. } => Some(Token::I64Const(*number)),
-            Place::F32Const { bytes, .. } => Some(Token::F32Const(*bytes)),
-            Place::F64Const { bytes, .. } => Some(Token::F64Const(*bytes)),
-            Place::GlobalGet { global, .. } => Some(Token::GlobalGet(*global)),
-            Place::Other { offset, .. } => offset.only(),
         }
     }
 }
@@ -148,10 +82,11 @@ pub struct Global {
     pub init: Initial,
 }
 
-/// A data segment (2.5.8). Its bytes lie in the input.
+/// A data segment (2.5.8): the index of its memory, the expression of its offset, and its bytes, which lie in the input.
 #[derive(Debug, Drop)]
 pub struct Data<'a> {
-    pub place: Place,
+    pub memory: u32,
+    pub offset: Initial,
     pub bytes: &'a [u8],
 }
 

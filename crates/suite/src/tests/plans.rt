@@ -79,7 +79,7 @@ fn the_first_of_two_is_named(rt: HostRuntime) -> Result<(), Fail> {
     Ok(())
 }
 
-// A long body is judged before the others, and named only where these are not refused before it.
+// A body much longer than the others is named only where none before it is refused.
 #[test]
 fn a_long_body_is_named_behind_no_other(rt: HostRuntime) -> Result<(), Fail> {
     let late = long_and_ill_typed(rt.alloc())?;

@@ -12,13 +12,13 @@ offset_has_floats e = any token_has_floats (element_shape e).offset
 shown : (es : List HeldElement) → any offset_has_floats es ≡ any (λ (s : ElementShape). any token_has_floats s.offset) (map element_shape es)
 shown es = any_of_shown element_shape (λ s. any token_has_floats s.offset) es
 
-pub returns-then-place_has_floats : goal.returns-then-place_has_floats
-returns-then-place_has_floats c =
-    sym (one_found offset_has_floats c.args.elements.now c.loop-number.number (element_of c.in-Some.element) (sym c.in-Some.ensures) (sym c.if-place_has_floats.ensures)) ∙ shown c.args.elements.now
+pub returns-then-initial_has_floats : goal.returns-then-initial_has_floats
+returns-then-initial_has_floats c =
+    sym (one_found offset_has_floats c.args.elements.now c.loop-number.number (element_of c.in-Some.element) (sym c.in-Some.ensures) (sym c.if-initial_has_floats.ensures)) ∙ shown c.args.elements.now
 
 pub loop-number-preserved : goal.loop-number-preserved
 loop-number-preserved c =
-    none_more offset_has_floats c.args.elements.now c.loop-number.number (element_of c.in-Some.element) (sym c.in-Some.ensures) c.loop-number.invariant (sym c.if-place_has_floats.ensures)
+    none_more offset_has_floats c.args.elements.now c.loop-number.number (element_of c.in-Some.element) (sym c.in-Some.ensures) c.loop-number.invariant (sym c.if-initial_has_floats.ensures)
 
 pub returns : goal.returns
 returns c =

@@ -1,14 +1,14 @@
 use Rattle.std.proofs.Common.{◌<◌, ◌^◌, length, ap, arith}
 use Rattle.texts.specs.Slices.{joined_calls}
-use Rattle.wstore.specs.Settings.{limits}
+use Rattle.wstore.specs.CallLimits.{limits_of}
 use Rattle.batch.proofs.Answered.{few_ends, line_alone, refused_calls, report_is}
 use Rattle.batch.proofs.answering.answer_on.Goals as goal
 
 pub returns-in-Err-clause-answer : goal.returns-in-Err-clause-answer
 returns-in-Err-clause-answer g c bytes v spells =
     let s = c.args.settings in
-    line_alone bytes c.args.calls.now (limits s.fuel s.frames s.pages) _ _ c.new.ensures.items
-    (refused_calls bytes c.args.calls.now (limits s.fuel s.frames s.pages) c.in-Err.fault _ v c.in-Err.ensures c.in_ok-calls_line-in-Err.ensures)
+    line_alone bytes c.args.calls.now (limits_of s) _ _ c.new.ensures.items
+    (refused_calls bytes c.args.calls.now (limits_of s) c.in-Err.fault _ v c.in-Err.ensures c.in_ok-calls_line-in-Err.ensures)
 
 pub last_line-requires : goal.last_line-requires
 last_line-requires g c =

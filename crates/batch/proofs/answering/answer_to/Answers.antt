@@ -1,5 +1,5 @@
 use Rattle.std.proofs.lemmas.Result.{IfOk-weaker}
-use Rattle.wstore.specs.Settings.{limits}
+use Rattle.wstore.specs.CallLimits.{limits_of}
 use Rattle.batch.proofs.Answered.{line_alone, spelled, refused_module}
 use Rattle.batch.proofs.answering.answer_to.Goals as goal
 
@@ -10,5 +10,5 @@ returns-in-Ok-clause-answer g c =
 pub returns-in_ok-line_of-in-Err-clause-answer : goal.returns-in_ok-line_of-in-Err-clause-answer
 returns-in_ok-line_of-in-Err-clause-answer g c =
     let s = c.args.settings in
-    line_alone c.args.bytes.now c.args.calls.now (limits s.fuel s.frames s.pages) _ _ c.new.ensures.items
-    (refused_module c.args.bytes.now c.args.calls.now (limits s.fuel s.frames s.pages) c.in-Err.refusal _ c.in-Err.ensures.verdict c.in_ok-line_of-in-Err.ensures)
+    line_alone c.args.bytes.now c.args.calls.now (limits_of s) _ _ c.new.ensures.items
+    (refused_module c.args.bytes.now c.args.calls.now (limits_of s) c.in-Err.refusal _ c.in-Err.ensures.verdict c.in_ok-line_of-in-Err.ensures)

@@ -5,7 +5,7 @@ use Rattle.layout.proofs.Words.{one_more}
 use Rattle.layout.proofs.places.data_places.Goals as goal
 
 pub place_of-requires : goal.place_of-requires
-place_of-requires c = subst (λ (s : Data). IsOffset s.place) (sym c.segment-item.is) (c.requires c.loop-segment.segment-index c.segment-item.result c.loop-segment-test.true)
+place_of-requires c = subst (λ (s : Data). IsOffset s.offset) (sym c.segment-item.is) (c.requires c.loop-segment.segment-index c.segment-item.result c.loop-segment-test.true)
 
 pub loop-segment-preserved : goal.loop-segment-preserved
 loop-segment-preserved c =

@@ -7,7 +7,7 @@ use Rattle.layout.proofs.Outside.{outside_here, inside_here, data_from}
 use Rattle.layout.proofs.segments.first_data_outside.Goals as goal
 
 pub place_of-requires : goal.place_of-requires
-place_of-requires c = subst (λ (s : Data). IsOffset s.place) (sym c.index-segments-number.is) (c.requires.offsets c.loop-number.number c.index-segments-number.result c.loop-number-test.true)
+place_of-requires c = subst (λ (s : Data). IsOffset s.offset) (sym c.index-segments-number.is) (c.requires.offsets c.loop-number.number c.index-segments-number.result c.loop-number-test.true)
 
 pub returns-then-not-ends_within : goal.returns-then-not-ends_within
 returns-then-not-ends_within c =

@@ -10,12 +10,12 @@ use Rattle.verdict.proofs.judging.judge.Goals as goal
 
 pub returns-in_err-module-clause-verdict : goal.returns-in_err-module-clause-verdict
 returns-in_err-module-clause-verdict g c =
-    refused_so _ _ (of_decoding c.in_err-module.field-0.0) c.from_residual.ensures.1
+    refused_so _ _ _ (of_decoding c.in_err-module.field-0.0) c.from_residual.ensures.1
     (not_decoded c.args.bytes.now c.in_err-module.field-0.0 c.in_err-module.ensures.malformed c.in_err-module.ensures.too_large)
 
 pub returns-in_err-context-clause-verdict : goal.returns-in_err-context-clause-verdict
 returns-in_err-context-clause-verdict g c =
-    refused_so _ _ (of_rules c.in_err-context.field-0.0) c.from_residual-in_err-context.ensures.1
+    refused_so _ _ _ (of_rules c.in_err-context.field-0.0) c.from_residual-in_err-context.ensures.1
     (not_kept c.args.bytes.now (module_shape c.in_ok-module.module) c.in_err-context.field-0.0
     (decoded _ _ c.in_ok-module.module c.in_ok-module.ensures.found c.in_ok-module.ensures.too_large) c.in_err-context.ensures.broken)
 
@@ -28,7 +28,7 @@ judge_bodies-requires-clause-few g c κs within =
 
 pub returns-in_err-bodies-clause-verdict : goal.returns-in_err-bodies-clause-verdict
 returns-in_err-bodies-clause-verdict g c =
-    refused_so _ _ c.in_err-bodies.field-0.0 (let h = c.from_residual-in_err-bodies.ensures.1 in h)
+    refused_so _ _ _ c.in_err-bodies.field-0.0 (let h = c.from_residual-in_err-bodies.ensures.1 in h)
     (judged {T = Unit {0}} c.args.bytes.now (module_shape c.in_ok-module.module) c.in_ok-context.context (map (λ b. b.now) c.deref.result.now) (length c.deref.result.now) (Err c.in_err-bodies.field-0.0)
     record {
       whole = decoded _ _ c.in_ok-module.module c.in_ok-module.ensures.found c.in_ok-module.ensures.too_large;

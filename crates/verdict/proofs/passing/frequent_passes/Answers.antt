@@ -31,16 +31,16 @@ pub returns-in-Ok-true-step-8-clause-passes : goal.returns-in-Ok-true-step-8-cla
 returns-in-Ok-true-step-8-clause-passes c = looked_one c.args.checker.now c.step-in-1.new.self c.args.bytes.now 1 (Do Nop) c.in-Ok-true-step-8.field-0 c.in-len1-up.len_at_least c.in-1.is nop_read c.in-Ok-true-step-8.ensures.step c.in-Ok-true-step-8.field-0-test c.in-Ok-true-step-8.ensures.same
 
 pub returns-in-Ok-true-step-9-clause-passes : goal.returns-in-Ok-true-step-9-clause-passes
-returns-in-Ok-true-step-9-clause-passes c = looked_open c.args.checker.now c.step-in-Some-opening_at.new.self c.args.bytes.now c.in-Some-opening_at.after.now _ 2 c.in-Some-opening_at.token c.in-Ok-true-step-9.field-0 c.in-len1-up.len_at_least c.in-2.is c.in-Some-opening_at.ensures c.in-Ok-true-step-9.ensures.step c.in-Ok-true-step-9.field-0-test c.in-Ok-true-step-9.ensures.same
+returns-in-Ok-true-step-9-clause-passes c = looked_open c.args.checker.now c.step-in-Some-block_start.new.self c.args.bytes.now c.in-Some-block_start.after.now _ 2 c.in-Some-block_start.token c.in-Ok-true-step-9.field-0 c.in-len1-up.len_at_least c.in-2.is c.in-Some-block_start.ensures c.in-Ok-true-step-9.ensures.step c.in-Ok-true-step-9.field-0-test c.in-Ok-true-step-9.ensures.same
 
 pub returns-in-Ok-true-step-10-clause-passes : goal.returns-in-Ok-true-step-10-clause-passes
-returns-in-Ok-true-step-10-clause-passes c = looked_open c.args.checker.now c.step-in-Some-opening_at-2.new.self c.args.bytes.now c.in-Some-opening_at-2.after.now _ 3 c.in-Some-opening_at-2.token c.in-Ok-true-step-10.field-0 c.in-len1-up.len_at_least c.in-3.is c.in-Some-opening_at-2.ensures c.in-Ok-true-step-10.ensures.step c.in-Ok-true-step-10.field-0-test c.in-Ok-true-step-10.ensures.same
+returns-in-Ok-true-step-10-clause-passes c = looked_open c.args.checker.now c.step-in-Some-block_start-2.new.self c.args.bytes.now c.in-Some-block_start-2.after.now _ 3 c.in-Some-block_start-2.token c.in-Ok-true-step-10.field-0 c.in-len1-up.len_at_least c.in-3.is c.in-Some-block_start-2.ensures c.in-Ok-true-step-10.ensures.step c.in-Ok-true-step-10.field-0-test c.in-Ok-true-step-10.ensures.same
 
 pub returns-in-Ok-true-step-11-clause-passes : goal.returns-in-Ok-true-step-11-clause-passes
-returns-in-Ok-true-step-11-clause-passes c = looked_open c.args.checker.now c.step-in-Some-opening_at-3.new.self c.args.bytes.now c.in-Some-opening_at-3.after.now _ 4 c.in-Some-opening_at-3.token c.in-Ok-true-step-11.field-0 c.in-len1-up.len_at_least c.in-4.is c.in-Some-opening_at-3.ensures c.in-Ok-true-step-11.ensures.step c.in-Ok-true-step-11.field-0-test c.in-Ok-true-step-11.ensures.same
+returns-in-Ok-true-step-11-clause-passes c = looked_open c.args.checker.now c.step-in-Some-block_start-3.new.self c.args.bytes.now c.in-Some-block_start-3.after.now _ 4 c.in-Some-block_start-3.token c.in-Ok-true-step-11.field-0 c.in-len1-up.len_at_least c.in-4.is c.in-Some-block_start-3.ensures c.in-Ok-true-step-11.ensures.step c.in-Ok-true-step-11.field-0-test c.in-Ok-true-step-11.ensures.same
 
 pub returns-in-Ok-true-step-12-clause-passes : goal.returns-in-Ok-true-step-12-clause-passes
-returns-in-Ok-true-step-12-clause-passes c = looked c.args.checker.now c.step-in-Some-jump_at.new.self c.args.bytes.now c.in-Some-jump_at.after.now _ 12 c.in-Some-jump_at.token c.in-Ok-true-step-12.field-0 c.in-len1-up.len_at_least c.in-12.is c.in-Some-jump_at.ensures c.in-Ok-true-step-12.ensures.step c.in-Ok-true-step-12.field-0-test c.in-Ok-true-step-12.ensures.same
+returns-in-Ok-true-step-12-clause-passes c = looked c.args.checker.now c.step-in-Some-br.new.self c.args.bytes.now c.in-Some-br.after.now _ 12 c.in-Some-br.token c.in-Ok-true-step-12.field-0 c.in-len1-up.len_at_least c.in-12.is c.in-Some-br.ensures c.in-Ok-true-step-12.ensures.step c.in-Ok-true-step-12.field-0-test c.in-Ok-true-step-12.ensures.same
 
 pub returns-then-step_known-clause-passes : goal.returns-then-step_known-clause-passes
 returns-then-step_known-clause-passes c = looked c.args.checker.now c.step_known.new.self c.args.bytes.now c.in-Some-variable_at.after.now [] 32 c.in-Some-variable_at.token true c.in-len1-up.len_at_least c.in-32.is c.in-Some-variable_at.ensures (c.step_known.ensures.step c.if-step_known.true) refl (c.step_known.ensures.same c.if-step_known.true)
@@ -52,7 +52,7 @@ pub returns-then-step_known-3-clause-passes : goal.returns-then-step_known-3-cla
 returns-then-step_known-3-clause-passes c = looked c.args.checker.now c.step_known-in-Some-variable_at-3.new.self c.args.bytes.now c.in-Some-variable_at-3.after.now [] 34 c.in-Some-variable_at-3.token true c.in-len1-up.len_at_least c.in-34.is c.in-Some-variable_at-3.ensures (c.step_known-in-Some-variable_at-3.ensures.step c.if-step_known-3.true) refl (c.step_known-in-Some-variable_at-3.ensures.same c.if-step_known-3.true)
 
 pub returns-then-step_known-4-clause-passes : goal.returns-then-step_known-4-clause-passes
-returns-then-step_known-4-clause-passes c = looked c.args.checker.now c.step_known-in-Some-constant_at.new.self c.args.bytes.now c.in-Some-constant_at.after.now [] 65 c.in-Some-constant_at.token true c.in-len1-up.len_at_least c.in-65.is c.in-Some-constant_at.ensures (c.step_known-in-Some-constant_at.ensures.step c.if-step_known-4.true) refl (c.step_known-in-Some-constant_at.ensures.same c.if-step_known-4.true)
+returns-then-step_known-4-clause-passes c = looked c.args.checker.now c.step_known-in-Some-i32_const.new.self c.args.bytes.now c.in-Some-i32_const.after.now [] 65 c.in-Some-i32_const.token true c.in-len1-up.len_at_least c.in-65.is c.in-Some-i32_const.ensures (c.step_known-in-Some-i32_const.ensures.step c.if-step_known-4.true) refl (c.step_known-in-Some-i32_const.ensures.same c.if-step_known-4.true)
 
 pub returns-then-step_known-5-clause-passes : goal.returns-then-step_known-5-clause-passes
-returns-then-step_known-5-clause-passes c = looked c.args.checker.now c.step_known-in-Some-long_constant_at.new.self c.args.bytes.now c.in-Some-long_constant_at.after.now [] 66 c.in-Some-long_constant_at.token true c.in-len1-up.len_at_least c.in-66.is c.in-Some-long_constant_at.ensures (c.step_known-in-Some-long_constant_at.ensures.step c.if-step_known-5.true) refl (c.step_known-in-Some-long_constant_at.ensures.same c.if-step_known-5.true)
+returns-then-step_known-5-clause-passes c = looked c.args.checker.now c.step_known-in-Some-i64_const.new.self c.args.bytes.now c.in-Some-i64_const.after.now [] 66 c.in-Some-i64_const.token true c.in-len1-up.len_at_least c.in-66.is c.in-Some-i64_const.ensures (c.step_known-in-Some-i64_const.ensures.step c.if-step_known-5.true) refl (c.step_known-in-Some-i64_const.ensures.same c.if-step_known-5.true)

@@ -6,4 +6,4 @@ use Rattle.wcheck.proofs.frames.all_labels_take.Given as goal
 
 abbrev pub invariant-loop-l : goal.invariant-loop-l
 invariant-loop-l l =
-    all_take (labels_in l.context.context.types l.shape l.outer) (reverse (list_of l.context.context.types l.r)) (drop l.l-index l.ls) ≡ all_take (labels_in l.context.context.types l.shape l.outer) (reverse (list_of l.context.context.types l.r)) l.ls
+    all_take (labels_in l.context.context.types l.frame l.outer) (reverse (list_of l.context.context.types l.r)) (drop l.l-index l.ls) ≡ all_take (labels_in l.context.context.types l.frame l.outer) (reverse (list_of l.context.context.types l.r)) l.ls

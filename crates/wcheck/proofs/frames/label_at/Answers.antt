@@ -3,4 +3,4 @@ use Rattle.wcheck.proofs.frames.label_at.Goals as goal
 
 pub returns : goal.returns
 returns c types =
-    label_outside types c.args.shape c.args.outer.now c.args.l c.label-2.result c.if-l-eq0.false c.label-2.ensures
+    label_outside types c.args.frame c.args.outer.now c.args.l c.label-2.result c.if-l-eq0.false c.label-2.ensures

@@ -1,5 +1,5 @@
 use Rattle.std.proofs.Common.{rules}
-use Rattle.wsyntax.specs.Modules.{place_targets, place_held}
+use Rattle.wsyntax.specs.Modules.{initial_targets, initial_held}
 use Rattle.wsyntax.specs.Validation.Rules.{one_const}
 use Rattle.wsyntax.specs.declared.ValType.TheVariants.{I32}
 use Rattle.wcontext.proofs.Constants.{leaves_constant}
@@ -9,4 +9,4 @@ pub returns-in-I32Const : goal.returns-in-I32Const
 returns-in-I32Const c = rw c.in-I32Const.is (λ _. one_const _, λ _. search rules)
 
 pub returns-in_default : goal.returns-in_default
-returns-in_default c = leaves_constant c.args.globals.now I32 (place_targets c.args.place.now) (place_held c.args.place.now) c.only.result c.leaves.result c.only.ensures c.leaves.ensures
+returns-in_default c = leaves_constant c.args.globals.now I32 (initial_targets c.args.offset.now) (initial_held c.args.offset.now) c.only.result c.leaves.result c.only.ensures c.leaves.ensures

@@ -1,12 +1,10 @@
-use Rattle.std.proofs.Common.{List, ap, ◌∙◌, ◌∷◌, ◌++◌, [], length, reverse}
+use Rattle.std.proofs.Common.{◌++◌, [], length, reverse}
 use Rattle.std.proofs.lemmas.Result.{err_from_is_err_and}
-use Rattle.wsyntax.specs.declared.instructions.Token.{Token as Held}
 use Rattle.wsyntax.specs.Modules.{seen}
 use Rattle.wsyntax.specs.Binary.Nesting.{tokens_at, expression}
 use Rattle.wdecode.proofs.FlatLoop.{token_fails, nest_fails}
 use Rattle.wdecode.proofs.BranchTables.{all_targets}
-use Rattle.wdecode.proofs.OneLoop.{continues, finishes}
-use Rattle.wdecode.proofs.OnePush.{pushes_on, pushes_shorter}
+use Rattle.wdecode.proofs.OneLoop.{continues, finishes, reads_on}
 use Rattle.wdecode.proofs.instructions.expression_at.Goals as goal
 
 pub returns-in_err-token-clause-value : goal.returns-in_err-token-clause-value
@@ -25,21 +23,21 @@ returns-in_err-closes-clause-value c =
 
 pub returns-then-closes : goal.returns-then-closes
 returns-then-closes c =
-    let all = finishes c.args.bytes.now c.each.tokens.items c.push.new.self.items c.each.targets.items c.token_at.new.targets.items (reverse c.each.opened.items) (reverse c.enter.new.opened.items) c.each.rest.now c.in_ok-token.after.now c.in_ok-token.token c.in_ok-closes.closes c.each.invariant c.in_ok-token.ensures.ok c.in_ok-token.ensures.within c.in_ok-token.ensures.follows c.in_ok-closes.ensures.ok c.if-closes.true (c.in_ok-push.ensures.items ∙ ap (λ (x : List Held). x ++ c.in_ok-token.token ∷ []) (rw c.in_default.is at c.in_ok-after.ensures.ok)) in
+    let all = finishes c.args.bytes.now c.each.tokens.items c.push-in-each.new.self.items c.each.targets.items c.token_at.new.targets.items (reverse c.each.opened.items) (reverse c.enter.new.opened.items) c.each.rest.now c.in_ok-token.after.now c.in_ok-token.token c.in_ok-closes.closes c.each.invariant c.in_ok-token.ensures.ok c.in_ok-token.ensures.within c.in_ok-token.ensures.follows c.in_ok-closes.ensures.ok c.if-closes.true c.in_ok-push-2.ensures.items in
     record {
       value = all.read;
       follow = all.follow;
-      targets = all_targets c.token_at.new.targets.items c.push.new.self.items all.follow all.within;
+      targets = all_targets c.token_at.new.targets.items c.push-in-each.new.self.items all.follow all.within;
     }
 
 pub invariant_of-result-clause-closed : goal.invariant_of-result-clause-closed
 invariant_of-result-clause-closed c =
-    let all = finishes c.args.bytes.now c.each.tokens.items c.push.new.self.items c.each.targets.items c.token_at.new.targets.items (reverse c.each.opened.items) (reverse c.enter.new.opened.items) c.each.rest.now c.in_ok-token.after.now c.in_ok-token.token c.in_ok-closes.closes c.each.invariant c.in_ok-token.ensures.ok c.in_ok-token.ensures.within c.in_ok-token.ensures.follows c.in_ok-closes.ensures.ok c.if-closes.true (c.in_ok-push.ensures.items ∙ ap (λ (x : List Held). x ++ c.in_ok-token.token ∷ []) (rw c.in_default.is at c.in_ok-after.ensures.ok)) in
+    let all = finishes c.args.bytes.now c.each.tokens.items c.push-in-each.new.self.items c.each.targets.items c.token_at.new.targets.items (reverse c.each.opened.items) (reverse c.enter.new.opened.items) c.each.rest.now c.in_ok-token.after.now c.in_ok-token.token c.in_ok-closes.closes c.each.invariant c.in_ok-token.ensures.ok c.in_ok-token.ensures.within c.in_ok-token.ensures.follows c.in_ok-closes.ensures.ok c.if-closes.true c.in_ok-push-2.ensures.items in
     all.closed
 
 pub invariant_of-result-clause-within : goal.invariant_of-result-clause-within
 invariant_of-result-clause-within c =
-    let all = finishes c.args.bytes.now c.each.tokens.items c.push.new.self.items c.each.targets.items c.token_at.new.targets.items (reverse c.each.opened.items) (reverse c.enter.new.opened.items) c.each.rest.now c.in_ok-token.after.now c.in_ok-token.token c.in_ok-closes.closes c.each.invariant c.in_ok-token.ensures.ok c.in_ok-token.ensures.within c.in_ok-token.ensures.follows c.in_ok-closes.ensures.ok c.if-closes.true (c.in_ok-push.ensures.items ∙ ap (λ (x : List Held). x ++ c.in_ok-token.token ∷ []) (rw c.in_default.is at c.in_ok-after.ensures.ok)) in
+    let all = finishes c.args.bytes.now c.each.tokens.items c.push-in-each.new.self.items c.each.targets.items c.token_at.new.targets.items (reverse c.each.opened.items) (reverse c.enter.new.opened.items) c.each.rest.now c.in_ok-token.after.now c.in_ok-token.token c.in_ok-closes.closes c.each.invariant c.in_ok-token.ensures.ok c.in_ok-token.ensures.within c.in_ok-token.ensures.follows c.in_ok-closes.ensures.ok c.if-closes.true c.in_ok-push-2.ensures.items in
     all.within
 
 pub each-smaller : goal.each-smaller
@@ -47,10 +45,10 @@ each-smaller c = c.in_ok-token.ensures.shorter
 
 pub each-preserved : goal.each-preserved
 each-preserved c =
-    continues c.args.bytes.now c.each.tokens.items c.push.new.self.items c.each.targets.items c.token_at.new.targets.items (reverse c.each.opened.items) (reverse c.enter.new.opened.items) c.each.rest.now c.in_ok-token.after.now c.in_ok-token.token c.in_ok-closes.closes c.each.invariant c.in_ok-token.ensures.ok c.in_ok-token.ensures.within c.in_ok-token.ensures.follows c.in_ok-closes.ensures.ok c.if-closes.false (c.in_ok-push.ensures.items ∙ ap (λ (x : List Held). x ++ c.in_ok-token.token ∷ []) (rw c.in_default.is at c.in_ok-after.ensures.ok))
+    continues c.args.bytes.now c.each.tokens.items c.push-in-each.new.self.items c.each.targets.items c.token_at.new.targets.items (reverse c.each.opened.items) (reverse c.enter.new.opened.items) c.each.rest.now c.in_ok-token.after.now c.in_ok-token.token c.in_ok-closes.closes c.each.invariant c.in_ok-token.ensures.ok c.in_ok-token.ensures.within c.in_ok-token.ensures.follows c.in_ok-closes.ensures.ok c.if-closes.false c.in_ok-push-2.ensures.items
 
 pub each-smaller-in-Some : goal.each-smaller-in-Some
-each-smaller-in-Some c = pushes_shorter c.each.tokens.items c.push_frequent.new.tokens.items c.each.rest.now c.in-Some.after.now (rw c.in-Some.is at c.in_ok-after.ensures.ok)
+each-smaller-in-Some c = c.in-Some.ensures.0
 
 pub each-preserved-in-Some : goal.each-preserved-in-Some
-each-preserved-in-Some c = pushes_on c.args.bytes.now c.each.tokens.items c.push_frequent.new.tokens.items c.each.targets.items (reverse c.each.opened.items) c.each.rest.now c.in-Some.after.now c.each.invariant (rw c.in-Some.is at c.in_ok-after.ensures.ok)
+each-preserved-in-Some c = reads_on c.args.bytes.now c.each.tokens.items c.push.new.self.items c.each.targets.items (reverse c.each.opened.items) c.each.rest.now c.in-Some.after.now c.in-Some.token c.each.invariant c.in-Some.ensures c.in_ok-push.ensures.items

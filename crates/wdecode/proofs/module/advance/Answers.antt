@@ -20,7 +20,7 @@ pub returns-then-id-last-clause-malformed : goal.returns-then-id-last-clause-mal
 returns-then-id-last-clause-malformed c = λ _ whole ends.
     let s = section_shape c.in_ok-section.section in
     let goes : stops c.args.before_segments c.each.rest.now ≡ false = cc in
-    not_ordered c.each.last (module_shape c.each.module) c.each.rest.now c.in_ok-section.after.now s (goes_on c.args.before_segments c.each.rest.now goes) c.in_ok-section.ensures (misplaced s c.each.last c.rank-id.result c.rank-id.ensures c.if-id-ne0.true c.if-id-last.true) whole ((c.each.invariant.0 whole).0 ends)
+    not_ordered c.each.last (module_shape c.each.module) c.each.rest.now c.in_ok-section.after.now s (goes_on c.args.before_segments c.each.rest.now goes) c.in_ok-section.ensures (misplaced s c.each.last c.id-id.result c.id-id.ensures c.if-id-ne0.true c.if-id-last.true) whole ((c.each.invariant.0 whole).0 ends)
 
 pub each-smaller : goal.each-smaller
 each-smaller c = section_shorter c.each.rest.now c.in_ok-section.after.now (section_shape c.in_ok-section.section) c.in_ok-section.ensures
@@ -30,7 +30,7 @@ each-preserved c =
     let s = section_shape c.in_ok-section.section in
     let last = c.each.last in
     let now = c.if-id-ne0.last in
-    let id = c.rank-id.result in
+    let id = c.id-id.result in
     let m = module_shape c.each.module in
     let n = module_shape c.put-module.result in
     let bytes = c.each.rest.now in
@@ -38,8 +38,8 @@ each-preserved c =
     let before = c.args.before_segments in
     let goes : stops before bytes ≡ false = cc in
     let follows : Follows last s now = elim c.if-id-ne0.branch as (λ _. Follows last s now) [
-      | then-id-ne0+else-id-last w ↦ follows_next s last id now c.rank-id.ensures w.if-id-ne0.true (omega arith) w.last-is
-      | else-id-ne0 w ↦ follows_custom s last id now c.rank-id.ensures (omega arith) w.last-is
+      | then-id-ne0+else-id-last w ↦ follows_next s last id now c.id-id.ensures w.if-id-ne0.true (omega arith) w.last-is
+      | else-id-ne0 w ↦ follows_custom s last id now c.id-id.ensures (omega arith) w.last-is
     ] in (
       carried (EndsProgress c.args.start) last now m n bytes after s c.in_ok-section.ensures follows.0 follows.1 c.put-module.ensures c.each.invariant.0,
       λ wanted early. early_next before last now m n bytes after s c.in_ok-section.ensures follows.1 c.put-module.ensures goes wanted (c.each.invariant.1 wanted early),

@@ -1,0 +1,90 @@
+use std::alloc::{AllocError, Global};
+use std::test::Fail;
+use wcontext::{Context, Front, TypeList, check_early};
+use wsyntax::ValType::{self, I32, I64};
+use wsyntax::{FuncTypes, Module};
+
+/// A list of `count` types, of which every `step`th from the first on is an i64 and all others are i32.
+fn stepped(alloc: Global, count: usize, step: usize) -> Result<Vec<ValType>, AllocError> {
+    let mut types = Vec::new(alloc);
+    for i in 0..count {
+        types.push(if i % step.max(1) == 0 { I64 } else { I32 })?;
+    }
+    Ok(types)
+}
+
+/// Function types whose parameters are long lists: some are ends of others, two are equal, and one is too short for the tree.
+fn long_lists(alloc: Global) -> Result<FuncTypes, AllocError> {
+    let mut types = FuncTypes::new(alloc);
+    for (count, step) in [
+        (300, 2),
+        (601, 2),
+        (300, 3),
+        (601, 1_000),
+        (300, 2),
+        (255, 2),
+    ] {
+        types.push(&stepped(alloc, count, step)?, &[])?;
+    }
+    Ok(types)
+}
+
+/// The first `count` parameters of that function type.
+fn front_of(types: &FuncTypes, y: u32, count: u32) -> &[ValType] {
+    match types.get(y as usize) {
+        Some(signature) => &signature.params[..signature.params.len().min(count as usize)],
+        None => &[],
+    }
+}
+
+/// Whether the types of one front are an end of those of another, type by type.
+fn ends_with(long: &[ValType], short: &[ValType]) -> bool {
+    if short.len() > long.len() {
+        return false;
+    }
+    let over = long.len() - short.len();
+    (0..short.len()).all(|i| long[over + i] == short[i])
+}
+
+/// Whether the context says of two fronts what comparing says.
+fn says_as_comparing(
+    context: &Context,
+    types: &FuncTypes,
+    one: (u32, u32),
+    other: (u32, u32),
+) -> bool {
+    let short = Front {
+        list: TypeList::Params(one.0),
+        count: one.1,
+    };
+    let long = Front {
+        list: TypeList::Params(other.0),
+        count: other.1,
+    };
+    let expected = ends_with(
+        front_of(types, other.0, other.1),
+        front_of(types, one.0, one.1),
+    );
+    context.is_end(short, long) == expected
+}
+
+const COUNTS: [u32; 6] = [254, 255, 256, 299, 300, 601];
+
+#[test]
+fn fronts_of_long_lists_are_ends_where_comparing_says_so(rt: HostRuntime) -> Result<(), Fail> {
+    let types = long_lists(rt.alloc())?;
+    let mut module = Module::empty(rt.alloc());
+    module.types = long_lists(rt.alloc())?;
+    let (context, _) = check_early(rt.alloc(), &module)?;
+    for y in 0..6 {
+        for z in 0..6 {
+            for count in COUNTS {
+                for more in COUNTS {
+                    let same = says_as_comparing(&context, &types, (y, count), (z, more));
+                    assert!(rt; same, "the first {count} of {y}, the first {more} of {z}");
+                }
+            }
+        }
+    }
+    Ok(())
+}

@@ -1,0 +1,57 @@
+-- From what is known of each group of bodies to what is known of the bodies.
+use Rattle.std.proofs.Common.{Bor, ◌≡◌, ℕ, suc, ◌+◌, ◌*◌, ◌/◌, ◌<◌, ◌≤◌, List, length, map, get_or, None, sym, ap, subst, ◌∙◌, arith}
+use Rattle.std.specs.Prelude.{option_map, slice_get}
+use Rattle.std.specs.Int.{div_ceil}
+use Rattle.std.proofs.Math.Nat.{div-mul-le_self, mul-le-mul_right, lt-div-mul-add, div-lt_iff_lt-mul}
+use Rattle.std.proofs.lemmas.Grind.{div_ceil_times}
+use Rattle.std.proofs.lemmas.Option.{slice_get-map, slice_get-get_or}
+use mathlib.Core.Logic.{dite}
+use native.Mathlib.Decide.{dec_lt}
+use Rattle.wsyntax.specs.Validation.Context.{Context}
+use Rattle.verdict.specs.declared.refused_body.RefusedBody.{RefusedBody}
+use Rattle.verdict.specs.Judged.{class_of, given_class, class_at, PassBefore}
+use Rattle.verdict.specs.Groups.{IsInGroup, GroupPasses, IsFirstOfGroup}
+
+-- ---- each place is one of a group
+
+group_below : (n size k : ℕ) → 0 < size → k < n → k / size < div_ceil n size
+group_below n size k some below =
+    let a = div-mul-le_self k size in
+    let t = div_ceil_times n size some in
+    dite (dec_lt (k / size) (div_ceil n size)) (λ y. y)
+    (λ no. absurd (let c : div_ceil n size * size ≤ k / size * size = mul-le-mul_right size (omega arith) in omega arith))
+
+in_group : (n size k : ℕ) → 0 < size → k < n → IsInGroup size n (k / size) k
+in_group n size k some below = record { from = div-mul-le_self k size; to = lt-div-mul-add {a = k} {b = size} some; there = below }
+
+-- ---- the run over all groups
+
+-- each group passes, so each body does
+pub groups_pass : (C : Context) (imported : ℕ) (bodies : List (List ℕ)) (size : ℕ) → 0 < size → ((i : ℕ) → i < div_ceil (length bodies) size → GroupPasses C imported bodies size i) → PassBefore C imported bodies (length bodies)
+groups_pass C imported bodies size some all k lt = all (k / size) (group_below (length bodies) size k some lt) k (in_group (length bodies) size k some lt)
+
+-- the bodies before the first refused one of a group, where all groups before it pass
+pub pass_before : (C : Context) (imported : ℕ) (bodies : List (List ℕ)) (size group : ℕ) (r : RefusedBody) → 0 < size → IsFirstOfGroup C imported bodies size group r → ((i : ℕ) → i < group → GroupPasses C imported bodies size i) → PassBefore C imported bodies r.place
+pass_before C imported bodies size group r some first earlier k lt =
+    let inside = first.inside in
+    let to = inside.to in
+    let there = inside.there in
+    dite (dec_lt k (group * size))
+    (λ y. let sooner : k / size < group = (div-lt_iff_lt-mul {k = size} {x = k} {y = group} some).1 y in
+    earlier (k / size) sooner k (in_group (length bodies) size k some (omega (arith, lt, there))))
+    (λ late. first.before k record { from = omega (arith, late); to = omega (arith, to, lt); there = omega (arith, lt, there) } lt)
+
+-- ---- one body more
+
+-- the class of the body at a place
+pub class_there : (C D : Context) (i j place : ℕ) (bodies : List (Bor (List ℕ))) (d : Bor (List ℕ)) → D ≡ C → j ≡ i → place < length bodies → class_of D (j + place) (get_or bodies place d).now ≡ class_at C i (map (λ b. b.now) bodies) place
+class_there C D i j place bodies d same is lt =
+    ap (λ (x : Context). class_of x (j + place) (get_or bodies place d).now) same
+    ∙ ap (λ (x : ℕ). class_of C (x + place) (get_or bodies place d).now) is
+    ∙ sym (ap (given_class C (i + place)) (slice_get-map (λ (b : Bor (List ℕ)). b.now) bodies place ∙ ap (option_map (λ (b : Bor (List ℕ)). b.now)) (slice_get-get_or bodies place d lt)))
+
+-- the bodies of a group before a place pass, and so the one there
+pub one_more : (C : Context) (imported : ℕ) (bodies : List (List ℕ)) (size group place : ℕ) → ((k : ℕ) → IsInGroup size (length bodies) group k → k < place → class_at C imported bodies k ≡ None) → class_at C imported bodies place ≡ None → (k : ℕ) → IsInGroup size (length bodies) group k → k < place + 1 → class_at C imported bodies k ≡ None
+one_more C imported bodies size group place before here k inside lt =
+    dite (dec_lt k place) (λ y. before k inside y)
+    (λ no. let same : place ≡ k = omega (arith, no, lt) in subst (λ (x : ℕ). class_at C imported bodies x ≡ None) same here)

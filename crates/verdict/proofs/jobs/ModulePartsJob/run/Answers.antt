@@ -1,0 +1,32 @@
+use Rattle.std.proofs.Common.{◌≢◌, ◌<◌, ◌-◌, ◌*◌, length, arith}
+use Rattle.std.proofs.Math.Nat.{min-le_left, min-le_right}
+use Rattle.verdict.specs.Parts.{bodies_of}
+use Rattle.verdict.proofs.Groups.{one_more}
+use Rattle.verdict.proofs.Parts.{body_part, group_part}
+use Rattle.verdict.proofs.jobs.ModulePartsJob.run.Goals as goal
+
+pub loop-place-preserved : goal.loop-place-preserved
+loop-place-preserved g c =
+    let old = c.loop-place.invariant in
+    record {
+      outside = c.in_ok-judge_at.ensures.outside;
+      awaited = old.awaited;
+      passed = one_more _ _ _ _ _ _ old.passed c.in_ok-judge_at.ensures.verdict;
+    }
+
+pub returns-in_err-judge_at-clause-answer : goal.returns-in_err-judge_at-clause-answer
+returns-in_err-judge_at-clause-answer g c =
+    let h = c.args.self.now.head.now in
+    let size = c.args.self.now.size in
+    let ne : c.args.index ≢ 0 = omega (arith, c.if-index-eq0.false) in
+    let most = min-le_left size (length (bodies_of h) - (c.args.index - 1) * size) in
+    let left = min-le_right size (length (bodies_of h) - (c.args.index - 1) * size) in
+    body_part h size c.args.index c.loop-place.place c.from_residual.result c.in_err-judge_at.field-0.0 c.from_residual.ensures.1 ne
+    record { from = omega (arith, c.loop-place.auto.place); to = omega (arith, most, c.loop-place-test.true); there = omega (arith, left, c.loop-place.auto.place, c.loop-place-test.true) }
+    c.loop-place.invariant.passed
+    c.in_err-judge_at.ensures.verdict
+
+pub returns-clause-answer : goal.returns-clause-answer
+returns-clause-answer g c =
+    let ne : c.args.index ≢ 0 = omega (arith, c.if-index-eq0.false) in
+    (group_part c.args.self.now.head.now c.args.self.now.size c.args.index c.loop-place.place ne (omega (arith, c.loop-place-test.false)) c.loop-place.invariant.passed, tt)

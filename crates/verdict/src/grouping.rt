@@ -1,0 +1,34 @@
+//! How many bodies workers judge in one go.
+ghost use Rattle.std.specs.Prelude.{◌<◌};
+
+use pieces::Plan;
+
+/// A module of at least so many bytes makes a group worth its while.
+const SHORTEST_GROUP: usize = 4_096;
+
+/// How many groups there are for each worker at least, where they are long enough.
+const FEWEST_GROUPS: u32 = 32;
+
+/// The plan whose pieces are the groups of the bodies of a module of so many bytes.
+fn grouping(plan: Plan, bodies: u32, bytes: usize) -> Plan {
+    let wanted = plan.workers().saturating_mul(FEWEST_GROUPS) as usize;
+    plan.grouping(bodies, wanted.min(bytes / SHORTEST_GROUP) as u32)
+}
+
+/// The plan itself, or that of one worker where there is one group at most: to start threads for less takes longer.
+fn narrowed(plan: Plan, groups: u32) -> Plan {
+    match Plan::new(1, 1) {
+        Some(alone) if groups < 2 => alone,
+        _ => plan,
+    }
+}
+
+/// The size of the groups of `bodies` bodies in a module of `bytes` bytes, and the plan of those who judge one group after
+/// the other.
+pub(crate) fn groups_for(bodies: u32, bytes: usize, plan: Plan) -> (u32, Plan)
+    ensures { 0 < result.0 }
+{
+    let plan = grouping(plan, bodies, bytes);
+    let groups = plan.count_groups(bodies);
+    (plan.piece(), narrowed(plan.one_group_each(), groups))
+}

@@ -1,0 +1,7 @@
+use Rattle.std.proofs.Common.{sym}
+use Rattle.wcheck.proofs.Taking.{same_wholes}
+use Rattle.wcheck.proofs.frames.are_same_lists.Goals as goal
+
+pub returns-then-is_end : goal.returns-then-is_end
+returns-then-is_end c =
+    sym (same_wholes c.args.context.now.context.types c.args.a c.args.b c.whole-one.result c.whole-other.result c.whole-one.ensures.types c.whole-other.ensures.types c.whole-one.ensures.count c.whole-other.ensures.count c.if-one-other.true (c.is_end.ensures c.if-is_end.true))

@@ -1,0 +1,132 @@
+ghost use Rattle.std.specs.Prelude.{◌≡◌, ◌≤◌, ◌<◌, ◌-◌, ◌^◌, List, ◌++◌, true, false, Some};
+ghost use Rattle.std.specs.Prelude.{IfSome, MatchOption, length, map, take};
+ghost use Rattle.wcontext.specs.Lists.{front_of};
+ghost use Rattle.wcheck.specs.Heights.{type_of};
+ghost use Rattle.wcheck.specs.Runs.{is_several, run_at, types_in, last_types};
+
+use crate::types::first_of;
+use wcontext::{Context, Front};
+use wsyntax::ValType;
+
+/// An entry of the operand stack in one byte: an operand, or a run of several. The types come first, in the order of
+/// `ValType`, and `Unknown` is an operand of any type.
+#[derive(Clone, Copy)]
+pub(crate) enum Entry {
+    I32,
+    I64,
+    F32,
+    F64,
+    Unknown,
+    Run,
+}
+
+#[inline]
+pub(crate) fn packed(x: Option<ValType>) -> Entry
+    ensures value { type_of result ≡ x }
+    ensures single { is_several result ≡ false }
+{
+    match x {
+        Some(ValType::I32) => Entry::I32,
+        Some(ValType::I64) => Entry::I64,
+        Some(ValType::F32) => Entry::F32,
+        Some(ValType::F64) => Entry::F64,
+        None => Entry::Unknown,
+    }
+}
+
+#[inline]
+pub(crate) fn unpacked(x: Entry) -> Option<ValType>
+    ensures { result ≡ type_of x }
+{
+    match x {
+        Entry::I32 => Some(ValType::I32),
+        Entry::I64 => Some(ValType::I64),
+        Entry::F32 => Some(ValType::F32),
+        Entry::F64 => Some(ValType::F64),
+        Entry::Unknown | Entry::Run => None,
+    }
+}
+
+/// Whether the operand is known to be of this type.
+#[inline]
+pub(crate) fn is_known(x: Entry, t: ValType) -> bool
+    ensures { result ≡ true → type_of x ≡ Some t }
+{
+    x as u8 == t as u8
+}
+
+/// Whether the last entries are known to be of these types.
+#[inline]
+pub(crate) fn end_in_singles(entries: &[Entry], ts: &[ValType]) -> bool
+    ensures { result ≡ true → (runs : List (List ValType)) → types_in entries.now runs
+        ≡ types_in (take (length entries.now - length ts.now) entries.now) runs ++ map Some ts.now }
+{
+    if entries.len() < ts.len() {
+        return false;
+    }
+    let first = entries.len() - ts.len();
+    for (i, t) in ts.iter().enumerate() {
+        if !is_known(entries[first + i], *t) {
+            return false;
+        }
+    }
+    true
+}
+
+/// Whether the entry is that of a run.
+#[inline]
+pub(crate) fn is_run(entry: Entry) -> bool
+    ensures { result ≡ is_several entry }
+{
+    matches!(entry, Entry::Run)
+}
+
+/// The types of a front.
+#[inline]
+pub(crate) fn types_of_front(context: &Context, front: Front) -> &[ValType]
+    ensures types { result.now ≡ front_of context.now.context.types front }
+    ensures few { length result.now < 2 ^ 32 }
+{
+    first_of(context.list(front.list), front.count as usize)
+}
+
+/// The types of the run of the topmost entry.
+#[inline]
+pub(crate) fn top_run<'a>(
+    context: &'a Context,
+    entry: Entry,
+    runs: &[Front],
+) -> Option<&'a [ValType]>
+    ensures found { MatchOption result
+        (run_at entry (map (front_of context.now.context.types) runs.now) ≡ None)
+        (λ r. run_at entry (map (front_of context.now.context.types) runs.now) ≡ Some r.now) }
+    ensures few { IfSome result (λ r. length r.now < 2 ^ 32) }
+{
+    match entry {
+        Entry::Run => match runs.last() {
+            Some(run) => Some(types_of_front(context, *run)),
+            None => None,
+        },
+        Entry::I32 | Entry::I64 | Entry::F32 | Entry::F64 | Entry::Unknown => None,
+    }
+}
+
+/// How many types the shorter of two fronts has, where these surely are the last types of the longer one too.
+pub(crate) fn shared_end(context: &Context, one: Front, other: Front) -> Option<usize>
+    ensures first { IfSome result (λ n. n ≤ length (front_of context.now.context.types one)) }
+    ensures second { IfSome result (λ n. n ≤ length (front_of context.now.context.types other)) }
+    ensures same { IfSome result (λ n. last_types n (front_of context.now.context.types one)
+        ≡ last_types n (front_of context.now.context.types other)) }
+{
+    let first = types_of_front(context, one).len();
+    if one.count == other.count && one.list.is_at(other.list) {
+        return Some(first);
+    }
+    let second = types_of_front(context, other).len();
+    let (short, long) = if first < second {
+        (one, other)
+    } else {
+        (other, one)
+    };
+    context.is_end(short, long).then_some(first.min(second))
+}

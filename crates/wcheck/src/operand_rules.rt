@@ -1,0 +1,287 @@
+//! What an instruction does to several operands at once, in the innermost frame (7.3).
+ghost use Rattle.std.specs.Prelude.{◌≡◌, ◌≤◌, ◌<◌, ◌-◌, ◌^◌, [], ◌∷◌, true, false, Some};
+ghost use Rattle.std.specs.Prelude.{IfSome, IfNone, IfOk, reverse, length};
+ghost use Rattle.wcontext.specs.Lists.{list_of, front_of};
+ghost use Rattle.wsyntax.specs.Validation.Algorithm.{Takes, when, apply, take_one, take_all, put, ends_with};
+ghost use Rattle.wcheck.specs.Runs.{types_before};
+
+use crate::operand_stack::OperandStack;
+use crate::types::is_same;
+use std::alloc::AllocError;
+use wcontext::{Front, TypeList};
+use wsyntax::ValType;
+
+/// A list of more types than this is pushed as a run.
+const SHORT: usize = 8;
+
+impl OperandStack<'_> {
+    /// Takes the topmost operand, if it may be of this type.
+    #[inline]
+    pub(crate) fn take_one(&mut self, t: ValType) -> bool
+        ensures above { take_one t self.old.above ≡ when result (Some self.new.above) }
+        ensures below { self.new.below ≡ self.old.below }
+        ensures types { self.new.types ≡ self.old.types }
+    {
+        self.take_known(t) || self.take_fitting(t)
+    }
+
+    /// Takes the topmost operand, if it may be of this type, which is seldom another or unknown.
+    #[inline(never)]
+    fn take_fitting(&mut self, t: ValType) -> bool
+        ensures above { take_one t self.old.above ≡ when result (Some self.new.above) }
+        ensures below { self.new.below ≡ self.old.below }
+        ensures types { self.new.types ≡ self.old.types }
+    {
+        match self.take_any() {
+            None => false,
+            Some(None) => true,
+            Some(Some(u)) => is_same(u, t),
+        }
+    }
+
+    /// Takes an operand of the first type, and puts one of the second.
+    #[inline]
+    pub(crate) fn change(&mut self, t: ValType, u: ValType) -> Result<bool, AllocError>
+        ensures above { IfOk result (λ yes. apply (Takes (t ∷ []) (u ∷ [])) self.old.above ≡ when yes (Some self.new.above)) }
+        ensures below { self.new.below ≡ self.old.below }
+        ensures types { self.new.types ≡ self.old.types }
+    {
+        if self.change_known(t, u) {
+            Ok(true)
+        } else {
+            self.change_fitting(t, u)
+        }
+    }
+
+    #[inline(never)]
+    fn change_fitting(&mut self, t: ValType, u: ValType) -> Result<bool, AllocError>
+        ensures above { IfOk result (λ yes. apply (Takes (t ∷ []) (u ∷ [])) self.old.above ≡ when yes (Some self.new.above)) }
+        ensures below { self.new.below ≡ self.old.below }
+        ensures types { self.new.types ≡ self.old.types }
+    {
+        if !self.take_fitting(t) {
+            return Ok(false);
+        }
+        self.push(Some(u))?;
+        Ok(true)
+    }
+
+    /// Takes two operands of the first type, and puts one of the second.
+    #[inline]
+    pub(crate) fn combine(&mut self, t: ValType, u: ValType) -> Result<bool, AllocError>
+        ensures above { IfOk result (λ yes. apply (Takes (t ∷ t ∷ []) (u ∷ [])) self.old.above ≡ when yes (Some self.new.above)) }
+        ensures below { self.new.below ≡ self.old.below }
+        ensures types { self.new.types ≡ self.old.types }
+    {
+        if self.combine_known(t, u) {
+            Ok(true)
+        } else {
+            self.combine_fitting(t, u)
+        }
+    }
+
+    #[inline(never)]
+    fn combine_fitting(&mut self, t: ValType, u: ValType) -> Result<bool, AllocError>
+        ensures above { IfOk result (λ yes. apply (Takes (t ∷ t ∷ []) (u ∷ [])) self.old.above ≡ when yes (Some self.new.above)) }
+        ensures below { self.new.below ≡ self.old.below }
+        ensures types { self.new.types ≡ self.old.types }
+    {
+        if !self.take_fitting(t) {
+            return Ok(false);
+        }
+        if !self.take_fitting(t) {
+            return Ok(false);
+        }
+        self.push(Some(u))?;
+        Ok(true)
+    }
+
+    /// Takes an operand of the first type, and below it one of the second.
+    #[inline]
+    pub(crate) fn take_two(&mut self, t: ValType, u: ValType) -> bool
+        ensures above { apply (Takes (t ∷ u ∷ []) []) self.old.above ≡ when result (Some self.new.above) }
+        ensures below { self.new.below ≡ self.old.below }
+        ensures types { self.new.types ≡ self.old.types }
+    {
+        self.take_two_known(t, u) || self.take_two_fitting(t, u)
+    }
+
+    #[inline(never)]
+    fn take_two_fitting(&mut self, t: ValType, u: ValType) -> bool
+        ensures above { apply (Takes (t ∷ u ∷ []) []) self.old.above ≡ when result (Some self.new.above) }
+        ensures below { self.new.below ≡ self.old.below }
+        ensures types { self.new.types ≡ self.old.types }
+    {
+        self.take_fitting(t) && self.take_fitting(u)
+    }
+
+    /// Takes operands of the types of a list, the last first.
+    #[inline]
+    pub(crate) fn take_all(&mut self, list: TypeList) -> bool
+        ensures above { take_all (reverse (list_of self.old.types list)) self.old.above ≡ when result (Some self.new.above) }
+        ensures below { self.new.below ≡ self.old.below }
+        ensures types { self.new.types ≡ self.old.types }
+    {
+        match list {
+            TypeList::Nothing => true,
+            TypeList::One(t) => self.take_one(t),
+            TypeList::Params(_) | TypeList::Results(_) => self.take_several(list),
+        }
+    }
+
+    /// Takes operands of the last types of a front, as many as it shares with the run on top: none where no run is there.
+    /// `None`: nothing was taken, since the run has other types.
+    fn take_run(&mut self, front: Front) -> Option<usize>
+        ensures count { IfSome result (λ n. n ≤ length (front_of self.old.types front)) }
+        ensures taken { IfSome result (λ n. take_all (reverse (front_of self.old.types front)) self.old.above
+            ≡ take_all (reverse (types_before n (front_of self.old.types front))) self.new.above) }
+        ensures others { IfNone result (self.new.above ≡ self.old.above) }
+        ensures below { self.new.below ≡ self.old.below }
+        ensures types { self.new.types ≡ self.old.types }
+    {
+        let count = self.ends_in_run(front)?;
+        let height = self.height();
+        if height - self.base() < count {
+            return None;
+        }
+        self.truncate(height - count);
+        Some(count)
+    }
+
+    /// Takes operands of these types at once, where each is known.
+    #[inline]
+    fn take_all_known(&mut self, ts: &[ValType]) -> bool
+        ensures taken { result ≡ true → take_all (reverse ts.now) self.old.above ≡ Some self.new.above }
+        ensures others { result ≡ false → self.new.above ≡ self.old.above }
+        ensures below { self.new.below ≡ self.old.below }
+        ensures types { self.new.types ≡ self.old.types }
+    {
+        let height = self.height();
+        if height - self.base() < ts.len() {
+            return false;
+        }
+        if !self.ends_in_singles(ts) {
+            return false;
+        }
+        self.truncate(height - ts.len());
+        true
+    }
+
+    /// Takes operands of these types, the last first, one by one.
+    #[inline(never)]
+    fn take_each(&mut self, ts: &[ValType]) -> bool
+        ensures above { take_all (reverse ts.now) self.old.above ≡ when result (Some self.new.above) }
+        ensures below { self.new.below ≡ self.old.below }
+        ensures types { self.new.types ≡ self.old.types }
+    {
+        let mut i = ts.len();
+        while i > 0 {
+            i -= 1;
+            if !self.take_one(ts[i]) {
+                return false;
+            }
+        }
+        true
+    }
+
+    /// Takes operands of the types of a list, the last first.
+    #[inline(never)]
+    fn take_several(&mut self, list: TypeList) -> bool
+        ensures above { take_all (reverse (list_of self.old.types list)) self.old.above ≡ when result (Some self.new.above) }
+        ensures below { self.new.below ≡ self.old.below }
+        ensures types { self.new.types ≡ self.old.types }
+    {
+        let ts = self.types_of(list);
+        if ts.len() <= SHORT {
+            return self.take_all_known(ts) || self.take_each(ts);
+        }
+        self.take_many(list, ts)
+    }
+
+    /// Takes operands of the types of a list, which are these, the last first. Once none is known, no more is read, and what
+    /// the list shares with a run is taken at once. The types of a run that does not fit are compared one by one.
+    #[inline(never)]
+    #[tactic(auto, using(crate::proofs::ListFacts::taken_empty))]
+    fn take_many(&mut self, list: TypeList, ts: &[ValType]) -> bool
+        requires types { ts.now ≡ list_of self.old.types list }
+        requires few { length ts.now < 2 ^ 32 }
+        ensures above { take_all (reverse (list_of self.old.types list)) self.old.above ≡ when result (Some self.new.above) }
+        ensures below { self.new.below ≡ self.old.below }
+        ensures types { self.new.types ≡ self.old.types }
+    {
+        let mut left = ts.len();
+        while left > SHORT {
+            if self.is_empty() {
+                return self.is_unreachable();
+            }
+            let count = left as u32;
+            let Some(taken) = self.take_run(Front { list, count }) else {
+                break;
+            };
+            if taken > 0 {
+                left -= taken;
+            } else {
+                left -= 1;
+                if !self.take_one(ts[left]) {
+                    return false;
+                }
+            }
+        }
+        self.take_each(&ts[..left])
+    }
+
+    /// Puts operands of the types of a list, the last one topmost.
+    #[inline(always)]
+    pub(crate) fn put(&mut self, list: TypeList) -> Result<(), AllocError>
+        ensures above { IfOk result (λ _. self.new.above ≡ put (reverse (list_of self.old.types list)) self.old.above) }
+        ensures below { self.new.below ≡ self.old.below }
+        ensures types { self.new.types ≡ self.old.types }
+    {
+        match list {
+            TypeList::Nothing => Ok(()),
+            TypeList::One(_) | TypeList::Params(_) | TypeList::Results(_) => self.put_some(list),
+        }
+    }
+
+    /// Puts operands of the types of a list that has some.
+    #[inline(never)]
+    fn put_some(&mut self, list: TypeList) -> Result<(), AllocError>
+        ensures above { IfOk result (λ _. self.new.above ≡ put (reverse (list_of self.old.types list)) self.old.above) }
+        ensures below { self.new.below ≡ self.old.below }
+        ensures types { self.new.types ≡ self.old.types }
+    {
+        match list {
+            TypeList::Nothing => Ok(()),
+            TypeList::One(t) => self.push(Some(t)),
+            TypeList::Params(_) | TypeList::Results(_) => self.put_several(list),
+        }
+    }
+
+    /// Puts operands of the types of a list, a long one as a run.
+    #[inline(never)]
+    fn put_several(&mut self, list: TypeList) -> Result<(), AllocError>
+        ensures above { IfOk result (λ _. self.new.above ≡ put (reverse (list_of self.old.types list)) self.old.above) }
+        ensures below { self.new.below ≡ self.old.below }
+        ensures types { self.new.types ≡ self.old.types }
+    {
+        let ts = self.types_of(list);
+        if ts.len() > SHORT {
+            self.push_run(list, ts.len())?;
+            return Ok(());
+        }
+        for t in ts {
+            self.push(Some(*t))?;
+        }
+        Ok(())
+    }
+
+    /// Whether the operands are exactly these, which are taken.
+    #[inline(always)]
+    pub(crate) fn ends_with(&mut self, list: TypeList) -> bool
+        ensures answer { result ≡ ends_with (reverse (list_of self.old.types list)) self.old.above }
+        ensures below { self.new.below ≡ self.old.below }
+        ensures types { self.new.types ≡ self.old.types }
+    {
+        self.take_all(list) && self.is_empty()
+    }
+}

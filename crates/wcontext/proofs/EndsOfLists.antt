@@ -1,0 +1,46 @@
+-- Ends of lists of value types.
+use Rattle.std.proofs.Common.{◌≡◌, ℕ, ◌-◌, ◌≤◌, ◌&&◌, min, List, [], ◌∷◌, ◌++◌, length, take, drop, Bool, true, false, Option, Some, None, refl, sym, ap, subst, ◌∙◌, arith, length-drop}
+use Rattle.std.specs.Prelude.{IfSome}
+use Rattle.std.specs.Cmp.Lexicographic.{pointwise}
+use Rattle.std.proofs.Math.Seq.{take-length}
+use Rattle.std.proofs.lemmas.List.{take-append-drop, length-take, take_min}
+use Rattle.wsyntax.specs.Types.{FuncType}
+use Rattle.wsyntax.specs.declared.ValType.{ValType}
+use Rattle.wcontext.specs.declared.lists.Front.{Front}
+use Rattle.wcontext.specs.declared.end_tree.EndTree.{EndTree}
+use Rattle.wcontext.specs.Lists.{list_of, front_of, IsEnd}
+use Rattle.wcontext.specs.EndTree.{IsEndTree, TellsEnd}
+
+both : (a b : Bool) → (a && b) ≡ true → (a ≡ true) × (b ≡ true)
+both true b h = (refl, h)
+both false b h = cc
+
+-- lists that are the same type by type
+pub same_from : {E : ValType → ValType → Bool} → ((t u : ValType) → E t u ≡ true → t ≡ u) → (ts us : List ValType) → pointwise E ts us ≡ true → ts ≡ us
+same_from tells [] [] h = refl
+same_from tells [] (u ∷ us) h = absurd cc
+same_from tells (t ∷ ts) [] h = absurd cc
+same_from {E} tells (t ∷ ts) (u ∷ us) h =
+    let parts = both (E t u) (pointwise E ts us) h in
+    rw (tells t u parts.0, same_from tells ts us parts.1) refl
+
+-- the last types of a list are those of another
+pub end_from : {E : ValType → ValType → Bool} → ((t u : ValType) → E t u ≡ true → t ≡ u) → (long short : List ValType) (k : ℕ) → k ≤ length long → pointwise E (take (length long - k) (drop k long)) short ≡ true → IsEnd short long
+end_from tells long short k within h =
+    let rest : take (length long - k) (drop k long) ≡ drop k long = ap (λ n. take n (drop k long)) (sym (length-drop k long)) ∙ take-length (drop k long) in
+    (take k long, sym (take-append-drop k long) ∙ ap (λ z. take k long ++ z) (sym rest ∙ same_from tells _ short h))
+
+-- ---- what the tree of ends tells
+
+front_whole : (types : List FuncType) (f : Front) (n : ℕ) → n ≡ length (front_of types f) → (n ≤ length (list_of types f.list)) × (take n (list_of types f.list) ≡ front_of types f)
+front_whole types f n is =
+    let size : n ≡ min f.count (length (list_of types f.list)) = is ∙ length-take f.count (list_of types f.list) in
+    (omega (arith, size), ap (λ k. take k (list_of types f.list)) size ∙ take_min f.count (list_of types f.list))
+
+pub told : (types : List FuncType) (t : EndTree) (short long : Front) (n m : ℕ) (r : Option Bool) → IfSome r (λ a. a ≡ true → TellsEnd t short.list n long.list m) → IsEndTree types t
+    → n ≡ length (front_of types short) → m ≡ length (front_of types long) → IfSome r (λ a. a ≡ true → IsEnd (front_of types short) (front_of types long))
+told types t short long n m None h tree first second = h
+told types t short long n m (Some a) h tree first second = λ yes.
+    let one = front_whole types short n first in
+    let other = front_whole types long m second in
+    subst (λ l. IsEnd l (front_of types long)) one.1 (subst (λ l. IsEnd (take n (list_of types short.list)) l) other.1 (h yes types tree one.0 other.0))

@@ -1,0 +1,63 @@
+-- The fronts of long lists, and which of them are ends of which.
+use Rattle.std.specs.Prelude.{◌≡◌, ℕ, ◌<◌, ◌≤◌, List, ◌++◌, length, take, get_or}
+use Rattle.std.specs.List.{All}
+use Rattle.wsyntax.specs.Types.{FuncType}
+use Rattle.wsyntax.specs.declared.ValType.{ValType}
+use Rattle.wcontext.specs.declared.lists.TypeList.{TypeList}
+use Rattle.wcontext.specs.declared.lists.TypeList.TheVariants.{Nothing, One, Params, Results}
+use Rattle.wcontext.specs.declared.end_tree.Starts.{Starts}
+use Rattle.wcontext.specs.declared.end_tree.Gathered.{Gathered}
+use Rattle.wcontext.specs.declared.end_tree.EndTree.{EndTree}
+use Rattle.wcontext.specs.declared.walk.Numbers.{Numbers}
+use Rattle.wcontext.specs.Lists.{list_of, IsEnd}
+use Rattle.wcontext.specs.Trie.{text, HasFronts, IsUnread}
+use Rattle.wcontext.specs.Walk.{AreEnds}
+
+-- the start that stands for none
+abbrev pub none : ℕ
+none = 4294967295
+
+-- the starts of the type of that index
+abbrev pub starts_at : List Starts → ℕ → Starts
+starts_at starts y = get_or starts y record { params = none; results = none }
+
+-- where a list's fronts begin, none if nowhere
+abbrev pub start_in : List Starts → TypeList → ℕ
+start_in starts Nothing = none
+start_in starts (One t) = none
+start_in starts (Params y) = (starts_at starts y).params
+start_in starts (Results y) = (starts_at starts y).results
+
+abbrev pub IsStart : List Starts → TypeList → ℕ → Type 0
+IsStart starts list start = (start < none) × (start_in starts list ≡ start)
+
+-- the long lists have their fronts from their starts on
+abbrev pub HaveFronts : List FuncType → List Starts → List (List ValType) → Type 0
+HaveFronts types starts all = (list : TypeList) → start_in starts list < none → HasFronts all (list_of types list) (start_in starts list)
+
+-- none of them was read, and these are all their fronts
+pub record IsGathered (all : List (List ValType)) (g : Gathered) : Type 0 where
+  pub count : length all ≡ g.fronts
+  pub unread : All (IsUnread all) g.lists.items
+
+-- a list was put behind the others, from start on if it is long
+abbrev pub PutsList : Gathered → Gathered → List ValType → ℕ → Type 0
+PutsList old new types start = (all : List (List ValType)) → IsGathered all old → (more : List (List ValType)) × IsGathered (all ++ more) new × (start < none → HasFronts (all ++ more) types start)
+
+-- these are the long lists of the types
+abbrev pub IsGatheredFrom : List FuncType → Gathered → Type 0
+IsGatheredFrom types g = (all : List (List ValType)) × IsGathered all g × HaveFronts types g.starts.items all
+
+-- the numbers are those of the fronts of the types' lists
+abbrev pub IsEndTree : List FuncType → EndTree → Type 0
+IsEndTree types t = (all : List (List ValType)) × AreEnds all t.numbers.items × HaveFronts types t.starts.items all
+
+-- these are the numbers of the first so many types of that list
+abbrev pub HoldsFront : EndTree → TypeList → ℕ → Numbers → Type 0
+HoldsFront t list count n = (place : ℕ) × (place < length t.numbers.items) × (get_or t.numbers.items place record { start = 0; end = 0 } ≡ n)
+    × ((types : List FuncType) (all : List (List ValType)) → HaveFronts types t.starts.items all → count ≤ length (list_of types list) → text all place ≡ take count (list_of types list))
+
+-- the one front is an end of the other, if both lists have as many types
+abbrev pub TellsEnd : EndTree → TypeList → ℕ → TypeList → ℕ → Type 0
+TellsEnd t short short_count long long_count = (types : List FuncType) → IsEndTree types t → short_count ≤ length (list_of types short) → long_count ≤ length (list_of types long)
+    → IsEnd (take short_count (list_of types short)) (take long_count (list_of types long))

@@ -1,0 +1,7 @@
+-- The limits that settings give a call.
+use Rattle.wsyntax.specs.Texts.Answer.{Limits}
+use Rattle.wstore.specs.Settings.{limits}
+use Rattle.wstore.specs.declared.settings.Settings.{Settings}
+
+abbrev pub limits_of : Settings → Limits
+limits_of s = limits s.fuel s.frames s.pages
