@@ -31,10 +31,9 @@ MOST_JOBS = 4
 # Seconds that a check from nothing took beside three others, for a crate that no run here has proved from nothing. They say
 # which crate goes first, and how long it takes, and nothing else.
 SECONDS = {
-    'accepted': 175, 'batch': 190, 'checked': 27, 'command': 150, 'ends': 15, 'files': 30, 'gate': 190, 'interpreter': 180,
-    'layout': 50, 'memory': 88, 'numerics': 33, 'parts': 13, 'pieces': 285, 'refinement': 17, 'side_table': 14, 'tables': 60,
-    'soundness': 50, 'texts': 110, 'verdict': 200, 'wcheck': 290, 'wcontext': 135, 'wdecode': 437, 'wmachine': 55,
-    'wnum': 95, 'wstore': 115, 'wsyntax': 98,
+    'accepted': 225, 'batch': 190, 'checked': 41, 'command': 150, 'gate': 220, 'interpreter': 226, 'memory': 88,
+    'pieces': 285, 'refinement': 17, 'side_table': 60, 'soundness': 50, 'texts': 110, 'verdict': 200, 'wcheck': 290,
+    'wcontext': 135, 'wdecode': 437, 'wmachine': 55, 'wnum': 95, 'wstore': 115, 'wsyntax': 113,
 }
 
 

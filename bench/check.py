@@ -6,7 +6,7 @@ All engines take turns, so that all meet the same load, and the best of seven co
 --median it is the median of so many turns: on a machine whose processors are often away the best of few says little. Three are
 measured alike: by their own clocks, the file being read, the best of three in one process (with --first, the first of the
 three, but for C), with one worker on one processor by taskset.
-  gate    crates/bench_check with one worker, which is proved and built where it is missing
+  gate    crates/bench with one worker, which is proved and built where it is missing
   C       bench/peer.c, a plain decoder and checker of the same design, one pass
   node    WebAssembly.validate
   gate 4  the same as `gate` with four workers, on all processors
@@ -37,7 +37,7 @@ KINDS = {'many': 'many functions', 'tiny': 'functions of ten bytes', 'large': 'l
 LONG_LISTS = ('lists', 'labels')
 NODE = """const b=require('fs').readFileSync(process.argv[1]);for(let i=0;i<3;i++){const s=process.hrtime.bigint();
 if(!WebAssembly.validate(b))throw 'refused';console.log(Number(process.hrtime.bigint()-s))}"""
-JUDGE = os.path.join(here, '..', 'crates', 'bench_check', 'out', 'bench_check')
+JUDGE = os.path.join(here, '..', 'crates', 'bench', 'out', 'bench')
 COLOURS = {'gate': '#1b6ca8', 'C': '#8a8a8a', 'node': '#d9822b', 'wabt': '#7a9e3b'}
 
 
@@ -68,8 +68,8 @@ def engines(gate, peer, path, has_long_lists, counts):
         return lambda: process([gate, 'check', path, '--workers', str(n)], b'accepted\n')
 
     takes = {f'{n} workers': check(n) for n in (1, 2, 4)}
-    takes['gate'] = lambda: own_clock(alone + [JUDGE, path, '1'], counts)
-    takes['gate 4'] = lambda: own_clock([JUDGE, path, '4'], counts)
+    takes['gate'] = lambda: own_clock(alone + [JUDGE, 'check', path, '1'], counts)
+    takes['gate 4'] = lambda: own_clock([JUDGE, 'check', path, '4'], counts)
     if not has_long_lists:
         takes['C'] = lambda: own_clock(alone + [peer, 'check', path, '3'], counts, 1)
     if shutil.which('node'):
@@ -158,7 +158,7 @@ def main(words):
     gate, counts = os.path.abspath(words.gate), statistics.median if words.median else min
     rows = []
     if not os.path.exists(JUDGE):
-        subprocess.run(['rt', 'run'], cwd=os.path.join(here, '..', 'crates', 'bench_check'), stdout=sys.stderr, check=True)
+        subprocess.run(['rt', 'run'], cwd=os.path.join(here, '..', 'crates', 'bench'), stdout=sys.stderr, check=True)
     with tempfile.TemporaryDirectory() as folder:
         peer = os.path.join(folder, 'peer')
         subprocess.run(['gcc', '-O2', '-o', peer, os.path.join(here, 'peer.c')], check=True)

@@ -5,7 +5,7 @@ use Rattle.wsyntax.specs.Types.{FuncType}
 use Rattle.wsyntax.specs.Modules.{ModuleShape, body_shape}
 use Rattle.wsyntax.specs.Execution.Start.{has_floats}
 use Rattle.wsyntax.specs.Validation.ModuleContext.{IndexedContext}
-use Rattle.side_table.specs.declared.function_shape.FunctionShape.{FunctionShape}
+use Rattle.checked.specs.declared.function_shape.FunctionShape.{FunctionShape}
 use Rattle.checked.specs.declared.body.CheckedBody.{CheckedBody}
 use Rattle.accepted.specs.TypeNumbers.{AreTypeNumbers}
 use Rattle.accepted.specs.FunctionShapes.{function_shapes}

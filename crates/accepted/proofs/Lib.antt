@@ -1,3 +1,7 @@
+pub mod Offsets
+pub mod Outside
+pub mod Words
+pub mod Numbers
 pub mod SearchedNames
 pub mod ExportNumbers
 pub mod PlainStarts

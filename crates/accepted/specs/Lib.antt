@@ -1,3 +1,7 @@
+pub mod Constants
+pub mod Segments
+pub mod Sizes
+pub mod Layouts
 pub mod Floats
 pub mod Judgement
 pub mod Kept

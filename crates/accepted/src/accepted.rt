@@ -9,13 +9,12 @@ ghost use Rattle.accepted.specs.TypeNumbers.{AreTypeNumbers};
 ghost use Rattle.accepted.specs.Judgement.{IsJudged, shapes_of};
 ghost use Rattle.accepted.specs.FunctionShapes.{function_shapes};
 ghost use Rattle.accepted.specs.Small.{IsSmall};
-ghost use Rattle.layout.specs.Layouts.{IsLayoutOf};
+ghost use Rattle.accepted.specs.Layouts.{IsLayoutOf};
 ghost use Rattle.soundness.specs.Instances.{SegmentsAreBytes};
 
 use crate::exports::number_of;
-use checked::CheckedBody;
-use layout::Layout;
-use side_table::FunctionShape;
+use crate::module_layout::Layout;
+use checked::{CheckedBody, FunctionShape};
 use soundness::instances::start_is_plain;
 use wcontext::Context;
 use wsyntax::{ExportKind, Module};

@@ -1,11 +1,21 @@
-//! An accepted module: its parts, and what is computed once about it. Whoever holds one knows that it was judged.
+//! An accepted module: its parts, and what is computed once about it. Whoever holds one knows that it was judged. With
+//! it stands what its instances start from (Core 1.0, 4.5.4): the first values of its globals, the places of its
+//! segments, and the first segments that lie outside.
 #![tactic(auto)]
 
 mod accepted;
+mod constant;
 mod exports;
 mod floats;
+mod globals;
 mod making;
+mod module_layout;
+mod places;
+mod segments;
 mod shapes;
+mod sizes;
 mod type_numbers;
 
 pub use accepted::Accepted;
+pub use module_layout::Layout;
+pub use sizes::{memory_pages, table_size};

@@ -13,8 +13,8 @@ use Rattle.wsyntax.specs.Execution.Ends as meant
 use Rattle.wsyntax.specs.Execution.Ends.{Ends, Values}
 use Rattle.wsyntax.specs.Execution.Start.{InstanceOf, fresh_store}
 use Rattle.wsyntax.specs.Texts.Answer.{Limits, Started, plainly, by_start, EndsOn, in_start, in_call}
-use Rattle.ends.specs.declared.outcome.Outcome.{Outcome}
-use Rattle.ends.specs.Outcomes.{outcome_of}
+use Rattle.wsyntax.specs.declared.outcome.Outcome.{Outcome}
+use Rattle.wsyntax.specs.Outcomes.{outcome_of}
 use Rattle.wstore.specs.Runs.{Runs}
 use Rattle.wmachine.specs.Calls.{HasParams, GivesTyped}
 use Rattle.wmachine.specs.Fuel.{limit_in_range}

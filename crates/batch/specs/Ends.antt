@@ -10,9 +10,9 @@ use Rattle.wsyntax.specs.Execution.Ends.{Ends}
 use Rattle.wsyntax.specs.Execution.Start.{InstanceOf, start_refusal, fresh_store}
 use Rattle.wsyntax.specs.Texts.Calls.{Call as Meant}
 use Rattle.wsyntax.specs.Texts.Answer.{Limits, Names, Started, EndsOn, EndOf, EndsOf}
-use Rattle.ends.specs.Outcomes.{outcome_of}
-use Rattle.ends.specs.StartRefusals.{refusal_of}
-use Rattle.ends.specs.declared.outcome.Outcome.{Outcome}
+use Rattle.wsyntax.specs.Outcomes.{outcome_of}
+use Rattle.wsyntax.specs.StartRefusals.{refusal_of}
+use Rattle.wsyntax.specs.declared.outcome.Outcome.{Outcome}
 use Rattle.texts.specs.Calls.{call_of, calls_of}
 use Rattle.texts.specs.Ends.{end_of, ends_of}
 use Rattle.texts.specs.declared.call.Call.{Call}

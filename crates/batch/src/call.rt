@@ -13,14 +13,13 @@ ghost use Rattle.wstore.specs.Views.{module_in, context_in, store_in};
 ghost use Rattle.wmachine.specs.Calls.{HasParams};
 ghost use Rattle.batch.specs.Ends.{StartEndsOnEach, RanAlone, EndsAlone};
 
-use ends::Outcome;
 use memory::CleanMem;
 use std::alloc::{AllocError, Global};
 use texts::Line;
 use verdict::Accepted;
 use wmachine::{Fuel, invoke};
 use wstore::{Instance, NotStarted, Settings, StartFault, instantiate};
-use wsyntax::Value;
+use wsyntax::{Outcome, Value};
 
 /// Runs the start function, where there is one. How it ended, where that is not in values.
 fn run_start(

@@ -1,2 +1,3 @@
+pub mod SideTable
 pub mod Promise
 pub mod Bodies

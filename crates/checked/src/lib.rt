@@ -1,11 +1,18 @@
 //! A checked body: a typed function body (Core 1.0, 3.4.1) with its side table, and whether it has floats. What it is
-//! stands in its type, so whoever needs only a checked body needs no check. In `specs/` stands what it promises.
+//! stands in its type, so whoever needs only a checked body needs no check. In `specs/` stands what it promises. With
+//! it stand the entries of the side table, by which each branch goes on, and the shape of a function. The check of
+//! bodies proves what the table promises beside the typing of the body (`Fits`, `Bounded`), and the interpreter rests
+//! on it.
 #![tactic(auto)]
 
 mod body;
+mod destination;
 mod floats;
+mod function_shape;
 mod table;
 
 pub use body::CheckedBody;
+pub use destination::Destination;
 pub use floats::{expression_has_floats, is_float, runs_have_floats, token_has_floats};
+pub use function_shape::FunctionShape;
 pub use table::SideTable;

@@ -13,7 +13,7 @@ use Rattle.command.specs.Options.{SaysLimits}
 use Rattle.command.specs.Requests.{IsRequestOf}
 use Rattle.command.specs.declared.request.Request.{Request}
 use Rattle.command.specs.declared.request.Request.TheVariants.{Check, Run, Text}
-use Rattle.files.specs.Reads.{ReadsPaths}
+use Rattle.gate.specs.Sources.{ReadsPaths}
 use Rattle.gate.specs.Checks.{Judges}
 use Rattle.gate.specs.Endings.{answer_status}
 use Rattle.gate.specs.Prints.{AsksFor, Does, PrintsAnswer, PrintsCallsRefusal, PrintsGood, PrintsRefusal}

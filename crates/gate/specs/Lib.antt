@@ -1,3 +1,4 @@
+pub mod Sources
 pub mod Endings
 pub mod Reads
 pub mod Checks

@@ -13,7 +13,7 @@ use Rattle.command.specs.Options.{SaysLimits}
 use Rattle.command.specs.Requests.{AsksHelp, AsksVersion, IsRequestOf}
 use Rattle.command.specs.declared.request.Request.{Request}
 use Rattle.command.specs.declared.request.Request.TheVariants.{Check, Run, Text}
-use Rattle.files.specs.Reads.{ReadsPaths}
+use Rattle.gate.specs.Sources.{ReadsPaths}
 use Rattle.gate.specs.Checks.{Checks, Judges}
 use Rattle.gate.specs.Reads.{ReadsInOrder}
 use Rattle.gate.specs.Endings.{result_status}

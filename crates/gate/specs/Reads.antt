@@ -1,7 +1,7 @@
 -- What is read of a source, and in which order.
 use Rattle.std.specs.Prelude.{◌≡◌, ◌⊎◌, ℕ, ◌+◌, List, [], ◌∷◌, Option, Result, Ok, Err, IfSome, take}
 use Rattle.batch.specs.declared.status.Status.{Status}
-use Rattle.files.specs.Reads.{ReadsPaths}
+use Rattle.gate.specs.Sources.{ReadsPaths}
 use Rattle.gate.specs.declared.fault.Fault.{Fault}
 use Rattle.gate.specs.declared.fault.Fault.TheVariants as fault
 

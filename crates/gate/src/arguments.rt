@@ -1,8 +1,8 @@
 // The program over its process.
+use crate::disk::Disk;
 use crate::fault::{Fault, end};
 use crate::program::run;
 use command::{WordsFault, usage};
-use files::Disk;
 use std::alloc::{AllocError, Global};
 use std::env;
 use std::io::{ErrorKind, Write};

@@ -1,13 +1,13 @@
 // Judging one file.
 ghost use Rattle.std.specs.Prelude.{List, [], ◌∷◌};
-ghost use Rattle.files.specs.Reads.{ReadsPaths};
+ghost use Rattle.gate.specs.Sources.{ReadsPaths};
 ghost use Rattle.gate.specs.Checks.{Checks};
 
 use crate::fault::Fault;
 use crate::finishing::finish;
 use crate::reading::read_file;
+use crate::source::Source;
 use batch::{Plan, Quiet, Status, report_verdict};
-use files::Source;
 use std::alloc::Global;
 use std::io::Write;
 use std::sync::Wait;

@@ -7,9 +7,9 @@ ghost use Rattle.gate.specs.Prints.{AsksFor, Does, Obeys, PrintsCallsRefusal, Pr
 use crate::answer::answer_files;
 use crate::check::check_file;
 use crate::fault::{Fault, end};
+use crate::source::Source;
 use batch::{Status, write_text};
 use command::{Request, read_words};
-use files::Source;
 use std::alloc::Global;
 use std::io::Write;
 use std::sync::Wait;

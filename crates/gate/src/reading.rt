@@ -1,10 +1,10 @@
 // Reading of a source.
 ghost use Rattle.std.specs.Prelude.{◌≡◌, ◌+◌, ◌<◌, ◌^◌, ℕ, List, [], ◌∷◌, IfOk, IfErr};
-ghost use Rattle.files.specs.Reads.{ReadsPaths};
+ghost use Rattle.gate.specs.Sources.{ReadsPaths};
 ghost use Rattle.gate.specs.Reads.{IsRead, IsWant};
 
 use crate::fault::Fault;
-use files::{ReadFault, Source};
+use crate::source::{ReadFault, Source};
 use std::alloc::Global;
 
 /// The bytes of a path, or why the program ends without them. Of more bytes than the limit one past it is read, by which

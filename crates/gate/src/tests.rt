@@ -5,7 +5,7 @@ mod rows;
 mod runs;
 
 use crate::program::run;
-use files::{ReadFault, Source};
+use crate::source::{ReadFault, Source};
 use std::alloc::{AllocError, Global};
 use std::io;
 use std::io::{ErrorKind, Write};

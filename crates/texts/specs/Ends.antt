@@ -3,8 +3,8 @@ use Rattle.std.specs.Prelude.{List, map}
 use Rattle.wsyntax.specs.Texts.Report as report
 use Rattle.texts.specs.declared.line.Line.{Line}
 use Rattle.texts.specs.declared.line.Line.TheVariants.{Ran, NoExport, NotAFunction, BadArguments, NotStarted, NoMemory}
-use Rattle.ends.specs.Outcomes.{outcome_of}
-use Rattle.ends.specs.StartRefusals.{refusal_of}
+use Rattle.wsyntax.specs.Outcomes.{outcome_of}
+use Rattle.wsyntax.specs.StartRefusals.{refusal_of}
 
 -- how a call ended
 abbrev pub end_of : Line → report.CallEnd

@@ -1,4 +1,4 @@
-use ends::{Outcome, StartRefusal};
+use wsyntax::{Outcome, StartRefusal};
 
 /// How a call ended: a line of the report.
 #[derive(Debug, Drop, PartialEq, Eq)]

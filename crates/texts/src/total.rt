@@ -5,8 +5,8 @@ ghost use Rattle.texts.specs.Ends.{end_of};
 ghost use Rattle.texts.specs.Totals.{tally, IsWithin, total_text};
 
 use crate::line::Line;
-use ends::Outcome;
 use std::alloc::AllocError;
+use wsyntax::Outcome;
 
 // How many calls ended in each way, and the fuel that they cost together.
 #[derive(Clone, Copy)]

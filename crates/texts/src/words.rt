@@ -3,14 +3,13 @@ ghost use Rattle.std.specs.Prelude.{◌≡◌, ◌++◌, codes, OnOk, string_byt
 ghost use Rattle.wsyntax.specs.Texts.Words.{value_text};
 ghost use Rattle.wsyntax.specs.Texts.Report.{trap_text, spaced_values, outcome_text, refusal_text, end_text};
 ghost use Rattle.texts.specs.Ends.{end_of};
-ghost use Rattle.ends.specs.Outcomes.{outcome_of};
-ghost use Rattle.ends.specs.StartRefusals.{refusal_of};
+ghost use Rattle.wsyntax.specs.Outcomes.{outcome_of};
+ghost use Rattle.wsyntax.specs.StartRefusals.{refusal_of};
 
 use crate::line::Line;
-use ends::{Outcome, StartRefusal};
 use std::alloc::AllocError;
 use wnum::NumTrap;
-use wsyntax::{Trap, Value};
+use wsyntax::{Outcome, StartRefusal, Trap, Value};
 
 // How a call ended.
 pub(crate) fn push_end(text: &mut String, line: &Line) -> Result<(), AllocError>

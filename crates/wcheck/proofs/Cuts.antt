@@ -7,7 +7,7 @@ use Rattle.wsyntax.specs.Types.{FuncType}
 use Rattle.wcheck.specs.declared.frames.OuterFrame.{OuterFrame}
 use Rattle.wsyntax.specs.Validation.Algorithm.{Frame}
 use Rattle.wcheck.specs.Views.{cut, frame_of, under_all}
-use Rattle.tables.specs.Pass.{height}
+use Rattle.side_table.specs.Pass.{height}
 
 frame_with : List FuncType → OuterFrame → List (Option ValType) → Frame
 frame_with types l k = frame_of types l.frame record { known = k; is_dead = l.unreachable }

@@ -5,8 +5,8 @@ use Rattle.wsyntax.specs.Validation.Context.{Stack}
 use Rattle.wsyntax.specs.Validation.Algorithm.{Frame, when, open_frame, ends_with, may_lack_else, pass_on, fresh}
 use Rattle.wcontext.specs.Lists.{list_of}
 use Rattle.wcontext.specs.declared.lists.TypeList.{TypeList}
-use Rattle.tables.specs.declared.label.Opener.{Opener}
-use Rattle.tables.specs.Pass.{is_loop, is_if}
+use Rattle.side_table.specs.declared.label.Opener.{Opener}
+use Rattle.side_table.specs.Pass.{is_loop, is_if}
 use Rattle.wcheck.specs.declared.frames.ControlFrame.{ControlFrame}
 use Rattle.wcheck.specs.declared.frames.OuterFrame.{OuterFrame}
 use Rattle.wcheck.specs.declared.control.Control.{Control}

@@ -7,7 +7,7 @@ use Rattle.wsyntax.specs.Validation.Context.{Stack, Context}
 use Rattle.wcheck.specs.declared.body.Outcome.{Outcome}
 use Rattle.wcheck.specs.declared.body.Outcome.TheVariants as outcome
 use Rattle.checked.specs.Promise.{filled_with}
-use Rattle.tables.specs.Pass.{Notes, Through, Refused, pass_all, filled}
+use Rattle.side_table.specs.Pass.{Notes, Through, Refused, pass_all, filled}
 
 -- the pass comes to this
 abbrev pub Comes : Context → Stack → List Token → Outcome → Type 0

@@ -4,9 +4,9 @@ ghost use Rattle.wcheck.specs.Refusals.{RefusedFor};
 
 use crate::body::{Outcome, pass_body};
 use checked::CheckedBody;
+use side_table::{pass_is_algorithm, passed_bounded, passed_fits, passed_is_code};
 use soundness::validation::{accepted_is_typed, refused_at_first_fault};
 use std::alloc::Global;
-use tables::{pass_is_algorithm, passed_bounded, passed_fits, passed_is_code};
 use thiserror::Error;
 use wcontext::Context;
 use wsyntax::Body;

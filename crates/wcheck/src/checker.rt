@@ -2,7 +2,7 @@ ghost use Rattle.std.specs.Prelude.{◌≡◌, ◌<◌, ◌^◌, ◌↔◌, true
 ghost use Rattle.wsyntax.specs.Modules.{seen};
 ghost use Rattle.wsyntax.specs.Validation.Algorithm.{when, step};
 ghost use Rattle.wcheck.specs.Checking.{begun, with_frames};
-ghost use Rattle.tables.specs.Pass.{height, below_size, label_size, in_if};
+ghost use Rattle.side_table.specs.Pass.{height, below_size, label_size, in_if};
 
 use crate::control::{Control, step_control, step_known};
 use crate::frames::{ControlFrame, label};

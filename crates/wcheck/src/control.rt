@@ -12,8 +12,8 @@ use crate::operand_stack::OperandStack;
 use crate::outer_frames::OuterFrames;
 use crate::rule::rule_of_token;
 use crate::scope::{Scope, block_signature};
+use side_table::Opener;
 use std::alloc::AllocError;
-use tables::Opener;
 use wcontext::{ListPair, TypeList};
 use wsyntax::{Token, ValType};
 

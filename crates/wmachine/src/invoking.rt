@@ -1,18 +1,17 @@
 ghost use Rattle.std.specs.Prelude.{◌≡◌, ℕ, ◌≤◌, true, IsErr, IfOk, OnErr};
-ghost use Rattle.ends.specs.Outcomes.{outcome_of};
+ghost use Rattle.wsyntax.specs.Outcomes.{outcome_of};
 ghost use Rattle.wsyntax.specs.Execution.Store.{Store};
 ghost use Rattle.wsyntax.specs.Execution.Ends.{Outcome as MeantOutcome};
-ghost use Rattle.parts.specs.Buffers.{room_with};
+ghost use Rattle.interpreter.specs.Buffers.{room_with};
 ghost use Rattle.wstore.specs.Views.{module_in, bodies_in, context_in, store_in};
 ghost use Rattle.wstore.specs.Runs.{Fits, Runs, RunsOn, longest};
 ghost use Rattle.wmachine.specs.Calls.{HasParams, GivesTyped, NeverStuck, IsGivenUp, TookAtMost, MayWant};
 
 use crate::arguments::are_words;
 use crate::fuel::Fuel;
-use ends::Outcome;
 use std::alloc::{AllocError, Global};
 use wstore::Instance;
-use wsyntax::Value;
+use wsyntax::{Outcome, Value};
 
 /// The law that a call on an instance is typed where its arguments have the parameter types: they fit the function, nothing that
 /// the call reaches is stuck, and where it ends in values they are of the result types.

@@ -6,6 +6,6 @@ mod fuel;
 mod invoking;
 
 pub use arguments::fits;
-pub use ends::Outcome;
 pub use fuel::Fuel;
 pub use invoking::invoke;
+pub use wsyntax::Outcome;

@@ -14,7 +14,7 @@ use Rattle.wsyntax.specs.Execution.Store.{page, within, may_have}
 use Rattle.wsyntax.specs.Execution.Allocation.{Segment, AllWithin}
 use Rattle.wsyntax.specs.Execution.Start.{StartRefusal, HasImports, HasFloats, TableLimit, MemoryLimit, ElementOutside, DataOutside, has_floats, first, layout_of, table_limit, first_outside, or_else, refused_if, start_refusal}
 use Rattle.memory.specs.Buffered.{zeros}
-use Rattle.layout.specs.Sizes.{table_size, memory_pages}
+use Rattle.accepted.specs.Sizes.{table_size, memory_pages}
 use Rattle.wstore.specs.LaidOut.{IsLaidOut}
 
 -- ---- what is not refused

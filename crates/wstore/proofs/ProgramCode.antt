@@ -12,7 +12,7 @@ use Rattle.wsyntax.specs.Modules.{ModuleShape}
 use Rattle.wsyntax.specs.Binary.Sections.{locals_of}
 use Rattle.wsyntax.specs.Validation.ModuleContext.{type_at, empty_type, declared}
 use Rattle.wsyntax.specs.Validation.Rules.{FunctionsTyped}
-use Rattle.side_table.specs.declared.function_shape.FunctionShape.{FunctionShape}
+use Rattle.checked.specs.declared.function_shape.FunctionShape.{FunctionShape}
 use Rattle.checked.specs.declared.body.CheckedBody.{CheckedBody}
 use Rattle.refinement.specs.Machine.{Body, Program}
 use Rattle.interpreter.specs.declared.code.Code.{Code}

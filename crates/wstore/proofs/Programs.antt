@@ -9,7 +9,7 @@ use Rattle.wsyntax.specs.Modules.{ModuleShape, tokens_of}
 use Rattle.wsyntax.specs.Validation.Context.{leave}
 use Rattle.wsyntax.specs.Validation.ModuleContext.{IndexedContext, module_context, imported_function, imported_functions, functions_of, type_at, empty_type, declared}
 use Rattle.wsyntax.specs.Execution.Start.{FunctionsOf}
-use Rattle.side_table.specs.SideTable.{BodyFits}
+use Rattle.checked.specs.SideTable.{BodyFits}
 use Rattle.checked.specs.declared.body.CheckedBody.{CheckedBody}
 use Rattle.checked.specs.Bodies.{filled_of}
 use Rattle.refinement.specs.Machine.{Body}

@@ -9,7 +9,7 @@ use Rattle.wsyntax.specs.declared.module.Data.{Data}
 use Rattle.wsyntax.specs.Execution.Allocation.{Segment, AllWithin, overwrite, put_elements, put_data}
 use Rattle.wsyntax.specs.Execution.Store.{Entry, SetTo}
 use Rattle.wsyntax.specs.Execution.Start.{element_segment, data_segment}
-use Rattle.layout.specs.Segments.{element_segments, data_segments, places_of}
+use Rattle.accepted.specs.Segments.{element_segments, data_segments, places_of}
 
 -- ---- the segments from one on
 

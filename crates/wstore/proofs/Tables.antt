@@ -5,9 +5,9 @@ use Rattle.std.proofs.lemmas.List.{map-append, length-map, take_more, length-tak
 use Rattle.std.proofs.lemmas.Simd.{map-map}
 use Rattle.wsyntax.specs.Execution.Store.{SetTo}
 use Rattle.wsyntax.specs.Execution.Allocation.{overwrite}
-use Rattle.parts.specs.declared.store.TableEntry.{TableEntry}
-use Rattle.parts.specs.declared.store.TableEntry.TheVariants as held
-use Rattle.parts.specs.Seen.{entry_of}
+use Rattle.interpreter.specs.declared.store.TableEntry.{TableEntry}
+use Rattle.interpreter.specs.declared.store.TableEntry.TheVariants as held
+use Rattle.interpreter.specs.Seen.{entry_of}
 use Rattle.wstore.proofs.Lists.{overwrite_more, map-overwrite}
 
 -- one more function is written

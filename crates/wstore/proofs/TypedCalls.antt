@@ -25,7 +25,7 @@ use Rattle.interpreter.specs.Ended.{EndsWith}
 use Rattle.interpreter.specs.Execution.{call_of, Executes, LeavesCall}
 use Rattle.interpreter.specs.declared.machine.Execution.{Execution}
 use Rattle.interpreter.specs.declared.machine.OutOfMemory.{OutOfMemory}
-use Rattle.ends.specs.Outcomes.{outcome_of}
+use Rattle.wsyntax.specs.Outcomes.{outcome_of}
 use Rattle.accepted.specs.Judgement.{IsJudged, shapes_of}
 use Rattle.accepted.specs.Small.{IsSmall}
 use Rattle.accepted.specs.TypeNumbers.{AreTypeNumbers}

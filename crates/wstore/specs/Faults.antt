@@ -2,7 +2,7 @@
 use Rattle.std.specs.Prelude.{◌≡◌, ℕ, List, Some, None}
 use Rattle.wsyntax.specs.Modules.{ModuleShape, BodyShape}
 use Rattle.wsyntax.specs.Execution.Start.{start_refusal}
-use Rattle.ends.specs.StartRefusals.{refusal_of}
+use Rattle.wsyntax.specs.StartRefusals.{refusal_of}
 use Rattle.wstore.specs.declared.fault.StartFault.{StartFault}
 use Rattle.wstore.specs.declared.fault.StartFault.TheVariants.{Refused, Memory}
 

@@ -6,7 +6,7 @@ use Rattle.wsyntax.specs.Execution.Store.{page, may_have}
 use Rattle.wsyntax.specs.Execution.Allocation.{AllWithin}
 use Rattle.wsyntax.specs.Execution.Start.{layout_of}
 use Rattle.memory.specs.Buffered.{zeros}
-use Rattle.layout.specs.Sizes.{table_size, memory_pages}
+use Rattle.accepted.specs.Sizes.{table_size, memory_pages}
 
 -- every segment ends within its table or memory, which may have its minimum
 pub record IsLaidOut (pages : ℕ) (m : ModuleShape) : Type 0 where

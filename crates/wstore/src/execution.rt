@@ -1,9 +1,9 @@
 //! Calls on the store of an instance.
 
 ghost use Rattle.std.specs.Prelude.{◌≡◌, ◌<◌, ◌≤◌, IfOk, IfErr, OnErr};
-ghost use Rattle.ends.specs.Outcomes.{outcome_of};
-ghost use Rattle.parts.specs.Seen.{seen};
-ghost use Rattle.parts.specs.Buffers.{room_with};
+ghost use Rattle.wsyntax.specs.Outcomes.{outcome_of};
+ghost use Rattle.interpreter.specs.Seen.{seen};
+ghost use Rattle.interpreter.specs.Buffers.{room_with};
 ghost use Rattle.wstore.specs.Views.{module_in, bodies_in, context_in, KeepsMarks};
 ghost use Rattle.wstore.specs.Runs.{Fits, IsTypedCall, RunsOn, GivesUp};
 

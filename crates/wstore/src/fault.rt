@@ -1,6 +1,6 @@
-use ends::StartRefusal;
 use memory::CleanMem;
 use thiserror::Error;
+use wsyntax::StartRefusal;
 
 /// Why there is no instance.
 #[derive(Clone, Copy, Debug, PartialEq, Eq, Error)]

@@ -2,16 +2,16 @@ ghost use Rattle.std.specs.Prelude.{◌≡◌, ◌≤◌, IfOk, IfErr};
 ghost use Rattle.wsyntax.specs.Modules.{module_shape};
 ghost use Rattle.wsyntax.specs.Execution.Start.{fresh_store};
 ghost use Rattle.soundness.specs.Slots.{slot_store};
-ghost use Rattle.parts.specs.Seen.{seen};
-ghost use Rattle.parts.specs.Buffers.{room_with};
-ghost use Rattle.layout.specs.Layouts.{IsLayoutOf};
+ghost use Rattle.interpreter.specs.Seen.{seen};
+ghost use Rattle.interpreter.specs.Buffers.{room_with};
+ghost use Rattle.accepted.specs.Layouts.{IsLayoutOf};
 ghost use Rattle.wstore.specs.LaidOut.{IsLaidOut};
 
 use crate::memory_part::module_memory;
 use crate::table_part::module_table;
-use layout::Layout;
+use accepted::Layout;
+use interpreter::Parts;
 use memory::CleanMem;
-use parts::Parts;
 use std::alloc::Global;
 use wsyntax::Module;
 

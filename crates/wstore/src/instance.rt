@@ -2,14 +2,14 @@ ghost use Rattle.std.specs.Prelude.{◌≡◌, ◌≤◌, length};
 ghost use Rattle.wsyntax.specs.Modules.{module_shape};
 ghost use Rattle.wsyntax.specs.Validation.ModuleContext.{module_context};
 ghost use Rattle.soundness.specs.Instances.{Runnable};
-ghost use Rattle.parts.specs.Seen.{seen};
-ghost use Rattle.parts.specs.Buffers.{room_with};
+ghost use Rattle.interpreter.specs.Seen.{seen};
+ghost use Rattle.interpreter.specs.Buffers.{room_with};
 ghost use Rattle.accepted.specs.Judgement.{shapes_of};
 ghost use Rattle.wstore.specs.Held.{IsHeld};
 
 use accepted::Accepted;
+use interpreter::Parts;
 use memory::CleanMem;
-use parts::Parts;
 
 /// An instance of an accepted module (4.2.5): the parts of its store, and the marks of the calls that run on it.
 #[derive(Drop)]

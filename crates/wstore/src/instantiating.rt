@@ -2,8 +2,8 @@ ghost use Rattle.std.specs.Prelude.{◌≡◌, ◌≤◌, false, None, OnOk, IfO
 ghost use Rattle.wsyntax.specs.Modules.{module_shape};
 ghost use Rattle.wsyntax.specs.Execution.Start.{start_refusal, fresh_store};
 ghost use Rattle.soundness.specs.Slots.{slot_store};
-ghost use Rattle.parts.specs.Seen.{seen};
-ghost use Rattle.parts.specs.Buffers.{room_with};
+ghost use Rattle.interpreter.specs.Seen.{seen};
+ghost use Rattle.interpreter.specs.Buffers.{room_with};
 ghost use Rattle.accepted.specs.Judgement.{shapes_of};
 ghost use Rattle.wstore.specs.Faults.{IsFault};
 ghost use Rattle.wstore.specs.Views.{store_in};

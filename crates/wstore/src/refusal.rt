@@ -1,12 +1,11 @@
 ghost use Rattle.std.specs.Prelude.{◌≡◌, option_map, List, Some, None};
 ghost use Rattle.wsyntax.specs.Modules.{module_shape, BodyShape};
 ghost use Rattle.wsyntax.specs.Execution.Start.{start_refusal, has_floats};
-ghost use Rattle.ends.specs.StartRefusals.{refusal_of};
-ghost use Rattle.layout.specs.Layouts.{IsLayoutOf};
+ghost use Rattle.wsyntax.specs.StartRefusals.{refusal_of};
+ghost use Rattle.accepted.specs.Layouts.{IsLayoutOf};
 
-use ends::StartRefusal;
-use layout::{Layout, memory_pages, table_size};
-use wsyntax::Module;
+use accepted::{Layout, memory_pages, table_size};
+use wsyntax::{Module, StartRefusal};
 
 /// The most entries that the table of an instance may have.
 const TABLE_LIMIT: u32 = 65_536;

@@ -3,8 +3,8 @@
 ghost use Rattle.std.specs.Prelude.{◌≡◌, ◌<◌, ◌^◌, ◌≤◌, option_and_then, option_map, slice_get, slice_set};
 ghost use Rattle.std.specs.Prelude.{length, Some, IfOk, OnErr, true};
 ghost use Rattle.wsyntax.specs.Execution.Values.{type_of};
-ghost use Rattle.parts.specs.Seen.{seen};
-ghost use Rattle.parts.specs.Buffers.{room_with};
+ghost use Rattle.interpreter.specs.Seen.{seen};
+ghost use Rattle.interpreter.specs.Buffers.{room_with};
 ghost use Rattle.memory.specs.Buffered.{IsWidth};
 ghost use Rattle.wsyntax.specs.Execution.Store.{read};
 ghost use Rattle.wstore.specs.Stores.{entry_at, pages_in, StoreWrites, StoreGrows};
@@ -14,7 +14,7 @@ ghost use Rattle.interpreter.specs.Growths.{LacksRoom};
 use crate::entry::Entry;
 use crate::instance::Instance;
 use crate::word::{value_in, word_of};
-use parts::TableEntry;
+use interpreter::TableEntry;
 use std::alloc::AllocError;
 use wsyntax::Value;
 

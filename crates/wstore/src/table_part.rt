@@ -3,15 +3,15 @@
 ghost use Rattle.std.specs.Prelude.{◌≡◌, ◌+◌, ◌≤◌, length, map, replicate, option_map, IfOk};
 ghost use Rattle.wsyntax.specs.Execution.Allocation.{overwrite, put_elements, AllWithin};
 ghost use Rattle.wsyntax.specs.Execution.Store.{SetTo, Unset};
-ghost use Rattle.parts.specs.Seen.{entry_of};
+ghost use Rattle.interpreter.specs.Seen.{entry_of};
 ghost use Rattle.wsyntax.specs.Modules.{module_shape};
 ghost use Rattle.wsyntax.specs.Execution.Start.{layout_of};
-ghost use Rattle.layout.specs.Layouts.{IsLayoutOf};
-ghost use Rattle.layout.specs.Segments.{element_segments, places_of};
-ghost use Rattle.layout.specs.Sizes.{table_size};
+ghost use Rattle.accepted.specs.Layouts.{IsLayoutOf};
+ghost use Rattle.accepted.specs.Segments.{element_segments, places_of};
+ghost use Rattle.accepted.specs.Sizes.{table_size};
 
-use layout::Layout;
-use parts::TableEntry;
+use accepted::Layout;
+use interpreter::TableEntry;
 use std::alloc::{AllocError, Global};
 use wsyntax::{Elements, Module, Table};
 

@@ -11,3 +11,5 @@ pub mod Validation
 pub mod Execution
 pub mod Texts
 pub mod Row
+pub mod Outcomes
+pub mod StartRefusals

@@ -1,5 +1,7 @@
-//! The structure of WebAssembly modules (Core 1.0, chapter 2), and in `specs/` what the rest of the workspace
-//! promises: the binary grammar, the typing rules, reduction, and the texts that are written.
+//! The structure of WebAssembly modules (Core 1.0, chapter 2), and in `specs/` what the rest of the workspace promises:
+//! the binary grammar, the typing rules, reduction, and the texts that are written. How a call ends, and why an
+//! instance is not made (4.2.2, 4.5.4 and 4.5.5), stand here too: instances, the interpreter and the texts of reports
+//! share these types.
 #![tactic(auto)]
 
 mod access_rows;
@@ -11,9 +13,11 @@ mod instructions;
 mod module;
 mod opcode;
 mod operator_rows;
+mod outcome;
 mod places;
 mod rows;
 mod signature;
+mod start_refusal;
 mod types;
 mod value;
 
@@ -29,6 +33,8 @@ pub use module::{
 };
 pub use opcode::Opcode;
 pub use operator_rows::{Arity, OperatorRow};
+pub use outcome::Outcome;
 pub use rows::row;
+pub use start_refusal::StartRefusal;
 pub use types::{GlobalType, Limits, ValType};
 pub use value::{Trap, Value};

@@ -14,8 +14,8 @@ use Rattle.wsyntax.specs.Execution.Values.{type_of, types}
 use Rattle.wsyntax.specs.Execution.Store.{SetTo}
 use Rattle.wsyntax.specs.Execution.Layers.{LabelLayer}
 use Rattle.wsyntax.specs.Execution.ConfigTyped.{MemoryTyped, TableTyped, ConfigTyped, global_types}
-use Rattle.side_table.specs.declared.destination.Destination.{Destination}
-use Rattle.side_table.specs.SideTable.{Lab, Place, Begins, Entering, Bounded, chosen_label}
+use Rattle.checked.specs.declared.destination.Destination.{Destination}
+use Rattle.checked.specs.SideTable.{Lab, Place, Begins, Entering, Bounded, chosen_label}
 use Rattle.soundness.specs.State.{belows, config_of}
 use Rattle.soundness.specs.Slots.{bits, slots}
 use Rattle.refinement.specs.Machine.{Machine}

@@ -12,7 +12,7 @@ use Rattle.wsyntax.specs.Execution.Ends.{EndsAs}
 use Rattle.wsyntax.specs.Execution.Layers.{LabelLayer, label_around, in_labels}
 use Rattle.soundness.specs.State.{Activation, config_of, belows, frames_around}
 use Rattle.soundness.specs.Slots.{slots}
-use Rattle.side_table.specs.declared.destination.Destination.{Destination}
+use Rattle.checked.specs.declared.destination.Destination.{Destination}
 use Rattle.refinement.specs.Machine.{Program, module_of, NoFuel, Going, Over, goes, paid, on_found, takes}
 use Rattle.refinement.specs.Joint.{Joint, activation, state_of, machine_of}
 use Rattle.refinement.specs.Reduction.{ReductionLaws}

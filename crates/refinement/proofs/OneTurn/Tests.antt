@@ -13,7 +13,7 @@ use Rattle.wsyntax.specs.Execution.Chain.{Within}
 use Rattle.wsyntax.specs.Execution.Layers.{label_around, in_labels}
 use Rattle.soundness.specs.State.{config_of, belows, frames_around}
 use Rattle.soundness.specs.Slots.{slots}
-use Rattle.side_table.specs.declared.destination.Destination.{Destination}
+use Rattle.checked.specs.declared.destination.Destination.{Destination}
 use Rattle.refinement.specs.Machine.{Program, module_of, goes, on_found, moves_here, takes}
 use Rattle.refinement.specs.Joint.{Joint, activation, state_of, machine_of}
 use Rattle.refinement.specs.Reduction.{ReductionLaws}

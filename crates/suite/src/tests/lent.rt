@@ -1,6 +1,6 @@
 // What an accepted module lends: its parts, its context and its checked bodies.
 use batch::{Plan, Quiet};
-use side_table::Destination;
+use checked::Destination;
 use std::alloc::Global;
 use std::process::Abort;
 use std::sync::Wait;

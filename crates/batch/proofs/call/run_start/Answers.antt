@@ -4,7 +4,7 @@ use Rattle.wsyntax.specs.Modules.{module_shape}
 use Rattle.wsyntax.specs.declared.module.Module.{Module}
 use Rattle.wsyntax.specs.Validation.ModuleContext.{module_context, empty_type}
 use Rattle.wsyntax.specs.Execution.Ends.{Values}
-use Rattle.ends.specs.Outcomes.{outcome_of}
+use Rattle.wsyntax.specs.Outcomes.{outcome_of}
 use Rattle.accepted.specs.declared.accepted.Accepted.{Accepted}
 use Rattle.wmachine.specs.Calls.{GivesTyped}
 use Rattle.wstore.specs.Views.{context_in}

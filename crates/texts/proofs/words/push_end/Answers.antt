@@ -1,6 +1,6 @@
 use Rattle.std.proofs.Common.{codes, string_bytes}
 use Rattle.wsyntax.specs.Texts.Report.{refusal_text}
-use Rattle.ends.specs.StartRefusals.{refusal_of}
+use Rattle.wsyntax.specs.StartRefusals.{refusal_of}
 use Rattle.texts.proofs.Joined.{two_parts}
 use Rattle.texts.proofs.words.push_end.Goals as goal
 

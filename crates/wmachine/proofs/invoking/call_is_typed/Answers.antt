@@ -1,5 +1,5 @@
 use Rattle.accepted.specs.Judgement.{shapes_of}
-use Rattle.parts.specs.Seen.{seen}
+use Rattle.interpreter.specs.Seen.{seen}
 use Rattle.wstore.specs.Views.{module_in}
 use Rattle.wmachine.proofs.Calling.{arguments_fit, call_never_stuck, gives_typed}
 use Rattle.wmachine.proofs.invoking.call_is_typed.Goals as goal

@@ -5,7 +5,7 @@ use base.Logic.{via, mono_r, snd∗}
 use denote.Triple.Entry.{on_entry}
 use borrow.Fn.Kinds.{sig_of}
 use contract.Monad.{fact, fact_use, fact_i}
-use Rattle.parts.specs.Seen.{seen}
+use Rattle.interpreter.specs.Seen.{seen}
 use Rattle.accepted.specs.Judgement.{shapes_of}
 use Rattle.wstore.specs.Views.{module_in}
 use Rattle.wstore.specs.Runs.{IsTypedCall}

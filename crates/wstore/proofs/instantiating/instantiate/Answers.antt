@@ -6,7 +6,7 @@ use Rattle.wsyntax.specs.Validation.ModuleContext.{module_context}
 use Rattle.wsyntax.specs.Execution.Start.{start_refusal, fresh_store}
 use Rattle.soundness.specs.Slots.{slot_store}
 use Rattle.soundness.specs.Instances.{Judged}
-use Rattle.parts.specs.Seen.{seen}
+use Rattle.interpreter.specs.Seen.{seen}
 use Rattle.accepted.specs.Judgement.{shapes_of}
 use Rattle.wstore.specs.Held.{IsHeld, store_of}
 use Rattle.wstore.specs.LaidOut.{IsLaidOut}

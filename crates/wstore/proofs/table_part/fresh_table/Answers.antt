@@ -1,8 +1,8 @@
 use Rattle.std.proofs.Common.{rules, ◌≡◌, ◌∙◌, ap, map, length, replicate}
 use Rattle.wsyntax.specs.Execution.Allocation.{put_elements}
-use Rattle.parts.specs.Seen.{entry_of}
-use Rattle.parts.specs.declared.store.TableEntry.TheVariants as held
-use Rattle.layout.specs.Segments.{element_segments}
+use Rattle.interpreter.specs.Seen.{entry_of}
+use Rattle.interpreter.specs.declared.store.TableEntry.TheVariants as held
+use Rattle.accepted.specs.Segments.{element_segments}
 use Rattle.wstore.proofs.Tables.{whole_front, map-replicate}
 use Rattle.wstore.proofs.table_part.fresh_table.Goals as goal
 

@@ -2,8 +2,8 @@ use Rattle.std.proofs.Common.{◌≤◌, ◌+◌, refl, map, length, drop, get_o
 use Rattle.wsyntax.specs.Elements.{element_of}
 use Rattle.wsyntax.specs.Modules.{element_shape}
 use Rattle.wsyntax.specs.Execution.Start.{element_segment}
-use Rattle.parts.specs.Seen.{entry_of}
-use Rattle.layout.specs.Segments.{element_segments}
+use Rattle.interpreter.specs.Seen.{entry_of}
+use Rattle.accepted.specs.Segments.{element_segments}
 use Rattle.wstore.proofs.Steps.{element_placed, elements_from, within_here, within_later, put_elements_here}
 use Rattle.wstore.proofs.table_part.put_elements.Goals as goal
 

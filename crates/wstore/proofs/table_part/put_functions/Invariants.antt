@@ -1,6 +1,6 @@
 use Rattle.std.proofs.Common.{◌≡◌, map, take}
 use Rattle.wsyntax.specs.Execution.Allocation.{overwrite}
-use Rattle.parts.specs.declared.store.TableEntry.TheVariants.{SetTo}
+use Rattle.interpreter.specs.declared.store.TableEntry.TheVariants.{SetTo}
 use Rattle.wstore.proofs.table_part.put_functions.Given as goal
 
 abbrev pub invariant-loop-i : goal.invariant-loop-i

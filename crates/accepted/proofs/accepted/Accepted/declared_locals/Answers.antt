@@ -1,7 +1,7 @@
 use Rattle.std.proofs.Common.{◌≡◌, None, Some, List, refl, sym, ap, ◌∙◌}
 use Rattle.std.specs.Prelude.{slice_get, option_map}
 use Rattle.std.proofs.lemmas.Option.{slice_get_past, slice_get_read}
-use Rattle.side_table.specs.declared.function_shape.FunctionShape.{FunctionShape}
+use Rattle.checked.specs.declared.function_shape.FunctionShape.{FunctionShape}
 use Rattle.wsyntax.specs.Modules.{module_shape}
 use Rattle.accepted.proofs.FunctionShapes.{declared_at}
 use Rattle.accepted.proofs.accepted.Accepted.declared_locals.Goals as goal

@@ -1,7 +1,7 @@
 use Rattle.std.proofs.Common.{◌∙◌}
 use Rattle.std.proofs.Math.Logic.{∥∥₁_map}
 use Rattle.accepted.specs.Judgement.{shapes_of}
-use Rattle.parts.specs.Seen.{seen}
+use Rattle.interpreter.specs.Seen.{seen}
 use Rattle.wstore.specs.Views.{module_in}
 use Rattle.wstore.proofs.TypedCalls.{known, typed_call, all_runs, stops, held_after}
 use Rattle.wstore.proofs.instance.Instance.execute.Goals as goal

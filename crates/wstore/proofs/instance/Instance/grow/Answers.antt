@@ -1,7 +1,7 @@
 use Rattle.std.proofs.Math.Logic.{∥∥₁_map}
 use Rattle.wsyntax.specs.Modules.{module_shape}
 use Rattle.wsyntax.specs.Validation.ModuleContext.{module_context}
-use Rattle.parts.specs.Seen.{seen}
+use Rattle.interpreter.specs.Seen.{seen}
 use Rattle.wstore.proofs.Held.{other_memory}
 use Rattle.wstore.proofs.instance.Instance.grow.Goals as goal
 

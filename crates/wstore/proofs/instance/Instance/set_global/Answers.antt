@@ -7,7 +7,7 @@ use Rattle.wsyntax.specs.declared.types.GlobalType.{GlobalType}
 use Rattle.wsyntax.specs.Execution.Values.{type_of}
 use Rattle.wsyntax.specs.Execution.ConfigTyped.{global_types}
 use Rattle.soundness.specs.Slots.{SlotStore, all_tagged}
-use Rattle.parts.specs.Seen.{seen}
+use Rattle.interpreter.specs.Seen.{seen}
 use Rattle.wstore.specs.Held.{IsHeld}
 use Rattle.wstore.specs.Views.{context_in}
 use Rattle.wstore.proofs.Held.{as_many, set_tagged, other_global}

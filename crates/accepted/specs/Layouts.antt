@@ -1,0 +1,17 @@
+-- 4.5.4 What is computed once a module.
+use Rattle.std.specs.Prelude.{◌≡◌, ◌*◌}
+use Rattle.wsyntax.specs.Modules.{ModuleShape}
+use Rattle.wsyntax.specs.Execution.Store.{page}
+use Rattle.wsyntax.specs.Execution.Start.{layout_of, first_outside}
+use Rattle.soundness.specs.Slots.{slots}
+use Rattle.accepted.specs.Segments.{places_of}
+use Rattle.accepted.specs.Sizes.{table_size, memory_pages}
+use Rattle.accepted.specs.declared.module_layout.Layout.{Layout}
+
+-- the first values of the globals without tags, the places of the segments, and of each kind the first segment that does not end within the minimum
+pub record IsLayoutOf (m : ModuleShape) (l : Layout) : Type 0 where
+  pub globals : l.globals.items ≡ slots (layout_of m).globals
+  pub element_places : l.element_places.items ≡ places_of (layout_of m).elements
+  pub data_places : l.data_places.items ≡ places_of (layout_of m).data'
+  pub element_outside : l.element_outside ≡ first_outside 0 (table_size m) (layout_of m).elements
+  pub data_outside : l.data_outside ≡ first_outside 0 (memory_pages m * page) (layout_of m).data'

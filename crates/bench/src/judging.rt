@@ -1,0 +1,28 @@
+use anyhow::{Result, anyhow};
+use pieces::{Plan, Quiet};
+use std::fs;
+use std::rt::{Clock, Files};
+use std::sync::Wait;
+use std::thread::Threads;
+use std::time::Instant;
+use verdict::examine;
+
+/// How often the module is judged.
+const ROUNDS: u32 = 3;
+
+/// Judges the module of that path, with so many workers.
+pub fn measure<R: Files + Print + Clock + AllocGlobal + Threads + Wait + Sync>(
+    rt: &R,
+    path: &str,
+    workers: u32,
+) -> Result<()> {
+    let bytes = fs::read(rt, path)?;
+    let plan = Plan::new(workers, 16).ok_or_else(|| anyhow!("no plan"))?;
+    for _ in 0..ROUNDS {
+        let start = Instant::now(rt)?;
+        examine(rt, rt.alloc(), &bytes, plan, &Quiet).map_err(|refusal| anyhow!("{refusal:?}"))?;
+        let took = start.elapsed(rt)?.as_nanos();
+        println!(rt; "{took}")?;
+    }
+    Ok(())
+}

@@ -1,4 +1,0 @@
-pub mod Offsets
-pub mod Outside
-pub mod Words
-pub mod Numbers

@@ -1,4 +1,0 @@
-pub mod Constants
-pub mod Segments
-pub mod Sizes
-pub mod Layouts

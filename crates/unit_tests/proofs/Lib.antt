@@ -1,0 +1,2 @@
+mod TwoParts
+pub mod Declared

@@ -1,0 +1,32 @@
+//! Tests of the crates below the judge, on numbers, modules, bodies and texts whose outcome is known from outside, and
+//! of instances and calls on them. They stand here, since a crate with tests is proved twice.
+#![tactic(auto)]
+
+#[cfg(test)]
+mod bodies;
+#[cfg(test)]
+mod calls;
+#[cfg(test)]
+mod checks;
+#[cfg(test)]
+mod contexts;
+#[cfg(test)]
+mod fronts;
+#[cfg(test)]
+mod instances;
+#[cfg(test)]
+mod invocations;
+#[cfg(test)]
+mod memories;
+#[cfg(test)]
+mod modules;
+#[cfg(test)]
+mod numbers;
+#[cfg(test)]
+mod pools;
+#[cfg(test)]
+mod rows;
+#[cfg(test)]
+mod segments;
+#[cfg(test)]
+mod types;
