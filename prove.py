@@ -22,7 +22,7 @@ root = os.path.dirname(os.path.abspath(__file__))
 lanes = os.path.join(root, 'out', 'lanes')
 kept_seconds = os.path.join(root, 'out', 'seconds.json')
 
-# A check needs up to so many kilobytes.
+# A check needs up to this many kilobytes.
 MEMORY_OF_A_CHECK = 3_000_000
 
 # More processors than these make no check faster.

@@ -3,7 +3,7 @@
 
 A row is a module of bench/modules.py of each of the sizes that are given, or a module that is given as a file: real programs.
 All engines take turns, so that all meet the same load, and the best of seven counts, in MB/s of the file, by the clock. With
---median it is the median of so many turns: on a machine whose processors are often away the best of few says little. Three are
+--median it is the median of that many turns: on a machine whose processors are often away the best of few says little. Three are
 measured alike: by their own clocks, the file being read, the best of three in one process (with --first, the first of the
 three, but for C), with one worker on one processor by taskset.
   gate    crates/bench with one worker, which is proved and built where it is missing
@@ -178,6 +178,6 @@ if __name__ == '__main__':
     parser.add_argument('gate', metavar='GATE', help='the program')
     parser.add_argument('rows', metavar='MEGABYTES or MODULE.wasm', nargs='*', help='1, 4 and 15 MB where none is given')
     parser.add_argument('--plot', metavar='FILE.svg', help='draw the rows as bars')
-    parser.add_argument('--median', metavar='TURNS', type=int, help='the median of so many turns counts, and not the best of seven')
+    parser.add_argument('--median', metavar='TURNS', type=int, help='the median of this many turns counts, and not the best of seven')
     parser.add_argument('--first', action='store_true', help='the first of the three in a process counts, and not the best')
     main(parser.parse_intermixed_args())

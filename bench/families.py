@@ -22,7 +22,7 @@ SECTIONS = ('accepted', 'refused')
 
 
 def at_random(pieces, size, chance):
-    # About so many bytes of these pieces.
+    # About `size` bytes of these pieces.
     mean = sum(map(len, pieces)) / len(pieces)
     return b''.join(chance.choices(pieces, k=max(1, int(size / mean))))
 
@@ -60,7 +60,7 @@ def far_locals(size, dead, chance):
 
 def among_empty_runs(most):
     def make(size, dead, chance):
-        # The same, at most so many, at random places among runs of no local, which take half of the bytes.
+        # The same, at most `most`, at random places among runs of no local, which take half of the bytes.
         places = size // 4
         count = min(most, places // 2)
         runs = [b'\x00' + chance.choice([I32, I64]) for _ in range(places)]

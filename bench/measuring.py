@@ -21,7 +21,7 @@ def processor_seconds(words, **settings):
 
 
 def best_of(words, times=5):
-    """The least processor time of a process in so many runs, in milliseconds, and what it prints; it has to end with 0."""
+    """The least processor time of a process in `times` runs, in milliseconds, and what it prints; it has to end with 0."""
     best, out = math.inf, ''
     for _ in range(times):
         spent, out, status = processor_seconds(words)

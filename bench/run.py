@@ -150,7 +150,7 @@ def small_calls(gate, folder):
 
 
 def calls_of_fib(size):
-    # fib of n makes so many calls, itself counted.
+    # fib of n makes this many calls, itself counted.
     before, last = 1, 1
     for _ in range(size - 1):
         before, last = last, before + last + 1

@@ -4,7 +4,7 @@
 Modules are generated valid ones (bench/modules.py, bench/typed.py and small ones with loops, calls, memory, tables, traps), the
 same with bytes changed, cut or doubled, and random bytes after a header. Each is judged and run on 1, 4 and 64 workers with pieces
 of 1, 7 and 65,535, with stacks of 64 KiB, and with the address space held to 256 MB and to 1 GB: those answers must be
-equal to that of one worker, or be want of memory (status 70, nothing on standard output; a call's line `no-memory`).
+equal to that of one worker, or be out of memory (status 70, nothing on standard output; a call's line `no-memory`).
 A crash, a hang of a minute or another answer ends the soak. It prints seeds and counts; a seed makes the same run again.
 
 Where node is installed, its answers are compared too (bench/answers.js): whether `WebAssembly.validate` accepts the module, and

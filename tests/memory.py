@@ -2,7 +2,7 @@
 """What the program does where memory is refused, where it is not, and how much it asks for.
 
 refused    Each request for memory is refused in turn while some rows of the tables, and many open blocks, are judged and run.
-           A check must end in want of memory, with nothing on standard output, or with the row's line; a run the same way, or
+           A check must end out of memory, with nothing on standard output, or with the row's line; a run the same way, or
            with the row's report in which calls that were run may end in `no-memory`, the total counted anew. It stops where 25
            runs in a row ended as if no request had been refused: then the program asks no more. A module none of whose
            requests was refused, and one that asks more than MOST_REQUESTS times, count as failures. Of one row a request is
@@ -32,12 +32,12 @@ from families import FAMILIES, module_of
 CHECKED = ['add', 'bodies 3 and 900 of 1,000 ill typed', 'memory, loads and division', 'call through the table', 'float constant']
 RAN = ['the sum passes the greatest i32', 'a store that no other call sees, and divisions', 'calls through a table',
        'growth up to the declared maximum']
-# The report of the second of these where the first call alone meets want of memory; the others see nothing of it.
+# The report of the second of these where the first call alone runs out of memory; the others see nothing of it.
 FIRST_CALL = ('0 no-memory\n1 values i32:0 fuel 1\n2 trap integer-overflow fuel 1\n3 trap divide-by-zero fuel 1\n4 values i32:-3 fuel 1\n'
               '5 bad-arguments\n6 no-export\ntotal 7 values 2 traps 2 exhausted 0 refused 2 no-memory 1 fuel 4\n')
 MOST_REQUESTS = 5000
 DEPTH = 3000
-# In so many megabytes of addresses a million open blocks fit where they are packed (20 do), and not else (40 do).
+# In this many megabytes of addresses a million open blocks fit where they are packed (20 do), and not else (40 do).
 ROOM = 32
 # What may be asked for at once and together, in lengths of the module, and beside: the worst are bodies of no bytes (26 and 49)
 # and, for runs, functions of two bytes (75 and 390), since each body has a record.
@@ -67,7 +67,7 @@ def total_of(lines):
 
 
 def may_report(wanted, got):
-    # Whether the report is the one wanted but for calls that were run and met want of memory.
+    # Whether the report is the one wanted but for calls that were run and ran out of memory.
     *lines, last = got.splitlines()
     *others, _ = wanted.splitlines()
     if len(lines) != len(others) or last != total_of(lines):
@@ -208,7 +208,7 @@ def main(program):
         gate = Gate(program, folder)
         for part in (refused, held, granted):
             part(gate)
-    print(f'{gate.refusals} of {gate.passed} runs met want of memory')
+    print(f'{gate.refusals} of {gate.passed} runs ran out of memory')
     print(f'{gate.passed} passed, {gate.failed} failed')
     return 1 if gate.failed or not gate.passed else 0
 

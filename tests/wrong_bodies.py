@@ -29,7 +29,7 @@ from dataclasses import dataclass
 
 root = os.path.realpath(os.path.join(os.path.dirname(os.path.abspath(__file__)), '..'))
 
-# A check needs up to so many kilobytes.
+# A check needs up to this many kilobytes.
 MEMORY_OF_A_CHECK = 3_000_000
 
 HEADER = re.compile(r'^([ \t]*)(?:pub(?:\([a-z]+\))? )?(?:const )?fn (\w+)', re.M)

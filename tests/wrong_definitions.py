@@ -91,5 +91,5 @@ def main(minutes):
 if __name__ == '__main__':
     parser = argparse.ArgumentParser(description=__doc__, formatter_class=argparse.RawDescriptionHelpFormatter)
     parser.add_argument('minutes', metavar='MINUTES', nargs='?', type=float, default=math.inf,
-                        help='after so many no further edit is begun; with none given, all are tried')
+                        help='after this many no further edit is begun; with none given, all are tried')
     sys.exit(main(parser.parse_args().minutes))

@@ -21,14 +21,14 @@ pub record IsCheckedFrom (C : Context) (f : ℕ) (bytes : List ℕ) (checked : C
   pub typed : IsTypedAs C f checked.body
   pub fits : FitsAs C f checked
 
--- it is that of the bytes at that place, behind so many imported functions
+-- it is that of the bytes at that place, after `imported` imported functions
 abbrev pub IsCheckedAt : Context → ℕ → List (List ℕ) → ℕ → CheckedBody → Type 0
 IsCheckedAt C imported bodies place checked =
     (bytes : List ℕ) × (slice_get bodies place ≡ Some bytes) × IsCheckedFrom C (imported + place) bytes checked
 
 -- ---- all bodies
 
--- of each of so many bodies the checked one
+-- of each of the n bodies the checked one
 pub record AreChecked (C : Context) (imported : ℕ) (bodies : List (List ℕ)) (n : ℕ) (all : List CheckedBody) : Type 0 where
   pub count : length all ≡ n
   pub each : (k : ℕ) (checked : CheckedBody) → slice_get all k ≡ Some checked → IsCheckedAt C imported bodies k checked

@@ -7,7 +7,7 @@ ghost use Rattle.accepted.specs.Segments.{IsOffset, element_segments, data_segme
 use crate::places::place_of;
 use wsyntax::{Data, Elements};
 
-/// Whether so many items from a place on end within a size. Nothing wraps.
+/// Whether `count` items from `place` on end within `size`. Nothing wraps.
 fn ends_within(place: u32, count: usize, size: usize) -> bool
     ensures { result ≡ nat_le (place + count) size }
 {

@@ -67,7 +67,7 @@ ends_in_start m i l s left f n args o (g, k, e, ends, other, paid) spent =
     let same : k ≡ n = omega (arith, paid, spent) in
     subst (λ (x : ℕ). EndsOn m i l f args (outcome_of o) x) same (in_start e ends other)
 
--- behind it the function is called with the fuel that is left
+-- after it the function is called with the fuel that is left
 pub ends_in_call : (m : ModuleShape) (bodies : List BodyShape) (i : Module) (l : Limits) (s after : Store) (left f n : ℕ) (args : List Value) (o : meant.Outcome) (frames left' d : ℕ)
     → InstanceOf m bodies i → StartEnds m i l s left None → frames ≡ l.frames → Runs m bodies s f args left frames o after left' d → n ≡ l.fuel - left' → EndsOn m i l f args o n
 ends_in_call m bodies i l s after left f n args o frames left' d inst (k, started, paid) same r spent =

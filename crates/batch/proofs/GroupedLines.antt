@@ -20,14 +20,14 @@ use Rattle.batch.specs.declared.group.Group.{Group}
 
 -- ---- lines
 
--- a line a call
+-- one line a call
 pub as_many : (a : Accepted) (s : Settings) (calls : List Call) (lines : List Line) → GiveLines a s calls lines → length lines ≡ length calls
 as_many a s [] [] h = refl
 as_many a s [] (x ∷ xs) h = absurd h
 as_many a s (c ∷ cs) [] h = absurd h
 as_many a s (c ∷ cs) (x ∷ xs) h = ap suc (as_many a s cs xs h.1)
 
--- the lines of calls, and of others behind them
+-- the lines of calls, and of others after them
 give_both : (a : Accepted) (s : Settings) (calls others : List Call) (lines more : List Line) → GiveLines a s calls lines → GiveLines a s others more → GiveLines a s (calls ++ others) (lines ++ more)
 give_both a s [] others [] more h g = g
 give_both a s [] others (x ∷ xs) more h g = absurd h
@@ -51,7 +51,7 @@ part_given a s g i lines given p all h same part = (
 
 -- ---- groups
 
--- groups, and others behind them
+-- groups, and others after them
 are_both : (n m : ℕ) (calls others : List Call) (groups more : List Group) → AreGroups n calls groups → m ≡ n + length calls → AreGroups m others more → AreGroups n (calls ++ others) (groups ++ more)
 are_both n m calls others [] more h at g =
     let same : m ≡ n = omega (arith, at, ap length h) in
@@ -60,7 +60,7 @@ are_both n m calls others (p ∷ ps) more (first, (rest, both, are)) at g =
     let far : m ≡ n + length p.calls.now + length rest = omega (arith, at, ap length both, length-append p.calls.now rest) in
     (first, (rest ++ others, ap (λ (l : List Call). l ++ others) both ∙ append_assoc p.calls.now rest others, are_both (n + length p.calls.now) m rest others ps more are far g))
 
--- groups are added behind those that were added
+-- groups are added after those that were added
 pub adds_both : (n m : ℕ) (calls others : List Call) (old groups new : List Group) → AddsGroups n calls old groups → m ≡ n + length calls → AddsGroups m others groups new → AddsGroups n (calls ++ others) old new
 adds_both n m calls others old groups new (front, added, are) at (more, then', others') =
     (front ++ more, then' ∙ ap (λ (l : List Group). l ++ more) added ∙ append_assoc old front more, are_both n m calls others front more are at others')

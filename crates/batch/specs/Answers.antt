@@ -17,15 +17,15 @@ use Rattle.batch.specs.declared.status.Status.TheVariants.{Good, ModuleRefused, 
 use Rattle.batch.specs.declared.status.AnswerFault.{AnswerFault}
 use Rattle.batch.specs.declared.status.AnswerFault.TheVariants.{Memory, Write}
 
--- the answer, where some of the calls met want of memory
+-- the answer, where some of the calls ran out of memory
 abbrev pub IsSomeAnswer : List ℕ → List ℕ → Limits → List ℕ → Type 0
 IsSomeAnswer bytes text l out = (short : ℕ → Bool) × IsAnswer bytes text l (λ n. IsTrue (short n)) out
 
--- the answer to an accepted module that these bytes spell, whichever spell it, where some of the calls met want of memory
+-- the answer to an accepted module that these bytes spell, whichever spell it, where some of the calls ran out of memory
 abbrev pub IsAnswerOn : AcceptedModule → List ℕ → Limits → List ℕ → Type 0
 IsAnswerOn a text l out = (bytes : List ℕ) → IsVerdict bytes Accepted → Spells bytes (module_shape a.«module») (shapes_of a.bodies.items) → IsSomeAnswer bytes text l out
 
--- what a text of calls is that is refused; want of memory says nothing
+-- what a text of calls is that is refused; out of memory says nothing
 abbrev pub refused_text : CallsFault → Option CallsText
 refused_text fault.TooLarge = Some TooLong
 refused_text (fault.Line k) = Some (BadLine k)
@@ -48,7 +48,7 @@ StatusBy text v status = status ≡ ModuleRefused
 abbrev pub HasStatus : List ℕ → List ℕ → Status → Type 0
 HasStatus bytes text status = (v : Verdict) × IsVerdict bytes v × StatusBy text v status
 
--- a text with P is written, a beginning of it where a write failed, and nothing for want of memory
+-- a text with P is written, a beginning of it where a write failed, and nothing when out of memory
 abbrev pub Answers : (List ℕ → Type 0) → Option (List ℕ) → Option (List ℕ) → Result Status AnswerFault → Type 0
 Answers P old new (Ok status) = (out : List ℕ) × P out × Appends old new out
 Answers P old new (Err Write) = (out : List ℕ) × P out × AppendsFront old new out

@@ -25,7 +25,7 @@ use Rattle.wstore.specs.CallLimits.{limits_of}
 
 -- ---- one call, alone
 
--- 4.5.4 the start function was run, where there is one: it left store s and so much fuel; or it ended otherwise than in no values
+-- 4.5.4 the start function was run, where there is one: it left store s and some fuel; or it ended otherwise than in no values
 abbrev pub StartEnds : ModuleShape → Module → Limits → Store → ℕ → Option Outcome → Type 0
 StartEnds m i l s left None = (k : ℕ) × Started m i l s k × (l.fuel ≡ k + left)
 StartEnds m i l s left (Some o) =
@@ -40,7 +40,7 @@ abbrev pub RanAlone : ModuleShape → List BodyShape → Limits → ℕ → List
 RanAlone m bodies l f args (Ran o k) = (i : Module) → InstanceOf m bodies i → EndsOn m i l f args (outcome_of o) k
 RanAlone m bodies l f args _ = ⊥
 
--- it says why there is no instance; or that memory was wanting, where nothing refuses the instance; or how the call ends
+-- it says why there is no instance; or that memory ran out, where nothing refuses the instance; or how the call ends
 abbrev pub EndsAlone : ModuleShape → List BodyShape → Limits → ℕ → List Value → Line → Type 0
 EndsAlone m bodies l f args (NotStarted r) = start_refusal l.pages m bodies ≡ Some (refusal_of r)
 EndsAlone m bodies l f args NoMemory = start_refusal l.pages m bodies ≡ None
@@ -55,7 +55,7 @@ EndsAlone m bodies l f args BadArguments = ⊥
 abbrev pub IsCallee : ModuleShape → Meant → ℕ → Type 0
 IsCallee m c f = (sig : FuncType) × Names m c f sig × (types c.args ≡ sig.params)
 
--- the call met want of memory
+-- the call ran out of memory
 abbrev pub is_short : Option Line → Bool
 is_short (Some NoMemory) = true
 is_short _ = false
@@ -66,7 +66,7 @@ RefusedAs a c line = (l : Limits) → EndOf (module_shape a.«module») (shapes_
 
 -- ---- the calls of a batch
 
--- the line says how the call ends; where it says that memory was wanting, the call met that
+-- the line says how the call ends; where it says that memory ran out, the call ran out of it
 abbrev pub GivesLine : Accepted → Settings → Call → Line → Type 0
 GivesLine a s c line =
     EndOf (module_shape a.«module») (shapes_of a.bodies.items) (limits_of s) (IsTrue (is_short (Some line))) (call_of c) (end_of line)

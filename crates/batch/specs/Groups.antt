@@ -15,7 +15,7 @@ abbrev pub AreGroups : ℕ → List Call → List Group → Type 0
 AreGroups n calls [] = calls ≡ []
 AreGroups n calls (g ∷ gs) = (g.first ≡ n) × ((rest : List Call) × (calls ≡ g.calls.now ++ rest) × AreGroups (n + length g.calls.now) rest gs)
 
--- groups of these calls, from number n on, stand behind the old ones
+-- groups of these calls, from number n on, stand after the old ones
 abbrev pub AddsGroups : ℕ → List Call → List Group → List Group → Type 0
 AddsGroups n calls old new = (more : List Group) × (new ≡ old ++ more) × AreGroups n calls more
 

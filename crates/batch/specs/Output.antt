@@ -12,7 +12,7 @@ AppendsFront old new text = (front : List ℕ) × (rest : List ℕ) × (text ≡
 abbrev pub AppendsLess : Option (List ℕ) → Option (List ℕ) → List ℕ → Type 0
 AppendsLess old new text = (front : List ℕ) × (rest : List ℕ) × (text ≡ front ++ rest) × (rest ≢ []) × Appends old new front
 
--- a text with P is not written whole; nothing is written for want of memory
+-- a text with P is not written whole; nothing is written when out of memory
 abbrev pub FallsShort : (List ℕ → Type 0) → Option (List ℕ) → Option (List ℕ) → AnswerFault → Type 0
 FallsShort P old new Write = (out : List ℕ) × P out × AppendsLess old new out
 FallsShort P old new Memory = Keeps old new

@@ -55,7 +55,7 @@ EachGivesTyped m [] [] = Unit {0}
 EachGivesTyped m (c ∷ cs) (e ∷ es) = GivesTyped m c e × EachGivesTyped m cs es
 EachGivesTyped m _ _ = ⊥
 
--- whatever ends an answer tells (`IsSomeAnswer`), whichever calls met want of memory
+-- whatever ends an answer tells (`IsSomeAnswer`), whichever calls ran out of memory
 abbrev pub ValuesAreTyped : List ℕ → List ℕ → Limits → Type 0
 ValuesAreTyped bytes text l =
     (m : ModuleShape) (bodies : List BodyShape) (calls : List Call) (ends : List CallEnd) (short : ℕ → Bool)

@@ -103,12 +103,12 @@ fn answer_to<R: Threads + Wait + Sync, W: Watch + Sync>(
 /// - What is written is the answer of the definition for `bytes`, `calls` and `settings`: a refused module's verdict line; else
 ///   what is wrong with the calls; else the report, in which each call ends as its reduction on an instance of its own ends,
 ///   after the start function, with the exact fuel (`answer`, by `IsSomeAnswer`). `plan` stands in no clause. Where the same
-///   calls met want of memory, the answer is one (`one_answer`): one function of the two texts and the settings.
+///   calls ran out of memory, the answer is one (`one_answer`): one function of the two texts and the settings.
 /// - `Status` says which of the three was written (`status`).
 /// - No call is ever stuck: no configuration that a call reaches is, from the start function on the fresh store, and from the
 ///   call on the store that the start function left (`never_stuck`).
 /// - The values of a call are of the result types of the function that it names (`typed`): whatever ends the report tells.
-/// - The answer is made before its first byte is written, so want of memory leaves `out` as it was. Where the fault is `Write`,
+/// - The answer is made before its first byte is written, so running out of memory leaves `out` as it was. Where the fault is `Write`,
 ///   a beginning of the answer was written, and not all of it (`answer`, `fault`).
 ///
 /// Nothing is flushed. Of a writer whose contents are not known the clauses on writing say nothing. That `Write` comes only

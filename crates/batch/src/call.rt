@@ -47,7 +47,7 @@ fn run_start(
     }
 }
 
-/// How a function ends on an instance, behind the start function, where the module has one.
+/// How a function ends on an instance, after the start function, where the module has one.
 fn start_and_call(
     alloc: Global,
     instance: &mut Instance<'_>,

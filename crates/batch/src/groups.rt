@@ -12,7 +12,7 @@ use std::alloc::{AllocError, Global};
 use std::sync::Wait;
 use texts::{Call, Part};
 
-/// Puts calls, of which the first has that number, behind groups, in groups of that size. The last may have fewer.
+/// Pushes `calls`, of which the first has number `first`, in groups of `size`. The last may have fewer.
 fn push_groups<'s, 't>(
     groups: &mut Vec<Group<'s, 't>>,
     calls: &'s [Call<'t>],
@@ -35,7 +35,7 @@ fn push_groups<'s, 't>(
     Ok(())
 }
 
-/// The calls of all slices of a text in groups of that size. The last of a slice may have fewer.
+/// The calls of all slices of a text in groups of `size`. The last of a slice may have fewer.
 pub(crate) fn groups_of<'s, 't>(
     alloc: Global,
     slices: &'s [Vec<Call<'t>>],

@@ -10,7 +10,7 @@ use soundness::{execution, texts};
 use verdict::{one_verdict, segments_hold_bytes};
 use wdecode::{bodies_are_determined, modules_are_determined, shells_are_determined};
 
-/// The law that the same bytes, text and limits have one answer, where the same calls met want of memory.
+/// The law that the same bytes, text and limits have one answer, where the same calls ran out of memory.
 pub fn one_answer()
     ensures { OneAnswer }
 {

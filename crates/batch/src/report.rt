@@ -13,7 +13,7 @@ use std::sync::Wait;
 use std::thread::Threads;
 use verdict::{Refusal, examine};
 
-/// Judges a module and writes its verdict line. The line is made before its first byte is written, so want of memory leaves
+/// Judges a module and writes its verdict line. The line is made before its first byte is written, so running out of memory leaves
 /// `out` as it was. Where the fault is `Write`, a beginning of the line was written, and not all of it (`fault`); that a write
 /// then failed or took no byte is tested. Nothing is flushed.
 pub fn report_verdict<R: Threads + Wait + Sync, W: Watch + Sync, O: Write>(

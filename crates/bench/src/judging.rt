@@ -10,7 +10,7 @@ use verdict::examine;
 /// How often the module is judged.
 const ROUNDS: u32 = 3;
 
-/// Judges the module of that path, with so many workers.
+/// Judges the module at `path` with `workers` workers.
 pub fn measure<R: Files + Print + Clock + AllocGlobal + Threads + Wait + Sync>(
     rt: &R,
     path: &str,

@@ -1,4 +1,4 @@
--- What was written before the flush stands behind it too.
+-- What was written before the flush stands after it too.
 use Rattle.std.proofs.Common.{◌≡◌, ℕ, List, [], Option, Result, Ok, Err, IfOk, inl, inr, sym, subst, append-nil}
 use Rattle.std.proofs.KnownBytes.{Appends-kept, Keeps-trans}
 use Rattle.std.specs.Io.KnownBytes.{Keeps}

@@ -27,7 +27,7 @@ fault_status (fault.Unreadable path) = 74
 fault_status fault.Write = 74
 fault_status fault.Memory = 70
 
--- what is told of an answer: behind one that was written whole a flush may fail
+-- what is told of an answer: after one that was written whole a flush may fail
 abbrev pub EndsAs : Result Status AnswerFault → Result Status Fault → Type 0
 EndsAs (Ok status) r = (r ≡ Ok status) ⊎ (r ≡ Err fault.Write)
 EndsAs (Err answer.Write) r = r ≡ Err fault.Write

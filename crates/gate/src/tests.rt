@@ -13,7 +13,7 @@ use std::sync::Wait;
 use std::test::Fail;
 use std::thread::Threads;
 
-// A module as `x.wasm` and calls as `x.calls`; or want of memory at each read.
+// A module as `x.wasm` and calls as `x.calls`; or out of memory at each read.
 #[derive(Clone, Copy)]
 struct Held<'a> {
     module: &'a [u8],

@@ -23,7 +23,7 @@ pub enum CallFault {
     Memory,
 }
 
-/// Calls an export on a fresh instance, behind the module's start function. What it does to its memory nobody sees
+/// Calls an export on a fresh instance, after the module's start function. What it does to its memory nobody sees
 /// afterwards.
 pub fn call(
     alloc: Global,

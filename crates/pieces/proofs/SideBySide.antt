@@ -21,11 +21,11 @@ module _ {T : Type 0} (R : T → T → Type 0) where
   becomes_more : (a b : T) (xs ys : List T) → R a b → EachBecomes R xs ys → EachBecomes R (a ∷ xs) (b ∷ ys)
   becomes_more a b xs ys r h = record { len = ap suc h.len; each = of_more a b xs ys r h }
 
-  -- the items behind the first
+  -- the items after the first
   becomes_less : (a b : T) (xs ys : List T) → EachBecomes R (a ∷ xs) (b ∷ ys) → EachBecomes R xs ys
   becomes_less a b xs ys h = record { len = (let k = h.len in omega (arith, k)); each = λ i d l. h.each (suc i) d (omega (arith, l)) }
 
-  -- one more item behind
+  -- one more item after
   becomes_behind : (xs ys : List T) (x y : T) → EachBecomes R xs ys → R x y → EachBecomes R (xs ++ x ∷ []) (ys ++ y ∷ [])
   becomes_behind [] [] x y h r = record { len = refl; each = of_one x x y r }
   becomes_behind [] (b ∷ ys) x y h r = absurd (let k = h.len in omega (arith, k))

@@ -52,7 +52,7 @@ abbrev pub IsAccessTo : DequeId → Access → Type 0
 IsAccessTo deque (Pops w a) = (worker_deque w ≡ deque) × (worker_flavor w ≡ 0)
 IsAccessTo deque (Steals p) = IsPassOf deque p
 
--- the share is one of this deque, which began with so many pieces
+-- the share is one of this deque, which began with `count` pieces
 pub record IsIn (deque : DequeId) (count : ℕ) (s : Share) : Type 0 where
   pub access : IsAccessTo deque s.access
   pub part : 0 < (bag_view_of s.access).parts

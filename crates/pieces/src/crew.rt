@@ -36,7 +36,7 @@ fn run_member<R: Wait, J: Job>(
     }
 }
 
-// A worker whose thread cannot be started runs on the calling thread, behind those that are started after it.
+// A worker whose thread cannot be started runs on the calling thread, once the later ones are started.
 fn run_each<R: Threads + Wait + Sync, J: Job + Sync>(
     rt: &R,
     job: &J,

@@ -20,7 +20,7 @@ use std::thread::Threads;
 /// one another.
 const FEW_ANSWERS: u32 = 256;
 
-// The workers, each with its share, its local, and room for so many answers.
+// The workers, each with its share, its local, and room for `room` answers.
 fn new_crew<L: Drop, O: Drop, F: Drop>(
     alloc: Global,
     mut shares: Vec<Share>,

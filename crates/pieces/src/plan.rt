@@ -48,7 +48,7 @@ impl Plan {
         self.piece
     }
 
-    /// The plan of as many workers whose pieces are the groups of so many things: shorter than those of this plan where
+    /// The plan of as many workers whose pieces are the groups of `things` things: shorter than those of this plan where
     /// these would make fewer groups than are wanted, and longer where they would make more than 64 for each worker.
     pub fn grouping(&self, things: u32, wanted: u32) -> Plan
         ensures { result.workers ≡ self.now.workers }
@@ -61,7 +61,7 @@ impl Plan {
         }
     }
 
-    /// How many groups so many things make, where a group has as many as a piece. The last group may have fewer.
+    /// How many groups `things` things make, where a group has as many as a piece. The last group may have fewer.
     pub fn count_groups(&self, things: u32) -> u32
         ensures { result ≡ div_ceil things self.now.piece }
     {

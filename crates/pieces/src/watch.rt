@@ -15,7 +15,7 @@ pub trait Watch: Sync {
     /// The index of this stage is about to run.
     fn note(&self, stage: Stage, index: u32);
 
-    /// The call was lent a memory of so many bytes.
+    /// The call was lent a memory of `bytes` bytes.
     fn lent(&self, call: u32, bytes: usize);
 }
 

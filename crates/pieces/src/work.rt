@@ -13,7 +13,7 @@ use crate::share::Share;
 use std::alloc::AllocError;
 use std::sync::Wait;
 
-// Runs one index, or passes it over where the mark is smaller. A refusal, or want of memory, lowers the
+// Runs one index, or passes it over where the mark is smaller. A refusal, or running out of memory, lowers the
 // mark before its answer is kept.
 fn run_index<R: Wait, J: Job>(
     rt: &R,

@@ -12,7 +12,7 @@ follow_stop (Loop t body rest) = ap (Loop t body) (follow_stop rest)
 follow_stop (If t body rest) = ap (If t body) (follow_stop rest)
 follow_stop (IfElse t body other rest) = ap (IfElse t body other) (follow_stop rest)
 
--- a block's tokens, the word behind them, and the rest
+-- a block's tokens, the word after them, and the rest
 seam : (a b ts : List Token) (t : Token) → (a ++ t ∷ b) ++ ts ≡ a ++ t ∷ (b ++ ts)
 seam a b ts t = append_assoc a (t ∷ b) ts
 

@@ -53,7 +53,7 @@ first_value text (v ∷ vs) nt h e =
     let r = up_to_tab text (value_text v) [] (args_text vs) nt (value_no_tab v h.0) tt (args_at_tab vs) (append-nil text ∙ t) in
     (v, h.0, sym r.0)
 
--- a line of a name and, behind one tab, this text says that the text is a value's
+-- a line of a name and, after one tab, this text says that the text is a value's
 one_value : (name text : List ℕ) (c : Call) → NoTab name → NoTab text → IsCall c → name ++ (9 ∷ text) ≡ call_text c → (v : Value) × IsWord v × (value_text v ≡ text)
 one_value name text c nn nt h e = first_value text c.args nt h.words (up_to_tab name c.name (9 ∷ text) (args_text c.args) nn (name_no_tab c.name h.name) refl (args_at_tab c.args) e).1
 

@@ -21,7 +21,7 @@ no_got e (suc (suc k), l, is) same = absurd (omega (arith, l))
 get : Names exporter (calling (codes "get") []) 1 gives
 get = record { exported = (0, omega arith, refl); typed = refl }
 
--- the start function and the call behind it
+-- the start function and the call after it
 get_runs : EndsOn exporter (instance_of adds_five) (fuel 10) 1 [] (Values (V32 7 ∷ [])) 2
 unfolding step
 get_runs = in_call {k = 1} {n = 1} {left = 9} {s = with_global 7} {after = with_global 7} (by_start refl (first adds_five 10)) refl (behind (with_global 7) 9)

@@ -79,7 +79,7 @@ count_is n k (b ∷ c ∷ x) y rest l h e =
     let same : n ≡ b = cc in
     absurd (omega (arith, h.number.0, l))
 
--- so a name behind it is all of the other bytes, which are so many and UTF-8
+-- so a name after it is all of the other bytes, which are so many and UTF-8
 name_is : (n : ℕ) (rest a : List ℕ) → n < 128 → name.spells (n ∷ rest) a → (length rest ≡ n) × IsUtf8 rest
 unfolding name
 name_is n rest a l (x, y, s, e, (x', y', k, e', num, (same, count)), (nil, is, utf8)) =

@@ -25,7 +25,7 @@ said_of m s f fuel frames n NotOver e = tt
 said : (m : Module) (s : Store) (f fuel frames : ℕ) → Said m s f fuel frames (run m frames 20 fuel (start s f []))
 said m s f fuel frames = said_of m s f fuel frames 20 _ refl
 
--- the call of the start function, and the one behind it
+-- the call of the start function, and the one after it
 pub first : (code : Code) (n : ℕ) → Said (instance_of code) (fresh_store 1 starter) 0 n 1 (run (instance_of code) 1 20 n (start (fresh_store 1 starter) 0 []))
 first code n = said (instance_of code) (fresh_store 1 starter) 0 n 1
 

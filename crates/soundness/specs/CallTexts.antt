@@ -4,7 +4,7 @@ use Rattle.wsyntax.specs.declared.value.Value.{Value}
 use Rattle.wsyntax.specs.declared.value.Value.TheVariants.{I32 as V32, I64 as V64}
 use Rattle.wsyntax.specs.Texts.Calls.{Call, Ended, Unended, lines_of, BadLine, Good, IsCalls}
 
--- what ends a line is not in it; bytes behind the last newline are a line that has no end
+-- what ends a line is not in it; bytes after the last newline are a line that has no end
 pub record LineExamples : Type 0 where
   -- the empty text has no line
   pub no_line : lines_of [] ≡ []
@@ -14,7 +14,7 @@ pub record LineExamples : Type 0 where
   pub empty_line : lines_of (codes "\n") ≡ Ended [] ∷ []
   -- a tab stays in its line
   pub several_lines : lines_of (codes "f\tg\n\nh\n") ≡ Ended (codes "f\tg") ∷ Ended [] ∷ Ended (codes "h") ∷ []
-  -- bytes behind the last newline are a line that has no end
+  -- bytes after the last newline are a line that has no end
   pub no_newline : lines_of (codes "add\nadd") ≡ Ended (codes "add") ∷ Unended (codes "add") ∷ []
 
 -- a call of this name

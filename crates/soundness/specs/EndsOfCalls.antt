@@ -43,9 +43,9 @@ pub record EndExamples : Type 0 where
   pub not_a_function : Ending floating (codes "sum") (V32 0 ∷ []) NotAFunction
   -- one argument where there is no parameter
   pub bad_arguments : Ending floating (codes "get") (V32 0 ∷ []) BadArguments
-  -- the module mentions a float; memory was wanting too
+  -- the module mentions a float; memory ran out too
   pub not_started : ShortEnding floating (codes "get") [] (NotStarted HasFloats)
-  -- memory was wanting
+  -- memory ran out
   pub no_memory : ShortEnding whole (codes "get") [] NoMemory
   -- it was run, its start function first
   pub ran : Ending whole (codes "get") [] (Ran (Values (V32 7 ∷ [])) 2)

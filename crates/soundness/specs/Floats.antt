@@ -28,7 +28,7 @@ of_data offset = record empty_module { segments = (record { memory = 0; offset =
 abbrev pub in_code : List Token → Bool
 in_code code = has_floats empty_module ((record { runs = []; code = code }) ∷ [])
 
--- whether a body that declares so many locals of this type does
+-- whether a body that declares `count` locals of type t does
 abbrev pub in_locals : ℕ → ValType → Bool
 in_locals count t = has_floats empty_module ((record { runs = (record { count = 1; content = I32 }) ∷ (record { count = count; content = t }) ∷ []; code = End ∷ [] }) ∷ [])
 

@@ -37,11 +37,11 @@ ends body = option_map (λ x. x.0) (call_ends (around body) eight 0 [] 10 3 40)
 abbrev pub gives : ℕ → Option Outcome
 gives n = Some (Values (V32 n ∷ []))
 
--- so many bytes at offset n, for a value of this type
+-- `width` bytes at offset n, for a value of type t
 abbrev pub part : ValType → ℕ → ℕ → Access
 part t width n = record { of_type = t; width = width; signed = false; align = 0; offset = n }
 
--- stores a number in so many bytes
+-- stores n in `width` bytes
 abbrev pub stored : ValType → ℕ → ℕ → Code → Code
 stored t width n rest = const 0 (Plain (Const t n) (Plain (MemoryStore (part t width 0)) rest))
 

@@ -43,7 +43,7 @@ pub record ReportExamples : Type 0 where
   pub last_word : Reported 1 (V32 65530 ∷ []) (Ran (Values (V32 0 ∷ [])) 1) (codes "0 values i32:0 fuel 1\ntotal 1 values 1 traps 0 exhausted 0 refused 0 no-memory 0 fuel 1\n")
   -- the word one byte further on reaches past the end
   pub over_the_end : Reported 1 (V32 65531 ∷ []) (Ran (Trapped OutOfBounds) 1) (codes "0 trap out-of-bounds fuel 1\ntotal 1 values 0 traps 1 exhausted 0 refused 0 no-memory 0 fuel 1\n")
-  -- the offset takes it to the first byte behind the page
+  -- the offset takes it to the first byte after the page
   pub past_the_end : ended 1 (V32 65534 ∷ []) ≡ Some (Ran (Trapped OutOfBounds) 1)
   -- address and offset are 2^32 together
   pub far_past_the_end : ended 1 (V32 4294967294 ∷ []) ≡ Some (Ran (Trapped OutOfBounds) 1)

@@ -44,7 +44,7 @@ word_at n = record { of_type = I32; width = 4; signed = false; align = 0; offset
 abbrev pub counts : Function
 counts = record { func_type = one; locals = []; body = Loop Empty (Plain (LocalGet 0) (const 1 (Plain (Numeric (OfTwo Width32 Sub)) (Plain (LocalTee 0) (Plain (BrIf 0) Stop))))) (Plain (LocalGet 0) Stop) }
 
--- calls function 0 and adds 40; nothing behind its return is reached
+-- calls function 0 and adds 40; nothing after its return is reached
 abbrev pub calls : Function
 calls = record { func_type = one; locals = I64 ∷ []; body = Plain (LocalGet 0) (Plain (Call 0) (const 40 (Plain (Numeric (OfTwo Width32 Add)) (Plain Return (Plain Unreachable Stop))))) }
 
@@ -89,7 +89,7 @@ little = record {
   globals = [];
 }
 
--- how a call of function f of the sample ends with this fuel and so many frames, and the fuel that is left
+-- how a call of function f of the sample ends with this fuel and these frames, and the fuel that is left
 abbrev pub calling : ℕ → List Value → ℕ → ℕ → Option (Outcome × ℕ)
 calling f args fuel frames = call_ends sample little f args fuel frames 100
 

@@ -108,7 +108,7 @@ tabled = record { memory = None; table = Some (SetTo 2 ∷ []); globals = [] }
 abbrev pub calling : Code → ℕ → List Value → Option (Outcome × ℕ)
 calling body f args = call_ends (around body) tabled f args 10 3 80
 
--- the body is valid, and with this argument it gives this number and leaves so much fuel
+-- the body is valid, and with this argument it gives n and leaves `left` fuel
 pub record Gives (body : Code) (arg n left : ℕ) : Type 0 where
   pub valid : alg context (I32 ∷ []) (flat_body body) ≡ Accepted
   pub ends : calling body 0 (V32 arg ∷ []) ≡ Some (Values (V32 n ∷ []), left)

@@ -49,7 +49,7 @@ body_of code = record { runs = []; code = flat_body code }
 abbrev pub with_global : ℕ → Store
 with_global n = record { memory = None; table = None; globals = V32 n ∷ [] }
 
--- so much fuel
+-- n fuel
 abbrev pub fuel : ℕ → Limits
 fuel n = record { fuel = n; frames = 1; pages = 1 }
 

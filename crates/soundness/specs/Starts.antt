@@ -22,7 +22,7 @@ entries place functions = record { table = 0; offset = at place; functions = fun
 abbrev pub bytes : ℕ → List ℕ → DataShape
 bytes place items = record { memory = 0; offset = at place; bytes = items }
 
--- a module with a table of so many entries, a memory of so many pages, and segments
+-- a module with a table of `size` entries, a memory of `pages` pages, and segments
 abbrev pub sized : ℕ → ℕ → List ElementShape → List DataShape → ModuleShape
 sized size pages elements segments = record empty_module {
   types = (record { params = []; results = [] }) ∷ [];

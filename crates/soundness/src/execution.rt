@@ -56,7 +56,7 @@ pub fn paid()
     ensures { Paid }
 {}
 
-/// One run behind another is a run.
+/// One run after another is a run.
 pub fn joins()
     ensures { Joins }
 {}

@@ -12,7 +12,7 @@ pub fn one_end_of()
     ensures { OneEndOf }
 {}
 
-/// The same bytes, text and limits have one answer, where the same calls met want of memory.
+/// The same bytes, text and limits have one answer, where the same calls ran out of memory.
 pub fn one_answer()
     ensures { OneAnswer }
 {}

@@ -48,14 +48,14 @@ some_line (b ∷ rest) some = by_test (eqb b 0x0A) (lines_of rest) (onto b (line
 
 -- ---- the lines that are read
 
--- so many lines of the text say these calls
+-- that many lines of the text say these calls
 pub record LinesRead (text rest : List ℕ) (calls : List Call) : Type 0 where
   pub done : List TextLine
   pub lines : lines_of text ≡ done ++ lines_of rest
   pub say : SayAll done calls
   pub few : length calls ≤ line_limit
 
--- lines say calls, and others behind them say others
+-- lines say calls, and others after them say others
 pub say_both : (done rest : List TextLine) (calls more : List Call) → SayAll done calls → SayAll rest more → SayAll (done ++ rest) (calls ++ more)
 say_both [] rest [] more h g = g
 say_both [] rest (d ∷ calls) more h g = absurd h

@@ -9,7 +9,7 @@ use Rattle.texts.specs.declared.total.Total.{Total}
 use Rattle.texts.specs.Ends.{end_of, ends_of}
 use Rattle.texts.specs.Totals.{tally, total_text}
 
--- a part behind another
+-- a part after another
 pub two_parts : {U E : Type 0} (r : Result U E) (new mid old a b : List ℕ) → mid ≡ old ++ a → OnOk r (new ≡ mid ++ b) → OnOk r (new ≡ old ++ (a ++ b))
 two_parts (Ok u) new mid old a b e h = h ∙ ap (λ l. l ++ b) e ∙ append_assoc old a b
 two_parts (Err f) new mid old a b e h = tt
@@ -66,7 +66,7 @@ lines_more n lines i line l e =
     let at : length (ends_of (take i lines)) + n ≡ n + i = simp (length-map, length-take) (omega arith) in
     sym (ap (call_lines n) (ends_more lines i line l e) ∙ line_behind n (ends_of (take i lines)) (end_of line) ∙ ap (λ k. call_lines n (ends_of (take i lines)) ++ call_line k (end_of line)) at)
 
--- the lines of two lists of calls, one behind the other
+-- the lines of two lists of calls, one after the other
 pub lines_append : (n : ℕ) (xs ys : List CallEnd) → call_lines n (xs ++ ys) ≡ call_lines n xs ++ call_lines (n + length xs) ys
 lines_append n [] ys = ap (λ m. call_lines m ys) (omega arith)
 lines_append n (x ∷ xs) ys =
@@ -105,7 +105,7 @@ report_whole ends total text whole e t n w =
     ∙ ap (λ t. call_lines 0 ends ++ total_text total.calls t) t
     ∙ ap (λ m. call_lines 0 ends ++ total_text m (total_of ends)) n
 
--- the parts of a line, one behind another
+-- the parts of a line, one after another
 pub line_written : (old n e written ended whole : List ℕ) → written ≡ old ++ (n ++ codes " ") → ended ≡ written ++ e → whole ≡ ended ++ newline → whole ≡ old ++ (n ++ (codes " " ++ (e ++ newline)))
 line_written old n e written ended whole p q r =
     r ∙ ap (λ l. l ++ newline) (q ∙ ap (λ l. l ++ e) p) ∙ append_assoc (old ++ (n ++ codes " ")) e newline ∙ append_assoc old (n ++ codes " ") (e ++ newline) ∙ ap (λ l. old ++ l) (append_assoc n (codes " ") (e ++ newline))

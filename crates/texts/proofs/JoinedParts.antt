@@ -1,4 +1,4 @@
--- A part of a report, and parts one behind another.
+-- A part of a report, and parts one after another.
 use Rattle.std.proofs.Common.{◌≡◌, ℕ, ◌+◌, ◌<◌, ◌≤◌, List, [], ◌∷◌, ◌++◌, length, get_or, take, drop, string_bytes, refl, sym, ap, ◌∙◌, subst, append_assoc, length-append, arith}
 use Rattle.std.proofs.lemmas.Grind.{flat_map-append}
 use Rattle.std.proofs.lemmas.List.{append-nil, drop_more, drop_all, length-map, take_all, take_more}
@@ -25,7 +25,7 @@ part_whole n lines i p all text counts calls within =
       within = within;
     }
 
--- ---- parts one behind another
+-- ---- parts one after another
 
 -- the parts up to a place are joined, and the others have the calls that are left
 pub record Joined (parts : List Part) (i : ℕ) (text : List ℕ) (total : Total) (ends : List CallEnd) : Type 0 where
@@ -37,7 +37,7 @@ pub record Joined (parts : List Part) (i : ℕ) (text : List ℕ) (total : Total
   pub calls : total.calls ≡ length done
   pub others : AreParts (length done) left (drop i parts)
 
--- the part at a place, and the others behind it
+-- the part at a place, and the others after it
 pub record Next (parts : List Part) (i n : ℕ) (left : List CallEnd) (p : Part) : Type 0 where
   pub front : List CallEnd
   pub rest : List CallEnd
@@ -55,7 +55,7 @@ next_part parts i n left p below at h =
 pub joined_none : (parts : List Part) (text : List ℕ) (total : Total) (ends : List CallEnd) → text ≡ [] → tally total ≡ total_of [] → total.calls ≡ 0 → AreParts 0 ends parts → Joined parts 0 text total ends
 joined_none parts text total ends e t n h = record { done = []; left = ends; all = refl; written = e; counts = t; calls = n; others = h }
 
--- the lines of the calls behind others
+-- the lines of the calls after others
 lines_behind : (done front : List CallEnd) → call_lines 0 done ++ call_lines (length done) front ≡ call_lines 0 (done ++ front)
 lines_behind done front =
     let at : length done ≡ 0 + length done = omega arith in

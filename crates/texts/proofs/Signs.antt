@@ -18,12 +18,12 @@ below n fits = omega arith
 pub below_suc : (n : ℕ) → FitsSigned w64 (negsuc n) → suc n < 2 ^ 64
 below_suc n fits = omega arith
 
--- no number behind the sign
+-- no number after the sign
 pub negative_none : (digits : List ℕ) → ((a : ℕ) → a < 2 ^ 64 → digits ≢ decimal a) → (z : ℤ) → FitsSigned w64 z → ◌≢◌ {A = List ℕ} (45 ∷ digits) (signed_decimal z)
 negative_none digits none (pos n) fits e = sign_no_digit n digits (below n fits) e
 negative_none digits none (negsuc n) fits e = none (suc n) (below_suc n fits) cc
 
--- zero behind the sign
+-- zero after the sign
 pub negative_zero : (digits : List ℕ) → digits ≡ decimal 0 → (z : ℤ) → FitsSigned w64 z → ◌≢◌ {A = List ℕ} (45 ∷ digits) (signed_decimal z)
 negative_zero digits at (pos n) fits e = sign_no_digit n digits (below n fits) e
 negative_zero digits at (negsuc n) fits e =
@@ -31,7 +31,7 @@ negative_zero digits at (negsuc n) fits e =
     let number : 0 ≡ suc n = decimal_injective 0 (suc n) (omega arith) (below_suc n fits) same in
     absurd (omega arith)
 
--- a number behind the sign that is past the range
+-- a number after the sign that is past the range
 negative_past : (digits : List ℕ) (k : ℕ) → suc k < 2 ^ 64 → digits ≡ decimal (suc k) → (FitsSigned w64 (negsuc k) → ⊥) → (z : ℤ) → FitsSigned w64 z → ◌≢◌ {A = List ℕ} (45 ∷ digits) (signed_decimal z)
 negative_past digits k small at none (pos n) fits e = sign_no_digit n digits (below n fits) e
 negative_past digits k small at none (negsuc n) fits e =
@@ -46,7 +46,7 @@ negative_some : (digits : List ℕ) (k : ℕ) (r : Option ℤ) → suc k < 2 ^ 6
 negative_some digits k (Some z) small at (fits, e) = (subst (FitsSigned w64) (sym e) fits, ap (λ l. 45 ∷ l) at ∙ ap signed_decimal (sym e))
 negative_some digits k None small at none = negative_past digits k small at none
 
--- another number behind the sign
+-- another number after the sign
 pub negative_read : (digits : List ℕ) (m : ℕ) (r : Option ℤ) → m < 2 ^ 64 → digits ≡ decimal m → (m ≡ 0 → ⊥) → SomeIff r (FitsSigned w64 (pos 0 -ℤ pos m)) (pos 0 -ℤ pos m)
     → IsReading (λ z. FitsSigned w64 z) signed_decimal (45 ∷ digits) r
 negative_read digits zero r small at some h = absurd (some refl)

@@ -1,4 +1,4 @@
--- Texts of calls one behind another are one text of calls.
+-- Texts of calls one after another are one text of calls.
 use Rattle.std.proofs.Common.{◌≡◌, ℕ, ◌+◌, ◌<◌, ◌≤◌, List, [], ◌∷◌, ◌++◌, length, get_or, take, drop, flat_map, refl, sym, ap, ◌∙◌, subst, append_assoc, arith, Bool, true, false, cond, eqb, length-append, Vec}
 use Rattle.std.specs.declared.alloc.Global.{Global}
 use Rattle.std.proofs.Math.Seq.{take-append_seam}
@@ -27,7 +27,7 @@ say_ended (l ∷ lines) [] h = absurd h
 say_ended (Ended l ∷ lines) (c ∷ calls) h = say_ended lines calls h.1
 say_ended (Unended l ∷ lines) (c ∷ calls) h = absurd h.0
 
--- a byte in front of ended lines, with others behind them
+-- a byte in front of ended lines, with others after them
 onto_front : (b : ℕ) (lines others : List TextLine) → AllEnded (onto b lines) → AllEnded lines × (onto b (lines ++ others) ≡ onto b lines ++ others)
 onto_front b [] others h = absurd h
 onto_front b (Ended l ∷ lines) others h = (h, refl)
@@ -40,7 +40,7 @@ by_test false b lines whole others same h =
     let (ended, front) = onto_front b lines others h in
     ap (onto b) (same ended) ∙ front
 
--- behind ended lines the other text's lines stand as they are
+-- after ended lines the other text's lines stand as they are
 lines_behind : (text other : List ℕ) → AllEnded (lines_of text) → lines_of (text ++ other) ≡ lines_of text ++ lines_of other
 lines_behind [] other h = refl
 lines_behind (b ∷ text) other h = by_test (eqb b 0x0A) b (lines_of text) (lines_of (text ++ other)) (lines_of other) (lines_behind text other) h

@@ -16,6 +16,6 @@ abbrev pub AreParts : ℕ → List CallEnd → List Part → Type 0
 AreParts n ends [] = ends ≡ []
 AreParts n ends (p ∷ ps) = (front : List CallEnd) × (rest : List CallEnd) × (ends ≡ front ++ rest) × IsPart n front p × AreParts (n + length front) rest ps
 
--- the texts of the parts one behind another
+-- the texts of the parts one after another
 abbrev pub parts_text : List Part → List ℕ
 parts_text parts = flat_map (λ p. string_bytes p.text) parts

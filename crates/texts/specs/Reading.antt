@@ -11,7 +11,7 @@ IsReading {A} P text bytes None = (a : A) → P a → bytes ≢ text a
 abbrev pub IsFrontPrinted : List ℕ → Type 0
 IsFrontPrinted digits = (0 < length digits) × (slice_index digits 0 ≡ 48 → length digits ≡ 1)
 
--- the number with a digit behind it; none where that is no digit, or where the number has no word
+-- the number with a digit after it; none where that is no digit, or where the number has no word
 abbrev pub IsLonger : ℕ → ℕ → Option ℕ → Type 0
 IsLonger n digit (Some longer) = IsInRange 48 57 digit × (longer ≡ n * 10 + (digit - 48)) × (longer < 2 ^ 64)
 IsLonger n digit None = IsInRange 48 57 digit → 2 ^ 64 ≤ n * 10 + (digit - 48)

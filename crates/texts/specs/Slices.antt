@@ -1,4 +1,4 @@
--- A text in slices, and the calls of slices one behind another.
+-- A text in slices, and the calls of slices one after another.
 use denote.Ref.{Bor}
 use Rattle.std.specs.Prelude.{◌≡◌, ◌≢◌, ℕ, ◌<◌, ◌≤◌, List, [], ◌∷◌, ◌++◌, All, length, drop, map, flat_map, Option, Some, None, Ok, Vec}
 use Rattle.std.specs.declared.alloc.Global.{Global}
@@ -11,7 +11,7 @@ use Rattle.texts.specs.declared.call.Call.{Call}
 abbrev pub slices_of : List (Bor (List ℕ)) → List (List ℕ)
 slices_of slices = map (λ s. s.now) slices
 
--- it ends with a newline, behind so many bytes or more
+-- it ends with a newline, after `size` bytes or more
 abbrev pub EndsLine : ℕ → List ℕ → Type 0
 EndsLine size slice = (front : List ℕ) × (slice ≡ front ++ newline) × (size ≤ length front)
 
@@ -38,7 +38,7 @@ EachRead _ _ = ⊥
 abbrev pub joined_calls : List (Vec Call Global) → List Call
 joined_calls read = flat_map (λ calls. calls.items) read
 
--- how many calls the slices have together, where a text may have so many: those of whatever slices were read so are then the calls of the whole text. None where they are too many for a text
+-- how many calls the slices have together, where a text may have that many: those of whatever slices were read so are then the calls of the whole text. None where they are too many for a text
 abbrev pub CountsCalls : List (Vec Call Global) → Option ℕ → Type 0
 CountsCalls read None = line_limit < length (joined_calls read)
 CountsCalls read (Some count) =

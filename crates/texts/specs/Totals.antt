@@ -17,7 +17,7 @@ pub record IsWithin (t : Total) : Type 0 where
   pub no_memory : t.no_memory ≤ t.calls
   pub fuel : t.fuel ≤ t.calls * 2 ^ 32
 
--- the last line for so many calls
+-- the last line for `calls` calls
 abbrev pub total_text : ℕ → Tally → List ℕ
 total_text calls t =
     codes "total " ++ (decimal calls ++ (codes " values " ++ (decimal t.values ++ (codes " traps " ++ (decimal t.traps

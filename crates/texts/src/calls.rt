@@ -7,7 +7,7 @@ use crate::split::{count_marks, split_before};
 use std::alloc::Global;
 use wsyntax::{CALLS_LIMIT, LINE_LIMIT};
 
-/// Reads a text of calls: a line a call, each ended by a newline. The names are slices of the text.
+/// Reads a text of calls: one line a call, each ended by a newline. The names are slices of the text.
 pub fn read_calls(alloc: Global, text: &[u8]) -> Result<Vec<Call<'_>>, CallsFault>
     ensures said { ReadsCalls text.now result }
     ensures few { IfOk result (λ calls. vec_len calls ≤ LINE_LIMIT) }

@@ -3,7 +3,7 @@ use wsyntax::{Outcome, StartRefusal};
 /// How a call ended: a line of the report.
 #[derive(Debug, Drop, PartialEq, Eq)]
 pub enum Line {
-    /// It was run, at the cost of so much fuel, that of the start function included.
+    /// It was run, at the cost of `fuel`, that of the start function included.
     Ran { outcome: Outcome, fuel: u32 },
     /// No export has the name.
     NoExport,

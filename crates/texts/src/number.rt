@@ -30,7 +30,7 @@ fn read_signed(text: &[u8]) -> Option<i64>
     }
 }
 
-// The number that is so printed behind a minus sign, which is never zero.
+// The number that is so printed after a minus sign, which is never zero.
 fn read_negative(digits: &[u8]) -> Option<i64>
     ensures { IsReading (λ z. FitsSigned w64 z) signed_decimal (45 ∷ digits.now) result }
 {
@@ -68,7 +68,7 @@ fn begins_as_printed(digits: &[u8]) -> bool
     }
 }
 
-// The number with a digit behind it. None where that is no digit, or where the number is too great.
+// The number with a digit after it. None where that is no digit, or where the number is too great.
 fn with_digit(number: u64, digit: u8) -> Option<u64>
     ensures { IsLonger number digit result }
 {

@@ -6,7 +6,7 @@ use crate::split::split_before;
 use std::alloc::{AllocError, Global};
 use wsyntax::LINE_LIMIT;
 
-// Where the first line ends that has its newline behind so many bytes of the text.
+// Where the first line ends that has its newline after the first `size` bytes of the text.
 fn line_end(text: &[u8], size: usize) -> Option<usize>
     ensures { MatchOption result (All (λ b. b ≢ 0x0A) (drop size text.now))
         (λ end. (end ≤ length text.now) × EndsLine size (take end text.now)) }
@@ -19,7 +19,7 @@ fn line_end(text: &[u8], size: usize) -> Option<usize>
     Some(size + line.len() + 1)
 }
 
-/// Cuts a text behind newlines into slices of that size, each of them longer by the rest of its last line.
+/// Cuts a text after newlines into slices of that size, each of them longer by the rest of its last line.
 pub fn cut_lines(alloc: Global, text: &[u8], size: usize) -> Result<Vec<&[u8]>, AllocError>
     ensures { IfOk result (λ slices. CutsLines size text.now (slices_of slices.items)) }
 {
@@ -34,7 +34,7 @@ pub fn cut_lines(alloc: Global, text: &[u8], size: usize) -> Result<Vec<&[u8]>, 
     Ok(slices)
 }
 
-/// How many calls the slices of a text have together. `None` where a text may not have so many.
+/// How many calls the slices of a text have together. `None` where a text may not have that many.
 pub fn count_calls(read: &[Vec<Call<'_>>]) -> Option<usize>
     ensures { CountsCalls read.now result }
 {

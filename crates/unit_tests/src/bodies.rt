@@ -5,7 +5,7 @@ use wdecode::{decode_body, locals_into};
 use wsyntax::BlockType::{Empty, Index, Value};
 use wsyntax::{BlockType, LocalRun, Operator, Token, ValType};
 
-/// A body that opens so many blocks and holds these bytes, and closes the blocks and itself, but for the last so many.
+/// A body that opens `depth` blocks, holds the bytes `inside`, and closes the blocks and itself, but for the last `missing`.
 fn nested(alloc: Global, depth: u32, inside: &[u8], missing: u32) -> Result<Vec<u8>, Fail> {
     let mut bytes = [0x00].to_vec(alloc)?;
     for _ in 0..depth {
@@ -65,7 +65,7 @@ const FAULTS: [(&[u8], Option<BodyFault>); 10] = [
     // 100,000 locals, and 100,001.
     (&[0x01, 0xA0, 0x8D, 0x06, 0x7F, 0x0B], None),
     (&[0x01, 0xA1, 0x8D, 0x06, 0x7F, 0x0B], Some(TooManyLocals)),
-    // The opcode behind those that extend low bits.
+    // The opcode after those that extend low bits.
     (&[0x00, 0xC5, 0x0B], Some(Malformed)),
     // An if with an else, and an else that parts a block.
     (&[0x00, 0x41, 0x01, 0x04, 0x40, 0x05, 0x0B, 0x0B], None),

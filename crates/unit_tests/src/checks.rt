@@ -129,7 +129,7 @@ const RUNS: [LocalRun; 2] = [
 /// The tokens of a body and the targets of its branch table, and where it is refused; `None` where it is taken.
 type Case<'a> = (&'a [Token], &'a [u32], Option<usize>);
 
-/// Where the tokens are refused behind the beginning of a body.
+/// Where the tokens are refused after the beginning of a body.
 fn refused_by(
     checker: &mut Checker<'_>,
     tokens: &[Token],
@@ -238,7 +238,7 @@ const PLAIN: [Case<'static>; 15] = [
     ),
     // The labels are those of the open blocks and of the function.
     (&[BLOCK, Br(2), End, End], &[], Some(1)),
-    // Declared locals stand one behind another.
+    // Declared locals stand one after another.
     (&[LocalGet(2), LocalSet(1), End], &[], Some(1)),
     (&[LocalGet(3), Drop, End], &[], Some(0)),
     // An operator that reads the low bits with their sign keeps the type.
@@ -411,7 +411,7 @@ const LONG_LISTS: [Case<'static>; 8] = [
     ),
     (&[Call(1), Drop, ZERO, Call(2), End], &[], Some(3)),
     (&[Call(1), ZERO, End], &[], Some(2)),
-    // What is put behind a branch is known.
+    // What is put after a branch is known.
     (
         &[
             Unreachable,
@@ -454,7 +454,7 @@ fn long_lists_of_other_types(rt: HostRuntime) -> Result<(), Fail> {
     assert_cases(&rt, rt.alloc(), &module, &AGAIN)
 }
 
-/// The end of a long list is taken again and again, and only where so many operands are left of the list.
+/// The end of a long list is taken again and again, and only where that many operands are left of the list.
 const ENDS: [Case<'static>; 3] = [
     (
         &[

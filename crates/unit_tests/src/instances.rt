@@ -74,7 +74,7 @@ pub(crate) fn accepted<R: Threads + Wait + Abort + Sync>(
     judge(rt, alloc, bytes, plan, &Quiet).expect(rt, "accepted")
 }
 
-// An instance in the memory that is lent, of at most so many pages.
+// An instance in the memory that is lent, of up to `pages` pages.
 pub(crate) fn start<'a>(
     alloc: Global,
     accepted: &'a Accepted<'a>,

@@ -9,7 +9,7 @@ use std::process::Abort;
 use std::sync::Wait;
 use std::test::*;
 
-// A memory of so many pages, which may grow to three.
+// A memory of `min` pages, which may grow to three.
 fn new_memory(clean: CleanMem, min: u32) -> Result<LinearMemory, Fail>
     requires { min ≤ 3 }
 {
@@ -53,13 +53,13 @@ fn segment_at(memory: &mut LinearMemory, at: u32, bytes: &[u8]) -> bool {
 /// What is done to a memory, with what it has to answer.
 #[derive(Clone, Copy)]
 enum Step {
-    /// A read from a place on, of so many bytes, and the number that they make.
+    /// A read of some bytes from a place on, and the number that they make.
     Read(u32, u32, Option<u64>),
-    /// A write from a place on, of so many bytes of a number, and whether there was room.
+    /// A write of some bytes of a number from a place on, and whether there was room.
     Write(u32, u32, u64, bool),
     /// A segment, which has room.
     Segment(u32, &'static [u8]),
-    /// A growth by so many pages, and how many there were.
+    /// A growth by some pages, and how many there were.
     Grow(u32, Option<u32>),
 }
 
@@ -82,7 +82,7 @@ fn assert_steps<R: Abort>(rt: &R, memory: &mut LinearMemory, steps: &[Step]) -> 
     Ok(())
 }
 
-/// What is left of a memory of so many pages behind these steps.
+/// What is left of a memory of `min` pages after these steps.
 fn after<R: Abort>(rt: &R, clean: CleanMem, min: u32, steps: &[Step]) -> Result<CleanMem, Fail>
     requires { min ≤ 3 }
 {

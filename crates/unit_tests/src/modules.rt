@@ -117,7 +117,7 @@ fn segments_one_by_one(rt: HostRuntime) -> Result<(), Fail> {
     Ok(())
 }
 
-/// What stands behind the header, and whether it is malformed.
+/// What stands after the header, and whether it is malformed.
 const SECTIONS: [(&[u8], bool); 11] = [
     // A size in five bytes, in six, and out of range.
     (&[0x01, 0x81, 0x80, 0x80, 0x80, 0x00, 0x00], false),
@@ -132,11 +132,11 @@ const SECTIONS: [(&[u8], bool); 11] = [
     ),
     (&[0x00, 0x02, 0x01, 0xFF], true),
     (&[0x00, 0x00], true),
-    // A byte behind the contents, an id that no section has, a function with no body.
+    // A byte after the contents, an id that no section has, a function with no body.
     (&[0x01, 0x02, 0x00, 0x00], true),
     (&[0x0C, 0x01, 0x00], true),
     (&[0x03, 0x02, 0x01, 0x00], true),
-    // A count of 4,294,967,295 with nothing behind it.
+    // A count of 4,294,967,295 with nothing after it.
     (&[0x01, 0x05, 0xFF, 0xFF, 0xFF, 0xFF, 0x0F], true),
 ];
 

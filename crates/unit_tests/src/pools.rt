@@ -15,7 +15,7 @@ static ONE_TO_THREE_PAGES: [u8; 14] = [
     0x00, 0x61, 0x73, 0x6D, 0x01, 0x00, 0x00, 0x00, 0x05, 0x04, 0x01, 0x01, 0x01, 0x03,
 ];
 
-/// The memory of an instance that has grown from one page by so many, and is closed.
+/// The memory of an instance that has grown from one page by `more`, and is closed.
 fn grown<R: Abort>(
     rt: &R,
     alloc: Global,
@@ -30,7 +30,7 @@ fn grown<R: Abort>(
     Ok(instance.close())
 }
 
-/// Lends a memory, runs an instance in it that grows by so many pages, and gives it back.
+/// Lends a memory, runs an instance in it that grows by `more` pages, and gives it back.
 fn run_in_lent<R: Wait + Abort>(
     rt: &R,
     alloc: Global,

@@ -2,7 +2,7 @@ use std::test::*;
 use wsyntax::ValType::{self, F32, F64, I32, I64};
 use wsyntax::{Immediates, Row, row};
 
-/// An opcode with what the table says of it: what stands behind it, what it takes and what it gives, and how many bytes.
+/// An opcode with what the table says of it: what stands after it, what it takes and what it gives, and how many bytes.
 const ROWS: [(u8, Immediates, &[ValType], &[ValType], u32); 22] = [
     (0x00, Immediates::Nothing, &[], &[], 0),
     (0x04, Immediates::BlockType, &[], &[], 0),

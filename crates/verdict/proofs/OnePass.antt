@@ -224,7 +224,7 @@ looked_open old new bytes after lent b token ok some is read step_is taken same 
       same,
     )
 
--- what is read and taken behind a byte
+-- what is read and taken after a byte
 pub looked_behind : (old new : Checking) (bytes after : List ℕ) (token : Held) → ReadsPlain bytes token after → step old.inside (seen [] token) old.frames ≡ Some new.frames → new ≡ with_frames old new.frames → Takes bytes old new after
 looked_behind old new bytes after token read step_is same =
     let i = read.2 [] in (Do i.0, i.2, read.0, ap (λ (t : Token). step old.inside t old.frames) (sym i.1) ∙ step_is, same)

@@ -217,7 +217,7 @@ one_whole bytes f whole determined m n a b = determined bytes m n ((whole m).1 a
 
 -- ---- the functions
 
--- each function that has a body, behind those that are imported, is one of the context
+-- each function that has a body, after those that are imported, is one of the context
 pub each_has_type : (m : ModuleShape) (x : IndexedContext) → x ≡ indexed_context m → length m.functions ≡ length m.bodies → x.imported + length m.bodies ≡ length x.context.functions
 each_has_type m x is paired =
     let imported : x.imported ≡ length (imported_functions m) = ap (λ (y : IndexedContext). y.imported) is in

@@ -1,4 +1,4 @@
--- How many function types, imports, bodies and segments a module of so many bytes has, and how long its bodies are: each takes a byte at least.
+-- How many function types, imports, bodies and segments a module of some length has, and how long its bodies are: each takes a byte at least.
 use Rattle.std.proofs.Common.{◌≡◌, ℕ, zero, suc, ◌+◌, ◌≤◌, List, [], ◌∷◌, ◌++◌, length, Option, Some, None, ap, subst, ◌∙◌, arith}
 use Rattle.std.specs.Prelude.{slice_get, filter_map}
 use Rattle.std.specs.List.{cons_option}

@@ -1,4 +1,4 @@
--- How many tokens a body of so many bytes has: each takes a byte at least.
+-- How many tokens a body of some length has: each takes a byte at least.
 use Rattle.std.proofs.Common.{◌≡◌, ℕ, ◌+◌, ◌≤◌, List, [], ◌∷◌, ◌++◌, length, Some, ap, ◌∙◌, arith}
 use Rattle.std.proofs.lemmas.List.{length-append}
 use Rattle.wsyntax.specs.Instructions.{Op, Token, Code, Stop, Plain, Block, Loop, If, IfElse, Else, End, flat}

@@ -33,7 +33,7 @@ not_zero n = is_false (eqb (suc n) 0) (λ e. let is : suc n ≡ 0 = eqb-true _ _
 
 -- ---- the loop
 
--- what is known with the token t, and the frames behind it, tell the same of the tokens that come
+-- what is known with the token t, and the frames after it, tell the same of the tokens that come
 abbrev pub TellsOn : Context → Option Class → List Frame → ℕ → Token → Option Class → List Frame → Type 0
 TellsOn C known fs k t now gs = (ts : List Token) → class_from C known fs k (t ∷ ts) ≡ class_from C now gs (k + 1) ts
 
@@ -45,7 +45,7 @@ one_more C known now fs gs k t (Some x) on = ap (class_behind x.1) (on x.0)
 abbrev pub Moves : List Bool → List Bool → Token → Bool → Type 0
 Moves s now t ends = nest s t ≡ Some (cond ends None (Some now))
 
--- a token is read behind which blocks stay open, or the body
+-- a token is read after which blocks stay open, or the body
 pub reads_on : (C : Context) (known now : Option Class) (fs gs : List Frame) (k fuel m : ℕ) (s inner : List Bool) (rest after : List ℕ) (t : Token) (ends : Bool) → fuel ≡ suc m → token_at rest ≡ Some (t, after) → Moves s inner t ends → ends ≡ false → TellsOn C known fs k t now gs
     → class_read C now gs (k + 1) (tokens_at m inner after) ≡ class_read C known fs k (tokens_at fuel s rest)
 reads_on C known now fs gs k fuel m s inner rest after t ends e read moves open_still on =
@@ -104,7 +104,7 @@ told C D known now fs gs k new lent token same is law =
 lt-not-le : (n : ℕ) → local_limit < n → leb n local_limit ≡ false
 lt-not-le n lt = is_false (leb n local_limit) (λ e. let le : n ≤ local_limit = leb-true _ _ e in absurd (omega arith))
 
--- what is read as an expression, and the runs, are the body, if no byte is behind
+-- what is read as an expression, and the runs, are the body, if no byte is after
 whole_many : (C : Context) (f : ℕ) (runs : List LocalRun) (D : Context) (fs : List Frame) (o : Option (List Token × List ℕ)) → leb (locals_of runs) local_limit ≡ false
     → read_class C f (o >>= λ x. cond (eqb (length x.1) 0) (Some record { runs = runs; code = x.0 }) None) ≡ class_read D (Some TooManyLocals) fs 0 o
 whole_many C f runs D fs None many = refl

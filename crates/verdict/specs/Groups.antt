@@ -8,7 +8,7 @@ use Rattle.wsyntax.specs.Validation.Context.{Context}
 use Rattle.verdict.specs.declared.refused_body.RefusedBody.{RefusedBody}
 use Rattle.verdict.specs.Judged.{class_at, none_and_some, one_class}
 
--- of so many bodies the one at that place is one of the group
+-- of `count` bodies the one at `place` is one of the group
 pub record IsInGroup (size count group place : ℕ) : Type 0 where
   pub from : group * size ≤ place
   pub to : place < group * size + size

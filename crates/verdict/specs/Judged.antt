@@ -40,7 +40,7 @@ abbrev pub given_class : Context → ℕ → Option (List ℕ) → Option Class
 given_class C f None = None
 given_class C f (Some bytes) = class_of C f bytes
 
--- the body at that place, behind so many imported functions
+-- the body at that place, after `imported` imported functions
 abbrev pub class_at : Context → ℕ → List (List ℕ) → ℕ → Option Class
 class_at C imported bodies place = given_class C (imported + place) (slice_get bodies place)
 
@@ -48,7 +48,7 @@ class_at C imported bodies place = given_class C (imported + place) (slice_get b
 abbrev pub PassBefore : Context → ℕ → List (List ℕ) → ℕ → Type 0
 PassBefore C imported bodies place = (k : ℕ) → k < place → class_at C imported bodies k ≡ None
 
--- the refusal is that of the first body that is refused; of want of memory nothing is said
+-- the refusal is that of the first body that is refused; out of memory says nothing
 abbrev pub IsFirstBody : Context → ℕ → List (List ℕ) → Refusal → Type 0
 IsFirstBody C imported bodies (Body f c) =
     (place : ℕ) × (place < length bodies) × (f ≡ imported + place) × (class_at C imported bodies place ≡ Some c) × PassBefore C imported bodies place

@@ -8,7 +8,7 @@ use Rattle.wsyntax.specs.Binary.Nesting.{token_at}
 use Rattle.wsyntax.specs.Validation.Context.{Context}
 use Rattle.wsyntax.specs.Validation.Algorithm.{Frame, step}
 
--- the bytes are these tokens, each of a byte at least and taken, and behind the last no frame is open and no byte is left
+-- the bytes are these tokens, each of a byte at least and taken, and after the last no frame is open and no byte is left
 abbrev pub PassesAs : Context → List Frame → List ℕ → List Token → Type 0
 PassesAs C [] bytes tokens = (tokens ≡ []) × (bytes ≡ [])
 PassesAs C (f ∷ fs) bytes [] = ⊥

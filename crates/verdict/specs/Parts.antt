@@ -79,7 +79,7 @@ FitsIn imported (part.Body r) = imported + r.place < 2 ^ 32
 abbrev pub IsFirstFault : Head → PartFault → Type 0
 IsFirstFault h r = FitsIn h.context.imported r × IsFirstPart h (refusal_for h.context.imported r)
 
--- all that is asked of the module is kept, or that is the first fault; of want of memory nothing is said
+-- all that is asked of the module is kept, or that is the first fault; out of memory says nothing
 abbrev pub HasRun : {T : Type 0} → Head → Result T (JobFault PartFault) → Type 0
 HasRun h run = MatchResult run (λ _. RestPasses h.front × BodiesPass h (length (bodies_of h))) (AllowsFault (IsFirstFault h))
 

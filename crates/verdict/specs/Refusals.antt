@@ -16,7 +16,7 @@ fault_of «class».Malformed = BodyMalformed
 fault_of «class».TooManyLocals = TooManyLocals
 fault_of («class».IllTyped at) = IllTyped at
 
--- the verdict that a refusal gives; want of memory gives none
+-- the verdict that a refusal gives; out of memory gives none
 abbrev pub verdict_of : Refusal → Option Verdict
 verdict_of refusal.TooLarge = Some TooLarge
 verdict_of refusal.Malformed = Some Malformed

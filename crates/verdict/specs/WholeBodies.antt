@@ -15,11 +15,11 @@ abbrev pub class_from : Context → Option Class → List Frame → ℕ → List
 class_from C (Some c) fs k ts = Some c
 class_from C None fs k ts = typing_class (alg_from C ts fs k)
 
--- with this token next, of that number, and whatever behind it: what is known after it gives the same
+-- with this token next, of that number, and whatever after it: what is known after it gives the same
 abbrev pub GoesOn : Checking → Option Class → ℕ → Token → Checking → Option Class → Type 0
 GoesOn old fault k t new now = (after : List Token) → class_from old.inside fault old.frames k (t ∷ after) ≡ class_from old.inside now new.frames (k + 1) after
 
--- no byte is behind the body
+-- no byte is after the body
 abbrev pub class_behind : List ℕ → Option Class → Option Class
 class_behind [] c = c
 class_behind (b ∷ bytes) c = Some Malformed
@@ -29,7 +29,7 @@ abbrev pub class_read : Context → Option Class → List Frame → ℕ → Opti
 class_read C known fs k None = Some Malformed
 class_read C known fs k (Some x) = class_behind x.1 (class_from C known fs k x.0)
 
--- the class that is given; Malformed is the class of what is not read, and of want of memory nothing is said
+-- the class that is given; Malformed is the class of what is not read, and out of memory says nothing
 abbrev pub Tells : Result (Option Class) Fault → Option Class → Type 0
 Tells (Ok given) c = c ≡ given
 Tells (Err fault.Malformed) c = c ≡ Some Malformed

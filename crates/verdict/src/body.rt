@@ -35,7 +35,7 @@ fn look(
     }
 }
 
-/// What a body of so many tokens is refused for, behind its last token.
+/// What a body of `count` tokens is refused for, after its last token.
 fn at_end(checker: &Checker<'_>, fault: Option<Class>, count: usize) -> Option<Class>
     ensures { result ≡ class_from checker.now.inside fault checker.now.frames count [] }
 {
@@ -46,7 +46,7 @@ fn at_end(checker: &Checker<'_>, fault: Option<Class>, count: usize) -> Option<C
     }
 }
 
-/// What a body is refused for that has these bytes behind its locals, where a fault of it is known or none is: the bytes
+/// What a body is refused for that has these bytes after its locals, where a fault of it is known or none is: the bytes
 /// are read to their end all the same. Each token is let go as soon as the checker has seen it, so that no more is kept
 /// than the open blocks, and the labels of one branch table.
 fn tokens_fault(

@@ -3,13 +3,13 @@ ghost use Rattle.std.specs.Prelude.{◌<◌};
 
 use pieces::Plan;
 
-/// A module of at least so many bytes makes a group worth its while.
+/// A module of at least this many bytes makes a group worth its while.
 const SHORTEST_GROUP: usize = 4_096;
 
 /// How many groups there are for each worker at least, where they are long enough.
 const FEWEST_GROUPS: u32 = 32;
 
-/// The plan whose pieces are the groups of the bodies of a module of so many bytes.
+/// The plan whose pieces are the groups of `bodies` bodies in a module of `bytes` bytes.
 fn grouping(plan: Plan, bodies: u32, bytes: usize) -> Plan {
     let wanted = plan.workers().saturating_mul(FEWEST_GROUPS) as usize;
     plan.grouping(bodies, wanted.min(bytes / SHORTEST_GROUP) as u32)

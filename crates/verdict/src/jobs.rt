@@ -16,7 +16,7 @@ use std::alloc::Global;
 use std::sync::Wait;
 
 /// The parts of a module that can be judged side by side, of which nothing is kept. Part 0 is what is left of the module
-/// once its head is known, since a refusal of that goes before one of a body; each part behind is a group of consecutive
+/// once its head is known, since a refusal of that goes before one of a body; each later part is a group of consecutive
 /// bodies. So the order of parts is that of judging.
 #[derive(Drop)]
 pub(crate) struct ModuleParts<'a, 'b, W> {
@@ -93,7 +93,7 @@ impl<'a, 'b, W> ModuleParts<'a, 'b, W> {
         1 + (self.head.front.module.bodies.len() as u32).div_ceil(self.size)
     }
 
-    /// The places of the bodies of a group: the first, and that behind the last.
+    /// The places of the bodies of a group: the first, and that after the last.
     fn group(&self, group: u32) -> (u32, u32)
         requires { group < div_ceil (length (bodies_of self.now.head.now)) self.now.size }
         ensures from { result.0 ≡ group * self.now.size }

@@ -3,7 +3,7 @@ use crate::refused_body::RefusedBody;
 /// Why what is left of a module is refused.
 #[derive(Clone, Copy, Debug)]
 pub(crate) enum RestFault {
-    /// The bytes behind spell no data segments, or something stands behind them.
+    /// What follows spells no data segments, or something stands after them.
     Malformed,
     /// The least broken rule, one from 9 to 13.
     Rule(u32),

@@ -11,7 +11,7 @@
 //! ```
 //!
 //! All of them are inlined, and each arm below gives the opcode as a constant. So the compiler folds the five into one jump
-//! by the opcode. Two opcodes that shared an arm would be told apart again behind it.
+//! by the opcode. Two opcodes that shared an arm would be told apart again after it.
 ghost use Rattle.std.specs.Prelude.{◌≡◌, ◌<◌, List, [], ◌∷◌, None, true, IfOk, length};
 ghost use Rattle.wsyntax.specs.Instructions.{Token as Instruction};
 ghost use Rattle.verdict.specs.Judged.{class_of};
@@ -48,7 +48,7 @@ const FEW_LABELS: usize = 2_048;
 const FEW_NAMES: usize = 4_096;
 
 impl<'a, 'b> Scratch<'a, 'b> {
-    /// One with room for ordinary bodies and for so many exports, so that they ask for no memory.
+    /// One with room for ordinary bodies and for `exports` exports, so that they ask for no memory.
     pub(crate) fn new(
         alloc: Global,
         context: &'a Context,
@@ -132,7 +132,7 @@ macro_rules! step_known_read {
     };
 }
 
-/// Reads and checks an instruction behind its opcode that is numeric, or a load or a store. Each opcode is told apart
+/// Reads and checks an instruction after its opcode that is numeric, or a load or a store. Each opcode is told apart
 /// from all others at once, so that the compiler makes one table of all arms.
 #[inline(always)]
 fn number_passes<'a>(checker: &mut Checker<'_>, byte: u8, rest: &'a [u8]) -> FirstToken<'a>
@@ -148,7 +148,7 @@ fn number_passes<'a>(checker: &mut Checker<'_>, byte: u8, rest: &'a [u8]) -> Fir
     }
 }
 
-/// Reads and checks an instruction behind its opcode that looks at a global, a frequent load or store, or one of the
+/// Reads and checks an instruction after its opcode that reads a global, a frequent load or store, or one of the
 /// others of `number_passes`.
 #[inline(always)]
 fn access_passes<'a>(checker: &mut Checker<'_>, byte: u8, rest: &'a [u8]) -> FirstToken<'a>

@@ -39,7 +39,7 @@ above_cut xs b n le lx =
     ∙ ap (drop (length (reverse (drop n xs)))) all
     ∙ drop-append_seam (reverse (drop n xs)) (reverse (drop b (take n xs))))
 
--- the operands of a frame, where these are all, are so many
+-- the operands of a frame, where these are all, are that many
 pub sizes : {A : Type 0} (xs : List A) (b : ℕ) → b ≤ length xs → length (take b xs) + length (reverse (drop b xs)) ≡ length xs
 sizes xs b le = omega (arith, le, length-take b xs, length-reverse (drop b xs), length-drop b xs)
 
@@ -140,7 +140,7 @@ module _ (xs new : List (Option ValType)) (types : List FuncType) (b : ℕ) (d :
     pub cut_enough : b ≤ length new
     cut_enough = omega (arith, le, lx, ap length e, length-take n xs)
 
-    -- so many are off
+    -- that many are off
     pub cut_by : (k : ℕ) → k ≡ length xs - n → above_of new b d ≡ without k s.above
     cut_by k q =
         ap (λ z. record { known = z; is_dead = d }) (ap (λ z. reverse (drop b z)) e ∙ known) ∙ ap (λ z. record { known = drop k z.above.known; is_dead = z.above.is_dead }) w

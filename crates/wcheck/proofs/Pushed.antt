@@ -26,7 +26,7 @@ pub ok_items : {T E X : Type 0} (r : Result T E) (failed : Bool) (zs a b : X) �
 ok_items (Ok t) failed zs a b h f q = q
 ok_items (Err t) failed zs a b h f q = absurd cc
 
--- so many of the front of a list as there are
+-- as many of the front of a list as there are
 pub whole_list : (types : List FuncType) (list : TypeList) (left : ℕ) → left ≡ length (list_of types list) → front_of types record { list = list; count = left } ≡ list_of types list
 whole_list types list left e = take-all_at (list_of types list) left e
   where

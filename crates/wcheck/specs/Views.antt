@@ -22,7 +22,7 @@ label_of types x = cond x.is_loop (reverse (list_of types x.start_types)) (rever
 abbrev pub labels_in : List FuncType → ControlFrame → List OuterFrame → List Stack
 labels_in types x outer = label_of types x ∷ reverse (map (λ y. label_of types y.frame) outer)
 
--- what a branch to the frame so many places from the end of these takes, whatever the function types; none where there are
+-- what a branch to the frame that is that many places from the end of these takes, whatever the function types; none where there are
 -- fewer frames
 abbrev pub IsLabelBehind : List OuterFrame → ℕ → Option TypeList → Type 0
 IsLabelBehind outer n r =

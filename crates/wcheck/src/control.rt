@@ -179,7 +179,7 @@ fn act(
     }
 }
 
-/// Whether the token looks at a local that is not written out.
+/// Whether the token reads a local that is not written out.
 #[inline(always)]
 fn is_far(scope: &Scope, token: Token) -> bool {
     match token {

@@ -82,7 +82,7 @@ fn whole(context: &Context, list: TypeList) -> Front
     }
 }
 
-/// Up to so many types are compared one by one, which takes no longer than to ask for them.
+/// Up to this many types are compared one by one, which takes no longer than to ask for them.
 const FEW: usize = 8;
 
 /// Whether two lists of types are the same, which is mostly known without comparing them.

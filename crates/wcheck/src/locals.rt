@@ -145,7 +145,7 @@ impl<'a> Locals<'a> {
         }
     }
 
-    /// Makes room for all that are written out, and for so many more runs.
+    /// Makes room for all that are written out, and for `more` runs.
     pub(crate) fn reserve(&mut self, runs: usize) -> Result<(), AllocError>
         ensures { self.new ≡ self.old }
     {

@@ -19,7 +19,7 @@ use Rattle.wcontext.specs.Walk.{AreEnds, AreNumbersOf, MapsNumbers}
 use Rattle.wcontext.specs.EndTree.{none, starts_at, start_in, HaveFronts, IsGatheredFrom, PutsList}
 use Rattle.wcontext.proofs.Tries.{text_front}
 
--- the fronts of a list, up to so many types
+-- the fronts of a list, up to that many types
 fronts_to : List ValType → ℕ → List (List ValType)
 fronts_to types zero = []
 fronts_to types (suc n) = fronts_to types n ++ take (suc n) types ∷ []
@@ -47,7 +47,7 @@ has_more all more types start has i below =
 unread_more : (all more : List (List ValType)) (r : Reading) → IsUnread all r → IsUnread (all ++ more) r
 unread_more all more r unread = record { fronts = has_more all more r.types.now r.start unread.fronts; node = unread.node }
 
--- a long list is put behind the others
+-- a long list is put after the others
 pub put_long : (all : List (List ValType)) (lists : List Reading) (r : Reading) → length all ≡ r.start → All (IsUnread all) lists → r.node ≡ 0
     → (more : List (List ValType)) × (length (all ++ more) ≡ r.start + length r.types.now) × All (IsUnread (all ++ more)) (lists ++ r ∷ []) × HasFronts (all ++ more) r.types.now r.start
 put_long all lists r count unread node =
@@ -97,7 +97,7 @@ have_none types (One t) long = absurd (omega (arith, long))
 have_none types (Params y) long = absurd (omega (arith, long))
 have_none types (Results y) long = absurd (omega (arith, long))
 
--- the lists of the next type are put behind the others
+-- the lists of the next type are put after the others
 pub gathered_next : (types : List FuncType) (old mid new : Gathered) (t : FuncType) (s : Starts) (kept : List Starts) → IsGatheredFrom types old → PutsList old mid t.params s.params → PutsList mid new t.results s.results
     → type_at types (length old.starts.items) ≡ t → kept ≡ old.starts.items ++ s ∷ []
     → (all : List (List ValType)) × (length all ≡ new.fronts) × All (IsUnread all) new.lists.items × HaveFronts types kept all

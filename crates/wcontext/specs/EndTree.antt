@@ -40,7 +40,7 @@ pub record IsGathered (all : List (List ValType)) (g : Gathered) : Type 0 where
   pub count : length all ≡ g.fronts
   pub unread : All (IsUnread all) g.lists.items
 
--- a list was put behind the others, from start on if it is long
+-- a list was put after the others, from start on if it is long
 abbrev pub PutsList : Gathered → Gathered → List ValType → ℕ → Type 0
 PutsList old new types start = (all : List (List ValType)) → IsGathered all old → (more : List (List ValType)) × IsGathered (all ++ more) new × (start < none → HasFronts (all ++ more) types start)
 
@@ -52,7 +52,7 @@ IsGatheredFrom types g = (all : List (List ValType)) × IsGathered all g × Have
 abbrev pub IsEndTree : List FuncType → EndTree → Type 0
 IsEndTree types t = (all : List (List ValType)) × AreEnds all t.numbers.items × HaveFronts types t.starts.items all
 
--- these are the numbers of the first so many types of that list
+-- these are the numbers of the first `count` types of that list
 abbrev pub HoldsFront : EndTree → TypeList → ℕ → Numbers → Type 0
 HoldsFront t list count n = (place : ℕ) × (place < length t.numbers.items) × (get_or t.numbers.items place record { start = 0; end = 0 } ≡ n)
     × ((types : List FuncType) (all : List (List ValType)) → HaveFronts types t.starts.items all → count ≤ length (list_of types list) → text all place ≡ take count (list_of types list))

@@ -11,7 +11,7 @@ use Rattle.wsyntax.specs.declared.Global.{Global}
 abbrev pub IsGlobalConstant : List GlobalType → Global → Type 0
 IsGlobalConstant globals g = ConstantOf globals g.content.content (initial_tokens g.init)
 
--- 3.4.5 where so many tables and functions exist
+-- 3.4.5 where there are that many tables and functions
 abbrev pub IsElementValid : ℕ → ℕ → List GlobalType → HeldElement → Type 0
 IsElementValid tables functions globals s =
     (s.table < tables) × ConstantOf globals I32 (initial_tokens s.offset) × All (λ f. f < functions) s.functions

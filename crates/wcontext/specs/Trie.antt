@@ -50,7 +50,7 @@ AreRead all texts fronts = (x : ℕ) → 0 < get_or fronts x 0 → (get_or front
 abbrev pub HasFronts : List (List ValType) → List ValType → ℕ → Type 0
 HasFronts all types start = (i : ℕ) → i < length types → (start + i < length all) × (text all (start + i) ≡ take (i + 1) types)
 
--- so many of its types were read
+-- its first `column` types were read
 pub record IsReading (all texts : List (List ValType)) (column : ℕ) (r : Reading) : Type 0 where
   pub fronts : HasFronts all r.types.now r.start
   pub within : r.node < length texts
@@ -94,7 +94,7 @@ pub record IsUnread (all : List (List ValType)) (r : Reading) : Type 0 where
   pub fronts : HasFronts all r.types.now r.start
   pub node : r.node ≡ 0
 
--- so many types were read of the lists that are left, and all of the others
+-- `column` types were read of the lists that are left, and all of the others
 abbrev pub ReadsTo : List Reading → Trie → List Reading → ℕ → Type 0
 ReadsTo lists trie left column = (all : List (List ValType)) → All (IsUnread all) lists
     → (texts : List (List ValType)) × (0 < length texts) × IsFilled texts trie.table.items × IsLinked texts trie.links.items × AreRead all texts trie.fronts.items × All (IsReading all texts column) left

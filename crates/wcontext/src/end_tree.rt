@@ -8,7 +8,7 @@ use crate::walk::{Numbers, number, numbers_of};
 use std::alloc::Global;
 use wsyntax::{FuncTypes, ValType};
 
-/// A list of at least so many types is long. To compare shorter ones takes no longer than to look them up.
+/// A list of at least this many types is long. To compare shorter ones takes no longer than to look them up.
 pub(crate) const LONG: usize = 256;
 
 /// In the place of the start of a list that is not long.
@@ -52,7 +52,7 @@ fn count_long(types: &FuncTypes) -> usize {
 }
 
 impl<'a> Gathered<'a> {
-    /// Puts a list behind the others, if it is long; where its fronts begin.
+    /// Puts a list after the others, if it is long; where its fronts begin.
     fn put(&mut self, types: &'a [ValType]) -> Option<u32>
         ensures put { IfSome result (λ start. PutsList self.old self.new types.now start) }
         ensures starts { self.new.starts ≡ self.old.starts }

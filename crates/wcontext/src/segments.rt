@@ -5,7 +5,7 @@ ghost use Rattle.wcontext.specs.Segments.{IsElementValid};
 use crate::constant::is_offset;
 use wsyntax::{Element, Elements, GlobalType};
 
-/// Whether an element segment is valid (3.4.5), where so many tables and functions exist.
+/// Whether an element segment is valid (3.4.5), where there are `tables` tables and `functions` functions.
 fn is_element_valid(
     segment: Element<'_>,
     tables: usize,

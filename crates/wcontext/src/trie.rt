@@ -118,7 +118,7 @@ impl Trie {
         Some(made)
     }
 
-    /// Reads the next type of a list that has more than `column`, of which so many were read.
+    /// Reads the next type of a list that has more than `column` types, of which `column` were read.
     #[inline]
     fn read_type<'a>(&mut self, list: Reading<'a>, column: usize, first: u32) -> Option<Reading<'a>>
         ensures { IfSome result (λ next. ReadsType self.old self.new list.entry next column first) }

@@ -17,7 +17,7 @@ use Rattle.wmachine.proofs.Sets.{found_set}
 
 -- ---- the test on lists
 
--- as many items in both lists, behind one more in each
+-- as many items in both lists, after one more in each
 behind : (a b : ℕ) → nat_eq (suc a) (suc b) ≡ nat_eq a b
 behind a b = grind (arith, nat_tests)
 

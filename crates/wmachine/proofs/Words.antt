@@ -6,7 +6,7 @@ use Rattle.wsyntax.specs.declared.value.Value.{Value}
 use Rattle.wsyntax.specs.declared.value.Value.TheVariants.{I32 as V32, I64 as V64}
 use Rattle.wsyntax.specs.Execution.Values.{IsWord, AreWords}
 
--- one more behind words
+-- one more after words
 more : (args : List Value) (v : Value) → AreWords args → IsWord v → AreWords (args ++ v ∷ [])
 more [] v h w = (w, tt)
 more (u ∷ args) v h w = (h.0, more args v h.1 w)

@@ -1,4 +1,4 @@
--- The store behind slots without tags.
+-- The store after slots without tags.
 use Rattle.std.proofs.Common.{◌≡◌, ℕ, zero, suc, ◌<◌, ◌%◌, ◌^◌, Bool, true, false, List, [], ◌∷◌, Some, refl, sym, ap, ◌∙◌, subst, arith}
 use Rattle.std.specs.Prelude.{slice_get, slice_set, length}
 use Rattle.std.proofs.Math.Logic.{∥∥₁_elim}

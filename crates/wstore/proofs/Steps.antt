@@ -52,7 +52,7 @@ data_placed ds i d places all is below = place_at data_segment data_shape ds i d
 
 -- ---- what is within
 
--- the first segment of those that are left, at its place, of so many items
+-- the first segment of those that are left, at its place, of that many items
 pub within_here : (n place count : ℕ) (s : Segment) (all rest : List Segment) → all ≡ s ∷ rest → place ≡ s.place → count ≡ length s.items → AllWithin n all → place + count ≤ n
 within_here n place count s all rest is at many within =
     let h = subst (AllWithin n) is within in let here : s.place + length s.items ≤ n = h.0 in omega arith

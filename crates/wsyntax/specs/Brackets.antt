@@ -35,7 +35,7 @@ abbrev pub closes : List Bool → List Token → Bool
 closes open_blocks [] = false
 closes open_blocks (t ∷ ts) = behind (bracket t) open_blocks (λ now. closes now ts) (is_last ts)
 
--- the labels of a branch table and its default lie in a list of so many targets
+-- the labels of a branch table and its default lie in a list of `targets` targets
 abbrev pub lies_within : ℕ → Token → Bool
 lies_within targets (flat.BrTable count first) = nat_lt (first + count) targets
 lies_within targets _ = true

@@ -23,7 +23,7 @@ use Rattle.wsyntax.specs.declared.module.Body.{Body}
 
 -- ---- tokens
 
--- a token of the code stands for a token of a tree; a branch table's labels lie in the list of targets, its default behind them
+-- a token of the code stands for a token of a tree; a branch table's labels lie in the list of targets, its default after them
 abbrev pub seen : List ℕ → Flat → Token
 seen targets flat.Unreachable = Do Unreachable
 seen targets flat.Nop = Do Nop

@@ -12,7 +12,7 @@ use Rattle.wsyntax.specs.declared.operator_rows.OperatorRow.{OperatorRow}
 use Rattle.wsyntax.specs.Table.{num_op, load_access, store_access, opcode_of}
 use Rattle.wsyntax.specs.Validation.Typing.{operands, results}
 
--- so many operands of a type
+-- that many operands of a type
 abbrev pub so_many : Arity → ValType → List ValType
 so_many One t = t ∷ []
 so_many Two t = t ∷ t ∷ []

@@ -83,7 +83,7 @@ impl Elements {
         }
     }
 
-    /// No segments, and room for so many, their functions apart.
+    /// No segments, and room for `count`, their functions apart.
     pub fn with_capacity(alloc: Alloc, count: usize) -> Result<Elements, AllocError>
         ensures { IfOk result (λ es. es ≡ []) }
     {

@@ -53,7 +53,7 @@ impl FuncTypes {
         }
     }
 
-    /// No types, and room for so many, their value types apart.
+    /// No types, and room for `count`, their value types apart.
     pub fn with_capacity(alloc: Alloc, count: usize) -> Result<FuncTypes, AllocError>
         ensures { IfOk result (λ ts. ts ≡ []) }
     {
@@ -63,7 +63,7 @@ impl FuncTypes {
         })
     }
 
-    /// Puts the type of these parameters and results behind the others.
+    /// Puts the type of these parameters and results after the others.
     pub fn push(&mut self, params: &[ValType], results: &[ValType]) -> Result<(), AllocError>
         ensures { IfOk result (λ _. self.new ≡ self.old ++ (record { params = params.now; results = results.now }) ∷ []) }
     {

@@ -187,7 +187,7 @@ pub enum Token {
     End,
     Br(u32),
     BrIf(u32),
-    /// `count` labels from place `first` of the list of targets on, and behind them the default.
+    /// `count` labels from place `first` of the list of targets on, and after them the default.
     BrTable {
         count: u32,
         first: usize,

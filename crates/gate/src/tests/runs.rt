@@ -11,7 +11,7 @@ use std::sync::Wait;
 use std::test::Fail;
 use std::thread::Threads;
 
-/// A module behind its header, options, the calls, the answer and the status.
+/// A module after its header, options, the calls, the answer and the status.
 type Row = (
     &'static [u8],
     &'static [&'static str],

@@ -12,7 +12,7 @@ use Rattle.refinement.specs.Reduction.{SafetyLaws}
 use Rattle.refinement.proofs.Kept.Premises.{Turning}
 use Rattle.refinement.proofs.Kept.Reaching.{goes_on, is_bounded}
 
--- at most so many callers wait after it
+-- at most that many callers wait after it
 abbrev Few : ℕ → Did → Type 0
 Few k (Going m) = length m.callers ≤ k
 Few k (Over r s f) = Unit {0}

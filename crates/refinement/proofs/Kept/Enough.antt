@@ -53,14 +53,14 @@ module _ (w : World) (sp : Spot) (s : Stands w sp) (levels : List LabelLayer) (h
   pub locals_length : length (slots sp.locals) ≡ length (locals_at sp)
   locals_length = length-map sp.locals bits ∙ types_length sp.locals (locals_at sp) s.locals
 
-  -- a branch finds its operands among so many
+  -- a branch finds its operands among that many
   lands_among : (held : List Value) (l n : ℕ) (lab : Lab) (to : Destination) → slice_get here.labels l ≡ Some lab → Entering lab to → Begins lab.kept (types held) → n ≡ length held + length (belows levels) → to.height + to.arity ≤ n
   lands_among held l n lab to at_label ent b e =
       let t = target_of (context_of w.C sp.body) (sp.body).filled (results_at sp) levels l lab here lf at_label in
       let all = ap length t.split ∙ length-append t.above _ in
       omega (arith, e, all, ent.1, ent.2, t.height, begins_length lab.kept held b)
 
-  -- the entry leads to a token or behind the last
+  -- the entry leads to a token or after the last
   pub moves : (held : List Value) (code : Code) (e : Destination) → slice_get ((sp.body).filled).table sp.pc ≡ Some e → CanMove (At held code)
   moves held code e at_entry = (e, at_entry, (bounded.leads sp.pc e at_entry).0)
 

@@ -37,7 +37,7 @@ frame_of : Function → List Value → List Value → Work
 frame_of fn args below =
     Frame below (length (fn.func_type).results) (reverse args ++ zeros fn.locals) (Label [] (length (fn.func_type).results) Stop (Source [] fn.body) Stop) Stop
 
--- the first step of a call with so many arguments
+-- the first step of a call with that many arguments
 start_step : (m : Module) (s : Store) (f : ℕ) (args : List Value) (fn : Function) → slice_get m.functions f ≡ Some fn → length (fn.func_type).params ≡ length args → step m (start s f args) ≡ Steps Entering s [] (frame_of fn (reverse args) [])
 unfolding step next outermost machine.invoke frame_of
 start_step m s f args fn e same =

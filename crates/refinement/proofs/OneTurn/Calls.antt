@@ -121,7 +121,7 @@ module _ (laws : ReductionLaws) where
       laws.steps_there (module_of p) j.store j.store (activation j.running) (others j) (Invoke (j.running).held f rest) (frame_of b.function (j.running).held rest) (j.running).locals Entering
       (invoke_is (module_of p) j.store (j.running).locals (j.running).held f b.function rest (body_at p.bodies f b e) le)
 
-  -- ---- behind a step to the invoke; before it there are these operands
+  -- ---- after a step to the invoke; before it there are these operands
 
   module _ (p : Program) (frames f : ℕ) (j : Joint) (b : Body) (rest : Code) (vs : List Value) (d : Did) (ed : d ≡ entering frames j b) (is : step (module_of p) (config_of (state_of (with_held j vs))) ≡ Steps Working j.store [] (invoking j f rest)) (eb : slice_get p.bodies f ≡ Some b) (le : length ((b.function).func_type).params ≤ length (j.running).held) where
     pub moves_in : (left : ℕ) → j.fuel ≡ suc left → suc (length j.waiting) < frames → Moves p frames (with_held j vs) (entered j b left rest) d

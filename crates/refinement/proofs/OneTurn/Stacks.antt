@@ -13,7 +13,7 @@ grab_is zero vs h = refl
 grab_is (suc n) [] h = absurd (omega arith)
 grab_is (suc n) (v ∷ vs) h = ap (put_on v) (grab_is n vs (omega arith))
 
--- where there are so many, they are taken
+-- where there are that many, they are taken
 pub top_is : (n : ℕ) (vs : List Value) (go : List Value → List Value → Next) → n ≤ length vs → on_top_of n vs go ≡ go (take n vs) (drop n vs)
 top_is n vs go h = ap (λ o. on_some o (λ (p : List Value × List Value). go p.0 p.1)) (grab_is n vs h)
 

@@ -25,7 +25,7 @@ with_held j vs = record j { running = record (j.running) { held = vs } }
 abbrev before : Joint → List Value → Code → Joint
 before j vs code = record j { running = record (j.running) { held = vs; code = code } }
 
--- a turn behind one uncharged step that changes operands and code alone
+-- a turn after one uncharged step that changes operands and code alone
 first : (p : Program) (frames : ℕ) (C : Context) (z : Stack) (rest code : Code) (j : Joint) (vs : List Value) → step (module_of p) (config_of (state_of j)) ≡ Steps Quiet j.store [] (work_of (activation (before j vs code).running) (map activation j.waiting)) → (eff : Effect) → Turned p frames C z rest (before j vs code) (takes_effect (machine_of (before j vs code)) eff) → Turned p frames C z rest j (takes_effect (machine_of j) eff)
 first p frames C z rest code j vs is (Puts S L ns) h = (
   h.0,

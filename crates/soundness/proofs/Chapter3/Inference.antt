@@ -35,7 +35,7 @@ from_op (rule.return {t = t} a e) = (t, a, e, refl)
 from_op (rule.call {s = s} e) = (s, e, refl, refl)
 from_op (rule.call_indirect {s = s} v e) = (s, v, e, refl, refl)
 
--- one instruction, with nothing behind it and nothing below its operands
+-- one instruction, with nothing after it and nothing below its operands
 alone : {C : Context} {i : Op} {a b : Stack} → InstrTyped C (Plain i Stop) a b → Typed C (Plain i Stop) a b
 alone {a = a} {b = b} h = (a, b, [], from_op h, sym (append-nil a), append-nil b)
 
@@ -80,7 +80,7 @@ to_instruction MemoryGrow C a b h = at_types C _ a (I32 ∷ []) b (I32 ∷ []) h
 to_instruction (Const t n) C a b h = at_types C _ a [] b (t ∷ []) h.0 h.1 rule.const
 to_instruction (Numeric f) C a b h = at_types C _ a (reverse (operands f)) b (reverse (results f)) h.0 h.1 rule.numeric
 
--- nothing behind a sequence
+-- nothing after a sequence
 follow_stop : (c : Code) → follow c Stop ≡ c
 follow_stop Stop = refl
 follow_stop (Plain i rest) = ap (Plain i) (follow_stop rest)
@@ -89,7 +89,7 @@ follow_stop (Loop t body rest) = ap (Loop t body) (follow_stop rest)
 follow_stop (If t body rest) = ap (If t body) (follow_stop rest)
 follow_stop (IfElse t body other rest) = ap (IfElse t body other) (follow_stop rest)
 
--- three sequences, one behind the other
+-- three sequences, one after the other
 follow_three : (c d e : Code) → follow (follow c d) e ≡ follow c (follow d e)
 follow_three Stop d e = refl
 follow_three (Plain i rest) d e = ap (Plain i) (follow_three rest d e)
@@ -103,7 +103,7 @@ pass : (C : Context) (front one rest : Code) (a m p q c z : Stack) → SeqTyped 
 pass C front one rest a m p q c z s e i go =
     subst (λ x. SeqTyped C x a z) (follow_three front one rest) (go (rule.non_empty c (subst (λ x. SeqTyped C front a x) e s) i))
 
--- a sequence behind one that the rules type
+-- a sequence after one that the rules type
 behind : (code : Code) (C : Context) (front : Code) (a m z : Stack) → SeqTyped C front a m → Typed C code m z → SeqTyped C (follow front code) a z
 behind Stop C front a m z s h = subst₂ (λ c x. SeqTyped C c a x) (sym (follow_stop front)) h s
 behind (Plain i rest) C front a m z s h =

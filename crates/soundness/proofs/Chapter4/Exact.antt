@@ -18,7 +18,7 @@ exact Width64 n h = let same : n % 2 ^ 64 ≡ n = omega arith in ap (λ k. Some 
 
 -- ---- loads
 
--- the number of so many bytes
+-- the number of that many bytes
 bytes_below : (bytes : List ℕ) → AreBytes bytes → little_endian bytes < 2 ^ (8 * length bytes)
 bytes_below [] h = omega arith
 bytes_below (b ∷ bs) h =

@@ -75,7 +75,7 @@ calls_typed = record { on_fresh = fresh_call; on_started = started_call }
 
 -- ---- how they end
 
--- a call behind the start
+-- a call after the start
 call_ends : (m : ModuleShape) (bodies : List BodyShape) (l : Limits) (i : Module) (s : Store) (k left f : ℕ) (args : List Value) (sig : FuncType) → Instantiated m bodies l.pages i → Started m i l s k → l.fuel ≡ k + left → slice_get (module_context m).functions f ≡ Some sig → ValuesTyped args sig.params → (o : Outcome) × (n : ℕ) × EndsOn m i l f args o n
 call_ends m bodies l i s k left f args sig h st p e a =
     let r = end_exists (module_context m) i s f args sig (started_call m bodies l i s k f args sig h st e a) left l.frames in

@@ -90,7 +90,7 @@ type_there m k y e is =
     ∙ ap (λ o. unwrap_or o empty_type) (slice_get-map (type_at m.types) m.functions k)
     ∙ ap (λ o. unwrap_or (option_map (type_at m.types) o) empty_type) is
 
--- what `has_floats` looks at last
+-- what `has_floats` reads last
 pub no_floats_in_bodies : (m : ModuleShape) (bodies : List BodyShape) → has_floats m bodies ≡ false → any body_has_floats bodies ≡ false
 no_floats_in_bodies m bodies e = (or_parts _ (any body_has_floats bodies) e).1
 

@@ -93,7 +93,7 @@ fn lends_locals_and_tokens<R: Abort>(rt: &R, accepted: &Accepted<'_>) -> Result<
 
 fn lends_the_place_of_a_branch<R: Abort>(rt: &R, accepted: &Accepted<'_>) -> Result<(), Fail> {
     let body = accepted.body(1).ok_or("no body")?;
-    // on behind the block's end, with one operand above the 5
+    // on after the block's end, with one operand above the 5
     let behind = Destination {
         target: 8,
         arity: 1,
@@ -127,7 +127,7 @@ fn lends_the_places_of_a_branch_table<R: Abort>(
     accepted: &Accepted<'_>,
 ) -> Result<(), Fail> {
     let body = accepted.body(2).ok_or("no body")?;
-    // two cases and the default: back to the loop, behind the block, and out of the body
+    // two cases and the default: back to the loop, after the block, and out of the body
     let entry = body.entries().get(3).ok_or("no entry")?;
     assert_eq!(rt; (entry.arity, entry.height), (2, 0));
     assert_eq!(rt; body.cases(), [to(1), to(6), to(7)].as_slice());

@@ -35,7 +35,7 @@ fn long_and_ill_typed(alloc: Global) -> Result<Vec<u8>, AllocError> {
     Ok(body)
 }
 
-// A thousand bodies behind that head, all empty but these two.
+// A thousand bodies after that head, all empty but these two.
 fn thousand_bodies(
     alloc: Global,
     head: &[u8],

@@ -31,7 +31,7 @@ token_at (b ∷ rest) =
     else seen_as Do (plain_instruction.read (b ∷ rest))
 
 -- Of each open block, from the innermost on: may an else still come. A token opens, parts or closes: nothing, where it cannot stand there;
--- else what is open behind it, or nothing where it closes the expression.
+-- else what is open after it, or nothing where it closes the expression.
 abbrev pub nest : List Bool → Token → Option (Option (List Bool))
 nest inner (Do i) = Some (Some inner)
 nest inner (OpenBlock t) = Some (Some (false ∷ inner))

@@ -28,7 +28,7 @@ given o = record { spells = λ bytes a. (bytes ≡ []) × (o ≡ Some a); read =
 abbrev pub pure : {A : Type 0} → A → Production A
 pure a = given (Some a)
 
--- one production behind the other
+-- one production after the other
 infixl 10 ◌>>=◌
 abbrev pub ◌>>=◌ : {A B : Type 0} → Production A → (A → Production B) → Production B
 ◌>>=◌ {A} p f = record {
@@ -54,7 +54,7 @@ either p q = record { spells = λ bytes a. p.spells bytes a ⊎ q.spells bytes a
 abbrev pub raw : ℕ → Production (List ℕ)
 raw n = record { spells = λ bytes s. (bytes ≡ s) × (length s ≡ n); read = λ bytes. if nat_lt (length bytes) n then None else Some (take n bytes, drop n bytes) }
 
--- n values, one behind the other
+-- n values, one after the other
 abbrev pub times_at : {A : Type 0} → (List ℕ → Option (A × List ℕ)) → ℕ → List ℕ → Option (List A × List ℕ)
 times_at read zero bytes = Some ([], bytes)
 times_at read (suc n) bytes = reading.◌>>=◌ (read bytes) (λ first. reading.◌>>=◌ (times_at read n first.1) (λ others. Some (first.0 ∷ others.0, others.1)))

@@ -23,7 +23,7 @@ rank (Elements v) = 9
 rank (Bodies v) = 10
 rank (Segments v) = 11
 
--- a custom section stands anywhere, another one behind those of smaller ids only
+-- a custom section stands anywhere, another one after those of smaller ids only
 abbrev pub may_follow : ℕ → SectionShape → Bool
 may_follow last s = rank s == 0 || nat_lt last (rank s)
 
@@ -97,7 +97,7 @@ FewLocals b = locals_of b.runs ≤ local_limit
 
 -- ---- reading
 
--- the bytes behind a front
+-- the bytes after a front
 abbrev pub strip : List ℕ → List ℕ → Option (List ℕ)
 strip [] bytes = Some bytes
 strip (h ∷ hs) [] = None

@@ -45,7 +45,7 @@ fresh pages l = record {
   globals = l.globals;
 }
 
--- every segment ends within so many bytes or entries
+-- every segment ends within n bytes or entries
 abbrev pub AllWithin : ℕ → List Segment → Type 0
 AllWithin n [] = Unit {0}
 AllWithin n (s ∷ ss) = (s.place + length s.items ≤ n) × AllWithin n ss

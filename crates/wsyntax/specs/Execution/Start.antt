@@ -114,7 +114,7 @@ pub data StartRefusal : Type 0 where
 abbrev pub table_limit : ℕ
 table_limit = 65536
 
--- the number of the first segment that does not end within so many; the numbers begin with k
+-- the number of the first segment that does not end within `size`; the numbers begin with k
 abbrev pub first_outside : ℕ → ℕ → List Segment → Option ℕ
 first_outside k size [] = None
 first_outside k size (s ∷ ss) = if nat_lt size (s.place + length s.items) then Some k else first_outside (suc k) size ss

@@ -32,7 +32,7 @@ pub record Names (m : ModuleShape) (c : Call) (f : ℕ) (sig : FuncType) : Type 
   pub exported : Contains m.exports (record { item_name = c.name; kind = kinds.Function; index = f })
   pub typed : slice_get (module_context m).functions f ≡ Some sig
 
--- 4.5.4 the start function is run first, where there is one: it leaves a store and so much fuel spent, or the call ends with its end
+-- 4.5.4 the start function is run first, where there is one: it leaves a store and the fuel spent, or the call ends with its end
 pub data Started (m : ModuleShape) (i : Module) (l : Limits) : Store → ℕ → Type 0 where
   plainly : m.start ≡ None → Started m i l (fresh_store l.pages m) 0
   by_start : {f k : ℕ} {s : Store} → m.start ≡ Some f → Ends i (fresh_store l.pages m) f [] l.fuel l.frames (Values []) k s → Started m i l s k
@@ -42,7 +42,7 @@ pub data EndsOn (m : ModuleShape) (i : Module) (l : Limits) (f : ℕ) (args : Li
   in_start : {g k : ℕ} {o : Outcome} {s : Store} → m.start ≡ Some g → Ends i (fresh_store l.pages m) g [] l.fuel l.frames o k s → (o ≢ Values []) → EndsOn m i l f args o k
   in_call : {k n left : ℕ} {o : Outcome} {s after : Store} → Started m i l s k → l.fuel ≡ k + left → Ends i s f args left l.frames o n after → EndsOn m i l f args o (k + n)
 
--- the end of a call, whatever is refused first: no export, not a function, arguments, the start of an instance; then want of memory, for the calls that met it
+-- the end of a call, whatever is refused first: no export, not a function, arguments, the start of an instance; then out of memory, for the calls that met it
 pub data EndOf (m : ModuleShape) (bodies : List BodyShape) (l : Limits) (met_none : Type 0) (c : Call) : CallEnd → Type 0 where
   missing : IsMissing m c.name → EndOf m bodies l met_none c NoExport
   other_kind : {e : ExportShape} → Contains m.exports e → e.item_name ≡ c.name → (e.kind ≢ kinds.Function) → EndOf m bodies l met_none c NotAFunction
@@ -53,7 +53,7 @@ pub data EndOf (m : ModuleShape) (bodies : List BodyShape) (l : Limits) (met_non
 
 -- ---- all calls
 
--- the ends of the calls from number n on, where those in the set met want of memory
+-- the ends of the calls from number n on, where those in the set ran out of memory
 abbrev pub EndsOf : ModuleShape → List BodyShape → Limits → (ℕ → Type 0) → ℕ → List Call → List CallEnd → Type 0
 EndsOf m bodies l short n [] [] = Unit {0}
 EndsOf m bodies l short n (c ∷ cs) (e ∷ es) = EndOf m bodies l (short n) c e × EndsOf m bodies l short (suc n) cs es
@@ -75,6 +75,6 @@ abbrev pub AnswerBy : List ℕ → List ℕ → Limits → (ℕ → Type 0) → 
 AnswerBy bytes text l short out Accepted = (c : CallsText) × IsCalls text c × AnswerOn bytes c l short out
 AnswerBy bytes text l short out v = out ≡ verdict_line v
 
--- the answer for a module, a text of calls and limits, where the calls in the set met want of memory: a refused module's verdict line; else what is wrong with the calls; else the report
+-- the answer for a module, a text of calls and limits, where the calls in the set ran out of memory: a refused module's verdict line; else what is wrong with the calls; else the report
 unfoldable pub IsAnswer : List ℕ → List ℕ → Limits → (ℕ → Type 0) → List ℕ → Type 0
 IsAnswer bytes text l short out = (v : Verdict) × IsVerdict bytes v × AnswerBy bytes text l short out v

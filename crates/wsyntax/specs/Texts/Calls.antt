@@ -1,4 +1,4 @@
--- The text of calls: a line a call, each ended by a newline.
+-- The text of calls: one line a call, each ended by a newline.
 use Rattle.std.specs.Prelude.{◌≡◌, ◌≢◌, ℕ, suc, ◌<◌, ◌≤◌, List, [], ◌∷◌, ◌++◌, length, All, flat_map, slice_get, Some, ◌==◌, if◌then◌else◌}
 use Rattle.wsyntax.specs.Execution.Values.{Value, AreWords}
 use Rattle.wsyntax.specs.Texts.Words.{tab, value_text}
@@ -21,7 +21,7 @@ pub record IsCall (c : Call) : Type 0 where
 abbrev pub call_text : Call → List ℕ
 call_text c = c.name ++ flat_map (λ v. tab ++ value_text v) c.args
 
--- a line of the text, or what stands behind the last newline
+-- a line of the text, or what stands after the last newline
 pub data TextLine : Type 0 where
   Ended Unended : List ℕ → TextLine
 
@@ -48,7 +48,7 @@ abbrev pub Says : TextLine → Call → Type 0
 Says (Ended line) c = IsCall c × (line ≡ call_text c)
 Says (Unended line) c = ⊥
 
--- line k, the first being 1, says a call, and there may be so many lines
+-- line k, the first being 1, says a call, and there may be k lines
 abbrev pub IsGood : ℕ → TextLine → Type 0
 IsGood k line = (k ≤ line_limit) × ((c : Call) × Says line c)
 

@@ -8,7 +8,7 @@ use Rattle.wsyntax.specs.Texts.Words.{newline, value_text}
 
 -- how a call ends
 pub data CallEnd : Type 0 where
-  -- it was run, at the cost of so much fuel, that of the start function included
+  -- it was run, at this cost of fuel, that of the start function included
   Ran : Outcome → ℕ → CallEnd
   -- refused before the start
   NoExport NotAFunction BadArguments : CallEnd
@@ -65,7 +65,7 @@ call_line n e = decimal n ++ (codes " " ++ (end_text e ++ newline))
 
 -- ---- the total
 
--- what a call adds to the counts of values, traps, exhausted, refused and want of memory, and to the fuel
+-- what a call adds to the counts of values, traps, exhausted, refused and out of memory, and to the fuel
 pub record Tally : Type 0 where
   pub values : ℕ
   pub traps : ℕ
@@ -118,6 +118,6 @@ abbrev pub call_lines : ℕ → List CallEnd → List ℕ
 call_lines n [] = []
 call_lines n (e ∷ es) = call_line n e ++ call_lines (suc n) es
 
--- the report: a line a call in the order of the calls, and the total
+-- the report: one line a call in the order of the calls, and the total
 abbrev pub report_text : List CallEnd → List ℕ
 report_text ends = call_lines 0 ends ++ total_line ends

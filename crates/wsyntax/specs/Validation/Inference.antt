@@ -7,7 +7,7 @@ use Rattle.wsyntax.specs.Validation.Context.{Stack, enter, leave, Context, under
 use Rattle.wsyntax.specs.Validation.Typing.{operands, results, OpTyped, Typed}
 
 mutual
-  -- 3.3.1 to 3.3.5: `C ⊢ instr : [a] → [b]`, a constructor an instruction. One instruction is a sequence with nothing behind it
+  -- 3.3.1 to 3.3.5: `C ⊢ instr : [a] → [b]`, a constructor an instruction. One instruction is a sequence with nothing after it
   pub data InstrTyped : Context → Code → Stack → Stack → Type 0 where
     -- 3.3.1 numeric instructions
     const : {C : Context} {t : ValType} {n : ℕ} → InstrTyped C (Plain (Const t n) Stop) [] (t ∷ [])
