@@ -28,3 +28,4 @@ pub use wstore::Settings;
 
 #[cfg(test)]
 mod tests;
+mod tuning;

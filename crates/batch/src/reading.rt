@@ -4,18 +4,13 @@ ghost use Rattle.std.specs.Prelude.{◌≤◌, IfOk, IfSome, length};
 ghost use Rattle.batch.specs.Slices.{ReadsSlices, SayTogether};
 
 use crate::slices::Slices;
+use crate::tuning::{SHORT_TEXT, SLICES_EACH};
 use pieces::{Plan, TryFault, try_all};
 use std::alloc::{AllocError, Global};
 use std::sync::Wait;
 use std::thread::Threads;
 use texts::{Call, CallsFault, count_calls, cut_lines, read_calls};
 use wsyntax::CALLS_LIMIT;
-
-/// The bytes of a text that one thread reads before others have started.
-const SHORT_TEXT: usize = 65_536;
-
-/// How many slices there are for each worker, so that one that comes late is not waited for long.
-const SLICES_EACH: usize = 4;
 
 /// The calls of the slices of a text. `None` where a slice says no calls, or all together are too many.
 fn read_slices<'t, R: Threads + Wait + Sync>(

@@ -8,6 +8,7 @@ ghost use Rattle.batch.specs.Groups.{GiveParts};
 use crate::each::EachCall;
 use crate::groups::{GroupedCalls, groups_of};
 use crate::runner::Runner;
+use crate::tuning::FEWEST_GROUPS;
 use memory::Pool;
 use pieces::{Plan, TryFault, Watch, try_all};
 use std::alloc::{AllocError, Global};
@@ -51,9 +52,6 @@ pub fn run_batch<R: Threads + Wait + Sync, W: Watch + Sync>(
         Err(TryFault::Stopped { .. } | TryFault::Memory) => Err(AllocError),
     }
 }
-
-/// How many groups there are for each worker at least, where there are as many calls: few long calls are shared too.
-const FEWEST_GROUPS: u32 = 16;
 
 /// Runs each call of all slices of a text as `run_batch` does, in groups of as many as the plan has in a piece, or more.
 /// Each worker makes the lines of its groups, and the parts stand in the order of the calls.

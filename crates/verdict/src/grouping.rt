@@ -1,13 +1,8 @@
 //! How many bodies workers judge in one go.
 ghost use Rattle.std.specs.Prelude.{◌<◌};
 
+use crate::tuning::{FEWEST_GROUPS, SHORTEST_GROUP};
 use pieces::Plan;
-
-/// A module of at least this many bytes makes a group worth its while.
-const SHORTEST_GROUP: usize = 4_096;
-
-/// How many groups there are for each worker at least, where they are long enough.
-const FEWEST_GROUPS: u32 = 32;
 
 /// The plan whose pieces are the groups of `bodies` bodies in a module of `bytes` bytes.
 fn grouping(plan: Plan, bodies: u32, bytes: usize) -> Plan {

@@ -15,6 +15,7 @@ mod passing;
 mod refusal;
 mod refused_body;
 mod rest;
+mod tuning;
 
 pub use accepted::Accepted;
 pub use examining::{examine, examine_alone};

@@ -17,6 +17,7 @@ ghost use Rattle.wsyntax.specs.Instructions.{Token as Instruction};
 ghost use Rattle.verdict.specs.Judged.{class_of};
 ghost use Rattle.verdict.specs.OnePass.{Passes, PassesAs};
 
+use crate::tuning::{EXPORTS, LABELS, LOCAL_RUNS};
 use std::alloc::{AllocError, Global};
 use wcheck::Checker;
 use wcontext::Context;
@@ -38,15 +39,6 @@ pub(crate) struct Scratch<'a, 'b> {
     pub(crate) names: Vec<&'b [u8]>,
 }
 
-/// How many runs of locals ordinary bodies have, at most.
-const FEW_RUNS: usize = 64;
-
-/// How many labels their branch tables have.
-const FEW_LABELS: usize = 2_048;
-
-/// How many exports ordinary modules have, at most.
-const FEW_NAMES: usize = 4_096;
-
 impl<'a, 'b> Scratch<'a, 'b> {
     /// One with room for ordinary bodies and for `exports` exports, so that they ask for no memory.
     pub(crate) fn new(
@@ -60,9 +52,9 @@ impl<'a, 'b> Scratch<'a, 'b> {
         checker.reserve()?;
         Ok(Scratch {
             checker,
-            runs: Vec::with_capacity(alloc, FEW_RUNS)?,
-            targets: Vec::with_capacity(alloc, FEW_LABELS)?,
-            names: Vec::with_capacity(alloc, exports.min(FEW_NAMES))?,
+            runs: Vec::with_capacity(alloc, LOCAL_RUNS)?,
+            targets: Vec::with_capacity(alloc, LABELS)?,
+            names: Vec::with_capacity(alloc, exports.min(EXPORTS))?,
         })
     }
 

@@ -10,6 +10,7 @@ use crate::locals::Locals;
 use crate::operand_stack::OperandStack;
 use crate::outer_frames::OuterFrames;
 use crate::scope::{Scope, none};
+use crate::tuning::{LOCAL_RUNS, OPEN_FRAMES, OPERANDS};
 use std::alloc::{AllocError, Global};
 use std::marker::Model;
 use wcontext::{Context, ListPair, TypeList};
@@ -34,15 +35,6 @@ impl<'a> Model for Checker<'a> {
 
     ghost invariant = { IsWhole };
 }
-
-/// How many runs of locals ordinary bodies have, at most.
-const FEW_RUNS: usize = 64;
-
-/// How many operands they have at once.
-const FEW_OPERANDS: usize = 1_024;
-
-/// How many blocks of them are open at once: Go's compiler opens one for each place where a function may go on.
-const FEW_FRAMES: usize = 1_024;
 
 impl<'a> Checker<'a> {
     /// A checker for the bodies of a module, at the beginning of none.
@@ -75,9 +67,9 @@ impl<'a> Checker<'a> {
     pub fn reserve(&mut self) -> Result<(), AllocError>
         ensures { self.new ≡ self.old }
     {
-        self.scope.locals.reserve(FEW_RUNS)?;
-        self.control.operands.reserve(FEW_OPERANDS)?;
-        self.control.outer.reserve(FEW_FRAMES)
+        self.scope.locals.reserve(LOCAL_RUNS)?;
+        self.control.operands.reserve(OPERANDS)?;
+        self.control.outer.reserve(OPEN_FRAMES)
     }
 
     /// Goes to the beginning of the body of the function of that index, imported ones counted, whose declared locals

@@ -5,6 +5,7 @@ ghost use Rattle.wsyntax.specs.Validation.Algorithm.{all_take};
 ghost use Rattle.wcheck.specs.Views.{label_of, labels_in};
 
 use crate::outer_frames::OuterFrames;
+use crate::tuning::COMPARED_TYPES;
 use crate::types::is_same;
 use wcontext::{Context, Front, TypeList};
 use wsyntax::ValType;
@@ -82,9 +83,6 @@ fn whole(context: &Context, list: TypeList) -> Front
     }
 }
 
-/// Up to this many types are compared one by one, which takes no longer than to ask for them.
-const FEW: usize = 8;
-
 /// Whether two lists of types are the same, which is mostly known without comparing them.
 #[tactic(auto, using(crate::proofs::Taking::same_place))]
 pub(crate) fn are_same_lists(context: &Context, a: TypeList, b: TypeList) -> bool
@@ -95,7 +93,7 @@ pub(crate) fn are_same_lists(context: &Context, a: TypeList, b: TypeList) -> boo
     }
     let types = context.list(a);
     let others = context.list(b);
-    if types.len() > FEW {
+    if types.len() > COMPARED_TYPES {
         let one = whole(context, a);
         let other = whole(context, b);
         if one.count == other.count && context.is_end(one, other) {

@@ -17,6 +17,7 @@ mod outer_frames;
 mod packed;
 mod rule;
 mod scope;
+mod tuning;
 mod types;
 
 pub use check::{CheckFault, check_body};

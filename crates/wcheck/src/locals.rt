@@ -2,6 +2,7 @@ ghost use Rattle.std.specs.Prelude.{◌≡◌, ◌+◌, ◌<◌, min, List, [], 
 ghost use Rattle.wsyntax.specs.Validation.ModuleContext.{declared};
 ghost use Rattle.wcheck.specs.LocalRuns.{run_of, AreEnds, AreFirst};
 
+use crate::tuning::NEAR;
 use crate::types::first_of;
 use std::alloc::{AllocError, Global};
 use std::marker::Model;
@@ -13,9 +14,6 @@ pub(crate) struct EndedRun {
     pub(crate) run: LocalRun,
     pub(crate) end: usize,
 }
-
-/// How many locals are written out.
-const NEAR: usize = 256;
 
 /// The types of the locals of one body: the parameters, which the module's context keeps, and the declared ones, of
 /// which there may be more than could be written out.

@@ -6,13 +6,11 @@ ghost use Rattle.wsyntax.specs.Validation.Algorithm.{Takes, when, apply, take_on
 ghost use Rattle.wcheck.specs.Runs.{types_before};
 
 use crate::operand_stack::OperandStack;
+use crate::tuning::SHORT_LIST;
 use crate::types::is_same;
 use std::alloc::AllocError;
 use wcontext::{Front, TypeList};
 use wsyntax::ValType;
-
-/// A list of more types than this is pushed as a run.
-const SHORT: usize = 8;
 
 impl OperandStack<'_> {
     /// Takes the topmost operand, if it may be of this type.
@@ -192,7 +190,7 @@ impl OperandStack<'_> {
         ensures types { self.new.types ≡ self.old.types }
     {
         let ts = self.types_of(list);
-        if ts.len() <= SHORT {
+        if ts.len() <= SHORT_LIST {
             return self.take_all_known(ts) || self.take_each(ts);
         }
         self.take_many(list, ts)
@@ -210,7 +208,7 @@ impl OperandStack<'_> {
         ensures types { self.new.types ≡ self.old.types }
     {
         let mut left = ts.len();
-        while left > SHORT {
+        while left > SHORT_LIST {
             if self.is_empty() {
                 return self.is_unreachable();
             }
@@ -265,7 +263,7 @@ impl OperandStack<'_> {
         ensures types { self.new.types ≡ self.old.types }
     {
         let ts = self.types_of(list);
-        if ts.len() > SHORT {
+        if ts.len() > SHORT_LIST {
             self.push_run(list, ts.len())?;
             return Ok(());
         }

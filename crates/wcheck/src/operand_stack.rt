@@ -8,6 +8,7 @@ ghost use Rattle.wcheck.specs.Runs.{last_types};
 mod known;
 
 use crate::entry::{
+use crate::tuning::OPERAND_RUNS;
     Entry, end_in_singles, is_run, packed, shared_end, top_run, types_of_front, unpacked,
 };
 use std::alloc::{AllocError, Global};
@@ -45,9 +46,6 @@ impl<'a> Model for OperandStack<'a> {
     ghost invariant = { λ p. IsStanding p.context.now.context.types p.entries.items p.runs.items p.extra p.base };
 }
 
-/// How many runs ordinary bodies have at once.
-const FEW_RUNS: usize = 16;
-
 /// The most operands in runs that there can be. No body of fewer than 2^31 tokens reaches it, for a token pushes fewer than
 /// 2^32 operands.
 const MOST: usize = 1 << 63;
@@ -71,7 +69,7 @@ impl<'a> OperandStack<'a> {
         ensures { self.new ≡ self.old }
     {
         self.entries.reserve(entries)?;
-        self.runs.reserve(FEW_RUNS)?;
+        self.runs.reserve(OPERAND_RUNS)?;
         Ok(())
     }
 

@@ -3,6 +3,7 @@ ghost use Rattle.wcheck.specs.Views.{IsLabelBehind};
 
 use crate::frames::{OuterFrame, label};
 use crate::packed::PackedFrame;
+use crate::tuning::UNPACKED_FRAMES;
 use std::alloc::{AllocError, Global};
 use std::marker::Model;
 use wcontext::TypeList;
@@ -23,9 +24,6 @@ impl Model for OuterFrames {
 
     ghost view = { λ p. p.outermost.items ++ p.innermost.items };
 }
-
-/// Fewer frames than this are not packed.
-const MANY: usize = 1_024;
 
 /// Packs `frames` after others. `false`: one of them cannot be packed, or memory was refused.
 fn pack_each(packed: &mut Vec<PackedFrame>, frames: &[OuterFrame]) -> bool
@@ -96,7 +94,7 @@ impl OuterFrames {
     fn pack(&mut self)
         ensures { self.new ≡ self.old }
     {
-        if self.innermost.len() < MANY {
+        if self.innermost.len() < UNPACKED_FRAMES {
             return;
         }
         let before = self.outermost.len();

@@ -1,0 +1,25 @@
+//! Sizes that were chosen by measuring. No promise depends on one of them; docs/LAB.md has what was measured.
+
+/// How many runs of operands ordinary bodies have at once.
+pub(crate) const OPERAND_RUNS: usize = 16;
+
+/// How many runs of locals ordinary bodies have, at most.
+pub(crate) const LOCAL_RUNS: usize = 64;
+
+/// How many operands ordinary bodies have at once.
+pub(crate) const OPERANDS: usize = 1_024;
+
+/// How many blocks of ordinary bodies are open at once: Go's compiler opens one for each place where a function may go on.
+pub(crate) const OPEN_FRAMES: usize = 1_024;
+
+/// Fewer frames than this are not packed.
+pub(crate) const UNPACKED_FRAMES: usize = 1_024;
+
+/// A list of more types than this is pushed as a run.
+pub(crate) const SHORT_LIST: usize = 8;
+
+/// Up to this many types are compared one by one, which takes no longer than to ask for them.
+pub(crate) const COMPARED_TYPES: usize = 8;
+
+/// How many locals are written out.
+pub(crate) const NEAR: usize = 256;
