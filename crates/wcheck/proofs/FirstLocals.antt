@@ -1,11 +1,13 @@
 -- The first locals of a body, written out.
-use Rattle.std.proofs.Common.{◌≡◌, ◌+◌, ◌-◌, ◌≤◌, ◌<◌, ℕ, List, [], ◌∷◌, ◌++◌, take, drop, length, get_or, refl, sym, ap, ◌∙◌, subst, arith, length-append}
+use Rattle.std.proofs.Common.{◌≡◌, ◌+◌, ◌-◌, ◌≤◌, ◌<◌, ℕ, List, [], ◌∷◌, ◌++◌, take, drop, map, length, get_or, refl, sym, ap, ◌∙◌, subst, arith, length-append}
 use Rattle.std.specs.Prelude.{replicate}
-use Rattle.std.proofs.lemmas.List.{take-append-drop, append_assoc, take_all, take_more, drop_more, replicate-append-replicate, length-replicate}
+use Rattle.std.proofs.Math.ListN.{get_or-map}
+use Rattle.std.proofs.lemmas.List.{length-map, take-append-drop, append_assoc, take_all, take_more, drop_more, replicate-append-replicate, length-replicate}
 use Rattle.wsyntax.specs.declared.LocalRun.{LocalRun}
 use Rattle.wsyntax.specs.declared.ValType.{ValType}
 use Rattle.wsyntax.specs.Validation.ModuleContext.{declared}
-use Rattle.wcheck.specs.LocalRuns.{AreFirst}
+use Rattle.wcheck.specs.LocalRuns.{run_of, AreFirst}
+use Rattle.wcheck.specs.declared.locals.EndedRun.{EndedRun}
 
 pub none_first : (some all : List ValType) → some ≡ [] → AreFirst some all
 none_first some all e = (all, ap (λ z. z ++ all) (sym e))
@@ -78,3 +80,9 @@ next_new new some params runs i n m k d e le lt q p few h =
     let size : length new ≡ length some + r.count =
     ap length now ∙ length-append some (replicate r.count r.content) ∙ ap (λ z. length some + z) (length-replicate r.count r.content) in
     (now ∙ next_first some params runs i d e lt, omega (arith, size, le, q, few))
+
+-- the same of runs with their ends, and without parameters
+pub next_declared : (new some : List ValType) (runs : List EndedRun) (i n m k : ℕ) (d : EndedRun) → some ≡ declared (take i (map run_of runs)) → length some ≤ n → i < length runs → m ≡ length some → k ≡ m → (get_or runs i d).run.count ≤ n - m → new ≡ take (m + (get_or runs i d).run.count) some ++ replicate (m + (get_or runs i d).run.count - k) (get_or runs i d).run.content → (new ≡ declared (take (i + 1) (map run_of runs))) × (length new ≤ n)
+next_declared new some runs i n m k d e le lt q p =
+    let P : LocalRun → Type 0 = λ r. r.count ≤ n - m → new ≡ take (m + r.count) some ++ replicate (m + r.count - k) r.content → (new ≡ declared (take (i + 1) (map run_of runs))) × (length new ≤ n) in
+    subst P (get_or-map run_of runs i d) (next_new new some [] (map run_of runs) i n m k (run_of d) e le (subst (λ z. i < z) (sym (length-map runs run_of)) lt) q p)

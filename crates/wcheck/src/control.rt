@@ -181,7 +181,7 @@ fn act(
 
 /// Whether the token reads a local that is not written out.
 #[inline(always)]
-fn is_far(scope: &Scope, token: Token) -> bool {
+pub(crate) fn is_far(scope: &Scope, token: Token) -> bool {
     match token {
         Token::LocalGet(x) | Token::LocalSet(x) | Token::LocalTee(x) => scope
             .locals

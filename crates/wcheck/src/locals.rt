@@ -2,11 +2,11 @@ ghost use Rattle.std.specs.Prelude.{◌≡◌, ◌+◌, ◌<◌, min, List, [], 
 ghost use Rattle.wsyntax.specs.Validation.ModuleContext.{declared};
 ghost use Rattle.wcheck.specs.LocalRuns.{run_of, AreEnds, AreFirst};
 
-use crate::tuning::NEAR;
+use crate::tuning::{FAR_LOOKS, LOCALS_A_LOOK, NEAR};
 use crate::types::first_of;
 use std::alloc::{AllocError, Global};
 use std::marker::Model;
-use wsyntax::{LocalRun, ValType};
+use wsyntax::{LOCAL_LIMIT, LocalRun, ValType};
 
 /// A run of declared locals, and how many declared locals there are up to its end, or the greatest number.
 #[derive(Clone, Copy)]
@@ -23,6 +23,10 @@ pub(crate) struct Locals<'a> {
     runs: Vec<EndedRun>,
     /// The first of them all, written out.
     near: Vec<ValType>,
+    /// The declared ones, written out; none before the body has often looked past the first of them.
+    written: Vec<ValType>,
+    /// How often it has.
+    far_looks: usize,
 }
 
 impl<'a> Model for Locals<'a> {
@@ -36,7 +40,9 @@ impl<'a> Model for Locals<'a> {
 
     ghost view = { λ l. l.params.now ++ declared (map run_of l.runs.items) };
 
-    ghost invariant = { λ l. AreEnds 0 l.runs.items × AreFirst l.near.items (l.params.now ++ declared (map run_of l.runs.items)) };
+    ghost invariant = { λ l. AreEnds 0 l.runs.items
+        × AreFirst l.near.items (l.params.now ++ declared (map run_of l.runs.items))
+        × AreFirst l.written.items (declared (map run_of l.runs.items)) };
 }
 
 /// A sum, or the greatest number where there is none.
@@ -93,6 +99,22 @@ fn write_first(
     Ok(())
 }
 
+/// Writes out the declared locals, up to the most that a body may have.
+fn write_declared(written: &mut Vec<ValType>, runs: &[EndedRun]) -> Result<(), AllocError>
+    requires { written.old.items ≡ [] }
+    ensures { AreFirst written.new.items (declared (map run_of runs.now)) }
+{
+    for ended in runs {
+        let length = written.len();
+        let count = ended.run.count as usize;
+        if count > LOCAL_LIMIT as usize - length {
+            return Ok(());
+        }
+        written.resize(length + count, ended.run.content)?;
+    }
+    Ok(())
+}
+
 /// The type of a declared local; `None` past the last. Halves the runs until one is left.
 fn declared_local(runs: &[EndedRun], x: usize) -> Option<ValType>
     requires ends { AreEnds 0 runs.now }
@@ -118,15 +140,24 @@ fn declared_local(runs: &[EndedRun], x: usize) -> Option<ValType>
 
 /// The type of a local that need not be written out.
 #[inline(never)]
-fn far_local(params: &[ValType], runs: &[EndedRun], x: u32) -> Option<ValType>
-    requires { AreEnds 0 runs.now }
+fn far_local(
+    params: &[ValType],
+    written: &[ValType],
+    runs: &[EndedRun],
+    x: u32,
+) -> Option<ValType>
+    requires ends { AreEnds 0 runs.now }
+    requires written { AreFirst written.now (declared (map run_of runs.now)) }
     ensures { result ≡ slice_get (params.now ++ declared (map run_of runs.now)) x }
 {
     let x = x as usize;
     if x < params.len() {
-        Some(params[x])
-    } else {
-        declared_local(runs, x - params.len())
+        return Some(params[x]);
+    }
+    let x = x - params.len();
+    match written.get(x) {
+        Some(content) => Some(*content),
+        None => declared_local(runs, x),
     }
 }
 
@@ -140,6 +171,8 @@ impl<'a> Locals<'a> {
             params,
             runs: Vec::new(alloc),
             near: Vec::new(alloc),
+            written: Vec::new(alloc),
+            far_looks: 0,
         }
     }
 
@@ -158,6 +191,8 @@ impl<'a> Locals<'a> {
         ensures { IfOk result (λ _. self.new ≡ params.now ++ declared runs.now) }
     {
         self.near.clear();
+        self.written.clear();
+        self.far_looks = 0;
         self.params = params;
         self.runs.clear();
         end_runs(&mut self.runs, runs)?;
@@ -175,6 +210,24 @@ impl<'a> Locals<'a> {
         }
     }
 
+    /// Notes a look past the locals that are written out first. Where the body has often looked there, all its declared locals
+    /// are written out; where memory for them is refused, they are found as before.
+    #[inline(never)]
+    #[tactic(auto, using(crate::proofs::FirstLocals::none_first))]
+    pub(crate) fn note_far(&mut self)
+        ensures { self.new ≡ self.old }
+    {
+        self.far_looks = self.far_looks.saturating_add(1);
+        let declared = match self.runs.last() {
+            Some(last) => last.end,
+            None => 0,
+        };
+        if self.far_looks == FAR_LOOKS + declared / LOCALS_A_LOOK {
+            self.written.clear();
+            let _ = write_declared(&mut self.written, &self.runs);
+        }
+    }
+
     /// The type of a local; `None` past the last.
     #[inline]
     pub(crate) fn get(&self, x: u32) -> Option<ValType>
@@ -182,7 +235,7 @@ impl<'a> Locals<'a> {
     {
         match self.near.get(x as usize) {
             Some(content) => Some(*content),
-            None => far_local(self.params, &self.runs, x),
+            None => far_local(self.params, &self.written, &self.runs, x),
         }
     }
 }

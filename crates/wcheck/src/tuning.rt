@@ -23,3 +23,10 @@ pub(crate) const COMPARED_TYPES: usize = 8;
 
 /// How many locals are written out.
 pub(crate) const NEAR: usize = 256;
+
+/// All declared locals are written out once a body has looked past the first of them this often, and once more for each
+/// `LOCALS_A_LOOK` locals that it declares: to write them out takes as long as these looks.
+pub(crate) const FAR_LOOKS: usize = 16;
+
+/// How many locals are written out in the time of a look past the first of them.
+pub(crate) const LOCALS_A_LOOK: usize = 512;
