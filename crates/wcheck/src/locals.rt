@@ -140,12 +140,7 @@ fn declared_local(runs: &[EndedRun], x: usize) -> Option<ValType>
 
 /// The type of a local that need not be written out.
 #[inline(never)]
-fn far_local(
-    params: &[ValType],
-    written: &[ValType],
-    runs: &[EndedRun],
-    x: u32,
-) -> Option<ValType>
+fn far_local(params: &[ValType], written: &[ValType], runs: &[EndedRun], x: u32) -> Option<ValType>
     requires ends { AreEnds 0 runs.now }
     requires written { AreFirst written.now (declared (map run_of runs.now)) }
     ensures { result ≡ slice_get (params.now ++ declared (map run_of runs.now)) x }

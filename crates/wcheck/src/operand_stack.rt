@@ -8,9 +8,9 @@ ghost use Rattle.wcheck.specs.Runs.{last_types};
 mod known;
 
 use crate::entry::{
-use crate::tuning::OPERAND_RUNS;
     Entry, end_in_singles, is_run, packed, shared_end, top_run, types_of_front, unpacked,
 };
+use crate::tuning::OPERAND_RUNS;
 use std::alloc::{AllocError, Global};
 use std::marker::Model;
 use wcontext::{Context, Front, TypeList};
