@@ -1,0 +1,145 @@
+#!/usr/bin/env python3
+"""Holds what a call takes to the formula of docs/SECURITY.md, on modules that are made to cost as much as its terms allow.
+
+A call of a module of n bytes, with F fuel and P pages, whose longest body has L tokens and whose longest list of types has V
+types, takes at most
+
+    n x 4 ns + P x 40 us + (F + 1) x (100 us + L x (20 ns + V x 2 ns)) + V x 200 ns
+
+of a processor: its instance; the memory that it has written; its entries and turns of loops; its printed values. Judging the
+module comes before, once, and is measured apart and taken away. Each module is made for one term. The constants are some three
+times what a machine of 2.5 GHz takes, so that a busy machine passes too; what is measured is the processor's time.
+"""
+import argparse
+import os
+import sys
+import tempfile
+
+here = os.path.dirname(os.path.abspath(__file__))
+sys.path.insert(0, os.path.join(here, '..', 'bench'))
+from encoding import EMPTY, function_type, signed, sized, unsigned, vector, whole
+from measuring import processor_seconds
+
+TURNS = 3
+I32 = b'\x7F'
+
+
+class Case:
+    """A module with the limits of its calls, and what the formula asks of it."""
+
+    def __init__(self, name, module, fuel=0, pages=0, tokens=1, types=0, calls=20, end='values'):
+        self.name, self.module, self.fuel, self.pages = name, module, fuel, pages
+        self.tokens, self.types, self.calls, self.end = tokens, types, calls, end
+
+    def bound(self):
+        """The seconds that a call may take."""
+        entries = (self.fuel + 1) * (100e-6 + self.tokens * (20e-9 + self.types * 2e-9))
+        return len(self.module) * 4e-9 + self.pages * 40e-6 + entries + self.types * 200e-9
+
+
+def shifting_branches(count, values):
+    """Branches with `values` values, of which each comes down by one place: `(block (result ..) const, .., br 0)`, in one body."""
+    types = [EMPTY, function_type([], [I32] * values), function_type([I32] * values, [I32] * values)]
+    body = b'\x10\x01' + b'\x02\x02\x41\x00\x0C\x00\x0B' * count + b'\x41\x00\x0C\x00'
+    return whole(body, types=types, others=[(1, b'\x00' + b'\x41\x00' * values + b'\x0B')])
+
+
+def returned_lists(count, values):
+    """Calls of a function with `values` results, which come down over one operand, and are dropped by a branch."""
+    types = [EMPTY, function_type([], [I32] * values)]
+    body = b'\x02\x40\x10\x01\x0C\x00\x0B' * count
+    return whole(body, types=types, others=[(1, b'\x01\x01\x7F' + b'\x41\x00' * (values + 1) + b'\x0F\x0B')])
+
+
+def entered(locals_count):
+    """A loop that calls a function with so many locals until the fuel is gone."""
+    declared = b'\x01' + unsigned(locals_count) + I32
+    return whole(b'\x03\x40\x10\x01\x0C\x00\x0B', others=[(0, declared + b'\x0B')])
+
+
+def turns(tokens):
+    """A loop whose turn has so many tokens, until the fuel is gone."""
+    return whole(b'\x03\x40' + b'\x41\x00\x1A' * (tokens // 2) + b'\x0C\x00\x0B')
+
+
+def seldom_turns(tokens):
+    """The same with branch tables, each of which jumps to the next."""
+    return whole(b'\x03\x40' + b'\x02\x40\x41\x00\x0E\x00\x00\x0B' * (tokens // 4) + b'\x0C\x00\x0B')
+
+
+def filled(globals_count, entries, data):
+    """An instance with many globals, functions in a table and data segments of a byte."""
+    sections = {
+        4: b'\x01\x70\x00' + unsigned(entries), 5: b'\x01\x00\x10',
+        6: vector([b'\x7E\x01\x42\x00\x0B'] * globals_count),
+        9: vector([b'\x00\x41' + signed(n) + b'\x0B\x01\x00' for n in range(entries)]),
+        11: vector([b'\x00\x41' + signed(n) + b'\x0B\x01\x01' for n in range(data)]),
+    }
+    return whole(b'', sections=sections)
+
+
+def written(pages):
+    """Writes a byte in each block of 4,096 bytes of a memory."""
+    stores = b''.join(b'\x41' + signed(at) + b'\x41\x01\x3A\x00\x00' for at in range(0, pages * 65536, 4096))
+    return whole(stores, sections={5: b'\x01\x00' + unsigned(pages)})
+
+
+def printed(values):
+    """A call with so many results."""
+    return whole(b'\x41\x7F' * values, types=[function_type([], [I32] * values)])
+
+
+CASES = [
+    Case('branches over a long list', shifting_branches(400, 100_000), fuel=2, tokens=2_000, types=100_000, calls=1),
+    Case('calls with long results', returned_lists(400, 100_000), fuel=401, tokens=100_003, types=100_000, calls=1),
+    Case('entries of 100,000 locals', entered(100_000), fuel=1_000, tokens=4, calls=1, end='exhausted'),
+    Case('turns of a loop', turns(1_000_000), fuel=100, tokens=1_000_003, calls=1, end='exhausted'),
+    Case('branch tables', seldom_turns(1_000_000), fuel=100, tokens=1_000_003, calls=1, end='exhausted'),
+    Case('globals, entries and data', filled(200_000, 65_536, 200_000), fuel=1, pages=16),
+    Case('16 pages of data', whole(b'', sections={5: b'\x01\x00\x10', 11: b'\x01\x00\x41\x00\x0B' + sized(b'\x01' * 1_000_000)}),
+         fuel=1, pages=16, calls=200),
+    Case('blocks of 1,024 pages', written(1024), fuel=1, pages=1024, tokens=50_000, calls=20),
+    Case('a small call', whole(b''), fuel=1, calls=50_000),
+    Case('printed values', printed(100_000), fuel=1, tokens=100_001, types=100_000),
+]
+
+
+def least(words, wanted):
+    """The least processor time of a run, whose report has this text."""
+    best = None
+    for _ in range(TURNS):
+        spent, out, status = processor_seconds(words)
+        if status != 0 or wanted not in out.rpartition('total ')[2]:
+            sys.exit(f'costs: {" ".join(words)}: status {status}, {out[-200:]!r}')
+        best = spent if best is None else min(best, spent)
+    return best
+
+
+def measured(gate, folder, case):
+    """The seconds of a call, without those of judging the module."""
+    module, none, calls = (os.path.join(folder, name) for name in ('module.wasm', 'none', 'calls'))
+    for path, contents in ((module, case.module), (none, b''), (calls, b'f\n' * case.calls)):
+        with open(path, 'wb') as file:
+            file.write(contents)
+    words = ['--workers', '1', '--fuel', str(case.fuel), '--pages', str(case.pages)]
+    judged = least([gate, 'run', module, none] + words, 'values 0 ')
+    return (least([gate, 'run', module, calls] + words, f'{case.end} {case.calls} ') - judged) / case.calls
+
+
+def main():
+    parser = argparse.ArgumentParser(description=__doc__, formatter_class=argparse.RawDescriptionHelpFormatter)
+    parser.add_argument('gate', help='the program')
+    gate = os.path.abspath(parser.parse_args().gate)
+    past = 0
+    print(f'{"a call of":32}{"takes ms":>10}{"at most":>10}')
+    with tempfile.TemporaryDirectory() as folder:
+        for case in CASES:
+            took, bound = measured(gate, folder, case), case.bound()
+            past += took > bound
+            print(f'{case.name:32}{took * 1e3:10.3f}{bound * 1e3:10.3f}{"  PAST" if took > bound else ""}')
+    print(f'{len(CASES) - past} calls within the formula, {past} past it')
+    return past == 0
+
+
+if __name__ == '__main__':
+    sys.exit(0 if main() else 1)
