@@ -3,8 +3,9 @@
 
 hosts       Each host whose compiler is on the machine prints the verdicts of all modules of the tables (see rows.py), and of mutants of
             them as the program judges these, and the reports of the tables with their status.
-            A host is asked in two ways: `check -`, with names of files on standard input, one verdict line each on standard output;
-            and `run MODULE CALLS FUEL FRAMES PAGES`, a report on standard output.
+            A host is asked in three ways: `check -`, with names of files on standard input, one verdict line each on standard output;
+            `run MODULE CALLS FUEL FRAMES PAGES`, a report on standard output; and `call MODULE NAME [i32:N | i64:N ..]`, the line
+            of that call in a report, without its number.
 header      gate.h by the compilers of C and C++, with all warnings; the shared library exports the functions of it and nothing else,
             and wants six functions of the C library.
 interface   interface.c calls each function, with short buffers, null pointers and numbers that are none, and on four threads.
@@ -58,7 +59,13 @@ class Host(NamedTuple):
     name: str
     check: list
     run: list
+    call: list
     environment: dict = {}
+
+
+def by_words(name, words, environment=None):
+    """A host whose first word says what it is to do."""
+    return Host(name, [*words, 'check', '-'], [*words, 'run'], [*words, 'call'], environment or {})
 
 
 class Module(NamedTuple):
@@ -129,10 +136,11 @@ def compile_c(source, target, folder, more=()):
 
 def c_host(name, folder, work, linked):
     needs('cc')
-    target = os.path.join(work, name.replace(' ', '_'))
+    target = os.path.join(work, re.sub(r'\W', '_', name))
     flags = 'CFLAGS=' + ' '.join(['-O2'] + WARNINGS)
     built([needs('make'), '-s', '-C', needs_folder('c'), f'LIBRARY={folder}', f'TO={target}', flags] + linked)
-    return Host(name, [os.path.join(target, 'judge_folder'), '-'], [os.path.join(target, 'run_batch')])
+    judge_folder, run_batch, call = [os.path.join(target, it) for it in ('judge_folder', 'run_batch', 'call')]
+    return Host(name, [judge_folder, '-'], [run_batch], [call])
 
 
 def static_host(folder, work):
@@ -140,30 +148,29 @@ def static_host(folder, work):
 
 
 def shared_host(folder, work):
-    return c_host('C, shared', folder, work, [f'LDLIBS=-L{folder} -lgate -Wl,-rpath,{folder} -pthread'])
+    return c_host('C (shared)', folder, work, [f'LDLIBS=-L{folder} -lgate -Wl,-rpath,{folder} -pthread'])
 
 
 def rust_host(folder, work):
     target = os.path.join(work, 'rust')
     words = [needs('cargo'), 'build', '--quiet', '--release', '--offline', '--target-dir', target]
     built(words, cwd=needs_folder('rust'), environment={'GATE_LIB_DIR': folder})
-    program = os.path.join(target, 'release', 'gate-host')
-    return Host('Rust', [program, 'check', '-'], [program, 'run'])
+    return by_words('Rust', [os.path.join(target, 'release', 'gate-host')])
 
 
 def python_host(folder, work):
     words = [sys.executable, os.path.join(needs_folder('python'), 'host.py')]
-    return Host('Python', words + ['check', '-'], words + ['run'], {'GATE_LIBRARY': os.path.join(folder, library.SHARED)})
+    return by_words('Python', words, {'GATE_LIBRARY': os.path.join(folder, library.SHARED)})
 
 
 def go_host(folder, work):
     source, target = needs_folder('go'), os.path.join(work, 'go-host')
     words = [needs('go', os.environ.get('PATH', '') + ':' + GO_FOLDERS), 'build', '-o', target, './host']
     built(words, cwd=source, environment={'CGO_LDFLAGS': f'-L{folder}', 'CGO_CFLAGS': f'-I{INCLUDE}', 'GOPROXY': 'off'})
-    return Host('Go', [target, 'check', '-'], [target, 'run'], {'LD_LIBRARY_PATH': folder})
+    return by_words('Go', [target], {'LD_LIBRARY_PATH': folder})
 
 
-HOSTS = {'C': static_host, 'C, shared': shared_host, 'Rust': rust_host, 'Python': python_host, 'Go': go_host}
+HOSTS = {'C': static_host, 'C (shared)': shared_host, 'Rust': rust_host, 'Python': python_host, 'Go': go_host}
 
 
 def hosts(tally, pool, folder, work):
@@ -255,11 +262,10 @@ def compare_folder(tally, host, folder, modules):
 
 def compare_calls(tally, host, it, before=()):
     """Each call of a report by itself and by values."""
-    program = os.path.join(os.path.dirname(host.check[0]), 'call')
     with open(it.calls) as file:
         calls = file.read().splitlines()
     for call, line in zip(calls, it.text.decode().splitlines()):
-        got = started([*before, program, it.module, *call.split('\t')])
+        got = started([*before, *host.call, it.module, *call.split('\t')], None, host.environment)
         wanted = line.split(' ', 1)[1].encode() + b'\n', 0, b''
         tally.expect(got == wanted, f'{host.name}: {it.name}: {call}', f'{got}, wanted {wanted}')
 
@@ -341,13 +347,12 @@ class Jobs:
 def begin_hosts(jobs, found, folder, modules, runs):
     for host in found:
         jobs.begin(host.name, compare_checks, host, modules)
-        for it in runs:
-            jobs.begin(host.name, compare_run, host, it)
-    for host in found:
         if host.name == 'C':
             jobs.begin(host.name, compare_folder, host, folder, modules)
-            for it in runs_by_call(runs):
-                jobs.begin(host.name, compare_calls, host, it)
+        for it in runs:
+            jobs.begin(host.name, compare_run, host, it)
+        for it in runs_by_call(runs):
+            jobs.begin(host.name, compare_calls, host, it)
 
 
 def runs_by_call(runs):
