@@ -25,7 +25,7 @@
  * Signals  No call from a signal handler, and none in the child of a fork of a process with several threads before it calls exec, since
  *          malloc may be held there. In the child of a process with one thread all goes on as before.
  * Unwind   malloc, realloc and free of the host's own neither throw nor jump out of a call.
- * Machine  An x86-64 processor of level v2 (2009 and later). Nothing asks for it: on an older one a call ends in SIGILL.
+ * Machine  An x86-64 processor of level v2 (SSE4.2, POPCNT). Nothing asks for it: on an older one a call ends in SIGILL.
  * Time     No call has a limit of time, and none can be stopped. A check takes time in proportion to the module's length, for some
  *          modules many times as much as for ordinary ones; fuel bounds a call. A host that needs a limit gives the call a process.
  *
@@ -91,7 +91,7 @@ uint32_t gate_check(const uint8_t *bytes, size_t bytes_length, gate_verdict *ver
 
 /* Writes the line of a verdict, as `gate check` prints it: with its newline, without a NUL. 64 bytes are enough for every line.
  *   GATE_OK            the first *length bytes of out are the line, whatever the verdict says
- *   GATE_BAD_ARGUMENT  no verdict has these numbers: a kind above 6, a rule that is not 2 to 13, or one that the kind has not is not 0
+ *   GATE_BAD_ARGUMENT  the kind is above 6, or a number that does not belong to it is not 0; a rule of any number has a line
  *   GATE_SHORT_BUFFER  *length bytes are wanted
  *   GATE_NO_MEMORY */
 uint32_t gate_verdict_line(const gate_verdict *verdict, uint8_t *out, size_t room, size_t *length);

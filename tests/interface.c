@@ -108,8 +108,11 @@ static void lines(void) {
     line((gate_verdict){ GATE_BODY_TOO_MANY_LOCALS, 0, 0, 0 }, "refused body 0 too-many-locals\n");
     line((gate_verdict){ GATE_BODY_ILL_TYPED, 0, 12, 345 }, "refused body 12 ill-typed at 345\n");
     no_line((gate_verdict){ 7, 0, 0, 0 });
-    no_line((gate_verdict){ GATE_RULE, 1, 0, 0 });
-    no_line((gate_verdict){ GATE_RULE, 14, 0, 0 });
+    no_line((gate_verdict){ GATE_ACCEPTED, 2, 0, 0 });
+    no_line((gate_verdict){ GATE_MALFORMED, 0, 1, 0 });
+    no_line((gate_verdict){ GATE_RULE, 2, 1, 0 });
+    no_line((gate_verdict){ GATE_BODY_MALFORMED, 0, 1, 1 });
+    no_line((gate_verdict){ GATE_BODY_ILL_TYPED, 2, 1, 1 });
 }
 
 /* An answer that is kept, read in each room from none to all, and once more. */

@@ -3,6 +3,7 @@
  * Ends with 0 however the call ended, and with 2 where the module is refused: then the line of the verdict is printed. */
 #include "files.h"
 #include "gate.h"
+#include <ctype.h>
 #include <errno.h>
 #include <inttypes.h>
 #include <stdio.h>
@@ -36,14 +37,13 @@ typedef struct values {
 } values;
 
 static gate_value value_of(const char *word) {
-    bool is_32 = !strncmp(word, "i32:", 4);
-    const char *digits = word + 4 * (is_32 || !strncmp(word, "i64:", 4));
-    const char *first = digits + (*digits == '-');
+    bool is_32 = !strncmp(word, "i32:", 4), is_64 = !strncmp(word, "i64:", 4);
+    const char *digits = is_32 || is_64 ? word + 4 : "";
     char *rest;
     errno = 0;
     long long number = strtoll(digits, &rest, 10);
-    bool spells = digits != word && *first >= '0' && *first <= '9' && !*rest && !errno;
-    if (!spells || (is_32 && (number < INT32_MIN || number > INT32_MAX))) end(WRONG_WORDS, "no value: ", word);
+    bool begins = isdigit((unsigned char)digits[*digits == '-']), fits = is_64 || (number >= INT32_MIN && number <= INT32_MAX);
+    if (!begins || *rest || errno || !fits) end(WRONG_WORDS, "no value: ", word);
     return is_32 ? (gate_value){ 32, (uint32_t)number } : (gate_value){ 64, (uint64_t)number };
 }
 
