@@ -1,0 +1,218 @@
+/* gate: a proved validator and sandbox for WebAssembly, as a library. gate(3) and docs/HOSTS.md have examples.
+ *
+ * What the library promises
+ *
+ * Answers  What a function writes is the answer of the program `gate` to the same bytes, texts and limits.
+ * Memory   It takes memory by malloc and realloc and gives it back by free, and wants nothing else of the C library but memcpy, memmove
+ *          and memset. Where malloc or realloc answers NULL, the function answers GATE_NO_MEMORY, writes nothing and keeps no block.
+ *          Nothing of a caller's bytes is kept after a call; gate_module_new alone has them read later too.
+ * State    It has none: no variable that is written, no thread, no lock, no file, no signal handler, no output. It never ends the
+ *          process, and never jumps out of a call.
+ * Stack    A call takes some 8 KB of it, whatever the module. That is measured, and not proved.
+ *
+ * What a caller owes; nothing checks it
+ *
+ * Read     Bytes and `args` are a pointer and a length, which counts elements: readable for the whole call, and written by nobody
+ *          meanwhile, in this process or in another one (of a mapped file). A length is below 2^63 bytes. A null pointer is allowed
+ *          with length 0 only. `verdict` of gate_verdict_line and `settings` are never null.
+ * Written  `out` and `results` have room for as many elements as their room says, and are null with room 0 only; `verdict`, `length`,
+ *          `kept`, `module`, `other` and `ended` are never null. None of them overlaps another one, or anything that the call reads.
+ *          All pointers are aligned as their types ask.
+ * Handles  A gate_report or gate_module is one that the library wrote and that is not freed yet: { NULL } is none. Who got it, frees it,
+ *          once; a copy of the struct is the same handle. Its `at` is the library's.
+ * Threads  A handle is in one call at a time; any thread may make that call. gate_module_share gives another thread a handle of its own
+ *          of the same module. Else all calls may run at once, on the same bytes too.
+ * Signals  No call from a signal handler, and none in the child of a fork of a process with several threads before it calls exec, since
+ *          malloc may be held there. In the child of a process with one thread all goes on as before.
+ * Unwind   malloc, realloc and free of the host's own neither throw nor jump out of a call.
+ * Machine  An x86-64 processor of level v2 (SSE4.2, POPCNT). Nothing asks for it: on an older one a call ends in SIGILL.
+ * Time     No call has a limit of time, and none can be stopped. A check takes time in proportion to the module's length, for some
+ *          modules many times as much as for ordinary ones; fuel bounds a call. A host that needs a limit gives the call a process.
+ *
+ * What stays
+ *
+ * Functions, structs, their sizes and all numbers here stay as they are for as long as gate_version answers 1 and the shared library
+ * is libgate.so.1. A struct grows, and an enum gets a new number, only with a new function under a new name.
+ */
+#ifndef GATE_H
+#define GATE_H
+
+#include <stddef.h>
+#include <stdint.h>
+
+#ifdef __cplusplus
+extern "C" {
+#endif
+
+#define GATE_INTERFACE 1
+#define GATE_VERSION "0.1.0"
+
+/* The number of the interface: GATE_INTERFACE of the header that the library was made with. */
+uint32_t gate_version(void);
+
+/* What every function but gate_version and the freeing ones answers. */
+enum gate_status {
+    GATE_OK = 0,              /* the module is accepted; the text, the report or the end is written */
+    GATE_MODULE_REFUSED = 2,  /* the module is refused, and verdict or text say why */
+    GATE_CALLS_REFUSED = 3,   /* the text of calls is refused, and the text says why */
+    GATE_BAD_ARGUMENT = 64,   /* a limit is out of its range, or numbers are of no verdict or value; nothing is written */
+    GATE_NO_MEMORY = 70,      /* malloc or realloc answered NULL; nothing is written */
+    GATE_SHORT_BUFFER = 75    /* *length bytes are wanted; out is as it was */
+};
+
+enum gate_kind {
+    GATE_ACCEPTED = 0,
+    GATE_TOO_LARGE = 1,
+    GATE_MALFORMED = 2,
+    GATE_RULE = 3,                 /* rule */
+    GATE_BODY_MALFORMED = 4,       /* function */
+    GATE_BODY_TOO_MANY_LOCALS = 5, /* function */
+    GATE_BODY_ILL_TYPED = 6        /* function, token */
+};
+
+typedef struct gate_verdict {
+    uint32_t kind;     /* gate_kind */
+    uint32_t rule;     /* the least broken rule, 2 to 13 */
+    uint32_t function; /* the function whose body is refused, imported ones counted first */
+    uint64_t token;    /* the first token that no completion can save, from 0 */
+} gate_verdict;        /* numbers that do not belong to the kind are 0 */
+
+typedef struct gate_settings {
+    uint32_t fuel;   /* at most 1,000,000,000 */
+    uint32_t frames; /* 1 to 4,096 */
+    uint32_t pages;  /* at most 1,024 */
+} gate_settings;
+
+/* Judges a module.
+ *   GATE_OK              accepted, and verdict->kind is GATE_ACCEPTED
+ *   GATE_MODULE_REFUSED  verdict says why
+ *   GATE_NO_MEMORY */
+uint32_t gate_check(const uint8_t *bytes, size_t bytes_length, gate_verdict *verdict);
+
+/* Writes the line of a verdict, as `gate check` prints it: with its newline, without a NUL. 64 bytes are enough for every line.
+ *   GATE_OK            the first *length bytes of out are the line, whatever the verdict says
+ *   GATE_BAD_ARGUMENT  the kind is above 6, or a number that does not belong to it is not 0; a rule of any number has a line
+ *   GATE_SHORT_BUFFER  *length bytes are wanted
+ *   GATE_NO_MEMORY */
+uint32_t gate_verdict_line(const gate_verdict *verdict, uint8_t *out, size_t room, size_t *length);
+
+/* An answer that is kept because the buffer was short. */
+typedef struct gate_report { void *at; } gate_report;
+
+/* Judges a module, runs the calls of a text, each on an instance of its own, and writes what `gate run` prints: without a NUL.
+ *   GATE_OK              the first *length bytes of out are the report
+ *   GATE_MODULE_REFUSED  they are the line of the verdict
+ *   GATE_CALLS_REFUSED   they say which line of the calls is bad, or that there are too many bytes
+ *   GATE_BAD_ARGUMENT    a limit is out of its range; this is asked first
+ *   GATE_SHORT_BUFFER    *length bytes are wanted, and *kept has the answer: gate_report_read writes it, and no call runs again.
+ *                        The caller frees it by gate_report_free
+ *   GATE_NO_MEMORY       no answer; a call that ran out of memory by itself has a line `no-memory` in the report
+ * *kept is written with GATE_SHORT_BUFFER only. */
+uint32_t gate_run(const uint8_t *module, size_t module_length, const uint8_t *calls, size_t calls_length,
+                  const gate_settings *settings, uint8_t *out, size_t room, size_t *length, gate_report *kept);
+
+/* Writes a kept answer, as often as it is asked.
+ *   GATE_OK, GATE_MODULE_REFUSED, GATE_CALLS_REFUSED  the first *length bytes of out are what this status of gate_run means
+ *   GATE_SHORT_BUFFER                                 *length bytes are wanted */
+uint32_t gate_report_read(gate_report report, uint8_t *out, size_t room, size_t *length);
+
+/* Frees a kept answer. */
+void gate_report_free(gate_report report);
+
+/* An accepted module. */
+typedef struct gate_module { void *at; } gate_module;
+
+typedef struct gate_value {
+    uint32_t width; /* 32 or 64 */
+    uint64_t bits;  /* of 32 bits: below 2^32 */
+} gate_value;
+
+enum gate_end {
+    GATE_VALUES = 0,
+    GATE_TRAP = 1,              /* reason: gate_trap */
+    GATE_OUT_OF_FUEL = 2,
+    GATE_OUT_OF_FRAMES = 3,
+    GATE_NO_EXPORT = 4,
+    GATE_NOT_A_FUNCTION = 5,
+    GATE_BAD_ARGUMENTS = 6,     /* the arguments are not of the function's type */
+    GATE_NOT_STARTED = 7,       /* reason: gate_not_started; place: the segment, of the last two */
+    GATE_CALL_NO_MEMORY = 8
+};
+
+enum gate_trap {
+    GATE_UNREACHABLE = 0,
+    GATE_OUT_OF_BOUNDS = 1,
+    GATE_UNDEFINED_ELEMENT = 2,
+    GATE_UNINITIALIZED_ELEMENT = 3,
+    GATE_TYPE_MISMATCH = 4,
+    GATE_DIVIDE_BY_ZERO = 5,
+    GATE_INTEGER_OVERFLOW = 6
+};
+
+enum gate_not_started {
+    GATE_HAS_IMPORTS = 0,
+    GATE_HAS_FLOATS = 1,
+    GATE_TABLE_LIMIT = 2,
+    GATE_MEMORY_LIMIT = 3,
+    GATE_ELEMENT_OUTSIDE = 4,
+    GATE_DATA_OUTSIDE = 5
+};
+
+typedef struct gate_call {
+    uint32_t end;     /* gate_end */
+    uint32_t reason;  /* of a trap and of a call that was not started, else 0 */
+    uint32_t place;   /* the number of the segment that lies outside, else 0 */
+    uint32_t fuel;    /* what the call cost, the start function included; 0 where nothing ran */
+    uint64_t results; /* how many values there are; as many are written as there is room for */
+} gate_call;
+
+/* Judges a module once for many calls. The bytes stay readable and as they are until the last handle of this module is freed.
+ *   GATE_OK              *module has a handle, and verdict->kind is GATE_ACCEPTED. The caller frees it by gate_module_free
+ *   GATE_MODULE_REFUSED  verdict says why; *module is as it was, and the bytes are the caller's again
+ *   GATE_NO_MEMORY       likewise */
+uint32_t gate_module_new(const uint8_t *bytes, size_t bytes_length, gate_verdict *verdict, gate_module *module);
+
+/* Runs the calls of a text on an accepted module: as gate_run, but for GATE_MODULE_REFUSED, which it never answers. */
+uint32_t gate_module_run(gate_module module, const uint8_t *calls, size_t calls_length, const gate_settings *settings,
+                         uint8_t *out, size_t room, size_t *length, gate_report *kept);
+
+/* Calls an export on a fresh instance. The name has any bytes, and is not ended by a NUL.
+ *   GATE_OK            ended says how the call ended; with GATE_VALUES the first of results are its values, the lowest first, and those
+ *                      of results past ended->results are as they were
+ *   GATE_BAD_ARGUMENT  a limit is out of its range, or a value is of neither width, or has bits past its width
+ *   GATE_NO_MEMORY     the call did not begin; one that ran out of memory ends with GATE_CALL_NO_MEMORY */
+uint32_t gate_module_call(gate_module module, const uint8_t *name, size_t name_length, const gate_value *args, size_t args_count,
+                          const gate_settings *settings, gate_value *results, size_t results_room, gate_call *ended);
+
+/* Gives another handle of the same module, which another thread may use at the same time. Each of them is freed by itself.
+ *   GATE_OK         *other has it
+ *   GATE_NO_MEMORY  the handle that was given goes on as before */
+uint32_t gate_module_share(gate_module module, gate_module *other);
+
+/* Frees a handle, and with the last one the module. */
+void gate_module_free(gate_module module);
+
+/* The layouts that the library was made with. C99 has nothing to say so. */
+#if defined __cplusplus && __cplusplus >= 201103L
+#define GATE_HOLDS(what) static_assert(what, #what)
+#elif !defined __cplusplus && defined __STDC_VERSION__ && __STDC_VERSION__ >= 201112L
+#define GATE_HOLDS(what) _Static_assert(what, #what)
+#endif
+#ifdef GATE_HOLDS
+GATE_HOLDS(sizeof(size_t) == 8 && sizeof(void *) == 8);
+GATE_HOLDS(sizeof(gate_verdict) == 24 && offsetof(gate_verdict, kind) == 0 && offsetof(gate_verdict, rule) == 4);
+GATE_HOLDS(offsetof(gate_verdict, function) == 8 && offsetof(gate_verdict, token) == 16);
+GATE_HOLDS(sizeof(gate_settings) == 12 && offsetof(gate_settings, fuel) == 0 && offsetof(gate_settings, frames) == 4);
+GATE_HOLDS(offsetof(gate_settings, pages) == 8);
+GATE_HOLDS(sizeof(gate_value) == 16 && offsetof(gate_value, width) == 0 && offsetof(gate_value, bits) == 8);
+GATE_HOLDS(sizeof(gate_call) == 24 && offsetof(gate_call, end) == 0 && offsetof(gate_call, reason) == 4);
+GATE_HOLDS(offsetof(gate_call, place) == 8 && offsetof(gate_call, fuel) == 12 && offsetof(gate_call, results) == 16);
+GATE_HOLDS(sizeof(gate_report) == 8 && offsetof(gate_report, at) == 0);
+GATE_HOLDS(sizeof(gate_module) == 8 && offsetof(gate_module, at) == 0);
+#undef GATE_HOLDS
+#endif
+
+#ifdef __cplusplus
+}
+#endif
+#endif

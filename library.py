@@ -1,0 +1,81 @@
+#!/usr/bin/env python3
+"""Makes the library for hosts in other languages from the object that `rt lib` left of the proved crate gate_c.
+
+FOLDER gets libgate.a, one archive in which the three functions of the heap from the kit stand too, so that a host links nothing else;
+libgate.so.1, which exports the functions of include/gate.h alone; and libgate.so, a link to it. The same objects give the same bytes.
+"""
+import argparse
+import os
+import subprocess
+import sys
+import tempfile
+
+root = os.path.dirname(os.path.abspath(__file__))
+MAP = os.path.join(root, 'include', 'gate.map')
+CRATE_OUT = os.path.join(root, 'crates', 'gate_c', 'out')
+ARCHIVE, SHARED, LINK = 'libgate.a', 'libgate.so.1', 'libgate.so'
+HEAP = os.path.join('c', 'liblibc_c.a')
+
+
+def kit():
+    """The folder of the toolchain: the nearest one above the page that `rt doc` prints that has the heap."""
+    try:
+        page = subprocess.run(['rt', 'doc'], capture_output=True, text=True, check=True).stdout.strip()
+    except (OSError, subprocess.CalledProcessError):
+        sys.exit("library: the command 'rt' of the Rattle kit is missing on the PATH")
+    folder = os.path.dirname(os.path.abspath(page))
+    while not os.path.exists(os.path.join(folder, HEAP)):
+        if folder == os.path.dirname(folder):
+            sys.exit(f'library: no {HEAP} beside {page}')
+        folder = os.path.dirname(folder)
+    return folder
+
+
+def run(words, **settings):
+    ran = subprocess.run(words, capture_output=True, text=True, **settings)
+    if ran.returncode:
+        sys.exit(f'library: {words[0]} failed:\n{ran.stderr}')
+
+
+def objects_of(archive, folder):
+    """Takes the objects of an archive out into a folder of their own."""
+    os.mkdir(folder)
+    run(['ar', 'x', archive], cwd=folder)
+    return [os.path.join(folder, name) for name in sorted(os.listdir(folder))]
+
+
+def make_archive(archives, path):
+    with tempfile.TemporaryDirectory() as folder:
+        objects = [it for n, archive in enumerate(archives) for it in objects_of(archive, os.path.join(folder, str(n)))]
+        if os.path.exists(path):
+            os.remove(path)
+        # D: no times, owners and modes of files. q: objects of the same name stand beside each other.
+        run(['ar', 'qcsD', path] + objects)
+
+
+def make_shared(archive, path):
+    run(['cc', '-shared', '-o', path, f'-Wl,-soname,{SHARED}', f'-Wl,--version-script={MAP}', '-Wl,-z,defs', '-Wl,-z,now',
+         '-Wl,--build-id=none', '-Wl,--strip-debug', '-Wl,--whole-archive', archive, '-Wl,--no-whole-archive'])
+
+
+def make(crate_out, folder):
+    """Makes the library in the folder."""
+    proved = os.path.abspath(os.path.join(crate_out, 'libgate_c.a'))
+    if not os.path.exists(proved):
+        sys.exit(f'library: {proved} is missing: run `rt lib` in crates/gate_c, or `python3 prove.py gate_c`, first')
+    os.makedirs(folder, exist_ok=True)
+    archive, link = os.path.join(folder, ARCHIVE), os.path.join(folder, LINK)
+    make_archive([proved, os.path.join(kit(), HEAP)], archive)
+    make_shared(archive, os.path.join(folder, SHARED))
+    if os.path.lexists(link):
+        os.remove(link)
+    os.symlink(SHARED, link)
+
+
+if __name__ == '__main__':
+    parser = argparse.ArgumentParser(description=__doc__, formatter_class=argparse.RawDescriptionHelpFormatter)
+    parser.add_argument('--from', dest='crate_out', metavar='CRATE_OUT', default=CRATE_OUT,
+                        help='the folder of libgate_c.a (default: crates/gate_c/out)')
+    parser.add_argument('--to', metavar='FOLDER', required=True, help='where the library is put')
+    chosen = parser.parse_args()
+    make(chosen.crate_out, chosen.to)

@@ -1,0 +1,417 @@
+#!/usr/bin/env python3
+"""Runs the hosts of examples/ over the library for C, and holds what they say beside what the proved program says.
+
+hosts       Each host whose compiler is on the machine prints the verdicts of all modules of the tables (see rows.py), and of mutants of
+            them as the program judges these, and the reports of the tables with their status.
+            A host is asked in three ways: `check -`, with names of files on standard input, one verdict line each on standard output;
+            `run MODULE CALLS FUEL FRAMES PAGES`, a report on standard output; and `call MODULE NAME [i32:N | i64:N ..]`, the line
+            of that call in a report, without its number.
+header      gate.h by the compilers of C and C++, with all warnings; the shared library exports the functions of it and nothing else,
+            and wants six functions of the C library.
+interface   interface.c calls each function, with short buffers, null pointers and numbers that are none, and on four threads.
+refused     refuse_through_c.c refuses each request for memory in turn.
+valgrind    where it is on the machine: no error and no leak in the hosts in C and in interface.c, and no race in the latter.
+"""
+import argparse
+import os
+import random
+import re
+import shutil
+import subprocess
+import sys
+import tempfile
+import threading
+from concurrent.futures import ThreadPoolExecutor
+from typing import NamedTuple
+
+here = os.path.dirname(os.path.abspath(__file__))
+root = os.path.dirname(here)
+sys.path.insert(0, root)
+import library
+import memory
+import rows
+
+INCLUDE = os.path.join(root, 'include')
+HEADER = os.path.join(INCLUDE, 'gate.h')
+STANDARDS = {'cc': ['c99', 'c11'], 'c++': ['c++17']}
+WARNINGS = ['-Wall', '-Wextra', '-pedantic', '-Werror']
+WANTED_OF_LIBC = {'malloc', 'realloc', 'free', 'memcpy', 'memmove', 'memset'}
+MUTANTS, SEED = 1000, 20261127
+# Longer modules are neither mutated, nor tried with refused requests and under valgrind.
+SHORT = 4096
+DEFAULTS = {'--fuel': 1_000_000, '--frames': 1024, '--pages': 256}
+# Each refusal runs all calls again.
+MOST_FUEL_REFUSED = 20_000
+# Where the tools of Go stand that are not on the PATH.
+GO_FOLDERS = '/usr/local/go/bin:/usr/lib/go/bin'
+VALGRIND = ['valgrind', '-q', '--error-exitcode=99']
+MEMCHECK = VALGRIND + ['--leak-check=full', '--errors-for-leak-kinds=all', '--show-leak-kinds=all']
+AT_ONCE = 4
+VALGRIND_RUNS, VALGRIND_CALLS = 5, 3
+MANY_ROUNDS, FEW_ROUNDS = 20_000, 50
+
+
+class Left(Exception):
+    """Why a host or a tool is left out."""
+
+
+class Host(NamedTuple):
+    name: str
+    check: list
+    run: list
+    call: list
+    environment: dict = {}
+
+
+def by_words(name, words, environment=None):
+    """A host whose first word says what it is to do."""
+    return Host(name, [*words, 'check', '-'], [*words, 'run'], [*words, 'call'], environment or {})
+
+
+class Module(NamedTuple):
+    path: str
+    line: str
+    length: int
+
+
+class Run(NamedTuple):
+    name: str
+    module: str
+    calls: str
+    limits: list
+    text: bytes
+    status: int
+    length: int
+
+
+class Tally:
+    """How much holds, and what was left out."""
+
+    def __init__(self):
+        self.lock, self.passed, self.failed, self.left = threading.Lock(), 0, 0, []
+
+    def expect(self, holds, name, got=''):
+        with self.lock:
+            self.passed, self.failed = self.passed + bool(holds), self.failed + (not holds)
+            if not holds:
+                print(f'hosts: {name}: {str(got)[:600]}')
+
+    def leave_out(self, name, why):
+        with self.lock:
+            self.left.append(f'{name} ({why})')
+
+
+def started(words, given=None, environment=None, **settings):
+    """What a process writes, and its status."""
+    ran = subprocess.run(words, input=given, capture_output=True, timeout=300, env={**os.environ, **(environment or {})}, **settings)
+    return ran.stdout, ran.returncode, ran.stderr
+
+
+def needs(tool, path=None):
+    found = shutil.which(tool, path=path)
+    if not found:
+        raise Left(f'no {tool}')
+    return found
+
+
+def needs_folder(name):
+    folder = os.path.join(root, 'examples', name)
+    if not os.path.isdir(folder):
+        raise Left(f'no examples/{name}')
+    return folder
+
+
+def built(words, **settings):
+    _, status, error = started(words, **settings)
+    if status:
+        raise RuntimeError(f'{words}: {error.decode(errors="replace")}')
+
+
+def compile_c(source, target, folder, more=()):
+    words = [needs('cc'), '-std=c11', '-O2', *WARNINGS, f'-I{INCLUDE}', '-o', target, os.path.join(here, source)]
+    built(words + [os.path.join(folder, library.ARCHIVE), '-pthread', *more])
+
+
+# The hosts.
+
+def c_host(name, folder, work, linked):
+    needs('cc')
+    target = os.path.join(work, re.sub(r'\W', '_', name))
+    flags = 'CFLAGS=' + ' '.join(['-O2'] + WARNINGS)
+    built([needs('make'), '-s', '-C', needs_folder('c'), f'LIBRARY={folder}', f'TO={target}', flags] + linked)
+    judge_folder, run_batch, call = [os.path.join(target, it) for it in ('judge_folder', 'run_batch', 'call')]
+    return Host(name, [judge_folder, '-'], [run_batch], [call])
+
+
+def static_host(folder, work):
+    return c_host('C', folder, work, [])
+
+
+def shared_host(folder, work):
+    return c_host('C (shared)', folder, work, [f'LDLIBS=-L{folder} -lgate -Wl,-rpath,{folder} -pthread'])
+
+
+def rust_host(folder, work):
+    target = os.path.join(work, 'rust')
+    words = [needs('cargo'), 'build', '--quiet', '--release', '--offline', '--target-dir', target]
+    built(words, cwd=needs_folder('rust'), environment={'GATE_LIB_DIR': folder})
+    return by_words('Rust', [os.path.join(target, 'release', 'gate-host')])
+
+
+def python_host(folder, work):
+    words = [sys.executable, os.path.join(needs_folder('python'), 'host.py')]
+    return by_words('Python', words, {'GATE_LIBRARY': os.path.join(folder, library.SHARED)})
+
+
+def go_host(folder, work):
+    source, target = needs_folder('go'), os.path.join(work, 'go-host')
+    words = [needs('go', os.environ.get('PATH', '') + ':' + GO_FOLDERS), 'build', '-o', target, './host']
+    built(words, cwd=source, environment={'CGO_LDFLAGS': f'-L{folder}', 'CGO_CFLAGS': f'-I{INCLUDE}', 'GOPROXY': 'off'})
+    return by_words('Go', [target], {'LD_LIBRARY_PATH': folder})
+
+
+HOSTS = {'C': static_host, 'C (shared)': shared_host, 'Rust': rust_host, 'Python': python_host, 'Go': go_host}
+
+
+def hosts(tally, pool, folder, work):
+    """Builds the hosts, side by side."""
+    found = []
+    for name, host in [(name, pool.submit(make, folder, work)) for name, make in HOSTS.items()]:
+        try:
+            found.append(host.result())
+        except Left as why:
+            tally.leave_out(name, why)
+        except RuntimeError as error:
+            tally.expect(False, f'{name} is not built', error)
+    return found
+
+
+# The modules and calls.
+
+def mutant(module, chance):
+    bytes_ = bytearray(module)
+    for _ in range(chance.randint(1, 3)):
+        at = chance.randrange(len(bytes_) + 1)
+        how = chance.randrange(4)
+        if how == 0:
+            bytes_.insert(at, chance.choice((0, 1, 0x0B, 0x40, 0x7F, 0x80, chance.randrange(256))))
+        elif at < len(bytes_):
+            if how == 1:
+                del bytes_[at]
+            elif how == 2:
+                bytes_[at] ^= 1 << chance.randrange(8)
+            else:
+                bytes_[at] = chance.randrange(256)
+    return bytes(bytes_)
+
+
+def modules_of_tables(work):
+    for n, (_, spelled, line, _) in enumerate(rows.rows('check.tsv')):
+        path, module = os.path.join(work, f'row{n:04}.wasm'), rows.bytes_of(spelled)
+        rows.write(path, module)
+        yield Module(path, line, len(module)), module
+
+
+def mutants(pool, program, work, modules):
+    """Mutants of short modules, with the line that the program prints."""
+    chance, paths = random.Random(SEED), []
+    for n in range(MUTANTS):
+        module = mutant(chance.choice(modules), chance)
+        paths.append((os.path.join(work, f'zmutant{n:04}.wasm'), len(module)))
+        rows.write(paths[-1][0], module)
+    answers = pool.map(lambda it: started([program, 'check', it[0], '--workers', '1'])[0], paths)
+    return [Module(path, line.decode().rstrip('\n'), length) for (path, length), line in zip(paths, answers)]
+
+
+def limits_of(options):
+    chosen = {**DEFAULTS, **dict(re.findall(r'(--\w+)[ =](\d+)', options))}
+    return [str(chosen[name]) for name in DEFAULTS]
+
+
+def runs_of_tables(work):
+    for n, (name, spelled, calls, options, text, status) in enumerate(rows.rows('run.tsv')):
+        module, path = rows.bytes_of(spelled), os.path.join(work, f'run{n:04}')
+        rows.write(path + '.wasm', module)
+        rows.write(path + '.calls', rows.text_of(calls))
+        yield Run(name, path + '.wasm', path + '.calls', limits_of(options), rows.text_of(text), int(status), len(module))
+
+
+# What is held beside what.
+
+def compare_checks(tally, host, modules, before=()):
+    names = ''.join(it.path + '\n' for it in modules).encode()
+    out, _, error = started([*before, *host.check], names, host.environment)
+    lines = out.decode().split('\n')
+    tally.expect(len(lines) == len(modules) + 1 and not lines[-1] and not error, f'{host.name}: {len(lines) - 1} verdicts', error)
+    for module, line in zip(modules, lines):
+        tally.expect(line == module.line, f'{host.name}: {os.path.basename(module.path)}', f'{line!r}, wanted {module.line!r}')
+
+
+def compare_run(tally, host, it, before=()):
+    got = started([*before, *host.run, it.module, it.calls, *it.limits], None, host.environment)
+    wanted = it.text, it.status, b''
+    tally.expect(got == wanted, f'{host.name}: {it.name}', f'{got}, wanted {wanted}')
+
+
+def compare_folder(tally, host, folder, modules):
+    """The host in C reads a folder by itself, on three threads."""
+    got = started([host.check[0], folder, '3'])
+    wanted = ''.join(f'{os.path.basename(it.path)}: {it.line}\n' for it in modules).encode(), 0, b''
+    tally.expect(got == wanted, f'{host.name}: a folder', got)
+
+
+def compare_calls(tally, host, it, before=()):
+    """Each call of a report by itself and by values."""
+    with open(it.calls) as file:
+        calls = file.read().splitlines()
+    for call, line in zip(calls, it.text.decode().splitlines()):
+        got = started([*before, *host.call, it.module, *call.split('\t')], None, host.environment)
+        wanted = line.split(' ', 1)[1].encode() + b'\n', 0, b''
+        tally.expect(got == wanted, f'{host.name}: {it.name}: {call}', f'{got}, wanted {wanted}')
+
+
+def symbols(path, *options):
+    return {line.split()[-1].split('@')[0] for line in started(['nm', *options, path])[0].decode().splitlines() if ' ' in line}
+
+
+def header(tally, folder, work):
+    for compiler, standards in STANDARDS.items():
+        language = 'c' if compiler == 'cc' else 'c++'
+        for standard in standards:
+            program = b'#include "gate.h"\nint main(void) { return gate_version() != GATE_INTERFACE; }\n'
+            target = os.path.join(work, f'header-{standard}')
+            words = [needs(compiler), f'-std={standard}', *WARNINGS, f'-I{INCLUDE}', '-x', language, '-', '-x', 'none', '-o', target]
+            got = started(words + [os.path.join(folder, library.ARCHIVE)], program)
+            tally.expect(got[1] == 0 and not got[2], f'gate.h by {compiler} -std={standard}', got)
+            tally.expect(got[1] == 0 and started([target])[1] == 0, f'gate_version by {compiler} -std={standard}')
+
+
+def exports(tally, folder):
+    needs('nm')
+    with open(HEADER) as file:
+        declared = set(re.findall(r'^(?:uint32_t|void) (gate_\w+)\(', file.read(), re.MULTILINE))
+    shared, archive = os.path.join(folder, library.SHARED), os.path.join(folder, library.ARCHIVE)
+    exported = symbols(shared, '-D', '--defined-only') - {'GATE_1'}
+    tally.expect(exported == declared, 'what libgate.so.1 exports', exported ^ declared)
+    wanted = symbols(archive, '--undefined-only') - symbols(archive, '--defined-only')
+    tally.expect(wanted == WANTED_OF_LIBC, 'what libgate.a wants', wanted)
+
+
+def interface(tally, program, before, rounds):
+    got = started([*before, program, str(rounds)])
+    tally.expect(got[1] == 0 and not got[2], ' '.join(['interface', *before]), got)
+    return int(got[0]) if got[1] == 0 else 0
+
+
+def refusals(tally, program, work, modules, runs):
+    """Refuses each request in turn; answers how many were."""
+    none = os.path.join(work, 'none')
+    rows.write(none, b'')
+    tasks = [' '.join([it.path, none, *limits_of('')]) for it in modules]
+    for it in runs:
+        fuel, *others = it.limits
+        tasks.append(' '.join([it.module, it.calls, str(min(int(fuel), MOST_FUEL_REFUSED)), *others]))
+    out, status, error = started([program], '\n'.join(tasks).encode())
+    *reports, counts = out.decode().split('\0')
+    tally.expect(status == 0 and not error, 'requests refused in turn', error.decode())
+    for wanted, got in zip(reports[::2], reports[1::2]):
+        tally.expect(memory.may_report(wanted, got), 'a report with requests refused', f'{got!r}, wanted {wanted!r}')
+    tried, unanswered = map(int, counts.split())
+    tally.expect(0 < unanswered < tried and reports, 'requests refused in turn', f'{counts}, {len(reports)} reports')
+    return tried
+
+
+class Jobs:
+    """What is done side by side, and what comes of it."""
+
+    def __init__(self, tally, pool):
+        self.tally, self.pool, self.running = tally, pool, []
+
+    def begin(self, name, job, *given):
+        self.running.append((name, self.pool.submit(job, self.tally, *given)))
+
+    def all(self):
+        return [self.ended(name, job) for name, job in self.running]
+
+    def ended(self, name, job):
+        """What a job answers; nothing where it was left out or went wrong."""
+        try:
+            return job.result()
+        except Left as why:
+            self.tally.leave_out(name, why)
+        except (OSError, ValueError, RuntimeError, subprocess.SubprocessError) as error:
+            self.tally.expect(False, name, repr(error))
+        return None
+
+
+def begin_hosts(jobs, found, folder, modules, runs):
+    for host in found:
+        jobs.begin(host.name, compare_checks, host, modules)
+        if host.name == 'C':
+            jobs.begin(host.name, compare_folder, host, folder, modules)
+        for it in runs:
+            jobs.begin(host.name, compare_run, host, it)
+        for it in runs_by_call(runs):
+            jobs.begin(host.name, compare_calls, host, it)
+
+
+def runs_by_call(runs):
+    """The short reports by the limits that `call` has."""
+    return [it for it in runs if it.status == 0 and it.limits == limits_of('') and len(it.text) < SHORT]
+
+
+def begin_valgrind(jobs, found, checker, modules, runs):
+    for host in found:
+        if host.name == 'C':
+            jobs.begin('valgrind', compare_checks, host, [it for it in modules if it.length <= SHORT], MEMCHECK)
+            for it in runs[:: len(runs) // VALGRIND_RUNS]:
+                jobs.begin('valgrind', compare_run, host, it, MEMCHECK)
+            for it in runs_by_call(runs)[:VALGRIND_CALLS]:
+                jobs.begin('valgrind', compare_calls, host, it, MEMCHECK)
+    jobs.begin('valgrind', interface, checker, MEMCHECK, FEW_ROUNDS)
+    jobs.begin('valgrind', interface, checker, VALGRIND + ['--tool=helgrind'], FEW_ROUNDS)
+
+
+def all_parts(tally, pool, program, folder, work):
+    """Does all of it, side by side; answers what was checked, in words."""
+    checker, refuser, place = os.path.join(work, 'interface'), os.path.join(work, 'refuse'), os.path.join(work, 'modules')
+    os.mkdir(place)
+    found = hosts(tally, pool, folder, work)
+    compile_c('interface.c', checker, folder)
+    compile_c('refuse_through_c.c', refuser, folder, [f'-Wl,--wrap={name}' for name in ('malloc', 'realloc', 'free')])
+    rows_, bytes_ = zip(*modules_of_tables(place))
+    modules = [*rows_, *mutants(pool, program, place, [it for it in bytes_ if len(it) <= SHORT])]
+    runs = list(runs_of_tables(work))
+    jobs = Jobs(tally, pool)
+    jobs.begin('refused', refusals, refuser, work, *[[it for it in all_ if it.length <= SHORT] for all_ in (rows_, runs)])
+    jobs.begin('interface', interface, checker, [], MANY_ROUNDS)
+    jobs.begin('gate.h', header, folder, work)
+    jobs.begin('exports', exports, folder)
+    if shutil.which('valgrind'):
+        begin_valgrind(jobs, found, checker, modules, runs)
+    else:
+        tally.leave_out('valgrind', 'it is not there')
+    begin_hosts(jobs, found, place, modules, runs)
+    refused, held, *_ = jobs.all()
+    names = ', '.join(it.name for it in found)
+    return f'{names}: {len(modules)} verdicts and {len(runs)} reports each; {refused} requests refused; {held} statements on gate.h'
+
+
+def main(program, folder):
+    tally = Tally()
+    with tempfile.TemporaryDirectory() as work, ThreadPoolExecutor(AT_ONCE) as pool:
+        if not folder:
+            folder = os.path.join(work, 'library')
+            library.make(library.CRATE_OUT, folder)
+        said = all_parts(tally, pool, program, os.path.abspath(folder), work)
+    left = f'; left out: {", ".join(tally.left)}' if tally.left else ''
+    print(f'hosts: {said}{left}; {tally.passed} passed, {tally.failed} failed')
+    return 1 if tally.failed or not tally.passed else 0
+
+
+if __name__ == '__main__':
+    parser = argparse.ArgumentParser(description=__doc__, formatter_class=argparse.RawDescriptionHelpFormatter)
+    parser.add_argument('program', metavar='PROGRAM', help='the proved program')
+    parser.add_argument('--library', metavar='FOLDER', help='where library.py put the library (default: it is made)')
+    chosen = parser.parse_args()
+    sys.exit(main(os.path.abspath(chosen.program), chosen.library))

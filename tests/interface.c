@@ -1,0 +1,302 @@
+/* Calls each function of gate.h: with room enough and with less, with null and length 0, with numbers of no verdict, value and limit, and
+ * from four threads with a handle each.
+ * usage: interface ROUNDS    how many calls each thread makes
+ * Prints each line of this file that does not hold, and ends with 1 then; else how many held. */
+#include "gate.h"
+#include <pthread.h>
+#include <stdbool.h>
+#include <stdio.h>
+#include <stdlib.h>
+#include <string.h>
+
+#define BYTES(...) { (const uint8_t[]){ __VA_ARGS__ }, sizeof((const uint8_t[]){ __VA_ARGS__ }) }
+#define HEAD 0, 'a', 's', 'm', 1, 0, 0, 0
+/* One function of type [] -> [], exported as f. */
+#define PLAIN HEAD, 1, 4, 1, 0x60, 0, 0, 3, 2, 1, 0, 7, 5, 1, 1, 'f', 0, 0
+#define HOLDS(what) holds(what, #what, __LINE__)
+
+enum { ROOM = 512, THREADS = 4, UNTOUCHED = 0x5A };
+
+typedef struct text {
+    const uint8_t *at;
+    size_t length;
+} text;
+
+static const text NONE = { NULL, 0 };
+static const text ADD = BYTES(HEAD, 1, 7, 1, 0x60, 2, 0x7F, 0x7F, 1, 0x7F, 3, 2, 1, 0, 7, 7, 1, 3, 'a', 'd', 'd', 0, 0, 0x0A, 9, 1, 7, 0,
+                              0x20, 0, 0x20, 1, 0x6A, 0x0B);
+/* i32.const 1, i32.const 0, i32.div_s, drop */
+static const text DIVISION = BYTES(PLAIN, 0x0A, 0x0A, 1, 8, 0, 0x41, 1, 0x41, 0, 0x6D, 0x1A, 0x0B);
+/* i32.const 1: a value too many. */
+static const text ILL_TYPED = BYTES(PLAIN, 0x0A, 6, 1, 4, 0, 0x41, 1, 0x0B);
+static const text LOOP = BYTES(PLAIN, 0x0A, 9, 1, 7, 0, 3, 0x40, 0x0C, 0, 0x0B, 0x0B);
+static const text RECURSION = BYTES(PLAIN, 0x0A, 6, 1, 4, 0, 0x10, 0, 0x0B);
+/* i32.const -1, i64.const 7, of type [] -> [i32 i64] */
+static const text TWO_RESULTS = BYTES(HEAD, 1, 6, 1, 0x60, 0, 2, 0x7F, 0x7E, 3, 2, 1, 0, 7, 5, 1, 1, 'f', 0, 0, 0x0A, 8, 1, 6, 0, 0x41,
+                                      0x7F, 0x42, 7, 0x0B);
+/* A memory of one page, exported as m, and a second data segment of two bytes at 65,535. */
+static const text OUTSIDE = BYTES(HEAD, 1, 4, 1, 0x60, 0, 0, 3, 2, 1, 0, 5, 3, 1, 0, 1, 7, 9, 2, 1, 'f', 0, 0, 1, 'm', 2, 0, 0x0A, 4, 1,
+                                  2, 0, 0x0B, 0x0B, 0x10, 2, 0, 0x41, 0, 0x0B, 1, 0, 0, 0x41, 0xFF, 0xFF, 3, 0x0B, 2, 0, 0);
+static const text IMPORT = BYTES(HEAD, 1, 4, 1, 0x60, 0, 0, 2, 7, 1, 1, 'a', 1, 'b', 0, 0, 7, 5, 1, 1, 'f', 0, 0);
+
+static const gate_settings USUAL = { 1000000, 1024, 256 };
+static const gate_value FORTY_TWO[] = { { 32, 40 }, { 32, 2 } };
+
+static unsigned held, failed;
+
+static bool holds(bool it, const char *what, int line) {
+    held += it;
+    failed += !it;
+    if (!it) printf("interface: line %d: %s\n", line, what);
+    return it;
+}
+
+static text said(const char *words) { return (text){ (const uint8_t *)words, strlen(words) }; }
+
+static bool is(const uint8_t *out, size_t length, const char *words) {
+    return length == strlen(words) && !memcmp(out, words, length);
+}
+
+static bool is_untouched(const uint8_t *out, size_t length) {
+    while (length && out[length - 1] == UNTOUCHED) length--;
+    return !length;
+}
+
+static bool is_verdict(const gate_verdict *it, uint32_t kind, uint32_t rule, uint32_t function, uint64_t token) {
+    return it->kind == kind && it->rule == rule && it->function == function && it->token == token;
+}
+
+static void checks(void) {
+    gate_verdict verdict = { 9, 9, 9, 9 };
+    HOLDS(gate_version() == GATE_INTERFACE);
+    HOLDS(gate_check(NULL, 0, &verdict) == GATE_MODULE_REFUSED && is_verdict(&verdict, GATE_MALFORMED, 0, 0, 0));
+    verdict = (gate_verdict){ 9, 9, 9, 9 };
+    HOLDS(gate_check(ADD.at, ADD.length, &verdict) == GATE_OK && is_verdict(&verdict, GATE_ACCEPTED, 0, 0, 0));
+    HOLDS(gate_check(ILL_TYPED.at, ILL_TYPED.length, &verdict) == GATE_MODULE_REFUSED);
+    HOLDS(is_verdict(&verdict, GATE_BODY_ILL_TYPED, 0, 0, 1));
+}
+
+/* The line of a verdict in each room, from none to all. */
+static void line(gate_verdict verdict, const char *words) {
+    for (size_t room = 0; room <= strlen(words); room++) {
+        uint8_t out[ROOM];
+        size_t length = 0;
+        memset(out, UNTOUCHED, sizeof out);
+        uint32_t status = gate_verdict_line(&verdict, room ? out : NULL, room, &length);
+        HOLDS(length == strlen(words));
+        if (room < length)
+            HOLDS(status == GATE_SHORT_BUFFER && is_untouched(out, ROOM));
+        else
+            HOLDS(status == GATE_OK && is(out, length, words) && is_untouched(out + length, ROOM - length));
+    }
+}
+
+static void no_line(gate_verdict verdict) {
+    uint8_t out[ROOM];
+    size_t length = 77;
+    memset(out, UNTOUCHED, sizeof out);
+    HOLDS(gate_verdict_line(&verdict, out, ROOM, &length) == GATE_BAD_ARGUMENT && length == 77 && is_untouched(out, ROOM));
+}
+
+static void lines(void) {
+    line((gate_verdict){ GATE_ACCEPTED, 0, 0, 0 }, "accepted\n");
+    line((gate_verdict){ GATE_TOO_LARGE, 0, 0, 0 }, "refused too-large\n");
+    line((gate_verdict){ GATE_MALFORMED, 0, 0, 0 }, "refused malformed\n");
+    line((gate_verdict){ GATE_RULE, 2, 0, 0 }, "refused rule 2\n");
+    line((gate_verdict){ GATE_RULE, 13, 0, 0 }, "refused rule 13\n");
+    line((gate_verdict){ GATE_BODY_MALFORMED, 0, 4, 0 }, "refused body 4 malformed\n");
+    line((gate_verdict){ GATE_BODY_TOO_MANY_LOCALS, 0, 0, 0 }, "refused body 0 too-many-locals\n");
+    line((gate_verdict){ GATE_BODY_ILL_TYPED, 0, 12, 345 }, "refused body 12 ill-typed at 345\n");
+    no_line((gate_verdict){ 7, 0, 0, 0 });
+    no_line((gate_verdict){ GATE_ACCEPTED, 2, 0, 0 });
+    no_line((gate_verdict){ GATE_MALFORMED, 0, 1, 0 });
+    no_line((gate_verdict){ GATE_RULE, 2, 1, 0 });
+    no_line((gate_verdict){ GATE_BODY_MALFORMED, 0, 1, 1 });
+    no_line((gate_verdict){ GATE_BODY_ILL_TYPED, 2, 1, 1 });
+}
+
+/* An answer that is kept, read in each room from none to all, and once more. */
+static void kept_answer(gate_report kept, uint32_t status, const char *words) {
+    for (size_t room = 0; room <= strlen(words) + 1; room++) {
+        uint8_t out[ROOM];
+        size_t length = 0;
+        memset(out, UNTOUCHED, sizeof out);
+        uint32_t got = gate_report_read(kept, room ? out : NULL, room, &length);
+        HOLDS(length == strlen(words));
+        if (room < length)
+            HOLDS(got == GATE_SHORT_BUFFER && is_untouched(out, ROOM));
+        else
+            HOLDS(got == status && is(out, length, words) && is_untouched(out + length, ROOM - length));
+    }
+    gate_report_free(kept);
+}
+
+/* What gate_run, or gate_module_run where there is a module, answers in this room. */
+static uint32_t run(gate_module *module, text bytes, text calls, gate_settings settings, uint8_t *out, size_t room, size_t *length,
+                    gate_report *kept) {
+    return module ? gate_module_run(*module, calls.at, calls.length, &settings, out, room, length, kept)
+                  : gate_run(bytes.at, bytes.length, calls.at, calls.length, &settings, out, room, length, kept);
+}
+
+static void answer(gate_module *module, text bytes, text calls, uint32_t status, const char *words) {
+    uint8_t out[ROOM];
+    gate_report kept = { out };
+    size_t length = 0, rooms[] = { 0, 1, strlen(words) - 1 };
+    for (size_t i = 0; i < sizeof rooms / sizeof *rooms; i++) {
+        memset(out, UNTOUCHED, sizeof out);
+        uint32_t got = run(module, bytes, calls, USUAL, rooms[i] ? out : NULL, rooms[i], &length, &kept);
+        if (HOLDS(got == GATE_SHORT_BUFFER && length == strlen(words) && is_untouched(out, ROOM))) kept_answer(kept, status, words);
+    }
+    kept.at = out;
+    HOLDS(run(module, bytes, calls, USUAL, out, strlen(words), &length, &kept) == status && is(out, length, words));
+    HOLDS(is_untouched(out + length, ROOM - length) && kept.at == out);
+}
+
+static void no_answer(gate_module *module, gate_settings settings) {
+    uint8_t out[ROOM];
+    size_t length = 77;
+    gate_report kept = { out };
+    memset(out, UNTOUCHED, sizeof out);
+    HOLDS(run(module, ADD, said("add\n"), settings, out, ROOM, &length, &kept) == GATE_BAD_ARGUMENT);
+    HOLDS(length == 77 && kept.at == out && is_untouched(out, ROOM));
+}
+
+static void answers(gate_module *module) {
+    answer(module, ADD, NONE, GATE_OK, "total 0 values 0 traps 0 exhausted 0 refused 0 no-memory 0 fuel 0\n");
+    answer(module, ADD, said("add\ti32:40\ti32:2\nsub\n"), GATE_OK,
+           "0 values i32:42 fuel 1\n1 no-export\ntotal 2 values 1 traps 0 exhausted 0 refused 1 no-memory 0 fuel 1\n");
+    answer(module, ADD, said("add\nadd"), GATE_CALLS_REFUSED, "accepted\ncalls line 2 refused\n");
+    no_answer(module, (gate_settings){ 1000000001, 1024, 256 });
+    no_answer(module, (gate_settings){ 1000000, 0, 256 });
+    no_answer(module, (gate_settings){ 1000000, 4097, 256 });
+    no_answer(module, (gate_settings){ 1000000, 1024, 1025 });
+}
+
+static gate_module module_of(text bytes) {
+    gate_verdict verdict = { 9, 9, 9, 9 };
+    gate_module module = { NULL };
+    HOLDS(gate_module_new(bytes.at, bytes.length, &verdict, &module) == GATE_OK && is_verdict(&verdict, GATE_ACCEPTED, 0, 0, 0));
+    if (!module.at) exit(1);
+    return module;
+}
+
+static void modules(void) {
+    gate_verdict verdict = { 9, 9, 9, 9 };
+    gate_module module = { &verdict };
+    HOLDS(gate_module_new(NULL, 0, &verdict, &module) == GATE_MODULE_REFUSED && is_verdict(&verdict, GATE_MALFORMED, 0, 0, 0));
+    HOLDS(gate_module_new(ILL_TYPED.at, ILL_TYPED.length, &verdict, &module) == GATE_MODULE_REFUSED);
+    HOLDS(is_verdict(&verdict, GATE_BODY_ILL_TYPED, 0, 0, 1) && module.at == &verdict);
+    module = module_of(ADD);
+    answers(&module);
+    gate_module_free(module);
+}
+
+/* A call of an export of a module that is judged for it. */
+static void call(text bytes, const char *name, gate_settings settings, gate_call wanted) {
+    gate_module module = module_of(bytes);
+    gate_value results[2];
+    gate_call ended = { 99, 99, 99, 99, 99 };
+    text word = name ? said(name) : NONE;
+    HOLDS(gate_module_call(module, word.at, word.length, NULL, 0, &settings, results, 2, &ended) == GATE_OK);
+    bool is_wanted = ended.end == wanted.end && ended.reason == wanted.reason && ended.place == wanted.place &&
+                     ended.fuel == wanted.fuel && ended.results == wanted.results;
+    if (!HOLDS(is_wanted)) printf("interface: the call of %s that should end as %u with fuel %u\n", name, wanted.end, wanted.fuel);
+    gate_module_free(module);
+}
+
+static void calls(void) {
+    call(TWO_RESULTS, "f", USUAL, (gate_call){ GATE_VALUES, 0, 0, 1, 2 });
+    call(DIVISION, "f", USUAL, (gate_call){ GATE_TRAP, GATE_DIVIDE_BY_ZERO, 0, 1, 0 });
+    call(LOOP, "f", (gate_settings){ 5, 1, 0 }, (gate_call){ GATE_OUT_OF_FUEL, 0, 0, 5, 0 });
+    call(RECURSION, "f", (gate_settings){ 1000000000, 3, 1024 }, (gate_call){ GATE_OUT_OF_FRAMES, 0, 0, 3, 0 });
+    call(ADD, NULL, USUAL, (gate_call){ GATE_NO_EXPORT, 0, 0, 0, 0 });
+    call(OUTSIDE, "m", USUAL, (gate_call){ GATE_NOT_A_FUNCTION, 0, 0, 0, 0 });
+    call(ADD, "add", USUAL, (gate_call){ GATE_BAD_ARGUMENTS, 0, 0, 0, 0 });
+    call(IMPORT, "f", USUAL, (gate_call){ GATE_NOT_STARTED, GATE_HAS_IMPORTS, 0, 0, 0 });
+    call(OUTSIDE, "f", (gate_settings){ 9, 9, 0 }, (gate_call){ GATE_NOT_STARTED, GATE_MEMORY_LIMIT, 0, 0, 0 });
+    call(OUTSIDE, "f", USUAL, (gate_call){ GATE_NOT_STARTED, GATE_DATA_OUTSIDE, 1, 0, 0 });
+}
+
+/* The values of a call in rooms of 0, 1, 2 and 3. */
+static void results(void) {
+    static const gate_value wanted[] = { { 32, 0xFFFFFFFF }, { 64, 7 } };
+    gate_module module = module_of(TWO_RESULTS);
+    for (size_t room = 0; room < 4; room++) {
+        gate_value got[3] = { { 1, 1 }, { 1, 1 }, { 1, 1 } };
+        gate_call ended;
+        HOLDS(gate_module_call(module, said("f").at, 1, NULL, 0, &USUAL, room ? got : NULL, room, &ended) == GATE_OK);
+        HOLDS(ended.end == GATE_VALUES && ended.results == 2 && got[2].width == 1 && got[2].bits == 1);
+        for (size_t i = 0; i < 2; i++) {
+            bool is_written = got[i].width == wanted[i].width && got[i].bits == wanted[i].bits;
+            HOLDS(i < room ? is_written : got[i].width == 1 && got[i].bits == 1);
+        }
+    }
+    gate_module_free(module);
+}
+
+static void no_call(gate_module module, gate_value second, gate_settings settings) {
+    gate_value args[] = { { 32, 40 }, second }, results[1] = { { 1, 1 } };
+    gate_call ended = { 99, 99, 99, 99, 99 };
+    HOLDS(gate_module_call(module, said("add").at, 3, args, 2, &settings, results, 1, &ended) == GATE_BAD_ARGUMENT);
+    HOLDS(ended.end == 99 && ended.results == 99 && results[0].width == 1 && results[0].bits == 1);
+}
+
+static void bad_values(void) {
+    gate_module module = module_of(ADD);
+    no_call(module, (gate_value){ 16, 2 }, USUAL);
+    no_call(module, (gate_value){ 0, 2 }, USUAL);
+    no_call(module, (gate_value){ 32, UINT64_C(1) << 32 }, USUAL);
+    no_call(module, FORTY_TWO[1], (gate_settings){ 1000000001, 1024, 256 });
+    no_call(module, FORTY_TWO[1], (gate_settings){ 1000000, 0, 256 });
+    no_call(module, FORTY_TWO[1], (gate_settings){ 1000000, 1024, 1025 });
+    gate_module_free(module);
+}
+
+typedef struct part {
+    pthread_t thread;
+    gate_module module; /* its own handle, which it frees */
+    long rounds, wrong;
+} part;
+
+static void *call_often(void *at) {
+    part *it = at;
+    for (long i = 0; i < it->rounds; i++) {
+        gate_value sum = { 0, 0 }, args[] = { { 32, (uint64_t)i }, { 32, 2 } };
+        gate_call ended = { 99, 0, 0, 0, 0 };
+        uint32_t status = gate_module_call(it->module, said("add").at, 3, args, 2, &USUAL, &sum, 1, &ended);
+        it->wrong += status != GATE_OK || ended.end != GATE_VALUES || ended.fuel != 1 || sum.width != 32 || sum.bits != (uint64_t)i + 2;
+    }
+    gate_module_free(it->module);
+    return NULL;
+}
+
+/* The handle that all others come from is freed while they are at work. */
+static void threads(long rounds) {
+    part parts[THREADS];
+    gate_module module = module_of(ADD);
+    for (size_t i = 0; i < THREADS; i++) {
+        parts[i] = (part){ .rounds = rounds };
+        HOLDS(gate_module_share(module, &parts[i].module) == GATE_OK);
+        if (pthread_create(&parts[i].thread, NULL, call_often, &parts[i])) exit(1);
+    }
+    gate_module_free(module);
+    for (size_t i = 0; i < THREADS; i++) {
+        pthread_join(parts[i].thread, NULL);
+        HOLDS(parts[i].wrong == 0);
+    }
+}
+
+int main(int count, char **words) {
+    checks();
+    lines();
+    answer(NULL, NONE, NONE, GATE_MODULE_REFUSED, "refused malformed\n");
+    answer(NULL, ILL_TYPED, said("f\n"), GATE_MODULE_REFUSED, "refused body 0 ill-typed at 1\n");
+    answers(NULL);
+    modules();
+    calls();
+    results();
+    bad_values();
+    threads(count > 1 ? atol(words[1]) : 10000);
+    if (!failed) printf("%u\n", held);
+    return failed != 0;
+}
