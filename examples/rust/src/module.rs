@@ -10,6 +10,9 @@ use std::sync::Arc;
 /// The results that a first call has room for.
 const ROOM: usize = 16;
 
+/// The most results that a call has room for before it asked for more.
+const MOST_ROOM: usize = 1024;
+
 /// An accepted module. Each call has an instance of its own, so no call sees what another one wrote.
 ///
 /// ```
@@ -50,7 +53,7 @@ const ROOM: usize = 16;
 #[derive(Debug)]
 pub struct Module<'a> {
     handle: ffi::Module,
-    /// The results that the next call has room for: as many as any call gave, and no fewer than `ROOM`.
+    /// The results that the next call has room for: as many as any call gave, from `ROOM` to `MOST_ROOM`.
     room: Cell<usize>,
     /// The bytes, where the module owns them.
     owned: Option<Arc<Vec<u8>>>,
@@ -87,8 +90,9 @@ impl<'a> Module<'a> {
 
     /// Calls an export.
     ///
-    /// The library does not tell how many results a function has before it was called. So where there are more than any call
-    /// of this module gave, and more than 16, the function is called once more: on a fresh instance, so with the same end.
+    /// The library does not tell how many results a function has before it was called. So where there are more than 16, and
+    /// more than any call of this module gave, or more than 1,024, the function is called once more: on a fresh instance, so
+    /// with the same end.
     pub fn call(&self, name: &str, args: &[Value], settings: Settings) -> Result<Call, NoMemory> {
         let args: Vec<ffi::Value> = args.iter().map(|value| value.to_c()).collect();
         let settings = settings.to_c();
@@ -97,7 +101,7 @@ impl<'a> Module<'a> {
             let (ended, results) = self.call_with_room(name, &args, &settings, room)?;
             let count = usize::try_from(ended.results).map_err(|_| NoMemory)?;
             if count <= room {
-                self.room.set(room);
+                self.room.set(room.min(MOST_ROOM));
                 return Call::of(&ended, results);
             }
             room = count;

@@ -121,7 +121,7 @@ fn long_reports_are_whole() {
 
 #[test]
 fn results_of_any_number() {
-    for count in [0, 1, 2, 15, 16, 17, 1000] {
+    for count in [0, 1, 2, 15, 16, 17, 1024, 1025] {
         let bytes = sevens(count);
         let module = Module::new(&bytes).unwrap();
         for _ in 0..3 {
