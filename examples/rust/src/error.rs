@@ -33,14 +33,7 @@ impl fmt::Display for CheckError {
     }
 }
 
-impl Error for CheckError {
-    fn source(&self) -> Option<&(dyn Error + 'static)> {
-        match self {
-            CheckError::Refused(refusal) => Some(refusal),
-            CheckError::NoMemory => None,
-        }
-    }
-}
+impl Error for CheckError {}
 
 impl From<Refusal> for CheckError {
     fn from(refusal: Refusal) -> Self {
