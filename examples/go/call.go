@@ -1,0 +1,115 @@
+package gate
+
+// #include "gate.h"
+import "C"
+
+import "fmt"
+
+// Call is what a call gave and cost.
+type Call struct {
+	Results []Value // the lowest first
+	Fuel    uint32  // the start function included; also where the call was stopped, and 0 where nothing ran
+}
+
+// End is why a call was stopped or did not run, where that needs no further word.
+type End uint32
+
+// Why a call was stopped, or did not run.
+const (
+	OutOfFuel    End = C.GATE_OUT_OF_FUEL   // the next charge would pass Settings.Fuel
+	OutOfFrames  End = C.GATE_OUT_OF_FRAMES // the next entry would pass Settings.Frames
+	NoExport     End = C.GATE_NO_EXPORT     // nothing of that name is exported
+	NotAFunction End = C.GATE_NOT_A_FUNCTION
+	BadArguments End = C.GATE_BAD_ARGUMENTS // they are not of the function's type
+)
+
+// Trap is why a call trapped.
+type Trap uint32
+
+// The traps.
+const (
+	Unreachable          Trap = C.GATE_UNREACHABLE
+	OutOfBounds          Trap = C.GATE_OUT_OF_BOUNDS
+	UndefinedElement     Trap = C.GATE_UNDEFINED_ELEMENT
+	UninitializedElement Trap = C.GATE_UNINITIALIZED_ELEMENT
+	TypeMismatch         Trap = C.GATE_TYPE_MISMATCH
+	DivideByZero         Trap = C.GATE_DIVIDE_BY_ZERO
+	IntegerOverflow      Trap = C.GATE_INTEGER_OVERFLOW
+)
+
+// Reason is why no instance can be made: the first that holds.
+type Reason uint32
+
+// The reasons.
+const (
+	Imports        Reason = C.GATE_HAS_IMPORTS
+	Floats         Reason = C.GATE_HAS_FLOATS
+	TableLimit     Reason = C.GATE_TABLE_LIMIT     // the table's minimum is above 65,536
+	MemoryLimit    Reason = C.GATE_MEMORY_LIMIT    // the memory's minimum is above Settings.Pages
+	ElementOutside Reason = C.GATE_ELEMENT_OUTSIDE // NotStarted.Segment ends outside the table
+	DataOutside    Reason = C.GATE_DATA_OUTSIDE    // NotStarted.Segment ends outside the memory
+)
+
+// NotStarted says that no instance can be made.
+type NotStarted struct {
+	Reason  Reason
+	Segment uint32 // the least segment of its kind that ends outside, from 0; else 0
+}
+
+var endTexts = map[End]string{
+	OutOfFuel: "out-of-fuel", OutOfFrames: "out-of-frames",
+	NoExport: "no-export", NotAFunction: "not-a-function", BadArguments: "bad-arguments",
+}
+
+var trapTexts = [...]string{
+	Unreachable: "unreachable", OutOfBounds: "out-of-bounds",
+	UndefinedElement: "undefined-element", UninitializedElement: "uninitialized-element", TypeMismatch: "type-mismatch",
+	DivideByZero: "divide-by-zero", IntegerOverflow: "integer-overflow",
+}
+
+var reasonTexts = [...]string{
+	Imports: "imports", Floats: "floats", TableLimit: "table-limit", MemoryLimit: "memory-limit",
+	ElementOutside: "element-outside", DataOutside: "data-outside",
+}
+
+func (e End) Error() string { return endTexts[e] }
+
+func (t Trap) Error() string { return "trap " + trapTexts[t] }
+
+func (n NotStarted) Error() string {
+	if n.Reason >= ElementOutside {
+		return fmt.Sprintf("not-started %s %d", reasonTexts[n.Reason], n.Segment)
+	}
+	return "not-started " + reasonTexts[n.Reason]
+}
+
+// endOf is how a call ended: nil where it gave values.
+func endOf(ended *C.gate_call) error {
+	switch ended.end {
+	case C.GATE_VALUES:
+		return nil
+	case C.GATE_TRAP:
+		return trapOf(ended.reason)
+	case C.GATE_OUT_OF_FUEL, C.GATE_OUT_OF_FRAMES, C.GATE_NO_EXPORT, C.GATE_NOT_A_FUNCTION, C.GATE_BAD_ARGUMENTS:
+		return End(ended.end)
+	case C.GATE_NOT_STARTED:
+		return notStartedOf(ended.reason, ended.place)
+	case C.GATE_CALL_NO_MEMORY:
+		return ErrNoMemory
+	}
+	panic(beyondInterface("end", ended.end))
+}
+
+func trapOf(reason C.uint32_t) error {
+	if int(reason) >= len(trapTexts) {
+		panic(beyondInterface("trap", reason))
+	}
+	return Trap(reason)
+}
+
+func notStartedOf(reason, place C.uint32_t) error {
+	if int(reason) >= len(reasonTexts) {
+		panic(beyondInterface("reason not to start", reason))
+	}
+	return NotStarted{Reason(reason), uint32(place)}
+}

@@ -1,0 +1,71 @@
+// Package gate is a proved validator and sandbox for WebAssembly, over the library libgate.
+//
+//	if err := gate.Check(module); err != nil {
+//		return err // gate.Refusal, the first reason, or gate.ErrNoMemory
+//	}
+//
+// A module that is called often is judged once:
+//
+//	add, err := gate.NewModule(module)
+//	if err != nil {
+//		return err
+//	}
+//	defer add.Close()
+//	call, err := add.Call("add", gate.DefaultSettings(), gate.I32(40), gate.I32(2)) // call.Results[0] is gate.I32(42)
+//
+// The library is proved; this package is not. All functions may be called by many goroutines at once.
+package gate
+
+/*
+#cgo CFLAGS: -I${SRCDIR}/../../include
+#cgo LDFLAGS: -l:libgate.a
+#include "gate.h"
+*/
+import "C"
+
+import (
+	"errors"
+	"fmt"
+	"unsafe"
+)
+
+// ErrNoMemory says that the library, or a call, was refused memory. Nothing was answered; the same question may be asked again.
+var ErrNoMemory = errors.New("no memory")
+
+// Interface is the number of the library's interface. This package is written for 1.
+func Interface() uint32 {
+	return uint32(C.gate_version())
+}
+
+// Check judges a module: nil where it is accepted, else its Refusal or ErrNoMemory.
+func Check(module []byte) error {
+	var verdict C.gate_verdict
+	at, length := inC(module)
+	return judged(C.gate_check(at, length, &verdict), &verdict)
+}
+
+// judged is what a status and a verdict say of a module.
+func judged(status C.uint32_t, verdict *C.gate_verdict) error {
+	switch status {
+	case C.GATE_OK:
+		return nil
+	case C.GATE_MODULE_REFUSED:
+		return refusalOf(verdict)
+	case C.GATE_NO_MEMORY:
+		return ErrNoMemory
+	}
+	panic(beyondInterface("status", status))
+}
+
+// inC is a slice as C takes it, for one call.
+func inC(bytes []byte) (*C.uint8_t, C.size_t) {
+	if len(bytes) == 0 {
+		return nil, 0
+	}
+	return (*C.uint8_t)(unsafe.Pointer(&bytes[0])), C.size_t(len(bytes))
+}
+
+// beyondInterface tells of a number that interface 1 does not have: another library was linked.
+func beyondInterface(what string, number C.uint32_t) string {
+	return fmt.Sprintf("libgate answers the %s %d, which interface 1 does not have", what, number)
+}

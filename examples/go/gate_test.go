@@ -1,0 +1,293 @@
+package gate
+
+import (
+	"bytes"
+	"errors"
+	"fmt"
+	"os"
+	"reflect"
+	"strings"
+	"sync"
+	"testing"
+)
+
+const header = "\x00asm\x01\x00\x00\x00"
+
+func example(t *testing.T, name string) []byte {
+	t.Helper()
+	contents, err := os.ReadFile("../" + name)
+	if err != nil {
+		t.Fatal(err)
+	}
+	return contents
+}
+
+func opened(t *testing.T, module []byte) *Module {
+	t.Helper()
+	made, err := NewModule(module)
+	if err != nil {
+		t.Fatal(err)
+	}
+	t.Cleanup(func() { made.Close() })
+	return made
+}
+
+// unsigned is LEB128.
+func unsigned(number int) []byte {
+	if number < 0x80 {
+		return []byte{byte(number)}
+	}
+	return append([]byte{byte(number) | 0x80}, unsigned(number>>7)...)
+}
+
+func section(id byte, parts ...[]byte) []byte {
+	contents := bytes.Join(parts, nil)
+	return bytes.Join([][]byte{{id}, unsigned(len(contents)), contents}, nil)
+}
+
+// moduleOfType is a module whose function `f` has that type and that body.
+func moduleOfType(functionType, body []byte) []byte {
+	return bytes.Join([][]byte{
+		[]byte(header),
+		section(1, []byte{1, 0x60}, functionType),
+		section(3, []byte{1, 0}),
+		section(7, []byte("\x01\x01f\x00\x00")),
+		section(10, []byte{1}, unsigned(len(body)), body),
+	}, nil)
+}
+
+// sevens is a module whose function `f` has that many results: 7 each.
+func sevens(count int) []byte {
+	functionType := bytes.Join([][]byte{{0}, unsigned(count), bytes.Repeat([]byte{0x7f}, count)}, nil)
+	return moduleOfType(functionType, bytes.Join([][]byte{{0}, bytes.Repeat([]byte{0x41, 7}, count), {0x0b}}, nil))
+}
+
+func TestInterface(t *testing.T) {
+	if Interface() != 1 {
+		t.Error(Interface())
+	}
+}
+
+func TestVerdicts(t *testing.T) {
+	withBody := func(body ...byte) []byte { return moduleOfType([]byte{0, 0}, body) }
+	table := []struct {
+		module []byte
+		wanted error
+		line   string
+	}{
+		{[]byte(header), nil, ""},
+		{withBody(0, 0x0b), nil, ""},
+		{nil, Refusal{Kind: Malformed}, "refused malformed"},
+		{make([]byte, 1<<24+1), Refusal{Kind: TooLarge}, "refused too-large"},
+		{[]byte(header + "\x08\x01\x00"), Refusal{Kind: BrokenRule, Rule: 11}, "refused rule 11"},
+		{withBody(0, 0xff, 0x0b), Refusal{Kind: BodyMalformed}, "refused body 0 malformed"},
+		{withBody(1, 0xa1, 0x8d, 6, 0x7f, 0x0b), Refusal{Kind: BodyTooManyLocals}, "refused body 0 too-many-locals"},
+		{withBody(0, 1, 0x6a, 0x0b), Refusal{Kind: BodyIllTyped, Token: 1}, "refused body 0 ill-typed at 1"},
+	}
+	for place, row := range table {
+		got := Check(row.module)
+		if got != row.wanted || got != nil && got.Error() != row.line {
+			t.Errorf("row %d: %v", place, got)
+		}
+		module, err := NewModule(row.module)
+		if err != row.wanted {
+			t.Errorf("row %d, as a module: %v", place, err)
+		}
+		if err == nil {
+			module.Close()
+		}
+	}
+}
+
+func TestReportsOfTheExamples(t *testing.T) {
+	for _, name := range []string{"fold", "primes"} {
+		module, calls := example(t, name+".wasm"), example(t, name+".calls")
+		wanted := Report{string(example(t, name+".report")), Reported}
+		if got, err := Run(module, calls, DefaultSettings()); err != nil || got != wanted {
+			t.Error(name, got, err)
+		}
+		if got, err := opened(t, module).Run(calls, DefaultSettings()); err != nil || got != wanted {
+			t.Error(name, got, err)
+		}
+	}
+}
+
+func TestRefusalsAsReports(t *testing.T) {
+	for _, row := range []struct {
+		module, calls string
+		wanted        Report
+	}{
+		{"", "f\n", Report{"refused malformed\n", ModuleRefused}},
+		{header, "f\nf", Report{"accepted\ncalls line 2 refused\n", CallsRefused}},
+		{header, strings.Repeat("\n", 100_001), Report{"accepted\ncalls line 100001 refused\n", CallsRefused}},
+	} {
+		if got, err := Run([]byte(row.module), []byte(row.calls), DefaultSettings()); err != nil || got != row.wanted {
+			t.Error(got, err)
+		}
+	}
+}
+
+// Reports of each length about the room of the first buffer, and one of megabytes.
+func TestLongReports(t *testing.T) {
+	add := example(t, "add.wasm")
+	module := opened(t, add)
+	counts := []int{100_000}
+	for count := 160; count < 200; count++ {
+		counts = append(counts, count)
+	}
+	for _, count := range counts {
+		var wanted strings.Builder
+		for number := 0; number < count; number++ {
+			fmt.Fprintf(&wanted, "%d values i32:2 fuel 1\n", number)
+		}
+		fmt.Fprintf(&wanted, "total %d values %d traps 0 exhausted 0 refused 0 no-memory 0 fuel %d\n", count, count, count)
+		calls := []byte(strings.Repeat("add\ti32:1\ti32:1\n", count))
+		if got, err := Run(add, calls, DefaultSettings()); err != nil || got.Text != wanted.String() {
+			t.Error(count, err)
+		}
+		if got, err := module.Run(calls, DefaultSettings()); err != nil || got.Text != wanted.String() {
+			t.Error(count, err)
+		}
+	}
+}
+
+func TestResultsOfAnyNumber(t *testing.T) {
+	for _, count := range []int{0, 1, 2, 15, 16, 17, 1024, 1025} {
+		module := opened(t, sevens(count))
+		for turn := 0; turn < 3; turn++ {
+			call, err := module.Call("f", DefaultSettings())
+			if err != nil || len(call.Results) != count || call.Fuel != 1 {
+				t.Fatal(count, len(call.Results), call.Fuel, err)
+			}
+			for _, value := range call.Results {
+				if value != I32(7) {
+					t.Fatal(count, value)
+				}
+			}
+		}
+	}
+}
+
+func TestEndsOfCalls(t *testing.T) {
+	module := opened(t, example(t, "fold.wasm"))
+	range10 := []Value{I32(0), I32(10)}
+	limits := func(fuel, pages uint32) Settings { return Settings{fuel, 16, pages} }
+	for _, row := range []struct {
+		name     string
+		settings Settings
+		args     []Value
+		wanted   Call
+		err      error
+	}{
+		{"fold", limits(1000, 1), range10, Call{[]Value{I32(385)}, 31}, nil},
+		{"fold", limits(30, 1), range10, Call{[]Value{}, 30}, OutOfFuel},
+		{"word", limits(1000, 1), []Value{I32(16384)}, Call{[]Value{}, 12}, OutOfBounds},
+		{"stop", limits(1000, 1), nil, Call{[]Value{}, 12}, Unreachable},
+		{"none", limits(1000, 1), nil, Call{[]Value{}, 0}, NoExport},
+		{"stop", limits(1000, 1), []Value{I64(1)}, Call{[]Value{}, 0}, BadArguments},
+		{"stop", limits(1000, 0), nil, Call{[]Value{}, 0}, NotStarted{Reason: MemoryLimit}},
+		{"stop", Settings{0, 0, 0}, nil, Call{}, SettingsError{"Frames", 0, 1, MostFrames}},
+	} {
+		got, err := module.Call(row.name, row.settings, row.args...)
+		if !errors.Is(err, row.err) || !reflect.DeepEqual(got, row.wanted) {
+			t.Error(row.name, row.settings, got, err)
+		}
+	}
+}
+
+func TestLimits(t *testing.T) {
+	for _, most := range []Settings{{MostFuel, MostFrames, MostPages}, {0, 1, 0}} {
+		if _, err := Run([]byte(header), nil, most); err != nil {
+			t.Error(err)
+		}
+	}
+	for _, over := range []Settings{{MostFuel + 1, 1, 0}, {0, 0, 0}, {0, MostFrames + 1, 0}, {0, 1, MostPages + 1}} {
+		var wanted SettingsError
+		if _, err := Run([]byte(header), nil, over); !errors.As(err, &wanted) {
+			t.Error(over, err)
+		}
+	}
+}
+
+func TestNumbersOfBothWidths(t *testing.T) {
+	module := opened(t, moduleOfType([]byte{2, 0x7f, 0x7e, 2, 0x7f, 0x7e}, []byte{0, 0x20, 0, 0x20, 1, 0x0b}))
+	for _, args := range [][]Value{{I32(-1 << 31), I64(-1 << 63)}, {I32(-1), I64(-1)}, {I32(1<<31 - 1), I64(1<<63 - 1)}} {
+		got, err := module.Call("f", DefaultSettings(), args...)
+		if err != nil || !reflect.DeepEqual(got.Results, args) {
+			t.Error(got, err)
+		}
+	}
+	if _, err := module.Call("f", DefaultSettings(), I64(0), I32(0)); err != BadArguments {
+		t.Error(err)
+	}
+}
+
+func TestParseValue(t *testing.T) {
+	for word, wanted := range map[string]Value{
+		"i32:0": I32(0), "i32:-2147483648": I32(-1 << 31), "i64:9223372036854775807": I64(1<<63 - 1),
+	} {
+		if got, err := ParseValue(word); err != nil || got != wanted {
+			t.Error(word, got, err)
+		}
+	}
+	for _, word := range []string{"", "5", "i32:", "i32:i64:1", "i32:+1", "i32:01", "i64:-0", "i32:2147483648", "i64:9223372036854775808"} {
+		if got, err := ParseValue(word); err == nil {
+			t.Error(word, got)
+		}
+	}
+}
+
+// Half of the goroutines have a module of their own, and outlive the one that it comes of; the others wait for one another.
+func TestGoroutines(t *testing.T) {
+	module, err := NewModule(example(t, "fold.wasm"))
+	if err != nil {
+		t.Fatal(err)
+	}
+	work := func(module *Module, done *sync.WaitGroup) {
+		defer done.Done()
+		for turn := 0; turn < 300; turn++ {
+			call, err := module.Call("fold", DefaultSettings(), I32(0), I32(10))
+			if err != nil || call.Results[0] != I32(385) || call.Fuel != 31 {
+				t.Error(call, err)
+			}
+		}
+		module.Close()
+	}
+	var own, same sync.WaitGroup
+	last, err := module.Share()
+	if err != nil {
+		t.Fatal(err)
+	}
+	for number := 0; number < 8; number++ {
+		share, err := module.Share()
+		if err != nil {
+			t.Fatal(err)
+		}
+		own.Add(1)
+		go work(share, &own)
+	}
+	module.Close()
+	same.Add(8)
+	for number := 0; number < 8; number++ {
+		go func() {
+			defer same.Done()
+			if _, err := last.Call("stop", DefaultSettings()); err != Unreachable {
+				t.Error(err)
+			}
+		}()
+	}
+	same.Wait()
+	last.Close()
+	own.Wait()
+}
+
+func TestClosed(t *testing.T) {
+	module := opened(t, example(t, "add.wasm"))
+	module.Close()
+	_, called := module.Call("add", DefaultSettings(), I32(1), I32(1))
+	_, ran := module.Run(nil, DefaultSettings())
+	_, shared := module.Share()
+	if called != ErrClosed || ran != ErrClosed || shared != ErrClosed || module.Close() != nil {
+		t.Error(called, ran, shared)
+	}
+}

@@ -1,0 +1,181 @@
+package gate
+
+// #include <stdlib.h>
+// #include "gate.h"
+import "C"
+
+import (
+	"errors"
+	"sync"
+	"sync/atomic"
+	"unsafe"
+)
+
+// ErrClosed says that a module was used after its Close.
+var ErrClosed = errors.New("the module is closed")
+
+// How many results a first call has room for, and any call before it asked for more.
+const (
+	firstResults = 16
+	mostResults  = 1024
+)
+
+// Module is an accepted module: judged once, called often. Each call has an instance of its own, so no call sees what another one
+// wrote.
+//
+// Calls of one Module wait for one another, since a call has its handle to itself; goroutines that call at the same time have one
+// each, by Share. What is not closed is never freed.
+type Module struct {
+	mutex  sync.Mutex
+	handle C.gate_module
+	bytes  *shared // nil once it is closed
+	room   int     // the results that the next call has room for: as many as any call gave, from firstResults to mostResults
+}
+
+// shared is the bytes of a module in C's memory: Go's may not be kept by C.
+type shared struct {
+	at      unsafe.Pointer
+	handles atomic.Int32
+}
+
+// NewModule judges a module, of which it takes a copy. The error is its Refusal or ErrNoMemory.
+func NewModule(module []byte) (*Module, error) {
+	bytes := &shared{at: C.CBytes(module)}
+	var verdict C.gate_verdict
+	var handle C.gate_module
+	err := judged(C.gate_module_new((*C.uint8_t)(bytes.at), C.size_t(len(module)), &verdict, &handle), &verdict)
+	if err != nil {
+		C.free(bytes.at)
+		return nil, err
+	}
+	return moduleOf(handle, bytes), nil
+}
+
+func moduleOf(handle C.gate_module, bytes *shared) *Module {
+	bytes.handles.Add(1)
+	return &Module{handle: handle, bytes: bytes, room: firstResults}
+}
+
+// Call calls an export. The error is an End, a Trap, NotStarted, a SettingsError, ErrNoMemory or ErrClosed.
+//
+// The library does not tell how many results a function has before it was called. So where there are more than 16, and more than
+// any call of this module gave, or more than 1,024, the function is called once more: on a fresh instance, so with the same end.
+func (m *Module) Call(name string, settings Settings, args ...Value) (Call, error) {
+	limits, err := settings.inC()
+	if err != nil {
+		return Call{}, err
+	}
+	m.mutex.Lock()
+	defer m.mutex.Unlock()
+	if m.bytes == nil {
+		return Call{}, ErrClosed
+	}
+	ended, results, err := m.called([]byte(name), argsInC(args), &limits)
+	if err != nil {
+		return Call{}, err
+	}
+	m.room = within(len(results), m.room, mostResults)
+	return Call{valuesOf(results), uint32(ended.fuel)}, endOf(&ended)
+}
+
+// called calls with as much room as the results need.
+func (m *Module) called(name []byte, args []C.gate_value, limits *C.gate_settings) (C.gate_call, []C.gate_value, error) {
+	nameAt, nameLength := inC(name)
+	var argsAt *C.gate_value
+	if len(args) > 0 {
+		argsAt = &args[0]
+	}
+	for room := C.uint64_t(m.room); ; {
+		var ended C.gate_call
+		results := make([]C.gate_value, room)
+		status := C.gate_module_call(m.handle, nameAt, nameLength, argsAt, C.size_t(len(args)), limits, &results[0],
+			C.size_t(len(results)), &ended)
+		if status == C.GATE_NO_MEMORY {
+			return ended, nil, ErrNoMemory
+		}
+		if status != C.GATE_OK {
+			panic(beyondInterface("status", status))
+		}
+		if ended.results <= room {
+			return ended, results[:ended.results], nil
+		}
+		room = ended.results
+	}
+}
+
+func within(number, least, most int) int {
+	if number < least {
+		return least
+	}
+	if number > most {
+		return most
+	}
+	return number
+}
+
+func argsInC(args []Value) []C.gate_value {
+	numbers := make([]C.gate_value, len(args))
+	for place, value := range args {
+		numbers[place] = value.inC()
+	}
+	return numbers
+}
+
+func valuesOf(numbers []C.gate_value) []Value {
+	values := make([]Value, len(numbers))
+	for place, number := range numbers {
+		values[place] = valueOf(number)
+	}
+	return values
+}
+
+// Run runs the calls of a text, as the function Run does. The error is a SettingsError, ErrNoMemory or ErrClosed.
+func (m *Module) Run(calls []byte, settings Settings) (Report, error) {
+	limits, err := settings.inC()
+	if err != nil {
+		return Report{}, err
+	}
+	m.mutex.Lock()
+	defer m.mutex.Unlock()
+	if m.bytes == nil {
+		return Report{}, ErrClosed
+	}
+	at, length := inC(calls)
+	return written(func(out *C.uint8_t, room C.size_t, wanted *C.size_t, kept *C.gate_report) C.uint32_t {
+		return C.gate_module_run(m.handle, at, length, &limits, out, room, wanted, kept)
+	})
+}
+
+// Share gives the same module once more, for another goroutine, to be closed on its own. Nothing is judged again and no byte is
+// copied. The error is ErrNoMemory or ErrClosed.
+func (m *Module) Share() (*Module, error) {
+	m.mutex.Lock()
+	defer m.mutex.Unlock()
+	if m.bytes == nil {
+		return nil, ErrClosed
+	}
+	var other C.gate_module
+	switch status := C.gate_module_share(m.handle, &other); status {
+	case C.GATE_OK:
+		return moduleOf(other, m.bytes), nil
+	case C.GATE_NO_MEMORY:
+		return nil, ErrNoMemory
+	default:
+		panic(beyondInterface("status", status))
+	}
+}
+
+// Close frees the module, and with the last of those that share them the bytes. A second Close does nothing. The error is nil.
+func (m *Module) Close() error {
+	m.mutex.Lock()
+	defer m.mutex.Unlock()
+	if m.bytes == nil {
+		return nil
+	}
+	C.gate_module_free(m.handle)
+	if m.bytes.handles.Add(-1) == 0 {
+		C.free(m.bytes.at)
+	}
+	m.bytes = nil
+	return nil
+}

@@ -1,0 +1,41 @@
+//! A proved validator and sandbox for WebAssembly, over the library libgate.
+//!
+//! ```
+//! use gate::{check, Module, Settings};
+//!
+//! let bytes = std::fs::read("../fold.wasm")?;
+//! check(&bytes)?; // or the first reason to refuse it
+//!
+//! let module = Module::new(&bytes)?; // judged once, called often
+//! let limits = Settings::new(100, 16, 1)?; // fuel, frames, pages of memory
+//! let call = module.call("fold", &[0.into(), 10.into()], limits)?;
+//! assert_eq!(call.to_string(), "values i32:385 fuel 31");
+//! assert_eq!(module.call("stop", &[], limits)?.to_string(), "trap unreachable fuel 12");
+//! # Ok::<(), Box<dyn std::error::Error>>(())
+//! ```
+//!
+//! The library is proved; this crate is not: its `unsafe` blocks say what they rest on. Every function may be called from many
+//! threads at once, and a [`Module`] is cloned for each. The library stops no process, and nothing unwinds out of it. Fuel and
+//! pages bound a call; a check has no limit but the module's length, and nothing interrupts either.
+mod call;
+mod error;
+mod ffi;
+mod module;
+mod report;
+mod settings;
+mod value;
+mod verdict;
+
+pub use call::{Call, End, NotStarted, Trap};
+pub use error::{CheckError, NoMemory};
+pub use module::Module;
+pub use report::{run, Report, Status};
+pub use settings::{Settings, SettingsError};
+pub use value::{Value, ValueError};
+pub use verdict::{check, judge, BodyFault, Refusal, Verdict};
+
+/// The number of the library's interface. This crate is written for 1.
+pub fn interface() -> u32 {
+    // SAFETY: it takes and touches nothing.
+    unsafe { ffi::gate_version() }
+}

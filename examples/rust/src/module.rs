@@ -1,0 +1,203 @@
+//! An accepted module: judged once, called often.
+use crate::ffi;
+use crate::{Call, CheckError, NoMemory, Refusal, Report, Settings, Value};
+use std::cell::Cell;
+use std::marker::PhantomData;
+use std::ptr;
+use std::slice;
+use std::sync::Arc;
+
+/// The results that a first call has room for.
+const ROOM: usize = 16;
+
+/// The most results that a call has room for before it asked for more.
+const MOST_ROOM: usize = 1024;
+
+/// An accepted module. Each call has an instance of its own, so no call sees what another one wrote.
+///
+/// ```
+/// use gate::{End, Module, Settings, Value};
+///
+/// let bytes = std::fs::read("../add.wasm")?;
+/// let module = Module::new(&bytes)?;
+/// let call = module.call("add", &[Value::I32(40), Value::I32(2)], Settings::default())?;
+/// assert_eq!(call.end, End::Values(vec![Value::I32(42)]));
+/// assert_eq!(call.fuel, 1);
+/// # Ok::<(), Box<dyn std::error::Error>>(())
+/// ```
+///
+/// A module may go to another thread, but two threads share none, since a call has its handle to itself. Each thread has one
+/// of its own, by [`Module::try_clone`]:
+///
+/// ```
+/// # use gate::{End, Module, Settings, Value};
+/// # let bytes = std::fs::read("../add.wasm")?;
+/// # let module = Module::new(&bytes)?;
+/// std::thread::scope(|scope| {
+///     for number in 0..4 {
+///         let module = module.try_clone()?;
+///         scope.spawn(move || module.call("add", &[number.into(), 1.into()], Settings::default()));
+///     }
+///     Ok::<(), gate::NoMemory>(())
+/// })?;
+/// # Ok::<(), Box<dyn std::error::Error>>(())
+/// ```
+///
+/// ```compile_fail
+/// # let bytes = std::fs::read("../add.wasm").unwrap();
+/// let module = gate::Module::new(&bytes).unwrap();
+/// std::thread::scope(|scope| {
+///     scope.spawn(|| module.try_clone()); // error: `Module` cannot be shared between threads
+/// });
+/// ```
+#[derive(Debug)]
+pub struct Module<'a> {
+    handle: ffi::Module,
+    /// The results that the next call has room for: as many as any call gave, from `ROOM` to `MOST_ROOM`.
+    room: Cell<usize>,
+    /// The bytes, where the module owns them.
+    owned: Option<Arc<Vec<u8>>>,
+    borrowed: PhantomData<&'a [u8]>,
+}
+
+// SAFETY: the library proves that what is behind a handle may go to another thread. `Module` is not `Sync`, and must not be:
+// the functions take `&self`, and a call has its handle to itself by the library's contract. On one thread that holds, since
+// the library calls nothing of ours back.
+unsafe impl Send for Module<'_> {}
+
+impl<'a> Module<'a> {
+    /// Judges a module, which borrows its bytes.
+    pub fn new(bytes: &'a [u8]) -> Result<Self, CheckError> {
+        let mut verdict = ffi::Verdict::default();
+        let mut handle = ffi::Module { at: ptr::null_mut() };
+        // SAFETY: the bytes stay as they are until the handle is freed, since `Module` borrows them.
+        match unsafe { ffi::gate_module_new(bytes.as_ptr(), bytes.len(), &mut verdict, &mut handle) } {
+            ffi::OK => Ok(Self::of(handle, None)),
+            ffi::MODULE_REFUSED => Err(Refusal::of(&verdict).into()),
+            ffi::NO_MEMORY => Err(CheckError::NoMemory),
+            status => ffi::beyond_interface("status", status),
+        }
+    }
+
+    fn of(handle: ffi::Module, owned: Option<Arc<Vec<u8>>>) -> Self {
+        Module {
+            handle,
+            room: Cell::new(ROOM),
+            owned,
+            borrowed: PhantomData,
+        }
+    }
+
+    /// Calls an export.
+    ///
+    /// The library does not tell how many results a function has before it was called. So where there are more than 16, and
+    /// more than any call of this module gave, or more than 1,024, the function is called once more: on a fresh instance, so
+    /// with the same end.
+    pub fn call(&self, name: &str, args: &[Value], settings: Settings) -> Result<Call, NoMemory> {
+        let args: Vec<ffi::Value> = args.iter().map(|value| value.to_c()).collect();
+        let settings = settings.to_c();
+        let mut room = self.room.get();
+        loop {
+            let (ended, results) = self.call_with_room(name, &args, &settings, room)?;
+            let count = usize::try_from(ended.results).map_err(|_| NoMemory)?;
+            if count <= room {
+                self.room.set(room.min(MOST_ROOM));
+                return Call::of(&ended, results);
+            }
+            room = count;
+        }
+    }
+
+    /// How a call ended, and as many of its results as there is room for.
+    fn call_with_room(
+        &self,
+        name: &str,
+        args: &[ffi::Value],
+        settings: &ffi::Settings,
+        room: usize,
+    ) -> Result<(ffi::Call, Vec<ffi::Value>), NoMemory> {
+        let mut results: Vec<ffi::Value> = Vec::new();
+        results.try_reserve_exact(room).map_err(|_| NoMemory)?;
+        let mut ended = ffi::Call::default();
+        // SAFETY: the handle is not freed, and no other call has it; the slices are borrowed for the call, and `results` has
+        // the room that is told.
+        let status = unsafe {
+            ffi::gate_module_call(
+                self.handle,
+                name.as_ptr(),
+                name.len(),
+                args.as_ptr(),
+                args.len(),
+                settings,
+                results.as_mut_ptr(),
+                room,
+                &mut ended,
+            )
+        };
+        match status {
+            ffi::OK => {}
+            ffi::NO_MEMORY => return Err(NoMemory),
+            status => ffi::beyond_interface("status", status),
+        }
+        let written = usize::try_from(ended.results).map_or(room, |count| count.min(room));
+        // SAFETY: the library has written as many results as there are and there is room for.
+        unsafe { results.set_len(written) };
+        Ok((ended, results))
+    }
+
+    /// Runs the calls of a text, as [`run`](crate::run) does.
+    pub fn run(&self, calls: &[u8], settings: Settings) -> Result<Report, NoMemory> {
+        let settings = settings.to_c();
+        let write = |out, room, length: &mut usize, kept: &mut ffi::Report| {
+            // SAFETY: the handle is not freed, and no other call has it; the slice is borrowed for the call; `out`, `length`
+            // and `kept` are reached by nobody else.
+            unsafe { ffi::gate_module_run(self.handle, calls.as_ptr(), calls.len(), &settings, out, room, length, kept) }
+        };
+        // SAFETY: it is `gate_module_run`.
+        unsafe { Report::written(write) }
+    }
+
+    /// The same module once more, for another thread. Nothing is judged again and no byte is copied.
+    pub fn try_clone(&self) -> Result<Self, NoMemory> {
+        let mut other = ffi::Module { at: ptr::null_mut() };
+        // SAFETY: the handle is not freed, and no other call has it.
+        match unsafe { ffi::gate_module_share(self.handle, &mut other) } {
+            ffi::OK => Ok(Self::of(other, self.owned.clone())),
+            ffi::NO_MEMORY => Err(NoMemory),
+            status => ffi::beyond_interface("status", status),
+        }
+    }
+}
+
+impl Module<'static> {
+    /// Judges a module that owns its bytes, so that it can be kept anywhere. Where it is refused the bytes are dropped.
+    ///
+    /// ```
+    /// use gate::{Module, Settings};
+    ///
+    /// struct Plugin {
+    ///     module: Module<'static>,
+    /// }
+    ///
+    /// let plugin = Plugin { module: Module::from_vec(std::fs::read("../add.wasm")?)? };
+    /// let call = plugin.module.call("add", &[1.into(), 2.into()], Settings::default())?;
+    /// assert_eq!(call.to_string(), "values i32:3 fuel 1");
+    /// # Ok::<(), Box<dyn std::error::Error>>(())
+    /// ```
+    pub fn from_vec(bytes: Vec<u8>) -> Result<Self, CheckError> {
+        let bytes = Arc::new(bytes);
+        // SAFETY: the module and its clones keep the bytes until after their handles are freed, nobody writes what an `Arc`
+        // shares, and the bytes of a vector do not move with it.
+        let borrowed: &'static [u8] = unsafe { slice::from_raw_parts(bytes.as_ptr(), bytes.len()) };
+        let mut module = Module::new(borrowed)?;
+        module.owned = Some(bytes);
+        Ok(module)
+    }
+}
+
+impl Drop for Module<'_> {
+    fn drop(&mut self) {
+        // SAFETY: the handle is the library's own, and freed here alone; the bytes are dropped after this.
+        unsafe { ffi::gate_module_free(self.handle) }
+    }
+}

@@ -1,0 +1,145 @@
+//! What each call is held to.
+use crate::ffi;
+use std::error::Error;
+use std::fmt;
+
+/// The limits of each call. The default is that of the program `gate`: 1,000,000 of fuel, 1,024 frames and 256 pages.
+///
+/// ```
+/// use gate::{Settings, SettingsError};
+///
+/// let settings = Settings::new(500, 64, 1)?;
+/// assert_eq!(settings.fuel(), 500);
+/// assert_eq!(Settings::new(500, 0, 1), Err(SettingsError::Frames(0)));
+/// # Ok::<(), SettingsError>(())
+/// ```
+#[derive(Clone, Copy, Debug, PartialEq, Eq, Hash)]
+pub struct Settings {
+    fuel: u32,
+    frames: u32,
+    pages: u32,
+}
+
+impl Settings {
+    /// The most fuel.
+    pub const MOST_FUEL: u32 = 1_000_000_000;
+    /// The most frames; the fewest are 1.
+    pub const MOST_FRAMES: u32 = 4_096;
+    /// The most pages, of 65,536 bytes each.
+    pub const MOST_PAGES: u32 = 1_024;
+
+    /// The first limit that is out of its range is the error.
+    pub fn new(fuel: u32, frames: u32, pages: u32) -> Result<Self, SettingsError> {
+        if fuel > Self::MOST_FUEL {
+            Err(SettingsError::Fuel(fuel))
+        } else if !(1..=Self::MOST_FRAMES).contains(&frames) {
+            Err(SettingsError::Frames(frames))
+        } else if pages > Self::MOST_PAGES {
+            Err(SettingsError::Pages(pages))
+        } else {
+            Ok(Settings { fuel, frames, pages })
+        }
+    }
+
+    /// How many functions may be entered and loops begun.
+    pub fn fuel(self) -> u32 {
+        self.fuel
+    }
+
+    /// How many functions may be entered and not yet left.
+    pub fn frames(self) -> u32 {
+        self.frames
+    }
+
+    /// How many pages the memory may have.
+    pub fn pages(self) -> u32 {
+        self.pages
+    }
+
+    pub(crate) fn to_c(self) -> ffi::Settings {
+        let Settings { fuel, frames, pages } = self;
+        ffi::Settings { fuel, frames, pages }
+    }
+}
+
+impl Default for Settings {
+    fn default() -> Self {
+        Settings {
+            fuel: 1_000_000,
+            frames: 1_024,
+            pages: 256,
+        }
+    }
+}
+
+/// The limit that is out of its range, with what was asked for.
+#[derive(Clone, Copy, Debug, PartialEq, Eq, Hash)]
+pub enum SettingsError {
+    /// Above [`Settings::MOST_FUEL`].
+    Fuel(u32),
+    /// 0, or above [`Settings::MOST_FRAMES`].
+    Frames(u32),
+    /// Above [`Settings::MOST_PAGES`].
+    Pages(u32),
+}
+
+impl fmt::Display for SettingsError {
+    fn fmt(&self, f: &mut fmt::Formatter<'_>) -> fmt::Result {
+        match self {
+            SettingsError::Fuel(fuel) => write!(f, "fuel {fuel} is not from 0 to {}", Settings::MOST_FUEL),
+            SettingsError::Frames(frames) => write!(f, "frames {frames} are not from 1 to {}", Settings::MOST_FRAMES),
+            SettingsError::Pages(pages) => write!(f, "pages {pages} are not from 0 to {}", Settings::MOST_PAGES),
+        }
+    }
+}
+
+impl Error for SettingsError {}
+
+#[cfg(test)]
+mod tests {
+    use super::*;
+    use std::ptr;
+
+    /// Whether the library takes these limits.
+    fn library_takes(fuel: u32, frames: u32, pages: u32) -> bool {
+        let settings = ffi::Settings { fuel, frames, pages };
+        let (mut out, mut length) = ([0; 100], 0);
+        let mut kept = ffi::Report { at: ptr::null_mut() };
+        let module = b"";
+        // SAFETY: `out` has the room that is told and takes any refusal; nothing overlaps.
+        let status = unsafe {
+            ffi::gate_run(
+                module.as_ptr(),
+                module.len(),
+                module.as_ptr(),
+                module.len(),
+                &settings,
+                out.as_mut_ptr(),
+                out.len(),
+                &mut length,
+                &mut kept,
+            )
+        };
+        assert!(status == ffi::MODULE_REFUSED || status == 64);
+        status == ffi::MODULE_REFUSED
+    }
+
+    #[test]
+    fn ranges_are_the_library_s() {
+        let edges = |most: u32| [0, 1, most, most + 1, u32::MAX];
+        for fuel in edges(Settings::MOST_FUEL) {
+            for frames in edges(Settings::MOST_FRAMES) {
+                for pages in edges(Settings::MOST_PAGES) {
+                    let ours = Settings::new(fuel, frames, pages).is_ok();
+                    assert_eq!(ours, library_takes(fuel, frames, pages), "{fuel} {frames} {pages}");
+                }
+            }
+        }
+    }
+
+    #[test]
+    fn defaults_are_in_range() {
+        let Settings { fuel, frames, pages } = Settings::default();
+        assert_eq!(Settings::new(fuel, frames, pages), Ok(Settings::default()));
+    }
+}

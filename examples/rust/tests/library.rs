@@ -1,0 +1,239 @@
+//! The crate over the library, on modules whose answers are known.
+use gate::{
+    check, judge, run, BodyFault, CheckError, End, Module, NotStarted, Refusal, Settings, SettingsError, Status, Trap, Value, Verdict,
+};
+use std::fs;
+use std::thread;
+
+const HEADER: &[u8] = b"\0asm\x01\0\0\0";
+
+fn example(name: &str) -> Vec<u8> {
+    fs::read(format!("{}/../{name}", env!("CARGO_MANIFEST_DIR"))).unwrap()
+}
+
+/// A module of these sections.
+fn module(sections: &[(u8, &[u8])]) -> Vec<u8> {
+    let mut bytes = HEADER.to_vec();
+    for (id, contents) in sections {
+        bytes.push(*id);
+        bytes.extend(unsigned(contents.len()));
+        bytes.extend(*contents);
+    }
+    bytes
+}
+
+/// LEB128.
+fn unsigned(mut number: usize) -> Vec<u8> {
+    let mut bytes = Vec::new();
+    while number >= 0x80 {
+        bytes.push(number as u8 | 0x80);
+        number >>= 7;
+    }
+    bytes.push(number as u8);
+    bytes
+}
+
+/// A module whose function `f`, without parameters, has that many results: 7 each.
+fn sevens(count: usize) -> Vec<u8> {
+    let types = [&[1, 0x60, 0][..], &unsigned(count), &vec![0x7f; count]].concat();
+    let body = [&[0][..], &[0x41, 7].repeat(count), &[0x0b]].concat();
+    let code = [&[1][..], &unsigned(body.len()), &body].concat();
+    module(&[(1, &types), (3, &[1, 0]), (7, b"\x01\x01f\0\0"), (10, &code)])
+}
+
+/// A module with one function of type [] -> [] of this body.
+fn with_body(body: &[u8]) -> Vec<u8> {
+    let code = [&[1][..], &unsigned(body.len()), body].concat();
+    module(&[(1, &[1, 0x60, 0, 0]), (3, &[1, 0]), (7, b"\x01\x01f\0\0"), (10, &code)])
+}
+
+#[test]
+fn the_interface_is_the_crate_s() {
+    assert_eq!(gate::interface(), 1);
+}
+
+#[test]
+fn verdicts() {
+    let body = |class| Verdict::Refused(Refusal::Body { function: 0, class });
+    let table = [
+        (HEADER.to_vec(), Verdict::Accepted),
+        (example("add.wasm"), Verdict::Accepted),
+        (vec![], Verdict::Refused(Refusal::Malformed)),
+        (vec![0; (16 << 20) + 1], Verdict::Refused(Refusal::TooLarge)),
+        (module(&[(3, &[1, 0]), (10, &[1, 2, 0, 0x0b])]), Verdict::Refused(Refusal::Rule(3))),
+        (with_body(&[0, 0x0b]), Verdict::Accepted),
+        (with_body(&[0, 0xff, 0x0b]), body(BodyFault::Malformed)),
+        (with_body(&[1, 0xa1, 0x8d, 6, 0x7f, 0x0b]), body(BodyFault::TooManyLocals)),
+        (with_body(&[0, 0x01, 0x6a, 0x0b]), body(BodyFault::IllTyped { token: 1 })),
+    ];
+    for (bytes, verdict) in table {
+        assert_eq!(judge(&bytes), Ok(verdict));
+        let wanted = match verdict {
+            Verdict::Accepted => Ok(()),
+            Verdict::Refused(refusal) => Err(CheckError::Refused(refusal)),
+        };
+        assert_eq!(check(&bytes), wanted);
+        assert_eq!(Module::new(&bytes).map(drop), wanted);
+    }
+}
+
+#[test]
+fn reports_of_the_examples() {
+    for name in ["fold", "primes"] {
+        let (bytes, calls) = (example(&format!("{name}.wasm")), example(&format!("{name}.calls")));
+        let wanted = String::from_utf8(example(&format!("{name}.report"))).unwrap();
+        let settings = Settings::default();
+        let report = run(&bytes, &calls, settings).unwrap();
+        assert_eq!((report.status(), report.text()), (Status::Reported, wanted.as_str()));
+        assert_eq!(Module::new(&bytes).unwrap().run(&calls, settings), Ok(report));
+    }
+}
+
+#[test]
+fn refusals_as_reports() {
+    let settings = Settings::default();
+    let refused = run(b"", b"f\n", settings).unwrap();
+    assert_eq!((refused.status(), refused.text()), (Status::ModuleRefused, "refused malformed\n"));
+    let refused = run(HEADER, b"f\nf", settings).unwrap();
+    assert_eq!(
+        (refused.status(), refused.text()),
+        (Status::CallsRefused, "accepted\ncalls line 2 refused\n")
+    );
+    let refused = Module::new(HEADER).unwrap().run(&[b'\n'; 100_001], settings).unwrap();
+    assert_eq!(refused.text(), "accepted\ncalls line 100001 refused\n");
+}
+
+/// A report of each length about the room of the first buffer, and one of megabytes.
+#[test]
+fn long_reports_are_whole() {
+    let bytes = example("add.wasm");
+    let module = Module::new(&bytes).unwrap();
+    for count in (160..200).chain([100_000]) {
+        let calls = "add\ti32:1\ti32:1\n".repeat(count);
+        let lines: String = (0..count).map(|number| format!("{number} values i32:2 fuel 1\n")).collect();
+        let total = format!("total {count} values {count} traps 0 exhausted 0 refused 0 no-memory 0 fuel {count}\n");
+        let report = run(&bytes, calls.as_bytes(), Settings::default()).unwrap();
+        assert_eq!(report.status(), Status::Reported);
+        assert!(report.text() == lines + &total, "{count} calls");
+        assert!(module.run(calls.as_bytes(), Settings::default()) == Ok(report), "{count} calls");
+    }
+}
+
+#[test]
+fn results_of_any_number() {
+    for count in [0, 1, 2, 15, 16, 17, 1024, 1025] {
+        let bytes = sevens(count);
+        let module = Module::new(&bytes).unwrap();
+        for _ in 0..3 {
+            let call = module.call("f", &[], Settings::default()).unwrap();
+            assert_eq!((call.end, call.fuel), (End::Values(vec![Value::I32(7); count]), 1));
+        }
+    }
+}
+
+#[test]
+fn ends_of_calls() {
+    let bytes = example("fold.wasm");
+    let module = Module::new(&bytes).unwrap();
+    let call = |name, args: &[Value], fuel, frames| {
+        let settings = Settings::new(fuel, frames, 1).unwrap();
+        let call = module.call(name, args, settings).unwrap();
+        (call.end, call.fuel)
+    };
+    assert_eq!(
+        call("fold", &[0.into(), 10.into()], 1000, 16),
+        (End::Values(vec![Value::I32(385)]), 31)
+    );
+    assert_eq!(call("fold", &[0.into(), 10.into()], 30, 16), (End::OutOfFuel, 30));
+    assert_eq!(call("word", &[16384.into()], 1000, 16), (End::Trap(Trap::OutOfBounds), 12));
+    assert_eq!(call("stop", &[], 1000, 16), (End::Trap(Trap::Unreachable), 12));
+    assert_eq!(call("stop", &[], 0, 16), (End::OutOfFuel, 0));
+    assert_eq!(call("none", &[], 1000, 16), (End::NoExport, 0));
+    assert_eq!(call("stop", &[Value::I64(1)], 1000, 16), (End::BadArguments, 0));
+    let settings = Settings::new(1000, 16, 0).unwrap();
+    assert_eq!(
+        module.call("stop", &[], settings).unwrap().end,
+        End::NotStarted(NotStarted::MemoryLimit)
+    );
+}
+
+#[test]
+fn calls_that_do_not_start() {
+    let with_memory = module(&[(5, &[1, 0, 1]), (7, b"\x01\x01m\x02\0")]);
+    let call = |bytes: &[u8], name| Module::new(bytes).unwrap().call(name, &[], Settings::default()).unwrap().end;
+    assert_eq!(call(&with_memory, "m"), End::NotAFunction);
+    let types: (u8, &[u8]) = (1, &[1, 0x60, 0, 0]);
+    let function: (u8, &[u8]) = (3, &[1, 0]);
+    let export: (u8, &[u8]) = (7, b"\x01\x01f\0\0");
+    let code: (u8, &[u8]) = (10, &[1, 2, 0, 0x0b]);
+    let floats = module(&[types, function, export, (10, &[1, 8, 0, 0x43, 0, 0, 0, 0, 0x1a, 0x0b])]);
+    assert_eq!(call(&floats, "f"), End::NotStarted(NotStarted::Floats));
+    let imports = module(&[types, (2, b"\x01\0\0\0\0"), export]);
+    assert_eq!(call(&imports, "f"), End::NotStarted(NotStarted::Imports));
+    // The second data segment begins at 65,536.
+    let data: &[u8] = b"\x02\0\x41\0\x0b\x01a\0\x41\x80\x80\x04\x0b\x01a";
+    let outside = module(&[types, function, (5, &[1, 0, 1]), export, code, (11, data)]);
+    assert_eq!(call(&outside, "f"), End::NotStarted(NotStarted::DataOutside(1)));
+}
+
+#[test]
+fn numbers_of_both_widths() {
+    // `f` returns its parameters, an i32 and an i64.
+    let bytes = module(&[
+        (1, &[1, 0x60, 2, 0x7f, 0x7e, 2, 0x7f, 0x7e]),
+        (3, &[1, 0]),
+        (7, b"\x01\x01f\0\0"),
+        (10, &[1, 6, 0, 0x20, 0, 0x20, 1, 0x0b]),
+    ]);
+    let module = Module::new(&bytes).unwrap();
+    for args in [
+        [Value::I32(i32::MIN), Value::I64(i64::MIN)],
+        [Value::I32(-1), Value::I64(-1)],
+        [Value::I32(i32::MAX), Value::I64(i64::MAX)],
+    ] {
+        let call = module.call("f", &args, Settings::default()).unwrap();
+        assert_eq!(call.end, End::Values(args.to_vec()));
+    }
+    let swapped = module.call("f", &[Value::I64(0), Value::I32(0)], Settings::default());
+    assert_eq!(swapped.unwrap().end, End::BadArguments);
+}
+
+#[test]
+fn limits_out_of_range() {
+    assert_eq!(Settings::new(1_000_000_001, 1, 1), Err(SettingsError::Fuel(1_000_000_001)));
+    assert_eq!(Settings::new(0, 4_097, 1), Err(SettingsError::Frames(4_097)));
+    assert_eq!(Settings::new(0, 1, 1_025), Err(SettingsError::Pages(1_025)));
+}
+
+/// A handle each, on a module that owns its bytes, and which goes before its clones do.
+#[test]
+fn threads_have_a_clone_each() {
+    let module = Module::from_vec(example("fold.wasm")).unwrap();
+    let wanted = module.call("fold", &[0.into(), 10.into()], Settings::default());
+    let clones: Vec<Module> = (0..8).map(|_| module.try_clone().unwrap()).collect();
+    drop(module);
+    let threads: Vec<_> = clones
+        .into_iter()
+        .map(|clone| {
+            thread::spawn(move || {
+                (0..500)
+                    .map(|_| clone.call("fold", &[0.into(), 10.into()], Settings::default()))
+                    .collect()
+            })
+        })
+        .collect();
+    for thread in threads {
+        let calls: Vec<_> = thread.join().unwrap();
+        assert!(calls.iter().all(|call| *call == wanted));
+    }
+}
+
+#[test]
+fn threads_share_bytes() {
+    let bytes = example("primes.wasm");
+    thread::scope(|scope| {
+        for _ in 0..8 {
+            scope.spawn(|| assert!((0..500).all(|_| check(&bytes).is_ok())));
+        }
+    });
+}
