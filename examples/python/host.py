@@ -2,7 +2,8 @@
 """A host in small: judges modules and runs their calls, over libgate.
 
     host.py check NAME                          prints the verdict line of a file
-    host.py check -                             reads names of files, one a line, and prints a verdict line for each
+    host.py check -                             reads names of files, one a line, and prints for each its verdict line,
+                                                or `cannot be read`
     host.py run MODULE CALLS FUEL FRAMES PAGES  prints what `gate run` prints
     host.py call MODULE NAME [i32:N|i64:N ..]   prints how the call ends, as a report does after the number of its line
 
@@ -38,12 +39,21 @@ def names() -> Iterator[str]:
 
 def check(words: argparse.Namespace) -> int:
     if words.name == '-':
-        for name in names():
-            print(gate.check(read(name)))
-        return 0
+        return check_named()
     verdict = gate.check(read(words.name))
     print(verdict)
     return 0 if verdict else 2
+
+
+def check_named() -> int:
+    status = 0
+    for name in names():
+        try:
+            print(gate.check(read(name)))
+        except OSError:
+            print('cannot be read')
+            status = 74
+    return status
 
 
 def run(words: argparse.Namespace) -> int:

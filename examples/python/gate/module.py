@@ -16,8 +16,9 @@ from gate.settings import DEFAULT, Settings
 from gate.values import Value, name_bytes
 from gate.verdict import ModuleRefused, verdict_of
 
-# Calls of more results are made again, with room for all.
-RESULTS_ROOM = 16
+# How many results a first call has room for, and any call before it asks for more.
+FIRST_RESULTS = 16
+MOST_RESULTS = 1024
 
 
 def _free(handle: CModule, _held: object) -> None:
@@ -46,6 +47,7 @@ class Module:
         self._freed = weakref.finalize(self, _free, handle, held)
         # A thread that outlives the main one may still be in a call.
         self._freed.atexit = False
+        self._room = FIRST_RESULTS
 
     @contextlib.contextmanager
     def _open(self) -> Iterator[CModule]:
@@ -55,17 +57,26 @@ class Module:
             yield self._handle
 
     def call(self, name: str | bytes, *values: Value, settings: Settings = DEFAULT) -> End:
-        """Calls the export of that name on an instance of its own."""
+        """Calls the export of that name on an instance of its own.
+
+        Where there are more than 16 results, and more than any call of this object gave, or more than 1,024, the call is made
+        once more, with room for all. It ends in the same way.
+        """
         data = name_bytes(name)
         args = (CValue * len(values))(*(value.to_c() for value in values))
-        ended, room = CCall(), RESULTS_ROOM
         with self._open() as handle:
-            while True:
-                results = (CValue * room)()
-                expect(library.gate_module_call(handle, data, len(data), args, len(values), settings.to_c(), results, room, ended), OK)
-                if ended.results <= room:
-                    return end_of(ended, results[:ended.results])
-                room = ended.results
+            ended, results = self._called(handle, data, args, settings)
+        return end_of(ended, results)
+
+    def _called(self, handle: CModule, name: bytes, args: Any, settings: Settings) -> tuple[CCall, list[CValue]]:
+        ended, room = CCall(), self._room
+        while True:
+            results = (CValue * room)()
+            expect(library.gate_module_call(handle, name, len(name), args, len(args), settings.to_c(), results, room, ended), OK)
+            if ended.results <= room:
+                self._room = max(self._room, min(ended.results, MOST_RESULTS))
+                return ended, results[:ended.results]
+            room = ended.results
 
     def run(self, calls: Bytes, settings: Settings = DEFAULT) -> Report:
         """Runs the calls of a text, each on an instance of its own."""

@@ -7,8 +7,8 @@ from dataclasses import dataclass
 
 from gate._library import MODULE_REFUSED, OK, Bytes, CVerdict, expect, library, whole
 
-# The longest line has 57 bytes.
-LINE_ROOM = 128
+# As gate.h says, enough for every line.
+LINE_ROOM = 64
 
 
 class Refusal(enum.Enum):

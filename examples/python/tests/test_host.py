@@ -28,6 +28,8 @@ class Host(unittest.TestCase):
         self.assertEqual(host('check', self.short), (2, b'refused malformed\n'))
         names = os.fsencode(f'{add}\n{self.short}\n{add}')
         self.assertEqual(host('check', '-', given=names), (0, b'accepted\nrefused malformed\naccepted\n'))
+        names = os.fsencode(f'{self.short}x\n{add}\n')
+        self.assertEqual(host('check', '-', given=names), (74, b'cannot be read\naccepted\n'))
 
     def test_run(self) -> None:
         module, calls = (os.path.join(EXAMPLES, f'fold.{end}') for end in ('wasm', 'calls'))
