@@ -47,12 +47,13 @@ class Module:
         self._freed = weakref.finalize(self, _free, handle, held)
         # A thread that outlives the main one may still be in a call.
         self._freed.atexit = False
+        self._closed = False
         self._room = FIRST_RESULTS
 
     @contextlib.contextmanager
     def _open(self) -> Iterator[CModule]:
         with self._lock:
-            if not self._freed.alive:
+            if self._closed:
                 raise ValueError('the module is closed')
             yield self._handle
 
@@ -99,6 +100,8 @@ class Module:
 
     def close(self) -> None:
         """Frees the module, once a call that still runs is over. Closing again does nothing."""
+        # Said before the lock is had: threads that call in a loop may keep a waiting one from it for ever.
+        self._closed = True
         with self._lock:
             self._freed()
 
