@@ -1,0 +1,101 @@
+"""Finds libgate, and declares its functions as `gate.h` does.
+
+The library is the file that the environment names as `GATE_LIBRARY`, else the one that the linker finds as `gate`.
+"""
+from __future__ import annotations
+
+import ctypes.util
+import os
+from ctypes import CDLL, POINTER, Structure, c_char_p, c_size_t, c_uint32, c_uint64, c_void_p
+from typing import Union
+
+INTERFACE = 1
+
+OK = 0
+MODULE_REFUSED = 2
+CALLS_REFUSED = 3
+BAD_ARGUMENT = 64
+NO_MEMORY = 70
+SHORT_BUFFER = 75
+
+Bytes = Union[bytes, bytearray, memoryview]
+
+
+class CVerdict(Structure):
+    _fields_ = [('kind', c_uint32), ('rule', c_uint32), ('function', c_uint32), ('token', c_uint64)]
+
+
+class CSettings(Structure):
+    _fields_ = [('fuel', c_uint32), ('frames', c_uint32), ('pages', c_uint32)]
+
+
+class CReport(Structure):
+    _fields_ = [('at', c_void_p)]
+
+
+class CModule(Structure):
+    _fields_ = [('at', c_void_p)]
+
+
+class CValue(Structure):
+    _fields_ = [('width', c_uint32), ('bits', c_uint64)]
+
+
+class CCall(Structure):
+    _fields_ = [('end', c_uint32), ('reason', c_uint32), ('place', c_uint32), ('fuel', c_uint32), ('results', c_uint64)]
+
+
+TEXT = [c_char_p, c_size_t]
+WRITTEN = [c_char_p, c_size_t, POINTER(c_size_t)]
+
+# The result and the parameters of each function, in the order of gate.h.
+FUNCTIONS = {
+    'gate_version': (c_uint32, []),
+    'gate_check': (c_uint32, TEXT + [POINTER(CVerdict)]),
+    'gate_verdict_line': (c_uint32, [POINTER(CVerdict)] + WRITTEN),
+    'gate_run': (c_uint32, TEXT + TEXT + [POINTER(CSettings)] + WRITTEN + [POINTER(CReport)]),
+    'gate_report_read': (c_uint32, [CReport] + WRITTEN),
+    'gate_report_free': (None, [CReport]),
+    'gate_module_new': (c_uint32, TEXT + [POINTER(CVerdict), POINTER(CModule)]),
+    'gate_module_run': (c_uint32, [CModule] + TEXT + [POINTER(CSettings)] + WRITTEN + [POINTER(CReport)]),
+    'gate_module_call': (c_uint32, [CModule] + TEXT + [POINTER(CValue), c_size_t, POINTER(CSettings), POINTER(CValue), c_size_t,
+                                                       POINTER(CCall)]),
+    'gate_module_share': (c_uint32, [CModule, POINTER(CModule)]),
+    'gate_module_free': (None, [CModule]),
+}
+
+
+def load() -> CDLL:
+    """The library; an `ImportError` where there is none, or one of another interface."""
+    name = os.environ.get('GATE_LIBRARY') or ctypes.util.find_library('gate')
+    if name is None:
+        raise ImportError('libgate is not found: install it, or set GATE_LIBRARY to the path of libgate.so.1')
+    try:
+        library = CDLL(name)
+        for function, (result, parameters) in FUNCTIONS.items():
+            declared = getattr(library, function)
+            declared.restype, declared.argtypes = result, parameters
+    except (OSError, AttributeError) as fault:
+        raise ImportError(f'{name} is no libgate: {fault}') from fault
+    if library.gate_version() != INTERFACE:
+        raise ImportError(f'{name} has interface {library.gate_version()}, and this package is for {INTERFACE}')
+    return library
+
+
+library = load()
+
+
+def expect(status: int, *expected: int) -> int:
+    """The status, where it is one of those expected, else the exception that it means."""
+    if status in expected:
+        return status
+    if status == NO_MEMORY:
+        raise MemoryError('gate: no memory')
+    if status == BAD_ARGUMENT:
+        raise ValueError('gate: an argument is out of its range')
+    raise RuntimeError(f'gate: unexpected status {status}')
+
+
+def whole(data: Bytes) -> bytes:
+    """The bytes themselves, or a copy that nobody else can write during a call."""
+    return data if isinstance(data, bytes) else bytes(memoryview(data))

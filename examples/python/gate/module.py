@@ -1,0 +1,115 @@
+"""A module that is judged once and called often."""
+from __future__ import annotations
+
+import contextlib
+import ctypes
+import threading
+import weakref
+from collections.abc import Iterator
+from types import TracebackType
+from typing import Any, NoReturn
+
+from gate._library import MODULE_REFUSED, OK, Bytes, CCall, CModule, CValue, CVerdict, expect, library, whole
+from gate.ends import End, end_of
+from gate.report import Report, fetch
+from gate.settings import DEFAULT, Settings
+from gate.values import Value, name_bytes
+from gate.verdict import ModuleRefused, verdict_of
+
+# How many results a first call has room for, and any call before it asks for more.
+FIRST_RESULTS = 16
+MOST_RESULTS = 1024
+
+
+def _free(handle: CModule, _held: object) -> None:
+    # `_held` are the bytes, which have to stay until here.
+    library.gate_module_free(handle)
+
+
+class Module:
+    """An accepted module. A refused one raises `ModuleRefused`.
+
+    The object keeps a copy of the bytes. It is used by one thread at a time: a lock makes the others wait. For calls side by
+    side each thread has a `Module` of its own, by `share`. `close`, or leaving a `with`, frees it; later uses raise `ValueError`.
+    """
+
+    def __init__(self, module: Bytes) -> None:
+        data = whole(module)
+        held = ctypes.create_string_buffer(data, len(data))
+        said, handle = CVerdict(), CModule()
+        if expect(library.gate_module_new(held, len(data), said, handle), OK, MODULE_REFUSED) == MODULE_REFUSED:
+            raise ModuleRefused(verdict_of(said))
+        self._own(handle, held)
+
+    def _own(self, handle: CModule, held: object) -> None:
+        self._lock = threading.Lock()
+        self._handle, self._held = handle, held
+        self._freed = weakref.finalize(self, _free, handle, held)
+        # A thread that outlives the main one may still be in a call.
+        self._freed.atexit = False
+        self._closed = False
+        self._room = FIRST_RESULTS
+
+    @contextlib.contextmanager
+    def _open(self) -> Iterator[CModule]:
+        with self._lock:
+            if self._closed:
+                raise ValueError('the module is closed')
+            yield self._handle
+
+    def call(self, name: str | bytes, *values: Value, settings: Settings = DEFAULT) -> End:
+        """Calls the export of that name on an instance of its own.
+
+        Where there are more than 16 results, and more than any call of this object gave, or more than 1,024, the call is made
+        once more, with room for all. It ends in the same way.
+        """
+        data = name_bytes(name)
+        args = (CValue * len(values))(*(value.to_c() for value in values))
+        with self._open() as handle:
+            ended, results = self._called(handle, data, args, settings)
+        return end_of(ended, results)
+
+    def _called(self, handle: CModule, name: bytes, args: Any, settings: Settings) -> tuple[CCall, list[CValue]]:
+        ended, room = CCall(), self._room
+        while True:
+            results = (CValue * room)()
+            expect(library.gate_module_call(handle, name, len(name), args, len(args), settings.to_c(), results, room, ended), OK)
+            if ended.results <= room:
+                self._room = max(self._room, min(ended.results, MOST_RESULTS))
+                return ended, results[:ended.results]
+            room = ended.results
+
+    def run(self, calls: Bytes, settings: Settings = DEFAULT) -> Report:
+        """Runs the calls of a text, each on an instance of its own."""
+        text = whole(calls)
+        with self._open() as handle:
+            def write(*out: Any) -> int:
+                status: int = library.gate_module_run(handle, text, len(text), settings.to_c(), *out)
+                return status
+
+            return fetch(write)
+
+    def share(self) -> Module:
+        """Another object of the same module, for another thread. Each is closed by itself."""
+        handle = CModule()
+        with self._open() as own:
+            expect(library.gate_module_share(own, handle), OK)
+        other = object.__new__(Module)
+        other._own(handle, self._held)
+        return other
+
+    def close(self) -> None:
+        """Frees the module, once a call that still runs is over. Closing again does nothing."""
+        # Said before the lock is had: threads that call in a loop may keep a waiting one from it for ever.
+        self._closed = True
+        with self._lock:
+            self._freed()
+
+    def __enter__(self) -> Module:
+        return self
+
+    def __exit__(self, kind: type[BaseException] | None, fault: BaseException | None, trace: TracebackType | None) -> None:
+        self.close()
+
+    def __reduce__(self) -> NoReturn:
+        raise TypeError('a Module is neither copied nor pickled: `share` it, or hand on its bytes')
