@@ -1,17 +1,17 @@
 #!/usr/bin/env python3
-"""Proves the crates that a program or a static library stands on, side by side, and then itself, and builds it.
+"""Proves the crates that a program or a static library stands on, side by side, and then its own, and builds it.
 
 Two calls of `rt` in one tree wait for each other, and one call goes by the number of crates below a crate, so that what
 most others wait for begins late. So each crate is proved in a tree of its own under out/lanes, with the libraries of the
 crates below it as hard links, and what the check keeps is moved back. Of the crates that wait for none, the one with the
 longest chain of others behind it goes first, with the processors that no other crate takes. Standard error has a line for
-each crate, with the minutes that are left by what the last run took, and of one that is not proved what the prover said.
+each crate, with the minutes that are left by what the last run took and how fast this one is, and of one that is not proved
+what the prover said.
 A run that is cut off goes on where it was: what is proved stays in the crates' folders. A second run waits for the first.
 """
 import argparse
 import fcntl
 import json
-import math
 import os
 import re
 import shutil
@@ -37,7 +37,7 @@ SECONDS_KEPT = 5
 # Seconds that a check from nothing took beside three others, for a crate that no run here has proved from nothing. They say
 # which crate goes first, and how long it takes, and nothing else.
 SECONDS = {
-    'accepted': 225, 'batch': 190, 'checked': 41, 'command': 150, 'gate': 220, 'gate_c': 160, 'interpreter': 226, 'memory': 88,
+    'accepted': 225, 'batch': 190, 'checked': 41, 'command': 150, 'gate': 70, 'gate_c': 160, 'interpreter': 226, 'memory': 88,
     'pieces': 285, 'refinement': 17, 'side_table': 60, 'soundness': 50, 'texts': 110, 'verdict': 200, 'wcheck': 290,
     'wcontext': 135, 'wdecode': 437, 'wmachine': 55, 'wnum': 95, 'wstore': 115, 'wsyntax': 113,
 }
@@ -94,7 +94,7 @@ def keep_seconds(name, took):
 def is_kept(name):
     """Whether what is built of a crate stands, so that its check takes a few seconds where nothing changed."""
     out = os.path.join(root, 'crates', name, 'out')
-    return any(os.path.exists(os.path.join(out, built)) for built in ('rlib', name, f'lib{name}.a'))
+    return any(os.path.exists(os.path.join(out, built)) for built in ('rlib/stamp', name, f'lib{name}.a'))
 
 
 def expected(crates):
@@ -201,14 +201,14 @@ def minutes_left(seconds, graph, room):
 
 
 def in_words(minutes):
-    return 'under a minute' if minutes <= 1 else f'about {math.ceil(minutes)} minutes'
+    return 'about a minute' if minutes < 1.5 else f'about {minutes:.0f} minutes'
 
 
 def tell_first(seconds, graph, room):
     kept = sum(is_kept(it) for it in seconds)
     before = f', {kept} of them proved before' if kept else ''
     minutes = in_words(minutes_left(seconds, graph, room))
-    print(f'gate: {len(seconds)} crates to prove{before}: {minutes}, with {room} checks at a time', file=sys.stderr)
+    print(f'gate: {len(seconds)} crates to prove{before}: {minutes}, up to {room} at a time', file=sys.stderr)
 
 
 def tell(name, proved, said, number, count, left=None):
@@ -224,6 +224,7 @@ def prove_libraries(crates, seconds, graph, room):
     """Proves all crates, as many side by side as there is room for; stops at the first that is not proved."""
     chains, seconds = behind(seconds, graph), dict(seconds)
     left, running, done = sorted(crates, key=lambda it: -chains[it]), {}, set()
+    planned = spent = 1
     with ThreadPoolExecutor(room) as pool:
         while left or running:
             ready = [it for it in left if done.issuperset(graph[it])]
@@ -238,10 +239,11 @@ def prove_libraries(crates, seconds, graph, room):
                 name, _ = running.pop(ended)
                 proved, said, took = ended.result()
                 done.add(name)
-                del seconds[name]
+                usual = seconds.pop(name)
                 if took is not None:
                     keep_seconds(name, took)
-                tell(name, proved, said, len(done), len(crates) + 1, minutes_left(seconds, graph, room))
+                    planned, spent = planned + usual, spent + took
+                tell(name, proved, said, len(done), len(crates) + 1, minutes_left(seconds, graph, room) * spent / planned)
                 if not proved:
                     return False
     return True

@@ -65,7 +65,8 @@ def packed(count, program, library, work):
     """Packs twice. Answers the folder of the first packing, and the name of the release."""
     first, second, other = (os.path.join(work, name) for name in ('first', 'second', 'other'))
     copy_tree(os.path.join(other, 'tree'))
-    shutil.copytree(library, os.path.join(other, 'library'), copy_function=shutil.copyfile, ignore=shutil.ignore_patterns('incremental'))
+    os.mkdir(os.path.join(other, 'library'))
+    shutil.copyfile(os.path.join(library, 'libgate_c.a'), os.path.join(other, 'library', 'libgate_c.a'))
     shutil.copyfile(program, os.path.join(other, 'program'))
     os.chmod(os.path.join(other, 'program'), 0o700)
     ended = pack(root, program, library, '--to', first)
@@ -82,7 +83,8 @@ def packed(count, program, library, work):
     with open(os.path.join(other, 'program'), 'ab') as file:
         file.write(b'\0')
     ended = pack(root, os.path.join(other, 'program'), library, '--check', sums)
-    count.expect(ended[0] == 1 and f'{name}/bin/gate differs' in ended[1] and 'libgate' not in ended[1], '--check of another program', ended)
+    is_named = f'{name}/bin/gate differs' in ended[1] and 'libgate' not in ended[1]
+    count.expect(ended[0] == 1 and is_named, '--check of another program', ended)
     return first, name
 
 
@@ -92,14 +94,25 @@ def unpacked(count, folder, name):
     ended = run('sha256sum', '--quiet', '-c', f'{name}.sha256', cwd=folder)
     count.expect(ended == (0, ''), 'sha256sum -c', ended)
     there = os.path.join(folder, name)
+    answers(count, there)
+    pages(count, there)
+    return there
+
+
+def answers(count, there):
+    """The program on the examples."""
     gate = os.path.join(there, 'bin', 'gate')
     for module in MODULES:
         ended = run(gate, 'check', f'examples/{module}.wasm', cwd=root)
         count.expect(ended == (0, 'accepted\n'), f'the program on {module}', ended)
     ended = run(gate, 'run', 'examples/fold.wasm', 'examples/fold.calls', cwd=root)
     count.expect(ended == (0, read(os.path.join(root, 'examples/fold.report')).decode()), 'the report of fold', ended)
+
+
+def pages(count, there):
+    """What the pages and the completions name."""
     share = os.path.join(there, 'share')
-    help_on = run(gate, 'run', '--help')[1]
+    help_on = run(os.path.join(there, 'bin', 'gate'), 'run', '--help')[1]
     for path in ('man/man1/gate.1', 'bash-completion/completions/gate', 'zsh/site-functions/_gate', 'fish/vendor_completions.d/gate.fish'):
         text = read(os.path.join(share, path)).decode()
         lost = [it for it in re.findall(r'--(\w+) <N>', help_on) if not re.search(rf'-(-|l ){it}\b|Fl -{it}\b', text)]
@@ -109,10 +122,9 @@ def unpacked(count, folder, name):
     lost = [it for it in functions if not re.search(rf'^\.F[no] {it}\b', text, re.MULTILINE)]
     count.expect(not lost and functions, 'the functions in gate.3', lost)
     for page in glob.glob(os.path.join(share, 'man/*/*')) if is_there('man') else []:
-        ended = run('man', '--warnings', '-l', page, env={**os.environ, 'MANPAGER': 'cat', 'MANWIDTH': '100', 'LC_ALL': 'C.UTF-8'})
-        warned = subprocess.run(['man', '--warnings', '-l', page], stdout=subprocess.DEVNULL, stderr=subprocess.PIPE, text=True).stderr
-        count.expect(ended[0] == 0 and not warned, f'man of {os.path.basename(page)}', warned)
-    return there
+        shown = subprocess.run(['man', '--warnings', '-l', page], capture_output=True, text=True, env={**os.environ, 'LC_ALL': 'C.UTF-8'})
+        is_silent = shown.returncode == 0 and 'EXAMPLES' in shown.stdout and not shown.stderr
+        count.expect(is_silent, f'man of {os.path.basename(page)}', shown.stderr)
 
 
 def everything(folder):
@@ -130,7 +142,7 @@ def installed(count, there, work):
         ended = run(script, env=at)
         count.expect(ended[0] == 0, 'an install', ended)
     files = {os.path.relpath(it, os.path.join(top, 'opt/other')) for it in everything(top) if not os.path.isdir(it)}
-    wanted = {'bin/gate', 'lib/libgate.a', 'lib/libgate.so', 'lib/pkgconfig/gate.pc', 'include/gate.h', 'share/man/man3/gate.3', 'share/doc/gate/PROOFS'}
+    wanted = {'bin/gate', 'lib/libgate.a', 'lib/libgate.so', 'lib/pkgconfig/gate.pc', 'include/gate.h', 'share/man/man3/gate.3'}
     count.expect(wanted <= files, 'what is installed', wanted - files)
     if is_there('cc', 'pkg-config'):
         hosts(count, there, os.path.join(top, 'opt/other'), os.path.join(work, 'host'), top)
