@@ -3,8 +3,8 @@
 
 packed     Two packings have the same bytes: of this tree, and of a copy of it in another folder, with other times and modes of
            files, another time zone, language and umask. `./release --check` finds them equal, and names a program that is not.
-unpacked   `sha256sum -c` holds, the program judges and runs the examples, and the pages and completions name all of its options
-           and all functions of the header. `man` has no warning, where it is there.
+unpacked   `sha256sum -c` holds, the program judges and runs the examples and what gate.1 shows, and the pages and completions
+           name all of its options and all functions of the header. `man` has no warning, where it is there.
 installed  `install.sh` below a DESTDIR: the example of gate.3 is compiled by what pkg-config says, for the shared library and for
            the static one, where `cc` and `pkg-config` are there, and says what the program says. What others have is not written
            over. An uninstall leaves what was there before.
@@ -96,6 +96,7 @@ def unpacked(count, folder, name):
     there = os.path.join(folder, name)
     answers(count, there)
     pages(count, there)
+    sessions(count, there, folder)
     return there
 
 
@@ -125,6 +126,23 @@ def pages(count, there):
         shown = subprocess.run(['man', '--warnings', '-l', page], capture_output=True, text=True, env={**os.environ, 'LC_ALL': 'C.UTF-8'})
         is_silent = shown.returncode == 0 and 'EXAMPLES' in shown.stdout and not shown.stderr
         count.expect(is_silent, f'man of {os.path.basename(page)}', shown.stderr)
+
+
+def blocks(page):
+    """The literal blocks of a page."""
+    text = read(os.path.join(root, 'man', page)).decode()
+    return [it.replace(r'\e', '\\') for it in re.findall(r'^\.Bd -literal.*?\n(.*?)^\.Ed', text, re.MULTILINE | re.DOTALL)]
+
+
+def sessions(count, there, folder):
+    """The commands that gate.1 shows, each with what it prints."""
+    shutil.copy(os.path.join(root, 'examples/add.wasm'), folder)
+    path = {**os.environ, 'PATH': os.path.join(there, 'bin') + ':' + os.environ['PATH']}
+    shown = [line for block in blocks('gate.1') for line in re.split(r'^\$ ', block, flags=re.MULTILINE)[1:]]
+    for command, printed in (it.split('\n', 1) for it in shown):
+        ended = run('sh', '-c', command, cwd=folder, env=path)
+        count.expect(ended[1] == printed, f'{command}, as gate.1 shows it', ended)
+    count.expect(len(shown) == 4, 'the commands that gate.1 shows', shown)
 
 
 def everything(folder):
@@ -158,16 +176,10 @@ def installed(count, there, work):
     count.expect(run(script, 'install', env={**at, 'PREFIX': 'opt'})[0] == 64, 'a PREFIX that does not begin with /')
 
 
-def example():
-    """The example of gate.3."""
-    text = read(os.path.join(root, 'man/gate.3')).decode()
-    return re.search(r'^\.Sh EXAMPLES.*?^\.Bd.*?\n(.*?)^\.Ed', text, re.MULTILINE | re.DOTALL).group(1).replace(r'\e', '\\')
-
-
 def hosts(count, there, prefix, host, top):
     """Compiles the example of gate.3, over what is installed and over what is only unpacked."""
     with open(f'{host}.c', 'w') as file:
-        file.write(example())
+        file.write(next(it for it in blocks('gate.3') if '#include' in it))
     staged = {'PKG_CONFIG_LIBDIR': os.path.join(prefix, 'lib/pkgconfig'), 'PKG_CONFIG_SYSROOT_DIR': top}
     loose = {'PKG_CONFIG_LIBDIR': os.path.join(there, 'lib/pkgconfig')}
     for way, settings in (('installed', staged), ('unpacked', loose)):
