@@ -1,0 +1,212 @@
+#!/usr/bin/env python3
+"""Packs the built program and library into a release, twice, and uses what is packed as others would.
+
+packed     Two packings have the same bytes: of this tree, and of a copy of it in another folder, with other times and modes of
+           files, another time zone, language and umask. `./release --check` finds them equal, and names a program that is not.
+unpacked   `sha256sum -c` holds, the program judges and runs the examples and what gate.1 shows, and the pages and completions
+           name all of its options and all functions of the header. `man` has no warning, where it is there.
+installed  `install.sh` below a DESTDIR: the example of gate.3 is compiled by what pkg-config says, for the shared library and for
+           the static one, where `cc` and `pkg-config` are there, and says what the program says. What others have is not written
+           over. An uninstall leaves what was there before.
+"""
+import argparse
+import glob
+import os
+import re
+import shutil
+import subprocess
+import sys
+import tempfile
+
+root = os.path.join(os.path.dirname(os.path.abspath(__file__)), '..')
+MODULES = ['add', 'fold', 'primes']
+
+
+class Count:
+    def __init__(self):
+        self.passed = self.failed = 0
+
+    def expect(self, holds, name, got=''):
+        self.passed, self.failed = self.passed + bool(holds), self.failed + (not holds)
+        if not holds:
+            print(f'release: {name}: {str(got)[:600]}')
+
+
+def run(*words, **settings):
+    """The status of a command, and what it says."""
+    ran = subprocess.run(words, stdout=subprocess.PIPE, stderr=subprocess.STDOUT, text=True, **settings)
+    return ran.returncode, ran.stdout
+
+
+def read(path):
+    with open(path, 'rb') as file:
+        return file.read()
+
+
+def is_there(*names):
+    return all(map(shutil.which, names))
+
+
+def copy_tree(folder):
+    """A copy of the tree as git sees it."""
+    listed = subprocess.run(['git', 'ls-files', '-coz', '--exclude-standard'], cwd=root, capture_output=True, text=True, check=True)
+    for path in filter(None, listed.stdout.split('\0')):
+        if os.path.exists(os.path.join(root, path)):
+            os.makedirs(os.path.dirname(os.path.join(folder, path)), exist_ok=True)
+            shutil.copy(os.path.join(root, path), os.path.join(folder, path))
+    run('cp', '-R', os.path.join(root, '.git'), os.path.join(folder, '.git'))
+
+
+def pack(tree, program, library, *options, **settings):
+    return run(sys.executable, os.path.join(tree, 'release'), '--dirty', '--program', program, '--library', library, *options, **settings)
+
+
+def packed(count, program, library, work):
+    """Packs twice. Answers the folder of the first packing, and the name of the release."""
+    first, second, other = (os.path.join(work, name) for name in ('first', 'second', 'other'))
+    copy_tree(os.path.join(other, 'tree'))
+    os.mkdir(os.path.join(other, 'library'))
+    shutil.copyfile(os.path.join(library, 'libgate_c.a'), os.path.join(other, 'library', 'libgate_c.a'))
+    shutil.copyfile(program, os.path.join(other, 'program'))
+    os.chmod(os.path.join(other, 'program'), 0o700)
+    ended = pack(root, program, library, '--to', first)
+    count.expect(ended[0] == 0, 'a packing', ended)
+    ended = pack(os.path.join(other, 'tree'), os.path.join(other, 'program'), os.path.join(other, 'library'), '--to', second, umask=0o077,
+                 cwd='/', env={**os.environ, 'TZ': 'Asia/Tokyo', 'LC_ALL': 'C'})
+    count.expect(ended[0] == 0, 'a packing of a copy of the tree', ended)
+    name = os.path.basename(glob.glob(os.path.join(first, '*.sha256'))[0]).removesuffix('.sha256')
+    sums = os.path.join(first, f'{name}.sha256')
+    for path in (f'{name}.tar.gz', f'{name}.sha256'):
+        count.expect(read(os.path.join(first, path)) == read(os.path.join(second, path)), f'{path} of two packings')
+    ended = pack(root, program, library, '--check', sums)
+    count.expect(ended[0] == 0, '--check of the same', ended)
+    with open(os.path.join(other, 'program'), 'ab') as file:
+        file.write(b'\0')
+    ended = pack(root, os.path.join(other, 'program'), library, '--check', sums)
+    is_named = f'{name}/bin/gate differs' in ended[1] and 'libgate' not in ended[1]
+    count.expect(ended[0] == 1 and is_named, '--check of another program', ended)
+    return first, name
+
+
+def unpacked(count, folder, name):
+    """Unpacks a release, and uses it where it lies. Answers its folder."""
+    count.expect(run('tar', 'xzf', f'{name}.tar.gz', cwd=folder)[0] == 0, 'tar')
+    ended = run('sha256sum', '--quiet', '-c', f'{name}.sha256', cwd=folder)
+    count.expect(ended == (0, ''), 'sha256sum -c', ended)
+    there = os.path.join(folder, name)
+    answers(count, there)
+    pages(count, there)
+    sessions(count, there, folder)
+    return there
+
+
+def answers(count, there):
+    """The program on the examples."""
+    gate = os.path.join(there, 'bin', 'gate')
+    for module in MODULES:
+        ended = run(gate, 'check', f'examples/{module}.wasm', cwd=root)
+        count.expect(ended == (0, 'accepted\n'), f'the program on {module}', ended)
+    ended = run(gate, 'run', 'examples/fold.wasm', 'examples/fold.calls', cwd=root)
+    count.expect(ended == (0, read(os.path.join(root, 'examples/fold.report')).decode()), 'the report of fold', ended)
+
+
+def pages(count, there):
+    """What the pages and the completions name."""
+    share = os.path.join(there, 'share')
+    help_on = run(os.path.join(there, 'bin', 'gate'), 'run', '--help')[1]
+    for path in ('man/man1/gate.1', 'bash-completion/completions/gate', 'zsh/site-functions/_gate', 'fish/vendor_completions.d/gate.fish'):
+        text = read(os.path.join(share, path)).decode()
+        lost = [it for it in re.findall(r'--(\w+) <N>', help_on) if not re.search(rf'-(-|l ){it}\b|Fl -{it}\b', text)]
+        count.expect(not lost and '--fuel <N>' in help_on, f'the options in {path}', lost)
+    functions = re.findall(r'\b(gate_\w+)\(', read(os.path.join(there, 'include/gate.h')).decode())
+    text = read(os.path.join(share, 'man/man3/gate.3')).decode()
+    lost = [it for it in functions if not re.search(rf'^\.F[no] {it}\b', text, re.MULTILINE)]
+    count.expect(not lost and functions, 'the functions in gate.3', lost)
+    for page in glob.glob(os.path.join(share, 'man/*/*')) if is_there('man') else []:
+        shown = subprocess.run(['man', '--warnings', '-l', page], capture_output=True, text=True, env={**os.environ, 'LC_ALL': 'C.UTF-8'})
+        is_silent = shown.returncode == 0 and 'EXAMPLES' in shown.stdout and not shown.stderr
+        count.expect(is_silent, f'man of {os.path.basename(page)}', shown.stderr)
+
+
+def blocks(page):
+    """The literal blocks of a page."""
+    text = read(os.path.join(root, 'man', page)).decode()
+    return [it.replace(r'\e', '\\') for it in re.findall(r'^\.Bd -literal.*?\n(.*?)^\.Ed', text, re.MULTILINE | re.DOTALL)]
+
+
+def sessions(count, there, folder):
+    """The commands that gate.1 shows, each with what it prints."""
+    shutil.copy(os.path.join(root, 'examples/add.wasm'), folder)
+    path = {**os.environ, 'PATH': os.path.join(there, 'bin') + ':' + os.environ['PATH']}
+    shown = [line for block in blocks('gate.1') for line in re.split(r'^\$ ', block, flags=re.MULTILINE)[1:]]
+    for command, printed in (it.split('\n', 1) for it in shown):
+        ended = run('sh', '-c', command, cwd=folder, env=path)
+        count.expect(ended[1] == printed, f'{command}, as gate.1 shows it', ended)
+    count.expect(len(shown) == 4, 'the commands that gate.1 shows', shown)
+
+
+def everything(folder):
+    return sorted(os.path.join(at, name) for at, folders, files in os.walk(folder) for name in folders + files)
+
+
+def installed(count, there, work):
+    """Installs below a folder in which others have things too, and takes it away."""
+    top = os.path.join(work, 'top')
+    os.makedirs(os.path.join(top, 'opt/other/share/man'))
+    at = {**os.environ, 'DESTDIR': top, 'PREFIX': '/opt/other'}
+    script = os.path.join(there, 'install.sh')
+    before = everything(top)
+    for _ in range(2):
+        ended = run(script, env=at)
+        count.expect(ended[0] == 0, 'an install', ended)
+    files = {os.path.relpath(it, os.path.join(top, 'opt/other')) for it in everything(top) if not os.path.isdir(it)}
+    wanted = {'bin/gate', 'lib/libgate.a', 'lib/libgate.so', 'lib/pkgconfig/gate.pc', 'include/gate.h', 'share/man/man3/gate.3'}
+    count.expect(wanted <= files, 'what is installed', wanted - files)
+    if is_there('cc', 'pkg-config'):
+        hosts(count, there, os.path.join(top, 'opt/other'), os.path.join(work, 'host'), top)
+    ended = run(script, 'uninstall', env=at)
+    count.expect(ended[0] == 0 and everything(top) == before, 'what an uninstall leaves', (ended, set(everything(top)) ^ set(before)))
+    count.expect(run(script, 'uninstall', env=at)[0] == 1, 'an uninstall of nothing')
+    os.makedirs(os.path.join(top, 'opt/other/bin'))
+    with open(os.path.join(top, 'opt/other/bin/gate'), 'w') as file:
+        file.write('of another one\n')
+    before = everything(top)
+    ended = run(script, 'install', env=at)
+    count.expect(ended[0] == 1 and everything(top) == before, 'an install over what others have', ended)
+    count.expect(run(script, 'install', env={**at, 'PREFIX': 'opt'})[0] == 64, 'a PREFIX that does not begin with /')
+
+
+def hosts(count, there, prefix, host, top):
+    """Compiles the example of gate.3, over what is installed and over what is only unpacked."""
+    with open(f'{host}.c', 'w') as file:
+        file.write(next(it for it in blocks('gate.3') if '#include' in it))
+    staged = {'PKG_CONFIG_LIBDIR': os.path.join(prefix, 'lib/pkgconfig'), 'PKG_CONFIG_SYSROOT_DIR': top}
+    loose = {'PKG_CONFIG_LIBDIR': os.path.join(there, 'lib/pkgconfig')}
+    for way, settings in (('installed', staged), ('unpacked', loose)):
+        for linking in ([], ['-static']):
+            said = run('pkg-config', '--cflags', '--libs', *linking[:1] and ['--static'], 'gate', env={**os.environ, **settings})
+            count.expect(said[0] == 0, f'pkg-config, {way}', said)
+            ended = run('cc', '-std=c99', '-Wall', '-Wextra', '-Werror', '-o', host, f'{host}.c', *linking, *said[1].split())
+            count.expect(ended == (0, ''), f'the example of gate.3, {way} {linking}', ended)
+            shared = {} if linking else {'LD_LIBRARY_PATH': os.path.join(prefix if way == 'installed' else there, 'lib')}
+            for module in (*(f'examples/{it}.wasm' for it in MODULES), 'README.md'):
+                ended = run(host, module, cwd=root, env={**os.environ, **shared})
+                wanted = run(os.path.join(there, 'bin', 'gate'), 'check', module, cwd=root)
+                count.expect(ended == wanted, f'the example of gate.3 on {module}, {way} {linking}', (ended, wanted))
+
+
+def main(program, library):
+    count = Count()
+    with tempfile.TemporaryDirectory() as work:
+        folder, name = packed(count, os.path.abspath(program), os.path.abspath(library), work)
+        installed(count, unpacked(count, folder, name), work)
+    print(f'{count.passed} passed, {count.failed} failed')
+    return 1 if count.failed or not count.passed else 0
+
+
+if __name__ == '__main__':
+    parser = argparse.ArgumentParser(description=__doc__, formatter_class=argparse.RawDescriptionHelpFormatter)
+    parser.add_argument('program', metavar='PROGRAM', help='the built program')
+    parser.add_argument('library', metavar='LIBRARY_OUT', help='the folder of libgate_c.a, as crates/gate_c/out')
+    words = parser.parse_args()
+    sys.exit(main(words.program, words.library))
