@@ -17,6 +17,8 @@ mod instances;
 #[cfg(test)]
 mod invocations;
 #[cfg(test)]
+mod judged;
+#[cfg(test)]
 mod memories;
 #[cfg(test)]
 mod modules;
