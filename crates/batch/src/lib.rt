@@ -18,9 +18,12 @@ mod status;
 
 pub use answering::answer;
 pub use laws::{answers_are_safe, one_answer};
+pub use line::verdict_line;
+pub use memory::CleanMem;
 pub use output::{WriteFailed, write_text};
 pub use pieces::{Plan, Quiet, Watch};
 pub use report::report_verdict;
+pub use runner::call_alone;
 pub use running::run_batch;
 pub use status::{AnswerFault, Status};
 pub use texts::{Call, CallsFault, Line, read_calls};
