@@ -1,0 +1,28 @@
+-- What running a text of calls answers.
+use Rattle.std.specs.Prelude.{◌≡◌, ◌⊎◌, ℕ, List}
+use Rattle.wsyntax.specs.Validation.Verdict.{Accepted}
+use Rattle.wsyntax.specs.Texts.Answer.{Limits}
+use Rattle.accepted.specs.declared.accepted.Accepted.{Accepted as AcceptedModule}
+use Rattle.wstore.specs.Settings.{limits}
+use Rattle.batch.specs.Answers.{IsSomeAnswer, IsAnswerOn, HasStatus, StatusBy}
+use Rattle.batch.specs.declared.status.Status.{Status}
+use Rattle.gate_c.specs.declared.settings.GateSettings.{GateSettings}
+use Rattle.gate_c.specs.Statuses.{number_of}
+use Rattle.gate_c.specs.Texts.{AreKept, Hands}
+
+abbrev pub limits_of : GateSettings → Limits
+limits_of s = limits s.fuel s.frames s.pages
+
+-- an answer with P is handed out; or a limit is out of its range or memory was refused, and nothing is written
+abbrev pub HandsAnswer : (List ℕ → Status → Type 0) → List ℕ → List ℕ → ℕ → ℕ → ℕ → Type 0
+HandsAnswer P old new was now answered =
+    (((answered ≡ 64) ⊎ (answered ≡ 70)) × AreKept old new was now)
+    ⊎ ((text : List ℕ) × (status : Status) × P text status × Hands text (number_of status) old new now answered)
+
+-- the answer of the definition to a module, calls and limits, and its status
+abbrev pub IsAnswerTo : List ℕ → List ℕ → GateSettings → List ℕ → Status → Type 0
+IsAnswerTo bytes calls s text status = IsSomeAnswer bytes calls (limits_of s) text × HasStatus bytes calls status
+
+-- that to an accepted module
+abbrev pub IsAnswerOf : AcceptedModule → List ℕ → GateSettings → List ℕ → Status → Type 0
+IsAnswerOf a calls s text status = IsAnswerOn a calls (limits_of s) text × StatusBy calls Accepted status
