@@ -1,3 +1,4 @@
 pub mod Values
 pub mod ModuleValues
 pub mod ReportValues
+pub mod Spelled

@@ -30,7 +30,9 @@ impl Held {
     pub(crate) fn another(&self, alloc: Global) -> Option<Box<Held>>
         ensures { IfSome result (λ b. b.value.accepted.value ≡ self.now.accepted.value) }
     {
-        let accepted = Arc::try_clone(&self.accepted).ok()?;
+        let Ok(accepted) = Arc::try_clone(&self.accepted) else {
+            return None;
+        };
         Box::new(alloc, sendable(Held { accepted })).ok()
     }
 }
