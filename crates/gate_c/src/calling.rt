@@ -7,10 +7,10 @@ ghost use Rattle.gate_c.specs.Ends.{end_numbers, values_of};
 ghost use Rattle.gate_c.specs.Calls.{EndsCall};
 
 use crate::ending::GateCall;
-use crate::interim::call_alone;
 use crate::settings::GateSettings;
 use crate::status::{BAD_ARGUMENT, NO_MEMORY};
 use crate::value::GateValue;
+use batch::call_alone;
 use memory::CleanMem;
 use std::alloc::Global;
 use texts::{Args, Call, Line, Outcome};

@@ -14,7 +14,6 @@ use crate::calling::{call, tell_end};
 use crate::ending::GateCall;
 use crate::handing::hand_out;
 use crate::held::Held;
-use crate::interim::{answer_alone, answer_on_alone, examine_alone, judge_alone, verdict_line};
 use crate::judged::GateVerdict;
 use crate::module::GateModule;
 use crate::report::GateReport;
@@ -22,8 +21,9 @@ use crate::settings::GateSettings;
 use crate::status::{BAD_ARGUMENT, MODULE_REFUSED, NO_MEMORY, OK};
 use crate::text::hand_text;
 use crate::value::GateValue;
+use batch::{answer_alone, answer_on_alone, verdict_line};
 use std::alloc::Global;
-use verdict::Refusal;
+use verdict::{Refusal, examine_alone, judge_alone};
 
 /// The number of this interface.
 #[unsafe(no_mangle)]
@@ -91,7 +91,7 @@ pub extern "C" fn gate_run(
     length: &mut usize,
     kept: &mut *mut u8,
 ) -> u32
-    ensures { HandsAnswer (IsAnswerTo «module».now calls.now settings.now) out.old out.new length.old length.new result }
+    ensures { HandsAnswer settings.now (IsAnswerTo «module».now calls.now settings.now) out.old out.new length.old length.new result }
 {
     let Some(limits) = settings.settings() else {
         return BAD_ARGUMENT;
@@ -155,7 +155,7 @@ pub extern "C" fn gate_module_run(
     length: &mut usize,
     kept: &mut *mut u8,
 ) -> u32
-    ensures { HandsAnswer (IsAnswerOf «module».value.accepted.value calls.now settings.now)
+    ensures { HandsAnswer settings.now (IsAnswerOf «module».value.accepted.value calls.now settings.now)
         out.old out.new length.old length.new result }
 {
     let held = module.into_box();
@@ -174,7 +174,7 @@ fn run_on(
     length: &mut usize,
     kept: &mut *mut u8,
 ) -> u32
-    ensures { HandsAnswer (IsAnswerOf held.now.accepted.value calls.now settings.now) out.old out.new length.old length.new result }
+    ensures { HandsAnswer settings.now (IsAnswerOf held.now.accepted.value calls.now settings.now) out.old out.new length.old length.new result }
 {
     let Some(limits) = settings.settings() else {
         return BAD_ARGUMENT;

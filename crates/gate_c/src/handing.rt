@@ -5,10 +5,10 @@ ghost use Rattle.gate_c.specs.Handles.{IsAnswered};
 ghost use Rattle.gate_c.specs.Statuses.{number_of};
 ghost use Rattle.gate_c.specs.Texts.{AreKept, Hands};
 
-use crate::interim::Answer;
 use crate::kept::Kept;
 use crate::sending::sendable;
 use crate::status::NO_MEMORY;
+use batch::Answer;
 use std::alloc::Global;
 
 /// Writes an answer, where there is room for it, and else keeps it, and writes its length.

@@ -3,9 +3,9 @@
 ghost use Rattle.std.specs.Prelude.{string_bytes};
 ghost use Rattle.gate_c.specs.Handles.{IsAnswered};
 
-use crate::interim::Answer;
 use crate::status::status_number;
 use crate::text::hand_text;
+use batch::Answer;
 
 /// An answer.
 #[derive(Drop)]

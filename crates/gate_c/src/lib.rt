@@ -7,7 +7,6 @@ mod ending;
 mod exports;
 mod handing;
 mod held;
-mod interim;
 mod judged;
 mod kept;
 mod loose;

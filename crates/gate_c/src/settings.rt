@@ -1,7 +1,7 @@
 //! The limits of each call: `gate_settings` of gate.h.
 
-ghost use Rattle.std.specs.Prelude.{◌≡◌, IfSome};
-ghost use Rattle.wstore.specs.Settings.{limits};
+ghost use Rattle.std.specs.Prelude.{◌≡◌, IfSome, is_some};
+ghost use Rattle.wstore.specs.Settings.{limits, are_in_range};
 ghost use Rattle.wstore.specs.CallLimits.{limits_of};
 
 use wstore::Settings;
@@ -21,7 +21,8 @@ pub struct GateSettings {
 impl GateSettings {
     /// The settings of these limits; `None` where one of them is out of its range.
     pub(crate) fn settings(&self) -> Option<Settings>
-        ensures { IfSome result (λ s. limits_of s ≡ limits self.now.fuel self.now.frames self.now.pages) }
+        ensures limits { IfSome result (λ s. limits_of s ≡ limits self.now.fuel self.now.frames self.now.pages) }
+        ensures range { is_some result ≡ are_in_range self.now.fuel self.now.frames self.now.pages }
     {
         Settings::new(self.fuel, self.frames, self.pages)
     }

@@ -15,10 +15,10 @@ answered : (a b : AcceptedModule) (calls : List ℕ) (l : Limits) (text : List �
     → b ≡ a → ∥ IsOfBytes a ∥₁ → IsAnswerOn b calls l text → StatusBy calls Accepted status → ∥ IsAnswered text status ∥₁
 answered a b calls l text status same kept answer by =
     ∥∥₁_map kept (λ (h : IsOfBytes a).
-        let on : IsAnswerOn a calls l text = subst (λ (x : AcceptedModule). IsAnswerOn x calls l text) same answer in
-        (h.0, calls, l, on h.0 h.1 (spelled h.0 a h.2), (Accepted, h.1, by)))
+    let on : IsAnswerOn a calls l text = subst (λ (x : AcceptedModule). IsAnswerOn x calls l text) same answer in
+    (h.0, calls, l, on h.0 h.1 (spelled h.0 a h.2), (Accepted, h.1, by)))
 
 pub hand_out-requires : goal.hand_out-requires
 hand_out-requires c =
     answered c.args.held.now.accepted.value c.deref.result.now c.args.calls.now (limits_of c.in-Some.limits) (string_bytes c.in-Ok.answer.text) c.in-Ok.answer.status
-        c.deref.ensures c.args.held.now.of_bytes c.in-Ok.ensures.answer c.in-Ok.ensures.status
+    c.deref.ensures c.args.held.now.of_bytes c.in-Ok.ensures.answer c.in-Ok.ensures.status
