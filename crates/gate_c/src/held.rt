@@ -20,9 +20,11 @@ impl Held {
     /// An accepted module in a box; `None` where memory was refused.
     pub(crate) fn boxed(alloc: Global, accepted: Accepted<'static>) -> Option<Box<Held>>
         requires { IsOfBytes accepted }
-        ensures { IfSome result (λ b. b.value.accepted.value ≡ accepted) }
+        ensures { IfSome result (λ b. b.value.accepted.value ≡ accepted.entry) }
     {
-        let accepted = Arc::new(alloc, accepted).ok()?;
+        let Ok(accepted) = Arc::new(alloc, accepted) else {
+            return None;
+        };
         Box::new(alloc, sendable(Held { accepted })).ok()
     }
 
