@@ -14,6 +14,7 @@ use Rattle.texts.specs.Calls.{ReadsCalls, calls_of}
 use Rattle.texts.specs.Ends.{end_of, ends_of}
 use Rattle.texts.specs.Parts.{AreParts, parts_text}
 use Rattle.texts.specs.declared.call.Call.{Call}
+use Rattle.texts.specs.declared.line.Line.{Line}
 use Rattle.texts.specs.declared.part.Part.{Part}
 use Rattle.texts.specs.declared.fault.CallsFault.{CallsFault}
 use Rattle.texts.specs.declared.fault.CallsFault.TheVariants as fault
@@ -26,7 +27,7 @@ use Rattle.verdict.specs.declared.refusal.Refusal.TheVariants as refusal
 use Rattle.wstore.specs.declared.settings.Settings.{Settings}
 use Rattle.wstore.specs.CallLimits.{limits_of}
 use Rattle.batch.specs.Ends.{is_short, AreEnds}
-use Rattle.batch.specs.Groups.{GiveParts}
+use Rattle.batch.specs.Groups.{GiveLines, GiveParts}
 use Rattle.batch.specs.Answers.{Answers, IsSomeAnswer, refused_text}
 use Rattle.batch.specs.Output.{AppendsLess, FallsShort}
 use Rattle.batch.specs.declared.status.AnswerFault.TheVariants.{Write}
@@ -79,15 +80,23 @@ few_ends a s calls parts written few (lines, gives, are) same =
     let count : length (ends_of lines) ≡ length calls = length-map lines end_of ∙ as_many a s calls lines gives in
     (ends_of lines, subst (AreParts 0 (ends_of lines)) (sym same) are, omega arith)
 
--- on calls that were run
+-- on calls that were run, whose report is one text
+pub report_on : (bytes text : List ℕ) (a : AcceptedModule) (s : Settings) (calls given : List Call) (lines written : List Line) (out : List ℕ)
+    → IsVerdict bytes Accepted → Spells bytes (module_shape a.«module») (shapes_of a.bodies.items) → IsCalls text (Good (calls_of calls)) → given ≡ calls → GiveLines a s given lines
+    → written ≡ lines → out ≡ report_text (ends_of written) → IsSomeAnswer bytes text (limits_of s) out
+unfolding IsAnswer
+report_on bytes text a s calls given lines written out v spells said same gives wrote whole =
+    let ends' : AreEnds a s calls lines = subst (λ (x : List Call). AreEnds a s x lines) same (ends_given a s given lines gives) in
+    let text' : out ≡ report_text (ends_of lines) = whole ∙ ap (λ (l : List Line). report_text (ends_of l)) wrote in
+    ((λ n. is_short (slice_get lines n)), (Accepted, v, (Good (calls_of calls), said, (module_shape a.«module», shapes_of a.bodies.items, ends_of lines, spells, ends', text'))))
+
+-- whose report lies in parts
 pub report_is : (bytes text : List ℕ) (a : AcceptedModule) (s : Settings) (calls given : List Call) (parts written : List Part) (last : List ℕ)
     → IsVerdict bytes Accepted → Spells bytes (module_shape a.«module») (shapes_of a.bodies.items) → IsCalls text (Good (calls_of calls)) → given ≡ calls → GiveParts a s given parts
     → written ≡ parts → ((ends : List CallEnd) → AreParts 0 ends written → parts_text written ++ last ≡ report_text ends) → IsSomeAnswer bytes text (limits_of s) (parts_text parts ++ last)
-unfolding IsAnswer
 report_is bytes text a s calls given parts written last v spells said same (lines, gives, are) wrote whole =
-    let ends' : AreEnds a s calls lines = subst (λ (x : List Call). AreEnds a s x lines) same (ends_given a s given lines gives) in
     let text' : parts_text parts ++ last ≡ report_text (ends_of lines) = ap (λ (l : List Part). parts_text l ++ last) (sym wrote) ∙ whole (ends_of lines) (subst (AreParts 0 (ends_of lines)) (sym wrote) are) in
-    ((λ n. is_short (slice_get lines n)), (Accepted, v, (Good (calls_of calls), said, (module_shape a.«module», shapes_of a.bodies.items, ends_of lines, spells, ends', text'))))
+    report_on bytes text a s calls given lines lines (parts_text parts ++ last) v spells said same gives refl text'
 
 -- ---- a line alone
 

@@ -41,13 +41,13 @@ give_more a s calls i c lines line below at h g =
     let more : take (i + 1) calls ≡ take i calls ++ c ∷ [] = take_more calls i c below ∙ ap (λ (d : Call). take i calls ++ d ∷ []) (sym at) in
     subst (λ (l : List Call). GiveLines a s l (lines ++ line ∷ [])) (sym more) (give_both a s (take i calls) (c ∷ []) lines (line ∷ []) h (g, tt))
 
+-- the lines of all calls
+pub all_given : (a : Accepted) (s : Settings) (calls : List Call) (i : ℕ) (lines : List Line) → length calls ≤ i → GiveLines a s (take i calls) lines → GiveLines a s calls lines
+all_given a s calls i lines past h = subst (λ (l : List Call). GiveLines a s l lines) (take_all i calls past) h
+
 -- all lines of a group
 pub part_given : (a : Accepted) (s : Settings) (g : Group) (i : ℕ) (lines given : List Line) (p : Part) → length g.calls.now ≤ i → GiveLines a s (take i g.calls.now) lines → given ≡ lines → IsPart g.first (ends_of given) p → GivesPart a s g p
-part_given a s g i lines given p all h same part = (
-  lines,
-  subst (λ (l : List Call). GiveLines a s l lines) (take_all i g.calls.now all) h,
-  subst (λ (l : List Line). IsPart g.first (ends_of l) p) same part,
-)
+part_given a s g i lines given p past h same part = (lines, all_given a s g.calls.now i lines past h, subst (λ (l : List Line). IsPart g.first (ends_of l) p) same part)
 
 -- ---- groups
 

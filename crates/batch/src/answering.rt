@@ -9,7 +9,7 @@ ghost use Rattle.batch.specs.Whole.{text_of};
 ghost use Rattle.batch.specs.Safe.{NeverStuck, ValuesAreTyped};
 
 use crate::laws::answers_are_safe;
-use crate::line::line_of;
+use crate::line::verdict_line;
 use crate::output::write_parts;
 use crate::reading::read_by_workers;
 use crate::running::run_groups;
@@ -32,7 +32,7 @@ struct Written {
 }
 
 /// The answer on calls that are refused.
-fn calls_line(alloc: Global, fault: CallsFault) -> Result<String, AllocError>
+pub(crate) fn calls_line(alloc: Global, fault: CallsFault) -> Result<String, AllocError>
     ensures { IfOk result (λ line. SaysRefused fault (string_bytes line)) }
 {
     match fault {
@@ -91,7 +91,7 @@ fn answer_to<R: Threads + Wait + Sync, W: Watch + Sync>(
         Ok(accepted) => answer_on(rt, alloc, &accepted, calls, settings, plan, watch),
         Err(refusal) => Ok(Written {
             parts: Vec::new(alloc),
-            last: line_of(alloc, Err(refusal))?,
+            last: verdict_line(alloc, Err(refusal))?,
             status: Status::ModuleRefused,
         }),
     }

@@ -1,16 +1,18 @@
-// The verdict line, made in memory.
+//! The verdict line, made in memory.
+
 ghost use Rattle.std.specs.Prelude.{◌≡◌, IfOk, IsSomeAnd, string_bytes};
 ghost use Rattle.wsyntax.specs.Validation.Verdict.{BodyRefused};
-ghost use Rattle.wsyntax.specs.Texts.Lines.{verdict_line};
+ghost use Rattle.wsyntax.specs.Texts.Lines.{verdict_line as meant_line};
 ghost use Rattle.verdict.specs.Refusals.{fault_of};
 ghost use Rattle.batch.specs.Report.{given_verdict};
 
 use std::alloc::{AllocError, Global};
 use verdict::{Class, Refusal};
 
-// The line of the verdict that the judge gave. Where it gave none there is no memory for a line either.
-pub(crate) fn line_of(alloc: Global, judged: Result<(), Refusal>) -> Result<String, AllocError>
-    ensures { IfOk result (λ line. IsSomeAnd (given_verdict judged) (λ v. string_bytes line ≡ verdict_line v)) }
+/// The line of the verdict that the judge gave, with its newline. Where it gave none, for it was out of memory, there is no
+/// line either.
+pub fn verdict_line(alloc: Global, judged: Result<(), Refusal>) -> Result<String, AllocError>
+    ensures { IfOk result (λ line. IsSomeAnd (given_verdict judged) (λ v. string_bytes line ≡ meant_line v)) }
 {
     match judged {
         Ok(()) => String::from_str(alloc, "accepted\n"),
@@ -22,9 +24,9 @@ pub(crate) fn line_of(alloc: Global, judged: Result<(), Refusal>) -> Result<Stri
     }
 }
 
-// The line of a body that is refused.
+/// The line of a body that is refused.
 fn body_line(alloc: Global, func: u32, class: Class) -> Result<String, AllocError>
-    ensures { IfOk result (λ line. string_bytes line ≡ verdict_line (BodyRefused func (fault_of class))) }
+    ensures { IfOk result (λ line. string_bytes line ≡ meant_line (BodyRefused func (fault_of class))) }
 {
     match class {
         Class::Malformed => format!(in alloc; "refused body {func} malformed\n"),

@@ -3,7 +3,7 @@ ghost use Rattle.wsyntax.specs.Validation.Verdict.{IsVerdict, Verdict};
 ghost use Rattle.batch.specs.Output.{FallsShort};
 ghost use Rattle.batch.specs.Report.{given_verdict, status_of, IsLineOf, Reports};
 
-use crate::line::line_of;
+use crate::line::verdict_line;
 use crate::output::write_text;
 use crate::status::{AnswerFault, Status};
 use pieces::{Plan, Watch};
@@ -40,7 +40,7 @@ pub(crate) fn write_verdict<O: Write>(
     ensures report { Reports (λ v. given_verdict judged ≡ Some v) (O.contents out.old) (O.contents out.new) result }
     ensures fault { IfErr result (FallsShort (IsLineOf (λ v. given_verdict judged ≡ Some v)) (O.contents out.old) (O.contents out.new)) }
 {
-    let Ok(line) = line_of(alloc, judged) else {
+    let Ok(line) = verdict_line(alloc, judged) else {
         return Err(AnswerFault::Memory);
     };
     match write_text(out, line.as_bytes()) {

@@ -3,7 +3,7 @@
 ghost use Rattle.std.specs.Prelude.{IfOk, IfErr};
 ghost use Rattle.wsyntax.specs.Modules.{module_shape};
 ghost use Rattle.texts.specs.Calls.{call_of};
-ghost use Rattle.batch.specs.Ends.{IsCallee, RefusedAs};
+ghost use Rattle.batch.specs.Ends.{GivesLine, IsCallee, RefusedAs};
 
 use crate::call::run_alone;
 use memory::{CleanMem, Pool, Ticket};
@@ -33,6 +33,40 @@ fn callee(accepted: &Accepted<'_>, call: &Call<'_>) -> Result<u32, Line>
     Ok(function)
 }
 
+/// How a call ends, whose function is this one, in the memory that is given, and that memory, clean again.
+fn call_function(
+    alloc: Global,
+    accepted: &Accepted<'_>,
+    call: &Call<'_>,
+    function: u32,
+    settings: Settings,
+    clean: CleanMem,
+) -> (Line, CleanMem)
+    requires { IsCallee (module_shape accepted.now.module) (call_of call.now) function }
+    ensures { GivesLine accepted.now settings call.now result.0 }
+{
+    accepted_is_judged(accepted);
+    let args = call.args.as_slice();
+    run_alone(alloc, accepted, function, args, settings, clean)
+}
+
+/// How one call ends, on a fresh instance in the memory that is given, and that memory, clean again: the next call may have it.
+/// It needs no threads, and waits for nothing.
+pub fn call_alone(
+    alloc: Global,
+    accepted: &Accepted<'_>,
+    call: &Call<'_>,
+    settings: Settings,
+    clean: CleanMem,
+) -> (Line, CleanMem)
+    ensures { GivesLine accepted.now settings call.now result.0 }
+{
+    match callee(accepted, call) {
+        Ok(function) => call_function(alloc, accepted, call, function, settings, clean),
+        Err(line) => (line, clean),
+    }
+}
+
 /// What the calls of a batch are run with, each on an instance of its own. The pool is asked only where the module has a
 /// memory.
 #[derive(Drop)]
@@ -45,7 +79,6 @@ pub(crate) struct Runner<'a> {
 
 impl<'a> Runner<'a> {
     ghost use Rattle.memory.specs.Pools.{IsTicketOf};
-    ghost use Rattle.batch.specs.Ends.{GivesLine};
 
     /// The function that a call names, or how the call ends.
     pub(crate) fn callee(&self, call: &Call<'_>) -> Result<u32, Line>
@@ -81,12 +114,11 @@ impl<'a> Runner<'a> {
         requires { IsCallee (module_shape self.now.accepted.now.module) (call_of call.now) function }
         ensures { GivesLine self.now.accepted.now self.now.settings call.now result.0 }
     {
-        accepted_is_judged(self.accepted);
-        run_alone(
+        call_function(
             self.alloc,
             self.accepted,
+            call,
             function,
-            call.args.as_slice(),
             self.settings,
             clean,
         )

@@ -1,7 +1,12 @@
-// The lines word by word, writers that fail, take a byte at a time, or take none, and whole answers.
+// The lines word by word, writers that fail, take a byte at a time, or take none, and whole answers, by workers and by one
+// thread alone.
 use crate::answering::answer;
+use crate::line::verdict_line;
 use crate::report::write_verdict;
+use crate::runner::call_alone;
+use crate::sequential::answer_on_alone;
 use crate::status::{AnswerFault, Status};
+use memory::CleanMem;
 use pieces::{Plan, Quiet};
 use std::alloc::Global;
 use std::io;
@@ -10,7 +15,8 @@ use std::process::Abort;
 use std::sync::Wait;
 use std::test::Fail;
 use std::thread::Threads;
-use verdict::{Class, Refusal};
+use texts::{read_calls, report};
+use verdict::{Class, Refusal, judge};
 use wstore::Settings;
 
 // Holds what it takes: `at_once` bytes a write, `room` in all. Then it fails, or takes no byte.
@@ -88,6 +94,7 @@ fn each_verdict_has_its_line(rt: HostRuntime) -> Result<(), Fail> {
             Status::ModuleRefused,
         ),
     ] {
+        assert_eq!(rt; verdict_line(rt.alloc(), judged)?.as_str(), line);
         for at_once in [1, 7, 100] {
             let mut out = Narrow::new(rt.alloc(), at_once, 100, true);
             assert_eq!(rt; write_verdict(rt.alloc(), judged, &mut out)?, status);
@@ -209,6 +216,43 @@ fn refusals_are_answered(rt: HostRuntime) -> Result<(), Fail> {
     let (text, status) = answered(&rt, ADD, &long)?;
     assert_eq!(rt; text.as_slice(), "accepted\ncalls too-large\n".as_bytes());
     assert_eq!(rt; status, Status::CallsRefused);
+    Ok(())
+}
+
+// (memory 1)
+// (func (export "next") (result i32)
+//   (i32.store (i32.const 0) (i32.add (i32.load (i32.const 0)) (i32.const 1))) (i32.load (i32.const 0)))
+const COUNTING: &[u8] = b"\0asm\x01\0\0\0\
+    \x01\x05\x01\x60\0\x01\x7f\
+    \x03\x02\x01\0\
+    \x05\x03\x01\0\x01\
+    \x07\x08\x01\x04next\0\0\
+    \x0a\x16\x01\x14\0\x41\0\x41\0\x28\x02\0\x41\x01\x6a\x36\x02\0\x41\0\x28\x02\0\x0b";
+
+// The second call has the memory of the first, clean.
+#[test]
+fn calls_alone_have_one_memory_in_turn(rt: HostRuntime) -> Result<(), Fail> {
+    let alloc = rt.alloc();
+    let plan = Plan::new(1, 1).ok_or("plan")?;
+    let accepted = judge(&rt, alloc, COUNTING, plan, &Quiet)
+        .ok()
+        .ok_or("accepted")?;
+    let settings = Settings::new(10, 100, 1).ok_or("settings")?;
+    let text = b"next\nno\nnext\n";
+    let mut lines = Vec::new(alloc);
+    let mut clean = CleanMem::empty(alloc);
+    for call in &read_calls(alloc, text)? {
+        let (line, back) = call_alone(alloc, &accepted, call, settings, clean);
+        lines.push(line)?;
+        clean = back;
+    }
+    assert_eq!(rt; clean.len(), 65_536);
+    let said = "0 values i32:1 fuel 1\n1 no-export\n2 values i32:1 fuel 1\n\
+        total 3 values 2 traps 0 exhausted 0 refused 1 no-memory 0 fuel 2\n";
+    assert_eq!(rt; report(alloc, &lines)?.as_str(), said);
+    let answer = answer_on_alone(alloc, &accepted, text, settings)?;
+    assert_eq!(rt; answer.text.as_str(), said);
+    assert_eq!(rt; answer.status, Status::Good);
     Ok(())
 }
 

@@ -1,5 +1,5 @@
 -- From what is known of each group of bodies to what is known of the bodies.
-use Rattle.std.proofs.Common.{Bor, ◌≡◌, ℕ, suc, ◌+◌, ◌*◌, ◌/◌, ◌<◌, ◌≤◌, List, length, map, get_or, None, sym, ap, subst, ◌∙◌, arith}
+use Rattle.std.proofs.Common.{Bor, ◌≡◌, ℕ, suc, ◌+◌, ◌*◌, ◌/◌, ◌<◌, ◌≤◌, List, length, map, get_or, Some, None, sym, ap, subst, ◌∙◌, arith}
 use Rattle.std.specs.Prelude.{option_map, slice_get}
 use Rattle.std.specs.Int.{div_ceil}
 use Rattle.std.proofs.Math.Nat.{div-mul-le_self, mul-le-mul_right, lt-div-mul-add, div-lt_iff_lt-mul}
@@ -43,14 +43,24 @@ pass_before C imported bodies size group r some first earlier k lt =
 
 -- ---- one body more
 
+-- the bytes of the body at a place
+pub bytes_there : (bodies : List (Bor (List ℕ))) (place : ℕ) (d : Bor (List ℕ)) → place < length bodies → slice_get (map (λ b. b.now) bodies) place ≡ Some (get_or bodies place d).now
+bytes_there bodies place d lt = slice_get-map (λ (b : Bor (List ℕ)). b.now) bodies place ∙ ap (option_map (λ (b : Bor (List ℕ)). b.now)) (slice_get-get_or bodies place d lt)
+
 -- the class of the body at a place
 pub class_there : (C D : Context) (i j place : ℕ) (bodies : List (Bor (List ℕ))) (d : Bor (List ℕ)) → D ≡ C → j ≡ i → place < length bodies → class_of D (j + place) (get_or bodies place d).now ≡ class_at C i (map (λ b. b.now) bodies) place
 class_there C D i j place bodies d same is lt =
     ap (λ (x : Context). class_of x (j + place) (get_or bodies place d).now) same
     ∙ ap (λ (x : ℕ). class_of C (x + place) (get_or bodies place d).now) is
-    ∙ sym (ap (given_class C (i + place)) (slice_get-map (λ (b : Bor (List ℕ)). b.now) bodies place ∙ ap (option_map (λ (b : Bor (List ℕ)). b.now)) (slice_get-get_or bodies place d lt)))
+    ∙ sym (ap (given_class C (i + place)) (bytes_there bodies place d lt))
 
--- the bodies of a group before a place pass, and so the one there
+-- the bodies before a place pass, and so the one there
+pub pass_more : (C : Context) (imported : ℕ) (bodies : List (List ℕ)) (place : ℕ) → PassBefore C imported bodies place → class_at C imported bodies place ≡ None → PassBefore C imported bodies (place + 1)
+pass_more C imported bodies place before here k lt =
+    dite (dec_lt k place) (λ y. before k y)
+    (λ no. let same : place ≡ k = omega (arith, no, lt) in subst (λ (x : ℕ). class_at C imported bodies x ≡ None) same here)
+
+-- the same of the bodies of a group
 pub one_more : (C : Context) (imported : ℕ) (bodies : List (List ℕ)) (size group place : ℕ) → ((k : ℕ) → IsInGroup size (length bodies) group k → k < place → class_at C imported bodies k ≡ None) → class_at C imported bodies place ≡ None → (k : ℕ) → IsInGroup size (length bodies) group k → k < place + 1 → class_at C imported bodies k ≡ None
 one_more C imported bodies size group place before here k inside lt =
     dite (dec_lt k place) (λ y. before k inside y)

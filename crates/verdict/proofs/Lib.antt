@@ -12,4 +12,5 @@ pub mod WholeBodies
 pub mod Checks
 pub mod OneVerdict
 pub mod Judgements
+pub mod Rules
 pub mod CheckedBodies

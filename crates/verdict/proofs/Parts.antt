@@ -1,8 +1,7 @@
 -- From what is known of each part of a module to the verdict on it.
-use Rattle.std.proofs.Common.{Bor, get_or, map, Option, ◌≡◌, ◌≢◌, ℕ, zero, suc, ◌+◌, ◌-◌, ◌*◌, ◌<◌, ◌≤◌, min, List, length, Some, None, refl, sym, ap, subst, ◌∙◌, arith, inl, inr}
+use Rattle.std.proofs.Common.{Bor, get_or, map, Option, ◌≡◌, ◌≢◌, ℕ, zero, suc, ◌+◌, ◌-◌, ◌*◌, ◌<◌, ◌≤◌, min, List, length, Some, None, refl, sym, ap, subst, ◌∙◌, arith}
 use Rattle.std.specs.Prelude.{Result, Ok, Err, MatchResult, IfSome, IsErrAnd, ◌↔◌}
 use Rattle.std.proofs.Math.Nat.{min-eq_left, min-eq_right}
-use Rattle.std.proofs.lemmas.Bool.{cases_lt}
 use mathlib.Core.Logic.{dite}
 use native.Mathlib.Decide.{dec_le}
 use Rattle.pieces.specs.declared.job.JobFault.{JobFault}
@@ -139,14 +138,6 @@ body_run h place (Err y) x is lt passes before a = subst (AllowsFault (IsFirstFa
     allowed (fault.Refused (part.Rest r)) a = absurd a
     allowed (fault.Refused (part.Body r)) a = first r (sym a.0) a.1
     allowed fault.Memory a = tt
-
--- one body more is accepted
-pub pass_more : (h : Head) (place : ℕ) → BodiesPass h place → class_in h place ≡ None → BodiesPass h (place + 1)
-pass_more h place before here k lt =
-    elim (cases_lt k place) [
-      | inl below ↦ before k below
-      | inr past ↦ subst (λ (x : ℕ). class_in h x ≡ None) (let same : place ≡ k = omega (arith, past, lt) in same) here
-    ]
 
 -- ---- the verdict
 

@@ -2,6 +2,7 @@ pub mod Refusals
 pub mod Judged
 pub mod Groups
 pub mod Heads
+pub mod Rules
 pub mod Parts
 pub mod OnePass
 pub mod WholeBodies

@@ -11,7 +11,7 @@ use crate::part_fault::{PartFault, RestFault};
 use crate::passing::Scratch;
 use crate::refusal::Refusal;
 use crate::rest::judge_rest;
-use pieces::{JobFault, Plan, Stage, TryFault, Watch, try_all};
+use pieces::{JobFault, Plan, TryFault, Watch, try_all};
 use std::alloc::{AllocError, Global};
 use std::sync::Wait;
 use std::thread::Threads;
@@ -70,11 +70,7 @@ fn judge_parts<R: Threads + Wait + Sync, W: Watch + Sync>(
 }
 
 /// Does the same on the calling thread, one body after the other.
-fn judge_in_order<W: Watch + Sync>(
-    alloc: Global,
-    head: &Head<'_>,
-    watch: &W,
-) -> Result<(), JobFault<PartFault>>
+fn judge_in_order(alloc: Global, head: &Head<'_>) -> Result<(), JobFault<PartFault>>
     requires { IsAwaited head.now.front head.now.counts }
     ensures { HasRun head.now result }
 {
@@ -83,7 +79,6 @@ fn judge_in_order<W: Watch + Sync>(
     };
     judge_rest(alloc, head, &mut scratch.names)?;
     for place in 0..head.front.module.bodies.len() as u32 {
-        watch.note(Stage::Body, place);
         judge_at(alloc, head, &mut scratch, place)?;
     }
     Ok(())
@@ -138,10 +133,10 @@ pub fn examine<R: Threads + Wait + Sync, W: Watch + Sync>(
 }
 
 /// Judges a module and keeps nothing of it, on the calling thread: it takes no right to start threads or to wait.
-pub fn examine_alone<W: Watch + Sync>(alloc: Global, bytes: &[u8], watch: &W) -> Result<(), Refusal>
+pub fn examine_alone(alloc: Global, bytes: &[u8]) -> Result<(), Refusal>
     ensures { MatchResult result (λ _. IsVerdict bytes.now Accepted) (λ r. IfSome (verdict_of r) (IsVerdict bytes.now)) }
 {
     let head = Head::of(alloc, bytes)?;
-    let run = judge_in_order(alloc, &head, watch);
+    let run = judge_in_order(alloc, &head);
     examined(&head, run)
 }

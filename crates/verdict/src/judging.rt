@@ -3,19 +3,22 @@ ghost use Rattle.wsyntax.specs.Validation.Verdict.{IsVerdict, Accepted as accept
 ghost use Rattle.verdict.specs.Judged.{PassBefore, IsFirstBody};
 ghost use Rattle.accepted.specs.Judgement.{AreChecked};
 ghost use Rattle.accepted.specs.Kept.{IsAcceptedFrom};
+ghost use Rattle.verdict.specs.Rules.{KeepsRules};
 ghost use Rattle.verdict.specs.Refusals.{verdict_of};
 
+use crate::keeping::checked_body;
 use crate::keeping_jobs::KeptBodies;
 use crate::refusal::Refusal;
 use accepted::Accepted;
 use checked::CheckedBody;
-use pieces::{Plan, TryFault, Watch, try_all};
+use pieces::{JobFault, Plan, TryFault, Watch, try_all};
 use soundness::validation::{accepted_is_typed, refused_at_first_fault};
 use std::alloc::Global;
 use std::sync::Wait;
 use std::thread::Threads;
 use wcontext::{Context, check_module};
 use wdecode::{decode_module, grammar_is_read};
+use wsyntax::Module;
 
 /// Judges the bodies of a module, up to the first that is refused, and keeps them.
 fn judge_bodies<R: Threads + Wait + Sync, W: Watch + Sync>(
@@ -55,6 +58,49 @@ fn judge_bodies<R: Threads + Wait + Sync, W: Watch + Sync>(
     }
 }
 
+/// Does the same on the calling thread, one body after the other.
+fn judge_bodies_alone(
+    alloc: Global,
+    context: &Context,
+    bodies: &[&[u8]],
+) -> Result<Vec<CheckedBody>, Refusal>
+    requires each_has_type { context.now.imported + length bodies.now ≡ length context.now.context.functions }
+    requires few { context.now.imported + length bodies.now < 2 ^ 32 }
+    ensures verdict { MatchResult result
+        (λ _. PassBefore context.now.context context.now.imported (map (λ b. b.now) bodies.now) (length bodies.now))
+        (IsFirstBody context.now.context context.now.imported (map (λ b. b.now) bodies.now)) }
+    ensures bodies { IfOk result (λ v.
+        AreChecked context.now.context context.now.imported (map (λ b. b.now) bodies.now) (length bodies.now) v.items) }
+{
+    let imported = context.imported_functions() as u32;
+    let mut kept = Vec::with_capacity(alloc, bodies.len())?;
+    for place in 0..bodies.len() as u32 {
+        let func = imported + place;
+        match checked_body(alloc, context, func, bodies[place as usize]) {
+            Ok(checked) => {
+                if kept.push(checked).is_err() {
+                    return Err(Refusal::Memory);
+                }
+            }
+            Err(JobFault::Refused(class)) => return Err(Refusal::Body { func, class }),
+            Err(JobFault::Memory) => return Err(Refusal::Memory),
+        }
+    }
+    Ok(kept)
+}
+
+/// The module of these bytes, where it keeps all rules, and the context of its bodies.
+fn decode_and_check<'a>(alloc: Global, bytes: &'a [u8]) -> Result<(Module<'a>, Context), Refusal>
+    ensures { MatchResult result (λ m. KeepsRules bytes.now m.0 m.1) (λ r. IfSome (verdict_of r) (IsVerdict bytes.now)) }
+{
+    grammar_is_read();
+    accepted_is_typed();
+    refused_at_first_fault();
+    let module = decode_module(alloc, bytes)?;
+    let context = check_module(alloc, &module)?;
+    Ok((module, context))
+}
+
 /// Judges a module, and keeps it with its context and its checked bodies.
 pub fn judge<'a, R: Threads + Wait + Sync, W: Watch + Sync>(
     rt: &R,
@@ -66,11 +112,17 @@ pub fn judge<'a, R: Threads + Wait + Sync, W: Watch + Sync>(
     ensures verdict { MatchResult result (λ _. IsVerdict bytes.now accepted_verdict) (λ r. IfSome (verdict_of r) (IsVerdict bytes.now)) }
     ensures parts { IfOk result (IsAcceptedFrom bytes.now) }
 {
-    grammar_is_read();
-    accepted_is_typed();
-    refused_at_first_fault();
-    let module = decode_module(alloc, bytes)?;
-    let context = check_module(alloc, &module)?;
+    let (module, context) = decode_and_check(alloc, bytes)?;
     let bodies = judge_bodies(rt, alloc, &context, &module.bodies, plan, watch)?;
+    Ok(Accepted::of(alloc, module, context, bodies)?)
+}
+
+/// Judges a module, and keeps the same of it, on the calling thread: it takes no right to start threads or to wait.
+pub fn judge_alone<'a>(alloc: Global, bytes: &'a [u8]) -> Result<Accepted<'a>, Refusal>
+    ensures verdict { MatchResult result (λ _. IsVerdict bytes.now accepted_verdict) (λ r. IfSome (verdict_of r) (IsVerdict bytes.now)) }
+    ensures parts { IfOk result (IsAcceptedFrom bytes.now) }
+{
+    let (module, context) = decode_and_check(alloc, bytes)?;
+    let bodies = judge_bodies_alone(alloc, &context, &module.bodies)?;
     Ok(Accepted::of(alloc, module, context, bodies)?)
 }

@@ -18,6 +18,6 @@ mod rest;
 
 pub use accepted::Accepted;
 pub use examining::{examine, examine_alone};
-pub use judging::judge;
+pub use judging::{judge, judge_alone};
 pub use laws::{one_verdict, segments_hold_bytes};
 pub use refusal::{Class, Refusal};

@@ -1,21 +1,25 @@
 use Rattle.std.proofs.Common.{◌<◌, length, arith}
 use Rattle.std.proofs.lemmas.List.{length-map}
-use Rattle.verdict.proofs.Parts.{body_run, pass_more}
+use Rattle.verdict.specs.Parts.{bodies_of}
+use Rattle.verdict.proofs.Groups.{pass_more}
+use Rattle.verdict.proofs.Parts.{body_run}
 use Rattle.verdict.proofs.examining.judge_in_order.Goals as goal
 
 pub loop-place-preserved : goal.loop-place-preserved
-loop-place-preserved g c = record {
-  outside = c.in_ok-judge_at.ensures.outside;
-  passed = pass_more c.args.head.now c.loop-place.place c.loop-place.invariant.passed c.in_ok-judge_at.ensures.verdict;
-}
+loop-place-preserved c =
+    let h = c.args.head.now in
+    record {
+      outside = c.in_ok-judge_at.ensures.outside;
+      passed = pass_more h.context.context h.context.imported (bodies_of h) c.loop-place.place c.loop-place.invariant.passed c.in_ok-judge_at.ensures.verdict;
+    }
 
 pub returns-in_err-judge_at : goal.returns-in_err-judge_at
-returns-in_err-judge_at g c =
+returns-in_err-judge_at c =
     let count = length-map c.args.head.now.front.«module».bodies.items (λ b. b.now) in
     body_run c.args.head.now c.loop-place.place c.from_residual-in_err-judge_at.result c.in_err-judge_at.field-0.0 c.from_residual-in_err-judge_at.ensures.1
     (omega (arith, count, c.len-place-end.ensures, c.loop-place-test.true)) c.in_ok-judge_rest.ensures c.loop-place.invariant.passed c.in_err-judge_at.ensures.verdict
 
 pub returns : goal.returns
-returns g c =
+returns c =
     let count = length-map c.args.head.now.front.«module».bodies.items (λ b. b.now) in
     (c.in_ok-judge_rest.ensures, λ k lt. c.loop-place.invariant.passed k (omega (arith, count, lt, c.len-place-end.ensures, c.loop-place-test.false)))

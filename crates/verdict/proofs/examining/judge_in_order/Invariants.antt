@@ -3,7 +3,7 @@ use Rattle.verdict.specs.Parts.{BodiesPass}
 use Rattle.verdict.proofs.examining.judge_in_order.Given as goal
 
 abbrev pub invariant-loop-place : goal.invariant-loop-place
-invariant-loop-place g l = record {
+invariant-loop-place l = record {
   outside : l.scratch.checker.outside ≡ l.head.context.context;
   passed : BodiesPass l.head l.place;
 }

@@ -1,0 +1,57 @@
+-- From what judging found of the bodies of a module that keeps all rules to the verdict on it.
+use Rattle.std.proofs.Common.{Bor, ◌≡◌, ℕ, ◌+◌, ◌<◌, List, length, map, Vec, Global, sym, ap, ◌∙◌, arith}
+use Rattle.std.specs.Prelude.{Result, MatchResult, IfSome}
+use Rattle.std.proofs.lemmas.List.{length-map}
+use Rattle.wsyntax.specs.declared.module.Module.{Module}
+use Rattle.wsyntax.specs.Modules.{module_shape}
+use Rattle.wsyntax.specs.Validation.ModuleContext.{IndexedContext}
+use Rattle.wsyntax.specs.Validation.Verdict.{IsVerdict, Accepted as accepted_verdict}
+use Rattle.checked.specs.declared.body.CheckedBody.{CheckedBody}
+use Rattle.accepted.specs.declared.accepted.Accepted.{Accepted}
+use Rattle.accepted.specs.Judgement.{AreChecked, IsJudged}
+use Rattle.accepted.specs.Small.{IsSmall}
+use Rattle.accepted.specs.Kept.{IsAcceptedFrom}
+use Rattle.verdict.specs.declared.refusal.Refusal.{Refusal}
+use Rattle.verdict.specs.Judged.{PassBefore, IsFirstBody}
+use Rattle.verdict.specs.Refusals.{verdict_of}
+use Rattle.verdict.specs.Rules.{KeepsRules}
+use Rattle.verdict.proofs.Firsts.{judged, indices_fit}
+use Rattle.verdict.proofs.Judgements.{is_judged, accepted_from}
+use Rattle.verdict.proofs.Parts.{each_has_type}
+use Rattle.verdict.proofs.Smallness.{is_small}
+
+-- ---- the bodies that are judged are those of the module
+
+as_many : (m : Module) (bodies : List (Bor (List ℕ))) → bodies ≡ m.bodies.items → length bodies ≡ length (module_shape m).bodies
+as_many m bodies same = ap length same ∙ sym (length-map _ _)
+
+pub each_typed : (bytes : List ℕ) (m : Module) (x : IndexedContext) (bodies : List (Bor (List ℕ))) → KeepsRules bytes m x → bodies ≡ m.bodies.items → x.imported + length bodies ≡ length x.context.functions
+each_typed bytes m x bodies keeps same =
+    let count : length bodies ≡ length (module_shape m).bodies = as_many m bodies same in
+    let each : x.imported + length (module_shape m).bodies ≡ length x.context.functions = each_has_type (module_shape m) x keeps.context keeps.known.whole.shell.paired in
+    omega arith
+
+pub few_functions : (bytes : List ℕ) (m : Module) (x : IndexedContext) (bodies : List (Bor (List ℕ))) → KeepsRules bytes m x → bodies ≡ m.bodies.items → x.imported + length bodies < 4294967296
+few_functions bytes m x bodies keeps same = indices_fit bytes (module_shape m) x (length bodies) keeps.known.whole keeps.context (as_many m bodies same)
+
+-- ---- what judging them found
+
+pub verdict_so : {T : Type 0} (bytes : List ℕ) (m : Module) (x : IndexedContext) (bodies : List (Bor (List ℕ))) (r : Result T Refusal) → KeepsRules bytes m x → bodies ≡ m.bodies.items
+    → MatchResult r (λ _. PassBefore x.context x.imported (map (λ b. b.now) bodies) (length bodies)) (IsFirstBody x.context x.imported (map (λ b. b.now) bodies))
+    → MatchResult r (λ _. IsVerdict bytes accepted_verdict) (λ r. IfSome (verdict_of r) (IsVerdict bytes))
+verdict_so bytes m x bodies r keeps same found =
+    judged bytes (module_shape m) x (map (λ b. b.now) bodies) (length bodies) r keeps.known keeps.context (ap (map (λ b. b.now)) same) (as_many m bodies same) found
+
+pub judged_so : (bytes : List ℕ) (m : Module) (x : IndexedContext) (bodies : List (Bor (List ℕ))) (all : List CheckedBody) → KeepsRules bytes m x → bodies ≡ m.bodies.items
+    → AreChecked x.context x.imported (map (λ b. b.now) bodies) (length bodies) all → IsJudged (module_shape m) x all
+judged_so bytes m x bodies all keeps same checked =
+    is_judged (module_shape m) x (map (λ b. b.now) bodies) (length bodies) all keeps.known.rules keeps.context keeps.known.whole.shell.paired (ap (map (λ b. b.now)) same) (as_many m bodies same) checked
+
+pub small_so : (bytes : List ℕ) (m : Module) (x : IndexedContext) (bodies : List (Bor (List ℕ))) (all : List CheckedBody) → KeepsRules bytes m x → bodies ≡ m.bodies.items
+    → AreChecked x.context x.imported (map (λ b. b.now) bodies) (length bodies) all → IsSmall (module_shape m) all
+small_so bytes m x bodies all keeps same checked = is_small bytes (module_shape m) x all keeps.known.whole (judged_so bytes m x bodies all keeps same checked)
+
+pub accepted_so : (bytes : List ℕ) (m : Module) (x : IndexedContext) (bodies : List (Bor (List ℕ))) (all : Vec CheckedBody Global) (a : Accepted) → KeepsRules bytes m x → bodies ≡ m.bodies.items
+    → AreChecked x.context x.imported (map (λ b. b.now) bodies) (length bodies) all.items → (a.«module» ≡ m) × (a.context ≡ x) × (a.bodies ≡ all) → IsAcceptedFrom bytes a
+accepted_so bytes m x bodies all a keeps same checked made =
+    accepted_from bytes m x all a made keeps.known.whole.shell (judged_so bytes m x bodies all.items keeps same checked)
