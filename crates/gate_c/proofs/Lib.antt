@@ -1,0 +1,4 @@
+pub mod Values
+pub mod ModuleValues
+pub mod ReportValues
+pub mod Spelled

@@ -1,0 +1,29 @@
+-- The machine values of a `GateReport`, which is laid out as a `Loose` of the heap. Assumes `Logic`.
+use Rattle.std.proofs.Common.{◌≡◌, ℕ, List, [], ◌∷◌, ◌++◌, refl, subst}
+use seplogic.Ra.Ura.{Ura}
+use mir.Raw.{raw as bare}
+use mir.Val.{Val, vptr, vstruct, of_list}
+use base.Logic.{never, fst∗}
+use types.Logic.{Logic, sem}
+use types.Kit.{Item, Goal, Seq, ‵, ◌$◌, move, drop, fsplit, fpick, feq_l}
+use denote.Memory.{lone}
+use denote.RawPtr.{Ptr, block_ptr, null_ptr, ptr_val, in_a_block}
+use denote.Param.{layout}
+use Rattle.core.proofs.alloc.Calls.{handle_tells}
+use Rattle.core.proofs.cell.Inside.{Good}
+use Rattle.std_alloc.specs.Box.Ownership.{box_owns}
+use Rattle.std.specs.contracts.alloc.Global as heap
+use Rattle.std.specs.contracts.impls.GlobalAllocator.TheImpl.{ghosts}
+use Rattle.gate_c.proofs.Values.{both, the_heap_al}
+use Rattle.gate_c.specs.contracts.kept.Kept as kept
+use Rattle.gate_c.specs.contracts.report.GateReport as handle
+
+module _ {M : Type 1} {𝓤 : Ura M} {𝓛 : Logic 𝓤} {K : Type 0} {Γ : List (Item 𝓤)} {G : Goal 𝓤 𝓛.H} where
+  pub handle_out : K → (d : (handle.the_row).Denot) (vs : List Val)
+      → ((b o : ℕ) (h : Val) → d.at ≡ block_ptr b o → vs ≡ both (vptr b o) h ∷ [] → Good (layout heap.the_row) h → Seq K 𝓛 (‵ (box_owns (ghosts.dealloc_token d.alloc) kept.the_row (block_ptr b o) d.value) ∷ ‵ ((heap.the_row).own_val d.alloc (h ∷ [])) ∷ Γ) G)
+      → Seq K 𝓛 (‵ ((handle.the_row).own_val d vs) ∷ Γ) G
+  handle_out t d vs k =
+      fsplit t $ fpick t (λ vss. fsplit t $ feq_l t (λ ev. fsplit t $ feq_l t (λ ep. fsplit t $ handle_tells the_heap_al t d.alloc vss.1.0 (λ h ea fits. move t (1 ∷ []) $ drop t $ move t (1 ∷ []) $
+      in_a_block t d.at (λ p. box_owns (ghosts.dealloc_token d.alloc) kept.the_row p d.value) (fst∗ 𝓤 (never 𝓤) (sem 𝓛 (ghosts.dealloc_token d.alloc (bare (lone (kept.the_row).mir)) null_ptr))) (λ b o e. k b o h e
+      (subst (λ (p : Ptr). vs ≡ vstruct (of_list (ptr_val p ∷ h ∷ [])) ∷ []) e
+      (subst (λ (ws : List Val). vs ≡ vstruct (of_list (ptr_val d.at ∷ (ws ++ []))) ∷ []) ea (subst (λ (ps : List Val). vs ≡ vstruct (of_list (ps ++ (vss.1.0 ++ []))) ∷ []) ep ev))) fits)))))

@@ -1,0 +1,6 @@
+use Rattle.std.proofs.Common.{◌≡◌, map, take}
+use Rattle.gate_c.specs.Values.{value_numbers}
+use Rattle.gate_c.proofs.calling.arguments.Given as goal
+
+abbrev pub invariant-loop-number : goal.invariant-loop-number
+invariant-loop-number l = map value_numbers l.values.items ≡ take l.number-index l.numbers

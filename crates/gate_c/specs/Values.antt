@@ -1,0 +1,16 @@
+-- The numbers of values.
+use Rattle.std.specs.Prelude.{List, [], ◌∷◌}
+use Rattle.wsyntax.specs.declared.value.Value.{Value}
+use Rattle.wsyntax.specs.declared.value.Value.TheVariants.{I32, I64}
+use Rattle.gate_c.specs.declared.value.GateValue.{GateValue}
+
+-- of a value
+abbrev pub value_numbers : Value → GateValue
+value_numbers (I32 n) = record { width = 32; bits = n }
+value_numbers (I64 n) = record { width = 64; bits = n }
+
+-- those of values over the first of these, as far as there is room
+abbrev pub overlay : List Value → List GateValue → List GateValue
+overlay [] old = old
+overlay (v ∷ vs) [] = []
+overlay (v ∷ vs) (x ∷ old) = value_numbers v ∷ overlay vs old

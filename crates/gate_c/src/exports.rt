@@ -1,0 +1,236 @@
+//! What C calls.
+
+ghost use Rattle.std.specs.Prelude.{◌≡◌, ◌⊎◌, ℕ, List, IfSome, string_bytes};
+ghost use Rattle.wsyntax.specs.Validation.Verdict.{IsVerdict};
+ghost use Rattle.verdict.specs.Refusals.{verdict_of};
+ghost use Rattle.gate_c.specs.Calls.{AnswersCall, EndsCall};
+ghost use Rattle.gate_c.specs.Handles.{IsAnswered};
+ghost use Rattle.gate_c.specs.Runs.{HandsAnswer, IsAnswerOf, IsAnswerTo};
+ghost use Rattle.gate_c.specs.Statuses.{number_of};
+ghost use Rattle.gate_c.specs.Texts.{AreKept, Hands};
+ghost use Rattle.gate_c.specs.Verdicts.{Answers, HandsLine};
+
+use crate::calling::{call, tell_end};
+use crate::ending::GateCall;
+use crate::handing::hand_out;
+use crate::held::Held;
+use crate::judged::GateVerdict;
+use crate::module::GateModule;
+use crate::report::GateReport;
+use crate::settings::GateSettings;
+use crate::status::{BAD_ARGUMENT, MODULE_REFUSED, NO_MEMORY, OK};
+use crate::text::hand_text;
+use crate::value::GateValue;
+use batch::{answer_alone, answer_on_alone, verdict_line};
+use std::alloc::Global;
+use verdict::{Refusal, examine_alone, judge_alone};
+
+/// The number of this interface.
+#[unsafe(no_mangle)]
+pub extern "C" fn gate_version() -> u32
+    ensures { result ≡ 1 }
+{
+    1
+}
+
+/// Judges a module. 0: it is accepted; 2: it is refused; either way the verdict is written. 70: nothing is written.
+#[unsafe(no_mangle)]
+pub extern "C" fn gate_check(alloc: Global, bytes: &[u8], verdict: &mut GateVerdict) -> u32
+    ensures { Answers bytes.now verdict.old verdict.new result }
+{
+    match examine_alone(alloc, bytes) {
+        Ok(()) => {
+            *verdict = GateVerdict::accepted();
+            OK
+        }
+        Err(refusal) => refuse(refusal, verdict),
+    }
+}
+
+/// Writes the verdict of a refusal.
+fn refuse(refusal: Refusal, verdict: &mut GateVerdict) -> u32
+    ensures { (bytes : List ℕ) → IfSome (verdict_of refusal) (IsVerdict bytes) → Answers bytes verdict.old verdict.new result }
+{
+    let Some(numbers) = GateVerdict::of_refusal(refusal) else {
+        return NO_MEMORY;
+    };
+    *verdict = numbers;
+    MODULE_REFUSED
+}
+
+/// Writes the line of a verdict. 0: it is written, and its length; 64: the numbers are of no verdict; 70: nothing is written;
+/// 75: the line has `length` bytes, and there is no room for it.
+#[unsafe(no_mangle)]
+pub extern "C" fn gate_verdict_line(
+    alloc: Global,
+    verdict: &GateVerdict,
+    out: &mut [u8],
+    length: &mut usize,
+) -> u32
+    ensures { HandsLine verdict.now out.old out.new length.old length.new result }
+{
+    let Some(judged) = verdict.judged() else {
+        return BAD_ARGUMENT;
+    };
+    let Ok(line) = verdict_line(alloc, judged) else {
+        return NO_MEMORY;
+    };
+    hand_text(line.as_bytes(), OK, out, length)
+}
+
+/// Judges a module, runs the calls of a text, each on an instance of its own, and writes the answer. 0, 2, 3: it is written, and
+/// its length; 64: a limit is out of its range; 70: nothing is written; 75: the answer has `length` bytes, there is no room for
+/// it, and `kept` holds it.
+#[unsafe(no_mangle)]
+pub extern "C" fn gate_run(
+    alloc: Global,
+    module: &[u8],
+    calls: &[u8],
+    settings: &GateSettings,
+    out: &mut [u8],
+    length: &mut usize,
+    kept: &mut *mut u8,
+) -> u32
+    ensures { HandsAnswer settings.now (IsAnswerTo «module».now calls.now settings.now) out.old out.new length.old length.new result }
+{
+    let Some(limits) = settings.settings() else {
+        return BAD_ARGUMENT;
+    };
+    match answer_alone(alloc, module, calls, limits) {
+        Ok(answer) => hand_out(alloc, answer, out, length, kept),
+        Err(_) => NO_MEMORY,
+    }
+}
+
+/// Writes an answer that was kept. 0, 2, 3: it is written, and its length; 75: it has `length` bytes, and there is no room for
+/// it. It stays kept either way.
+#[unsafe(no_mangle)]
+pub extern "C" fn gate_report_read(report: GateReport, out: &mut [u8], length: &mut usize) -> u32
+    ensures text { Hands (string_bytes report.value.answer.text) (number_of report.value.answer.status) out.old out.new length.new result }
+    ensures answered { ∥ IsAnswered (string_bytes report.value.answer.text) report.value.answer.status ∥₁ }
+{
+    let kept = report.into_box();
+    let status = kept.read(out, length);
+    let _same = Box::into_raw(kept);
+    status
+}
+
+/// Frees an answer that was kept.
+#[unsafe(no_mangle)]
+pub extern "C" fn gate_report_free(report: GateReport) {
+    drop(report.into_box());
+}
+
+/// Judges a module, and where it is accepted hands out what its calls are made with. 0: `module` is written; 2: it is refused;
+/// either way the verdict is written. 70: nothing is written. The bytes must stay as they are until the last handle is freed.
+#[unsafe(no_mangle)]
+pub extern "C" fn gate_module_new(
+    alloc: Global,
+    bytes: &'static [u8],
+    verdict: &mut GateVerdict,
+    module: &mut *mut u8,
+) -> u32
+    ensures { Answers bytes.now verdict.old verdict.new result }
+{
+    let accepted = match judge_alone(alloc, bytes) {
+        Ok(accepted) => accepted,
+        Err(refusal) => return refuse(refusal, verdict),
+    };
+    let Some(held) = Held::boxed(alloc, accepted) else {
+        return NO_MEMORY;
+    };
+    *verdict = GateVerdict::accepted();
+    *module = Box::into_raw(held) as *mut u8;
+    OK
+}
+
+/// Runs the calls of a text on an accepted module. As `gate_run`.
+#[unsafe(no_mangle)]
+pub extern "C" fn gate_module_run(
+    alloc: Global,
+    module: GateModule,
+    calls: &[u8],
+    settings: &GateSettings,
+    out: &mut [u8],
+    length: &mut usize,
+    kept: &mut *mut u8,
+) -> u32
+    ensures { HandsAnswer settings.now (IsAnswerOf «module».value.accepted.value calls.now settings.now)
+        out.old out.new length.old length.new result }
+{
+    let held = module.into_box();
+    let status = run_on(alloc, &held, calls, settings, out, length, kept);
+    let _same = Box::into_raw(held);
+    status
+}
+
+/// The same on what the handle holds.
+fn run_on(
+    alloc: Global,
+    held: &Held,
+    calls: &[u8],
+    settings: &GateSettings,
+    out: &mut [u8],
+    length: &mut usize,
+    kept: &mut *mut u8,
+) -> u32
+    ensures { HandsAnswer settings.now (IsAnswerOf held.now.accepted.value calls.now settings.now) out.old out.new length.old length.new result }
+{
+    let Some(limits) = settings.settings() else {
+        return BAD_ARGUMENT;
+    };
+    match answer_on_alone(alloc, &held.accepted, calls, limits) {
+        Ok(answer) => hand_out(alloc, answer, out, length, kept),
+        Err(_) => NO_MEMORY,
+    }
+}
+
+/// Calls an export of an accepted module on a fresh instance. 0: `ended` says how it ended, and as many results are written as
+/// there is room for; 64: a limit is out of its range, or an argument is no value; 70: nothing is written.
+#[unsafe(no_mangle)]
+pub extern "C" fn gate_module_call(
+    alloc: Global,
+    module: GateModule,
+    name: &[u8],
+    args: &[GateValue],
+    settings: &GateSettings,
+    results: &mut [GateValue],
+    ended: &mut GateCall,
+) -> u32
+    ensures { AnswersCall (EndsCall «module».value.accepted.value name.now args.now settings.now)
+        results.old results.new ended.old ended.new result }
+{
+    let held = module.into_box();
+    let status = match call(alloc, &held.accepted, name, args, settings) {
+        Ok(line) => {
+            tell_end(&line, results, ended);
+            OK
+        }
+        Err(status) => status,
+    };
+    let _same = Box::into_raw(held);
+    status
+}
+
+/// Another handle of the same module, for another thread. 0: it is written; 70: nothing is written.
+#[unsafe(no_mangle)]
+pub extern "C" fn gate_module_share(alloc: Global, module: GateModule, other: &mut *mut u8) -> u32
+    ensures { (result ≡ 0) ⊎ (result ≡ 70) }
+{
+    let held = module.into_box();
+    let status = match held.another(alloc) {
+        Some(shared) => {
+            *other = Box::into_raw(shared) as *mut u8;
+            OK
+        }
+        None => NO_MEMORY,
+    };
+    let _same = Box::into_raw(held);
+    status
+}
+
+/// Frees a module.
+#[unsafe(no_mangle)]
+pub extern "C" fn gate_module_free(module: GateModule) {
+    drop(module.into_box());
+}

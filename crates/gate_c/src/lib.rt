@@ -1,0 +1,28 @@
+//! The library for C: each export calls a function of the crates below and hands its answer out as plain numbers. It starts no
+//! thread and waits for none. Its names and structs are those of gate.h.
+#![tactic(auto)]
+
+mod calling;
+mod ending;
+mod exports;
+mod handing;
+mod held;
+mod judged;
+mod kept;
+mod loose;
+mod module;
+mod report;
+mod sending;
+mod settings;
+mod status;
+mod text;
+mod value;
+
+pub use ending::GateCall;
+pub use held::Held;
+pub use judged::GateVerdict;
+pub use kept::Kept;
+pub use module::GateModule;
+pub use report::GateReport;
+pub use settings::GateSettings;
+pub use value::GateValue;

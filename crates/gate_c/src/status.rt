@@ -1,0 +1,30 @@
+//! What the functions answer: `gate_status` of gate.h.
+
+ghost use Rattle.std.specs.Prelude.{◌≡◌};
+ghost use Rattle.gate_c.specs.Statuses.{number_of};
+
+use batch::Status;
+
+/// The module is accepted; the text, the handle or the end is written.
+pub(crate) const OK: u32 = 0;
+/// The module is refused, and the verdict or the text says why.
+pub(crate) const MODULE_REFUSED: u32 = 2;
+/// The text of calls is refused, and the text says why.
+pub(crate) const CALLS_REFUSED: u32 = 3;
+/// A limit is out of its range, or numbers are of no verdict or value.
+pub(crate) const BAD_ARGUMENT: u32 = 64;
+/// An allocation was refused.
+pub(crate) const NO_MEMORY: u32 = 70;
+/// The buffer is shorter than the text.
+pub(crate) const SHORT_BUFFER: u32 = 75;
+
+/// The number of the status of an answer.
+pub(crate) fn status_number(status: Status) -> u32
+    ensures { result ≡ number_of status }
+{
+    match status {
+        Status::Good => OK,
+        Status::ModuleRefused => MODULE_REFUSED,
+        Status::CallsRefused => CALLS_REFUSED,
+    }
+}
