@@ -1,5 +1,5 @@
 //! A host of plug-ins in small: it judges a module once, and then calls one of its exports, each time on an instance of its
-//! own: `host_example MODULE NAME`. docs/EMBEDDING.md goes through it line by line.
+//! own: `host_example MODULE NAME`. docs/HOSTS.md goes through it line by line.
 #![tactic(auto)]
 
 mod plug_in;
