@@ -15,6 +15,13 @@ impl fmt::Display for NoMemory {
 
 impl Error for NoMemory {}
 
+/// An empty vector with room for `count` items.
+pub(crate) fn room<T>(count: usize) -> Result<Vec<T>, NoMemory> {
+    let mut items = Vec::new();
+    items.try_reserve_exact(count).map_err(|_| NoMemory)?;
+    Ok(items)
+}
+
 /// Why a module is not accepted.
 #[derive(Clone, Copy, Debug, PartialEq, Eq, Hash)]
 pub enum CheckError {

@@ -1,5 +1,5 @@
 //! An accepted module: judged once, called often.
-use crate::ffi;
+use crate::{error, ffi};
 use crate::{Call, CheckError, NoMemory, Refusal, Report, Settings, Value};
 use std::cell::Cell;
 use std::marker::PhantomData;
@@ -94,11 +94,12 @@ impl<'a> Module<'a> {
     /// more than any call of this module gave, or more than 1,024, the function is called once more: on a fresh instance, so
     /// with the same end.
     pub fn call(&self, name: &str, args: &[Value], settings: Settings) -> Result<Call, NoMemory> {
-        let args: Vec<ffi::Value> = args.iter().map(|value| value.to_c()).collect();
+        let mut numbers = error::room(args.len())?;
+        numbers.extend(args.iter().map(|value| value.to_c()));
         let settings = settings.to_c();
         let mut room = self.room.get();
         loop {
-            let (ended, results) = self.call_with_room(name, &args, &settings, room)?;
+            let (ended, results) = self.call_with_room(name, &numbers, &settings, room)?;
             let count = usize::try_from(ended.results).map_err(|_| NoMemory)?;
             if count <= room {
                 self.room.set(room.min(MOST_ROOM));
@@ -116,8 +117,7 @@ impl<'a> Module<'a> {
         settings: &ffi::Settings,
         room: usize,
     ) -> Result<(ffi::Call, Vec<ffi::Value>), NoMemory> {
-        let mut results: Vec<ffi::Value> = Vec::new();
-        results.try_reserve_exact(room).map_err(|_| NoMemory)?;
+        let mut results: Vec<ffi::Value> = error::room(room)?;
         let mut ended = ffi::Call::default();
         // SAFETY: the handle is not freed, and no other call has it; the slices are borrowed for the call, and `results` has
         // the room that is told.

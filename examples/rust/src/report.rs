@@ -1,5 +1,5 @@
 //! The calls of a text, and their report.
-use crate::ffi;
+use crate::{error, ffi};
 use crate::{NoMemory, Settings};
 use std::fmt;
 use std::ptr;
@@ -59,7 +59,7 @@ impl Report {
     /// `write` is `gate_run` or `gate_module_run` with its last four parameters open: it writes `length` bytes of ASCII where
     /// it answers 0, 2 or 3, and a report of its own where it answers `SHORT_BUFFER`.
     pub(crate) unsafe fn written(write: impl FnOnce(*mut u8, usize, &mut usize, &mut ffi::Report) -> u32) -> Result<Self, NoMemory> {
-        let mut text = Vec::with_capacity(ROOM);
+        let mut text = error::room(ROOM)?;
         let mut length = 0;
         let mut kept = ffi::Report { at: ptr::null_mut() };
         match write(text.as_mut_ptr(), ROOM, &mut length, &mut kept) {
@@ -99,8 +99,7 @@ struct Kept(ffi::Report);
 impl Kept {
     /// Its text, of `length` bytes.
     fn read(&self, length: usize) -> Result<Report, NoMemory> {
-        let mut text = Vec::new();
-        text.try_reserve_exact(length).map_err(|_| NoMemory)?;
+        let mut text = error::room(length)?;
         let mut read = 0;
         // SAFETY: the handle is the library's own and not freed; `text` has the room that is told.
         let status = unsafe { ffi::gate_report_read(self.0, text.as_mut_ptr(), length, &mut read) };

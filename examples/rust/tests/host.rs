@@ -39,8 +39,8 @@ fn run() {
     assert_eq!(answer("run fold.wasm fold.calls 1000000 1024 256", ""), (report, 0));
     assert_eq!(answer("run fold.wat fold.calls 0 1 0", ""), printed("refused malformed\n", 2));
     assert_eq!(
-        answer("run fold.wasm fold.wat 0 1 0", ""),
-        printed("accepted\ncalls line 1 refused\n", 3)
+        answer("run fold.wasm add.wasm 0 1 0", ""),
+        printed("accepted\ncalls line 2 refused\n", 3)
     );
     assert_eq!(answer("run fold.wasm none.calls 0 1 0", ""), printed("", 74));
     for limits in ["1000000001 1 0", "0 0 0", "0 4097 0", "0 1 1025", "0 1", "0 1 -1", "0 1 0 0"] {
