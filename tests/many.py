@@ -8,7 +8,7 @@ parallel   the scripts `run_calls` and `check_folder`, which need GNU parallel; 
            left out
 """
 import argparse
-import glob
+import io
 import os
 import random
 import shutil
@@ -16,17 +16,21 @@ import subprocess
 import sys
 import tempfile
 
-import rows
-
 HERE = os.path.dirname(os.path.abspath(__file__))
 EXAMPLES = os.path.join(HERE, '..', 'examples')
 MANY = os.path.join(EXAMPLES, 'many')
+sys.path.insert(0, MANY)
+import cut_calls
+import join_reports
+import rows
+
 # Calls that end in every way, and cheaply; PLACE is replaced by a number.
 CALLS = {'fold': ['fold\ti32:0\ti32:PLACE', 'fold\ti32:3\ti32:1', 'set\ti32:0\ti32:PLACE', 'word\ti32:0', 'word\ti32:16384', 'grow\ti32:2',
                   'square\ti64:-PLACE', 'stop', 'deep\ti32:PLACE', 'deep\ti32:5000', 'fold\ti64:0\ti32:10', 'memory', 'missing'],
          'primes': ['count\ti32:PLACE', 'last\ti32:PLACE', 'is_prime\ti32:PLACE', 'ask\ti32:1\ti32:PLACE', 'ask\ti32:3\ti32:PLACE', 'none']}
 LINES = 3_000
-PIECES = [1, 7, 100, 1_000, 100_000]
+PIECES = [1, 7, 400, 1_000, 100_000]
+MOST_PIECES = 8
 MILLION = 1_000_000
 # What the start function and the entry of `square` cost.
 SQUARE_FUEL = 12
@@ -88,13 +92,24 @@ class Many:
     def joined(self, module, options, lines):
         # The same in pieces, which run one after the other until one is refused.
         with tempfile.TemporaryDirectory() as work:
-            subprocess.run([os.path.join(MANY, 'cut_calls.py'), '--lines', str(lines), self.calls, work], check=True)
-            for piece in sorted(glob.glob(os.path.join(work, '*.calls'))):
-                with open(piece[:-len('calls')] + 'report', 'wb') as report:
-                    if subprocess.run([self.program, 'run', module, piece] + options, stdout=report).returncode != 0:
+            cut_calls.cut(self.calls, work, lines)
+            reports = []
+            for piece in sorted(os.listdir(work)):
+                reports.append(os.path.join(work, piece[:-len('calls')] + 'report'))
+                with open(reports[-1], 'wb') as report:
+                    if subprocess.run([self.program, 'run', module, os.path.join(work, piece)] + options, stdout=report).returncode != 0:
                         break
-            ran = subprocess.run([os.path.join(MANY, 'join_reports.py'), work], stdout=subprocess.PIPE)
-            return ran.stdout, ran.returncode
+            out = io.BytesIO()
+            status = join_reports.join(reports, out)
+            return out.getvalue(), status
+
+    def not_joined(self, name):
+        # Whether that report is refused.
+        try:
+            join_reports.join([os.path.join(self.folder, name)], io.BytesIO())
+        except join_reports.NoReport:
+            return True
+        return False
 
     def script(self, name, *words, piece=10_000):
         # What a script prints, its status, and what stands on standard error.
@@ -108,12 +123,14 @@ class Many:
             module = path_of(f'{example}.wasm')
             wanted = self.once(module, options)
             for piece in PIECES:
-                if len(lines) <= 100 * piece:
+                if len(lines) <= MOST_PIECES * piece:
                     self.expect(f'{name}, pieces of {piece}', self.joined(module, options, piece), wanted)
         short = os.path.join(self.folder, 'short.wasm')
         write(short, b'\0asm\1\0\0')
         self.expect('a refused module', self.joined(short, [], 100), (b'refused malformed\n', 2))
-        self.expect('options that are refused', self.joined(short, ['--frames', '0'], 100), (b'', 70))
+        write(os.path.join(self.folder, 'half'), b'0 values fuel 1\ntotal 2 values 2 traps 0 exhausted 0 refused 0 no-memory 0 fuel 2\n')
+        for name in 'half', 'missing':
+            self.expect(f'a report that is {name}', self.not_joined(name), True)
 
     def million(self, run):
         numbers = range(MILLION)

@@ -33,4 +33,4 @@ class Check(unittest.TestCase):
 
     def test_line_of_no_verdict(self) -> None:
         with self.assertRaises(ValueError):
-            str(gate.Verdict(gate.Refusal.RULE, rule=99))
+            str(gate.Verdict(function=1))
