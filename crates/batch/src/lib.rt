@@ -26,7 +26,7 @@ pub use pieces::{Plan, Quiet, Watch};
 pub use report::report_verdict;
 pub use runner::call_alone;
 pub use running::run_batch;
-pub use sequential::{Answer, answer_on_alone};
+pub use sequential::{Answer, answer_alone, answer_on_alone};
 pub use status::{AnswerFault, Status};
 pub use texts::{Call, CallsFault, Line, read_calls};
 pub use wstore::Settings;

@@ -3,16 +3,19 @@
 ghost use Rattle.std.specs.Prelude.{IfOk, string_bytes};
 ghost use Rattle.wsyntax.specs.Validation.Verdict.{Accepted as accepted_verdict};
 ghost use Rattle.wstore.specs.CallLimits.{limits_of};
-ghost use Rattle.batch.specs.Answers.{IsAnswerOn, StatusBy};
+ghost use Rattle.batch.specs.Answers.{HasStatus, IsAnswerOn, IsSomeAnswer, StatusBy};
+ghost use Rattle.batch.specs.Safe.{NeverStuck, ValuesAreTyped};
 ghost use Rattle.batch.specs.Groups.{GiveLines};
 
 use crate::answering::calls_line;
+use crate::laws::answers_are_safe;
+use crate::line::verdict_line;
 use crate::runner::call_alone;
 use crate::status::Status;
 use memory::CleanMem;
 use std::alloc::{AllocError, Global};
 use texts::{Call, Line, read_calls, report};
-use verdict::Accepted;
+use verdict::{Accepted, judge_alone};
 use wstore::Settings;
 
 /// The text of an answer, and what it is.
@@ -67,4 +70,27 @@ pub fn answer_on_alone(
         text: report(alloc, &lines)?,
         status: Status::Good,
     })
+}
+
+/// The answer that `answer` writes, made in memory on the calling thread alone: what `answer` promises of the text and of its
+/// status holds here too, and no call is ever stuck.
+pub fn answer_alone(
+    alloc: Global,
+    bytes: &[u8],
+    calls: &[u8],
+    settings: Settings,
+) -> Result<Answer, AllocError>
+    ensures answer { IfOk result (λ a. IsSomeAnswer bytes.now calls.now (limits_of settings) (string_bytes a.text)) }
+    ensures status { IfOk result (λ a. HasStatus bytes.now calls.now a.status) }
+    ensures never_stuck { NeverStuck bytes.now calls.now (limits_of settings) }
+    ensures typed { ValuesAreTyped bytes.now calls.now (limits_of settings) }
+{
+    answers_are_safe();
+    match judge_alone(alloc, bytes) {
+        Ok(accepted) => answer_on_alone(alloc, &accepted, calls, settings),
+        Err(refusal) => Ok(Answer {
+            text: verdict_line(alloc, Err(refusal))?,
+            status: Status::ModuleRefused,
+        }),
+    }
 }

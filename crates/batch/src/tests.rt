@@ -4,7 +4,7 @@ use crate::answering::answer;
 use crate::line::verdict_line;
 use crate::report::write_verdict;
 use crate::runner::call_alone;
-use crate::sequential::answer_on_alone;
+use crate::sequential::{answer_alone, answer_on_alone};
 use crate::status::{AnswerFault, Status};
 use memory::CleanMem;
 use pieces::{Plan, Quiet};
@@ -16,7 +16,7 @@ use std::sync::Wait;
 use std::test::Fail;
 use std::thread::Threads;
 use texts::{read_calls, report};
-use verdict::{Class, Refusal, judge};
+use verdict::{Class, Refusal, judge_alone};
 use wstore::Settings;
 
 // Holds what it takes: `at_once` bytes a write, `room` in all. Then it fails, or takes no byte.
@@ -147,8 +147,8 @@ const STARTED: &[u8] = b"\0asm\x01\0\0\0\
     \x08\x01\0\
     \x0a\x19\x04\x06\0\x41\x07\x24\0\x0b\x04\0\x23\0\x0b\x03\0\0\x0b\x07\0\x03\x40\x0c\0\x0b\x0b";
 
-// What is written for a module and calls, and its status.
-fn answered<R: AllocGlobal + Threads + Wait + Sync>(
+// What is written for a module and calls, and its status. One thread alone has to give the same.
+fn answered<R: AllocGlobal + Threads + Wait + Abort + Sync>(
     rt: &R,
     module: &[u8],
     calls: &[u8],
@@ -166,6 +166,9 @@ fn answered<R: AllocGlobal + Threads + Wait + Sync>(
         &Quiet,
         &mut out,
     )?;
+    let alone = answer_alone(rt.alloc(), module, calls, settings)?;
+    assert_eq!(rt; alone.text.as_bytes(), out.held.as_slice());
+    assert_eq!(rt; alone.status, status);
     Ok((out.held, status))
 }
 
@@ -233,10 +236,7 @@ const COUNTING: &[u8] = b"\0asm\x01\0\0\0\
 #[test]
 fn calls_alone_have_one_memory_in_turn(rt: HostRuntime) -> Result<(), Fail> {
     let alloc = rt.alloc();
-    let plan = Plan::new(1, 1).ok_or("plan")?;
-    let accepted = judge(&rt, alloc, COUNTING, plan, &Quiet)
-        .ok()
-        .ok_or("accepted")?;
+    let accepted = judge_alone(alloc, COUNTING).ok().ok_or("accepted")?;
     let settings = Settings::new(10, 100, 1).ok_or("settings")?;
     let text = b"next\nno\nnext\n";
     let mut lines = Vec::new(alloc);
