@@ -1,6 +1,6 @@
 //! A verdict as numbers: `gate_verdict` of gate.h.
 
-ghost use Rattle.std.specs.Prelude.{◌≡◌, ◌⊎◌, IfSome, IsSomeAnd, MatchOption, option_map};
+ghost use Rattle.std.specs.Prelude.{◌≡◌, IfSome, IsSomeAnd, option_map};
 ghost use Rattle.wsyntax.specs.Validation.Verdict.{Accepted, BodyRefused};
 ghost use Rattle.verdict.specs.Refusals.{fault_of, verdict_of};
 ghost use Rattle.batch.specs.Report.{given_verdict};
@@ -90,12 +90,12 @@ impl GateVerdict {
         }
     }
 
-    /// The refusal of that kind with these numbers.
+    /// The refusal of that kind with these numbers; `None` where there is none, as where a rule has no such number.
     fn refusal(&self) -> Option<Refusal> {
         let class = match self.kind {
             1 => return Some(Refusal::TooLarge),
             2 => return Some(Refusal::Malformed),
-            3 => return Some(Refusal::Rule(self.rule)),
+            3 if 2 <= self.rule && self.rule <= 13 => return Some(Refusal::Rule(self.rule)),
             4 => Class::Malformed,
             5 => Class::TooManyLocals,
             6 => Class::IllTyped {
