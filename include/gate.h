@@ -91,7 +91,7 @@ uint32_t gate_check(const uint8_t *bytes, size_t bytes_length, gate_verdict *ver
 
 /* Writes the line of a verdict, as `gate check` prints it: with its newline, without a NUL. 64 bytes are enough for every line.
  *   GATE_OK            the first *length bytes of out are the line, whatever the verdict says
- *   GATE_BAD_ARGUMENT  the kind is above 6, or a number that does not belong to it is not 0; a rule of any number has a line
+ *   GATE_BAD_ARGUMENT  the kind is above 6, its rule is not 2 to 13, or a number that does not belong to it is not 0
  *   GATE_SHORT_BUFFER  *length bytes are wanted
  *   GATE_NO_MEMORY */
 uint32_t gate_verdict_line(const gate_verdict *verdict, uint8_t *out, size_t room, size_t *length);

@@ -40,8 +40,8 @@ MUTANTS, SEED = 1000, 20261127
 # Longer modules are neither mutated, nor tried with refused requests and under valgrind.
 SHORT = 4096
 DEFAULTS = {'--fuel': 1_000_000, '--frames': 1024, '--pages': 256}
-# Each refusal runs all calls again.
-MOST_FUEL_REFUSED = 20_000
+# Each refusal runs all calls again, and a long text of them asks for memory often.
+MOST_FUEL_REFUSED, MOST_CALLS_REFUSED = 20_000, 256
 # Where the tools of Go stand that are not on the PATH.
 GO_FOLDERS = '/usr/local/go/bin:/usr/lib/go/bin'
 VALGRIND = ['valgrind', '-q', '--error-exitcode=99']
@@ -383,7 +383,8 @@ def all_parts(tally, pool, program, folder, work):
     modules = [*rows_, *mutants(pool, program, place, [it for it in bytes_ if len(it) <= SHORT])]
     runs = list(runs_of_tables(work))
     jobs = Jobs(tally, pool)
-    jobs.begin('refused', refusals, refuser, work, *[[it for it in all_ if it.length <= SHORT] for all_ in (rows_, runs)])
+    short_runs = [it for it in runs if it.length <= SHORT and os.path.getsize(it.calls) <= MOST_CALLS_REFUSED]
+    jobs.begin('refused', refusals, refuser, work, [it for it in rows_ if it.length <= SHORT], short_runs)
     jobs.begin('interface', interface, checker, [], MANY_ROUNDS)
     jobs.begin('gate.h', header, folder, work)
     jobs.begin('exports', exports, folder)

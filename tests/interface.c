@@ -110,6 +110,8 @@ static void lines(void) {
     no_line((gate_verdict){ 7, 0, 0, 0 });
     no_line((gate_verdict){ GATE_ACCEPTED, 2, 0, 0 });
     no_line((gate_verdict){ GATE_MALFORMED, 0, 1, 0 });
+    no_line((gate_verdict){ GATE_RULE, 1, 0, 0 });
+    no_line((gate_verdict){ GATE_RULE, 14, 0, 0 });
     no_line((gate_verdict){ GATE_RULE, 2, 1, 0 });
     no_line((gate_verdict){ GATE_BODY_MALFORMED, 0, 1, 1 });
     no_line((gate_verdict){ GATE_BODY_ILL_TYPED, 2, 1, 1 });
