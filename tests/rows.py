@@ -34,9 +34,10 @@ def text_of(escaped):
 
 
 def rows(name):
-    for line in open(os.path.join(tables, name)):
-        if line.strip() and not line.startswith('#'):
-            yield line.rstrip('\n').split('\t')
+    with open(os.path.join(tables, name)) as file:
+        for line in file:
+            if line.strip() and not line.startswith('#'):
+                yield line.rstrip('\n').split('\t')
 
 
 def small_stack():
