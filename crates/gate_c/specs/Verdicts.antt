@@ -1,5 +1,5 @@
 -- The numbers of verdicts.
-use Rattle.std.specs.Prelude.{◌≡◌, ◌⊎◌, ℕ, List}
+use Rattle.std.specs.Prelude.{◌≡◌, ◌≤◌, ◌⊎◌, ℕ, List}
 use Rattle.wsyntax.specs.Validation.Verdict.{Verdict, Accepted, TooLarge, Malformed, RuleBroken, BodyRefused, BodyMalformed, TooManyLocals, IllTyped, IsVerdict}
 use Rattle.wsyntax.specs.Texts.Lines.{verdict_line}
 use Rattle.gate_c.specs.Texts.{AreKept, Hands}
@@ -36,9 +36,14 @@ Tells bytes new status = (v : Verdict) × IsVerdict bytes v × (new ≡ numbers_
 abbrev pub Answers : List ℕ → GateVerdict → GateVerdict → ℕ → Type 0
 Answers bytes old new status = ((status ≡ 70) × (new ≡ old)) ⊎ Tells bytes new status
 
+-- a rule has a number from 2 to 13
+abbrev pub IsNamed : Verdict → Type 0
+IsNamed (RuleBroken k) = (2 ≤ k) × (k ≤ 13)
+IsNamed v = Unit {0}
+
 -- the numbers of no verdict
 abbrev pub IsNoVerdict : GateVerdict → Type 0
-IsNoVerdict numbers = (v : Verdict) → numbers ≡ numbers_of v → ⊥
+IsNoVerdict numbers = (v : Verdict) → IsNamed v → numbers ≡ numbers_of v → ⊥
 
 -- the line of the verdict with these numbers
 abbrev pub IsLineOf : GateVerdict → List ℕ → Type 0

@@ -7,7 +7,7 @@ ghost use Rattle.gate_c.specs.Calls.{AnswersCall, EndsCall};
 ghost use Rattle.gate_c.specs.Handles.{IsAnswered};
 ghost use Rattle.gate_c.specs.Runs.{HandsAnswer, IsAnswerOf, IsAnswerTo};
 ghost use Rattle.gate_c.specs.Statuses.{number_of};
-ghost use Rattle.gate_c.specs.Texts.{AreKept, Hands};
+ghost use Rattle.gate_c.specs.Texts.{Hands};
 ghost use Rattle.gate_c.specs.Verdicts.{Answers, HandsLine};
 
 use crate::calling::{call, tell_end};

@@ -1,6 +1,6 @@
 //! Answers to C.
 
-ghost use Rattle.std.specs.Prelude.{◌≡◌, ◌⊎◌, IfOk, string_bytes};
+ghost use Rattle.std.specs.Prelude.{◌≡◌, ◌⊎◌, string_bytes};
 ghost use Rattle.gate_c.specs.Handles.{IsAnswered};
 ghost use Rattle.gate_c.specs.Statuses.{number_of};
 ghost use Rattle.gate_c.specs.Texts.{AreKept, Hands};

@@ -4,7 +4,7 @@ ghost use Rattle.std.specs.Prelude.{◌≡◌, ◌≢◌, ◌⊎◌, Some, IfSom
 ghost use Rattle.wsyntax.specs.Validation.Verdict.{Verdict, Accepted, BodyRefused};
 ghost use Rattle.verdict.specs.Refusals.{fault_of, verdict_of};
 ghost use Rattle.batch.specs.Report.{given_verdict};
-ghost use Rattle.gate_c.specs.Verdicts.{numbers_of, IsNoVerdict};
+ghost use Rattle.gate_c.specs.Verdicts.{numbers_of, IsNamed, IsNoVerdict};
 
 use verdict::{Class, Refusal};
 
@@ -90,14 +90,15 @@ impl GateVerdict {
         }
     }
 
-    /// The refusal of that kind with these numbers, of which those that do not belong to the kind are not read.
+    /// The refusal of that kind with these numbers, of which those that do not belong to the kind are not read. `None` where there
+    /// is none, as where a rule has no such number.
     fn refusal(&self) -> Option<Refusal>
-        ensures { (v : Verdict) → self.now ≡ numbers_of v → v ≢ Accepted → IsSomeAnd result (λ r. verdict_of r ≡ Some v) }
+        ensures { (v : Verdict) → IsNamed v → self.now ≡ numbers_of v → v ≢ Accepted → IsSomeAnd result (λ r. verdict_of r ≡ Some v) }
     {
         let class = match self.kind {
             1 => return Some(Refusal::TooLarge),
             2 => return Some(Refusal::Malformed),
-            3 => return Some(Refusal::Rule(self.rule)),
+            3 if 2 <= self.rule && self.rule <= 13 => return Some(Refusal::Rule(self.rule)),
             4 => Class::Malformed,
             5 => Class::TooManyLocals,
             6 => Class::IllTyped {

@@ -1,6 +1,6 @@
 //! Texts into buffers of the caller.
 
-ghost use Rattle.std.specs.Prelude.{◌≡◌, ◌<◌, MatchBool, length};
+ghost use Rattle.std.specs.Prelude.{MatchBool, length};
 ghost use Rattle.gate_c.specs.Texts.{Hands, IsWritten, Misses};
 
 use crate::status::SHORT_BUFFER;

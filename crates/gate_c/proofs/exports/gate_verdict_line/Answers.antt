@@ -1,4 +1,4 @@
-use Rattle.std.proofs.Common.{◌≡◌, ◌∙◌, Option, Some, None, IsSomeAnd, inl, inr}
+use Rattle.std.proofs.Common.{◌∙◌, Option, Some, None, IsSomeAnd, inr}
 use Rattle.wsyntax.specs.Validation.Verdict.{Verdict}
 use Rattle.batch.specs.Report.{given_verdict}
 use Rattle.gate_c.proofs.exports.gate_verdict_line.Goals as goal
