@@ -1,5 +1,5 @@
 -- What calling an export by values answers.
-use Rattle.std.specs.Prelude.{◌≡◌, ◌⊎◌, ℕ, IsTrue, List, Some, map}
+use Rattle.std.specs.Prelude.{◌≡◌, ◌⊎◌, ℕ, true, false, IsTrue, List, Some, map}
 use Rattle.wsyntax.specs.Modules.{module_shape}
 use Rattle.wsyntax.specs.declared.value.Value.{Value}
 use Rattle.wsyntax.specs.Texts.Answer.{EndOf}
@@ -12,8 +12,8 @@ use Rattle.gate_c.specs.declared.ending.GateCall.{GateCall}
 use Rattle.gate_c.specs.declared.settings.GateSettings.{GateSettings}
 use Rattle.gate_c.specs.declared.value.GateValue.{GateValue}
 use Rattle.gate_c.specs.Ends.{end_numbers, values_of}
-use Rattle.gate_c.specs.Runs.{limits_of}
-use Rattle.gate_c.specs.Values.{value_numbers, overlay}
+use Rattle.gate_c.specs.Runs.{limits_of, in_range}
+use Rattle.gate_c.specs.Values.{value_numbers, AreNoArguments, overlay}
 
 -- the line says how the call of this name with the arguments of these numbers ends
 abbrev pub EndsCall : AcceptedModule → List ℕ → List GateValue → GateSettings → Line → Type 0
@@ -25,7 +25,12 @@ EndsCall a name numbers s line =
 abbrev pub TellsCall : (Line → Type 0) → List GateValue → List GateValue → GateCall → Type 0
 TellsCall P old new ended = (line : Line) × P line × (ended ≡ end_numbers line) × (new ≡ overlay (values_of line) old)
 
--- a line with P is told; or a limit is out of its range, a number no value, or memory refused, and nothing is written
-abbrev pub AnswersCall : (Line → Type 0) → List GateValue → List GateValue → GateCall → GateCall → ℕ → Type 0
-AnswersCall P old new was ended answered =
-    (((answered ≡ 64) ⊎ (answered ≡ 70)) × (new ≡ old) × (ended ≡ was)) ⊎ ((answered ≡ 0) × TellsCall P old new ended)
+-- why no line is told: a limit is out of its range, or the numbers are of no arguments; or memory was refused
+abbrev pub RefusesCall : GateSettings → List GateValue → ℕ → Type 0
+RefusesCall s numbers status =
+    ((status ≡ 64) × ((in_range s ≡ false) ⊎ AreNoArguments numbers)) ⊎ ((status ≡ 70) × (in_range s ≡ true))
+
+-- the call is refused, and nothing is written; or a line with P is told
+abbrev pub AnswersCall : GateSettings → List GateValue → (Line → Type 0) → List GateValue → List GateValue → GateCall → GateCall → ℕ → Type 0
+AnswersCall s numbers P old new was ended answered =
+    (RefusesCall s numbers answered × (new ≡ old) × (ended ≡ was)) ⊎ ((answered ≡ 0) × (in_range s ≡ true) × TellsCall P old new ended)

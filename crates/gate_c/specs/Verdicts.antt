@@ -1,5 +1,5 @@
 -- The numbers of verdicts.
-use Rattle.std.specs.Prelude.{◌≡◌, ◌⊎◌, ℕ, List}
+use Rattle.std.specs.Prelude.{◌≡◌, ◌≤◌, ◌⊎◌, ℕ, List}
 use Rattle.wsyntax.specs.Validation.Verdict.{Verdict, Accepted, TooLarge, Malformed, RuleBroken, BodyRefused, BodyMalformed, TooManyLocals, IllTyped, IsVerdict}
 use Rattle.wsyntax.specs.Texts.Lines.{verdict_line}
 use Rattle.gate_c.specs.Texts.{AreKept, Hands}
@@ -36,11 +36,21 @@ Tells bytes new status = (v : Verdict) × IsVerdict bytes v × (new ≡ numbers_
 abbrev pub Answers : List ℕ → GateVerdict → GateVerdict → ℕ → Type 0
 Answers bytes old new status = ((status ≡ 70) × (new ≡ old)) ⊎ Tells bytes new status
 
+-- a rule has a number from 2 to 13
+abbrev pub IsNamed : Verdict → Type 0
+IsNamed (RuleBroken k) = (2 ≤ k) × (k ≤ 13)
+IsNamed v = Unit {0}
+
+-- the numbers of no verdict
+abbrev pub IsNoVerdict : GateVerdict → Type 0
+IsNoVerdict numbers = (v : Verdict) → IsNamed v → numbers ≡ numbers_of v → ⊥
+
 -- the line of the verdict with these numbers
 abbrev pub IsLineOf : GateVerdict → List ℕ → Type 0
 IsLineOf numbers line = (v : Verdict) × (numbers ≡ numbers_of v) × (line ≡ verdict_line v)
 
--- that line is handed out; or the numbers are of no verdict or memory was refused, and nothing is written
+-- the numbers are of no verdict, or memory was refused, and nothing is written; or that line is handed out
 abbrev pub HandsLine : GateVerdict → List ℕ → List ℕ → ℕ → ℕ → ℕ → Type 0
 HandsLine numbers old new was now answered =
-    (((answered ≡ 64) ⊎ (answered ≡ 70)) × AreKept old new was now) ⊎ ((line : List ℕ) × IsLineOf numbers line × Hands line 0 old new now answered)
+    (((answered ≡ 64) × IsNoVerdict numbers × AreKept old new was now) ⊎ ((answered ≡ 70) × AreKept old new was now))
+    ⊎ ((line : List ℕ) × IsLineOf numbers line × Hands line 0 old new now answered)

@@ -1,10 +1,11 @@
 //! Calls by values.
 
-ghost use Rattle.std.specs.Prelude.{◌≡◌, ◌⊎◌, IfOk, IfErr, map};
+ghost use Rattle.std.specs.Prelude.{◌≡◌, true, IfOk, IfErr, IsErrOf, OnOk, map};
 ghost use Rattle.texts.specs.Args.{args_of};
-ghost use Rattle.gate_c.specs.Values.{value_numbers, overlay};
+ghost use Rattle.gate_c.specs.Values.{value_numbers, AreNoArguments, overlay};
 ghost use Rattle.gate_c.specs.Ends.{end_numbers, values_of};
-ghost use Rattle.gate_c.specs.Calls.{EndsCall};
+ghost use Rattle.gate_c.specs.Calls.{EndsCall, RefusesCall};
+ghost use Rattle.gate_c.specs.Runs.{in_range};
 
 use crate::ending::GateCall;
 use crate::settings::GateSettings;
@@ -28,7 +29,8 @@ enum ArgsFault {
 
 /// The arguments that these are the numbers of.
 fn arguments(alloc: Global, numbers: &[GateValue]) -> Result<Args, ArgsFault>
-    ensures { IfOk result (λ args. map value_numbers (args_of args) ≡ numbers.now) }
+    ensures ok { IfOk result (λ args. map value_numbers (args_of args) ≡ numbers.now) }
+    ensures no_value { IsErrOf result ArgsFault.NoValue → AreNoArguments numbers.now }
 {
     let Ok(mut values) = Vec::with_capacity(alloc, numbers.len()) else {
         return Err(ArgsFault::Memory);
@@ -62,7 +64,8 @@ pub(crate) fn call(
     settings: &GateSettings,
 ) -> Result<Line, u32>
     ensures ends { IfOk result (EndsCall accepted.now name.now numbers.now settings.now) }
-    ensures status { IfErr result (λ status. (status ≡ 64) ⊎ (status ≡ 70)) }
+    ensures range { OnOk result (in_range settings.now ≡ true) }
+    ensures status { IfErr result (RefusesCall settings.now numbers.now) }
 {
     let Some(settings) = settings.settings() else {
         return Err(BAD_ARGUMENT);

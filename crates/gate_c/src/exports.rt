@@ -197,7 +197,7 @@ pub extern "C" fn gate_module_call(
     results: &mut [GateValue],
     ended: &mut GateCall,
 ) -> u32
-    ensures { AnswersCall (EndsCall «module».value.accepted.value name.now args.now settings.now)
+    ensures { AnswersCall settings.now args.now (EndsCall «module».value.accepted.value name.now args.now settings.now)
         results.old results.new ended.old ended.new result }
 {
     let held = module.into_box();

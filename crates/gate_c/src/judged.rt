@@ -1,10 +1,10 @@
 //! A verdict as numbers: `gate_verdict` of gate.h.
 
-ghost use Rattle.std.specs.Prelude.{◌≡◌, IfSome, IsSomeAnd, option_map};
-ghost use Rattle.wsyntax.specs.Validation.Verdict.{Accepted, BodyRefused};
+ghost use Rattle.std.specs.Prelude.{◌≡◌, ◌≢◌, ◌⊎◌, Some, IfSome, IfNone, IsSomeAnd, MatchOption, option_map};
+ghost use Rattle.wsyntax.specs.Validation.Verdict.{Verdict, Accepted, BodyRefused};
 ghost use Rattle.verdict.specs.Refusals.{fault_of, verdict_of};
 ghost use Rattle.batch.specs.Report.{given_verdict};
-ghost use Rattle.gate_c.specs.Verdicts.{numbers_of};
+ghost use Rattle.gate_c.specs.Verdicts.{numbers_of, IsNamed, IsNoVerdict};
 
 use verdict::{Class, Refusal};
 
@@ -90,8 +90,11 @@ impl GateVerdict {
         }
     }
 
-    /// The refusal of that kind with these numbers; `None` where there is none, as where a rule has no such number.
-    fn refusal(&self) -> Option<Refusal> {
+    /// The refusal of that kind with these numbers, of which those that do not belong to the kind are not read. `None` where there
+    /// is none, as where a rule has no such number.
+    fn refusal(&self) -> Option<Refusal>
+        ensures { (v : Verdict) → IsNamed v → self.now ≡ numbers_of v → v ≢ Accepted → IsSomeAnd result (λ r. verdict_of r ≡ Some v) }
+    {
         let class = match self.kind {
             1 => return Some(Refusal::TooLarge),
             2 => return Some(Refusal::Malformed),
@@ -111,7 +114,8 @@ impl GateVerdict {
 
     /// What the judge found that these are the numbers of; `None` where they are of no verdict.
     pub(crate) fn judged(&self) -> Option<Result<(), Refusal>>
-        ensures { IfSome result (λ judged. IsSomeAnd (given_verdict judged) (λ v. self.now ≡ numbers_of v)) }
+        ensures some { IfSome result (λ judged. IsSomeAnd (given_verdict judged) (λ v. self.now ≡ numbers_of v)) }
+        ensures none { IfNone result (IsNoVerdict self.now) }
     {
         if *self == GateVerdict::accepted() {
             return Some(Ok(()));

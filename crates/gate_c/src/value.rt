@@ -1,7 +1,7 @@
 //! Numbers of 32 and 64 bits: `gate_value` of gate.h.
 
-ghost use Rattle.std.specs.Prelude.{◌≡◌, IfSome};
-ghost use Rattle.gate_c.specs.Values.{value_numbers};
+ghost use Rattle.std.specs.Prelude.{◌≡◌, IfSome, IfNone};
+ghost use Rattle.gate_c.specs.Values.{value_numbers, IsNoValue};
 
 use wsyntax::Value;
 
@@ -31,7 +31,8 @@ impl GateValue {
 
     /// The value that these are the numbers of; `None` where there is none.
     pub(crate) fn value(&self) -> Option<Value>
-        ensures { IfSome result (λ v. value_numbers v ≡ self.now) }
+        ensures some { IfSome result (λ v. value_numbers v ≡ self.now) }
+        ensures none { IfNone result (IsNoValue self.now) }
     {
         match self.width {
             32 => Some(Value::I32(u32::try_from(self.bits).ok()?)),
