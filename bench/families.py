@@ -109,7 +109,7 @@ def selects(size, dead, chance):
     return b'\x1B' * size + b'\x1A', {}
 
 
-def seldom_tokens(size, dead, chance):
+def rare_tokens(size, dead, chance):
     return at_random([b'\x1B', b'\x01', b'\x00', b'\x0F'], size, chance) + b'\x00', {}
 
 
@@ -307,7 +307,7 @@ FAMILIES = {
     'branches out of open blocks': (ANYWHERE, of_code(branches)),
     'branch tables': (ANYWHERE, of_code(branch_tables)),
     'select': (DEAD, of_code(selects)),
-    'seldom tokens': (DEAD, of_code(seldom_tokens)),
+    'rare tokens': (DEAD, of_code(rare_tokens)),
     'constants dropped': (ANYWHERE, of_code(drops)),
     'globals at random': (ANYWHERE, of_code(globals_at_random)),
     'calls at random': (ANYWHERE, of_code(calls_at_random)),

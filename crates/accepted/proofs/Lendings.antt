@@ -7,7 +7,7 @@ use Rattle.wsyntax.specs.Execution.Start.{has_floats}
 use Rattle.wsyntax.specs.Validation.ModuleContext.{IndexedContext}
 use Rattle.checked.specs.declared.function_shape.FunctionShape.{FunctionShape}
 use Rattle.checked.specs.declared.body.CheckedBody.{CheckedBody}
-use Rattle.accepted.specs.TypeNumbers.{AreTypeNumbers}
+use Rattle.accepted.specs.TypeIds.{AreTypeIds}
 use Rattle.accepted.specs.FunctionShapes.{function_shapes}
 use Rattle.wsyntax.specs.Binary.Shell.{FewLocals}
 use Rattle.accepted.specs.Judgement.{IsJudged, shapes_of}
@@ -28,7 +28,7 @@ shaped_same shapes types numbers numbers' functions functions' lent all n f is h
 pub typed_same : (types : List FuncType) (functions functions' : List ℕ) → functions ≡ functions' → All (λ y. y < length types) functions' → All (λ y. y < length types) functions
 typed_same types functions functions' f h = rw f h
 
-pub numbered_same : (types : List FuncType) (numbers numbers' : List ℕ) → numbers ≡ numbers' → AreTypeNumbers types numbers' → length numbers ≡ length types
+pub numbered_same : (types : List FuncType) (numbers numbers' : List ℕ) → numbers ≡ numbers' → AreTypeIds types numbers' → length numbers ≡ length types
 numbered_same types numbers numbers' n h = omega (arith, h.count, ap length n)
 
 pub paired_same : (functions : List ℕ) (lent all : List CheckedBody) (m : ModuleShape) (x : IndexedContext) → functions ≡ m.functions → lent ≡ all → IsJudged m x all → length functions ≡ length lent

@@ -6,7 +6,7 @@ use Rattle.std.specs.declared.cmp.Ordering.{Ordering}
 use Rattle.std.specs.declared.cmp.Ordering.TheVariants.{Less, Equal, Greater}
 use Rattle.std.specs.BTreeMap.{insert_entry}
 use Rattle.std.proofs.lemmas.Cmp.{nat_list_cmp_total, tied_itself}
-use Rattle.accepted.specs.TypeNumbers.{number_at, Numbers}
+use Rattle.accepted.specs.TypeIds.{number_at, Numbers}
 use Rattle.accepted.proofs.SearchedNames.{same_name}
 
 abbrev by_items : Vec ℕ Global → Vec ℕ Global → Ordering

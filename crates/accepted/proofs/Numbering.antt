@@ -9,7 +9,7 @@ use Rattle.std.proofs.Math.Seq.{get_or-append_seam}
 use Rattle.wsyntax.specs.declared.ValType.{ValType}
 use Rattle.wsyntax.specs.declared.ValType.TheVariants.{I32, I64, F32, F64}
 use Rattle.wsyntax.specs.Types.{FuncType, same_type, same_types, same_func_type}
-use Rattle.accepted.specs.TypeNumbers.{code_of, key_of, number_at, Numbers, AreNumbered, AreTypeNumbers}
+use Rattle.accepted.specs.TypeIds.{code_of, key_of, number_at, Numbers, AreNumbered, AreTypeIds}
 
 some_is : {A : Type 0} (a c : A) → Some a ≡ Some c → a ≡ c
 some_is a c e = cc
@@ -166,7 +166,7 @@ number_is types entries numbers y t all is =
     let said = all.said (key_of t) (get_or numbers y 0) (all.known y t within is ∙ number) in
     (get_or numbers y 0, number, said.1 ∙ ap (λ (x : FuncType). Some x) (key_is said.0 t said.2))
 
-pub numbered_all : (types : List FuncType) (entries : List (Vec ℕ Global × ℕ)) (numbers : List ℕ) → AreNumbered types (length types) entries numbers → AreTypeNumbers types numbers
+pub numbered_all : (types : List FuncType) (entries : List (Vec ℕ Global × ℕ)) (numbers : List ℕ) → AreNumbered types (length types) entries numbers → AreTypeIds types numbers
 numbered_all types entries numbers all = record { count = all.count; below = below; same = λ y z s t a b. (to y z s t a b, from y z s t a b) }
   where
     below : All (λ n. n < length types) numbers

@@ -5,13 +5,13 @@ use Rattle.wsyntax.specs.Validation.Rules.{ConstantOf}
 use Rattle.wsyntax.specs.declared.types.ValType.TheVariants.{I32}
 use Rattle.wsyntax.specs.declared.types.GlobalType.{GlobalType}
 use Rattle.wsyntax.specs.HeldElement.{HeldElement}
-use Rattle.wsyntax.specs.declared.module.Initial.{Initial}
+use Rattle.wsyntax.specs.declared.module.ConstExpr.{ConstExpr}
 use Rattle.wsyntax.specs.declared.module.Data.{Data}
 use Rattle.wsyntax.specs.Execution.Allocation.{Segment}
 use Rattle.wsyntax.specs.Execution.Start.{element_segment, data_segment}
 
 -- 3.4.5 and 3.4.6 the offset of a segment is a constant expression of type i32, under some imported globals
-abbrev pub IsOffset : Initial → Type 0
+abbrev pub IsOffset : ConstExpr → Type 0
 IsOffset e = (globals : List GlobalType) × ConstantOf globals I32 (initial_tokens e)
 
 abbrev pub element_segments : List HeldElement → List Segment

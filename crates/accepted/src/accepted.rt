@@ -5,7 +5,7 @@ ghost use Rattle.wsyntax.specs.Modules.{module_shape};
 ghost use Rattle.wsyntax.specs.Validation.Rules.{ExportsDistinct};
 ghost use Rattle.accepted.specs.Exports.{AreAscending};
 ghost use Rattle.wsyntax.specs.Execution.Start.{has_floats};
-ghost use Rattle.accepted.specs.TypeNumbers.{AreTypeNumbers};
+ghost use Rattle.accepted.specs.TypeIds.{AreTypeIds};
 ghost use Rattle.accepted.specs.Judgement.{IsJudged, shapes_of};
 ghost use Rattle.accepted.specs.FunctionShapes.{function_shapes};
 ghost use Rattle.accepted.specs.Small.{IsSmall};
@@ -30,16 +30,16 @@ pub struct Accepted<'a> {
     pub(crate) shapes: Vec<FunctionShape>,
     /// The number of each export, in the order of their names.
     pub(crate) by_name: Vec<usize>,
-    pub(crate) mentions_floats: bool,
+    pub(crate) uses_floats: bool,
     /// Of each type its number, equal for equal types.
-    pub(crate) type_numbers: Vec<u32>,
+    pub(crate) type_ids: Vec<u32>,
     /// What its instances start from.
     pub(crate) layout: Layout,
     pub(crate) ghost judged: { ∥ IsJudged (module_shape «module») context bodies.items ∥₁ },
-    pub(crate) ghost looked: { mentions_floats ≡ has_floats (module_shape «module») (shapes_of bodies.items) },
-    pub(crate) ghost numbered: { ∥ AreTypeNumbers (module_shape «module»).types type_numbers.items ∥₁ },
+    pub(crate) ghost looked: { uses_floats ≡ has_floats (module_shape «module») (shapes_of bodies.items) },
+    pub(crate) ghost numbered: { ∥ AreTypeIds (module_shape «module»).types type_ids.items ∥₁ },
     pub(crate) ghost shaped: { shapes.items
-        ≡ function_shapes (module_shape «module»).types type_numbers.items (module_shape «module»).functions bodies.items },
+        ≡ function_shapes (module_shape «module»).types type_ids.items (module_shape «module»).functions bodies.items },
     pub(crate) ghost laid: { IsLayoutOf (module_shape «module») layout },
     pub(crate) ghost filled: { SegmentsAreBytes (module_shape «module») },
     pub(crate) ghost small: { ∥ IsSmall (module_shape «module») bodies.items ∥₁ },
@@ -55,7 +55,7 @@ impl<'a> Accepted<'a> {
     ghost use Rattle.wsyntax.specs.Texts.Answer.{IsMissing};
     ghost use Rattle.accepted.specs.Exports.{IsExported};
     ghost use Rattle.wsyntax.specs.Binary.Sections.{locals_of};
-    ghost use Rattle.accepted.specs.TypeNumbers.{function_number};
+    ghost use Rattle.accepted.specs.TypeIds.{function_number};
     ghost use Rattle.accepted.specs.Kept.{body_at, place_of};
 
     /// What holds of every accepted module, for a proof that is handed one: no rule is broken, the context is that of the
@@ -68,14 +68,14 @@ impl<'a> Accepted<'a> {
     /// What holds of the numbers of types: each is below the count of types, and two are equal exactly where the types
     /// are the same.
     pub fn types_are_numbered(&self)
-        ensures { ∥ AreTypeNumbers (module_shape self.now.module).types self.now.type_numbers.items ∥₁ }
+        ensures { ∥ AreTypeIds (module_shape self.now.module).types self.now.type_ids.items ∥₁ }
     {}
 
     /// What the shapes of its functions are: of each body the counts of parameters, declared locals and results, and the
     /// number of the type.
     pub fn functions_have_shapes(&self)
         ensures { self.now.shapes.items
-            ≡ function_shapes (module_shape self.now.module).types self.now.type_numbers.items
+            ≡ function_shapes (module_shape self.now.module).types self.now.type_ids.items
             (module_shape self.now.module).functions self.now.bodies.items }
     {}
 
@@ -152,10 +152,10 @@ impl<'a> Accepted<'a> {
 
     /// Of each type its number.
     #[inline]
-    pub fn type_numbers(&self) -> &[u32]
-        ensures { result.now ≡ self.now.type_numbers.items }
+    pub fn type_ids(&self) -> &[u32]
+        ensures { result.now ≡ self.now.type_ids.items }
     {
-        &self.type_numbers
+        &self.type_ids
     }
 
     /// What its instances start from, computed once.
@@ -180,26 +180,26 @@ impl<'a> Accepted<'a> {
     pub fn has_floats(&self) -> bool
         ensures { result ≡ has_floats (module_shape self.now.module) (shapes_of self.now.bodies.items) }
     {
-        self.mentions_floats
+        self.uses_floats
     }
 
     /// The number of the type of that index, by which equal types are known equal; `None` where the module has no such
     /// type.
     #[inline]
-    pub fn type_number(&self, type_index: u32) -> Option<u32>
-        ensures { result ≡ slice_get self.now.type_numbers.items type_index }
+    pub fn type_id(&self, type_index: u32) -> Option<u32>
+        ensures { result ≡ slice_get self.now.type_ids.items type_index }
     {
-        self.type_numbers.get(type_index as usize).copied()
+        self.type_ids.get(type_index as usize).copied()
     }
 
     /// The number of the type of the function of that index, imported ones counted; `None` where the module has no such
     /// function.
     #[inline]
-    pub fn function_type_number(&self, func: u32) -> Option<u32>
-        ensures { result ≡ function_number self.now.type_numbers.items (slice_get self.now.context.function_types func) }
+    pub fn function_type_id(&self, func: u32) -> Option<u32>
+        ensures { result ≡ function_number self.now.type_ids.items (slice_get self.now.context.function_types func) }
     {
         let type_index = self.context.type_of(func)?;
-        self.type_number(type_index)
+        self.type_id(type_index)
     }
 
     /// What is exported under a name: its kind, and its index in the space of that kind. Takes no memory, and compares

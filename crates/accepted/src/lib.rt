@@ -14,7 +14,7 @@ mod places;
 mod segments;
 mod shapes;
 mod sizes;
-mod type_numbers;
+mod type_ids;
 
 pub use accepted::Accepted;
 pub use module_layout::Layout;

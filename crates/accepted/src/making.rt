@@ -9,7 +9,7 @@ use crate::exports::numbers_by_name;
 use crate::floats::has_floats;
 use crate::module_layout::Layout;
 use crate::shapes::function_shapes;
-use crate::type_numbers::type_numbers;
+use crate::type_ids::type_ids;
 use checked::CheckedBody;
 use std::alloc::{AllocError, Global};
 use wcontext::Context;
@@ -29,24 +29,18 @@ impl<'a> Accepted<'a> {
         ensures { IfOk result (λ a. (a.«module» ≡ «module».entry) × (a.context ≡ context) × (a.bodies ≡ bodies)) }
     {
         let by_name = numbers_by_name(alloc, &module.exports)?;
-        let type_numbers = type_numbers(alloc, &module.types)?;
-        let shapes = function_shapes(
-            alloc,
-            &module.types,
-            &type_numbers,
-            &module.functions,
-            &bodies,
-        )?;
+        let type_ids = type_ids(alloc, &module.types)?;
+        let shapes = function_shapes(alloc, &module.types, &type_ids, &module.functions, &bodies)?;
         let layout = Layout::of(alloc, &module)?;
-        let mentions_floats = has_floats(&module, &bodies);
+        let uses_floats = has_floats(&module, &bodies);
         Ok(Accepted {
             module,
             context,
             bodies,
             shapes,
             by_name,
-            mentions_floats,
-            type_numbers,
+            uses_floats,
+            type_ids,
             layout,
         })
     }

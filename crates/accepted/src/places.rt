@@ -6,14 +6,14 @@ ghost use Rattle.wsyntax.specs.Execution.Start.{constant_in};
 ghost use Rattle.accepted.specs.Segments.{IsOffset, element_place, data_place};
 
 use std::alloc::{AllocError, Global};
-use wsyntax::{Data, Elements, Initial, Token};
+use wsyntax::{ConstExpr, Data, Elements, Token};
 
 /// The number of an offset: of one `i32.const`, without sign; 0 of an offset that reads an imported global.
-pub(crate) fn place_of(offset: &Initial) -> u32
+pub(crate) fn place_of(offset: &ConstExpr) -> u32
     requires { IsOffset offset.now }
     ensures { result ≡ constant_in (initial_tokens offset.now) }
 {
-    let Some(token) = offset.only() else {
+    let Some(token) = offset.single_instruction() else {
         return 0;
     };
     match token {

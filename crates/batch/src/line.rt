@@ -7,7 +7,7 @@ ghost use Rattle.verdict.specs.Refusals.{fault_of};
 ghost use Rattle.batch.specs.Report.{given_verdict};
 
 use std::alloc::{AllocError, Global};
-use verdict::{Class, Refusal};
+use verdict::{BodyRefusal, Refusal};
 
 /// The line of the verdict that the judge gave, with its newline. Where it gave none, for it was out of memory, there is no
 /// line either.
@@ -19,18 +19,20 @@ pub fn verdict_line(alloc: Global, judged: Result<(), Refusal>) -> Result<String
         Err(Refusal::TooLarge) => String::from_str(alloc, "refused too-large\n"),
         Err(Refusal::Malformed) => String::from_str(alloc, "refused malformed\n"),
         Err(Refusal::Rule(rule)) => format!(in alloc; "refused rule {rule}\n"),
-        Err(Refusal::Body { func, class }) => body_line(alloc, func, class),
+        Err(Refusal::Body { func, refusal }) => body_line(alloc, func, refusal),
         Err(Refusal::Memory) => Err(AllocError),
     }
 }
 
 /// The line of a body that is refused.
-fn body_line(alloc: Global, func: u32, class: Class) -> Result<String, AllocError>
-    ensures { IfOk result (λ line. string_bytes line ≡ meant_line (BodyRefused func (fault_of class))) }
+fn body_line(alloc: Global, func: u32, refusal: BodyRefusal) -> Result<String, AllocError>
+    ensures { IfOk result (λ line. string_bytes line ≡ meant_line (BodyRefused func (fault_of refusal))) }
 {
-    match class {
-        Class::Malformed => format!(in alloc; "refused body {func} malformed\n"),
-        Class::TooManyLocals => format!(in alloc; "refused body {func} too-many-locals\n"),
-        Class::IllTyped { at } => format!(in alloc; "refused body {func} ill-typed at {at}\n"),
+    match refusal {
+        BodyRefusal::Malformed => format!(in alloc; "refused body {func} malformed\n"),
+        BodyRefusal::TooManyLocals => format!(in alloc; "refused body {func} too-many-locals\n"),
+        BodyRefusal::IllTyped { at } => format!(in alloc;
+            "refused body {func} ill-typed at {at}\n"
+        ),
     }
 }

@@ -16,7 +16,7 @@ use std::sync::Wait;
 use std::test::Fail;
 use std::thread::Threads;
 use texts::{read_calls, report};
-use verdict::{Class, Refusal, judge_alone};
+use verdict::{BodyRefusal, Refusal, judge_alone};
 use wstore::Settings;
 
 // Holds what it takes: `at_once` bytes a write, `room` in all. Then it fails, or takes no byte.
@@ -55,8 +55,8 @@ impl Write for Narrow {
     }
 }
 
-fn refused_body(func: u32, class: Class) -> Result<(), Refusal> {
-    Err(Refusal::Body { func, class })
+fn refused_body(func: u32, refusal: BodyRefusal) -> Result<(), Refusal> {
+    Err(Refusal::Body { func, refusal })
 }
 
 #[test]
@@ -79,17 +79,17 @@ fn each_verdict_has_its_line(rt: HostRuntime) -> Result<(), Fail> {
             Status::ModuleRefused,
         ),
         (
-            refused_body(0, Class::Malformed),
+            refused_body(0, BodyRefusal::Malformed),
             "refused body 0 malformed\n",
             Status::ModuleRefused,
         ),
         (
-            refused_body(10, Class::TooManyLocals),
+            refused_body(10, BodyRefusal::TooManyLocals),
             "refused body 10 too-many-locals\n",
             Status::ModuleRefused,
         ),
         (
-            refused_body(4_294_967_295, Class::IllTyped { at: 0 }),
+            refused_body(4_294_967_295, BodyRefusal::IllTyped { at: 0 }),
             "refused body 4294967295 ill-typed at 0\n",
             Status::ModuleRefused,
         ),
@@ -109,7 +109,7 @@ fn a_failed_write_leaves_a_beginning(rt: HostRuntime) -> Result<(), Fail> {
     let line = b"refused body 3 ill-typed at 12\n";
     for room in 0..line.len() {
         for fails in [true, false] {
-            let judged = refused_body(3, Class::IllTyped { at: 12 });
+            let judged = refused_body(3, BodyRefusal::IllTyped { at: 12 });
             let mut out = Narrow::new(rt.alloc(), 4, room, fails);
             assert_eq!(rt;
                 write_verdict(rt.alloc(), judged, &mut out),

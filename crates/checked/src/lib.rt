@@ -6,13 +6,13 @@
 #![tactic(auto)]
 
 mod body;
-mod destination;
+mod branch;
 mod floats;
 mod function_shape;
 mod table;
 
 pub use body::CheckedBody;
-pub use destination::Destination;
+pub use branch::Branch;
 pub use floats::{expression_has_floats, is_float, runs_have_floats, token_has_floats};
 pub use function_shape::FunctionShape;
 pub use table::SideTable;

@@ -16,7 +16,7 @@ use Rattle.command.specs.declared.request.Request.TheVariants.{Check, Run, Text}
 use Rattle.gate.specs.Sources.{ReadsPaths}
 use Rattle.gate.specs.Checks.{Judges}
 use Rattle.gate.specs.Endings.{answer_status}
-use Rattle.gate.specs.Prints.{AsksFor, Does, PrintsAnswer, PrintsCallsRefusal, PrintsGood, PrintsRefusal}
+use Rattle.gate.specs.Prints.{AsksFor, AnswersRequest, PrintsAnswer, PrintsCallsRefusal, PrintsGood, PrintsRefusal}
 use Rattle.gate.specs.Runs.{RunsOn}
 
 only_good : (s : Status) → answer_status s ≡ 0 → s ≡ Good
@@ -73,7 +73,7 @@ answer words path calls settings holds asked asked' old new s t named calls_name
   answered = subst (λ (x : Status). RunsOn (holds path.now) (holds calls.now) (limits_of settings) old new (Ok x)) e done;
 }
 
-pub good : (words : List (List ℕ)) (request : Request) (holds : List ℕ → Option (List ℕ)) (asked asked' : Option (List (List ℕ))) (old new : Option (List ℕ)) (s : Status) → IsRequestOf words request → Does request holds old new (Ok s) → AsksFor request asked asked' (Ok s) → answer_status s ≡ 0 → PrintsGood words holds asked asked' old new
+pub good : (words : List (List ℕ)) (request : Request) (holds : List ℕ → Option (List ℕ)) (asked asked' : Option (List (List ℕ))) (old new : Option (List ℕ)) (s : Status) → IsRequestOf words request → AnswersRequest request holds old new (Ok s) → AsksFor request asked asked' (Ok s) → answer_status s ≡ 0 → PrintsGood words holds asked asked' old new
 good words (Check path plan) holds asked asked' old new s named (v, judged, is, written) order e =
     let same : v ≡ Accepted = only_accepted v (sym is ∙ only_good s e) in
     inr (inl record {
@@ -87,14 +87,14 @@ good words (Run path calls settings plan) holds asked asked' old new s (named, (
     inr (inr (answer words path calls settings holds asked asked' old new s Good named calls_named said.0 done order (only_good s e)))
 good words (Text text) holds asked asked' old new s asks shown order e = inl asks
 
-pub refusal : (words : List (List ℕ)) (request : Request) (holds : List ℕ → Option (List ℕ)) (asked asked' : Option (List (List ℕ))) (old new : Option (List ℕ)) (s : Status) → IsRequestOf words request → Does request holds old new (Ok s) → AsksFor request asked asked' (Ok s) → answer_status s ≡ 2 → PrintsRefusal words holds asked asked' old new
+pub refusal : (words : List (List ℕ)) (request : Request) (holds : List ℕ → Option (List ℕ)) (asked asked' : Option (List (List ℕ))) (old new : Option (List ℕ)) (s : Status) → IsRequestOf words request → AnswersRequest request holds old new (Ok s) → AsksFor request asked asked' (Ok s) → answer_status s ≡ 2 → PrintsRefusal words holds asked asked' old new
 refusal words (Check path plan) holds asked asked' old new s named (v, judged, is, written) order e =
     inl (v, sym is ∙ only_refused s e, record { path = path.now; named = named.0; only = order; judged = judged; written = written })
 refusal words (Run path calls settings plan) holds asked asked' old new s (named, (calls_named, said)) done order e =
     inr (answer words path calls settings holds asked asked' old new s ModuleRefused named calls_named said.0 done order (only_refused s e))
 refusal words (Text text) holds asked asked' old new s asks shown order e = absurd (not_refused s shown.0 (only_refused s e))
 
-pub calls_refusal : (words : List (List ℕ)) (request : Request) (holds : List ℕ → Option (List ℕ)) (asked asked' : Option (List (List ℕ))) (old new : Option (List ℕ)) (s : Status) → IsRequestOf words request → Does request holds old new (Ok s) → AsksFor request asked asked' (Ok s) → answer_status s ≡ 3 → PrintsCallsRefusal words holds asked asked' old new
+pub calls_refusal : (words : List (List ℕ)) (request : Request) (holds : List ℕ → Option (List ℕ)) (asked asked' : Option (List (List ℕ))) (old new : Option (List ℕ)) (s : Status) → IsRequestOf words request → AnswersRequest request holds old new (Ok s) → AsksFor request asked asked' (Ok s) → answer_status s ≡ 3 → PrintsCallsRefusal words holds asked asked' old new
 calls_refusal words (Check path plan) holds asked asked' old new s named (v, judged, is, written) order e =
     absurd (no_verdict v (sym is ∙ only_calls_refused s e))
 calls_refusal words (Run path calls settings plan) holds asked asked' old new s (named, (calls_named, said)) done order e =

@@ -30,10 +30,10 @@ Shows text old new (Err _) = ⊥
 -- ---- by the request
 
 -- what is done for a request, over what paths hold
-abbrev pub Does : Request → (List ℕ → Option (List ℕ)) → Option (List ℕ) → Option (List ℕ) → Result Status Fault → Type 0
-Does (Check path plan) holds old new r = Checks (holds path.now) old new r
-Does (Run path calls s plan) holds old new r = RunsOn (holds path.now) (holds calls.now) (limits_of s) old new r
-Does (Text text) holds old new r = Shows (string_bytes text) old new r
+abbrev pub AnswersRequest : Request → (List ℕ → Option (List ℕ)) → Option (List ℕ) → Option (List ℕ) → Result Status Fault → Type 0
+AnswersRequest (Check path plan) holds old new r = Checks (holds path.now) old new r
+AnswersRequest (Run path calls s plan) holds old new r = RunsOn (holds path.now) (holds calls.now) (limits_of s) old new r
+AnswersRequest (Text text) holds old new r = Shows (string_bytes text) old new r
 
 -- the paths that a request asks for, in their order
 abbrev pub AsksFor : Request → Option (List (List ℕ)) → Option (List (List ℕ)) → Result Status Fault → Type 0
@@ -42,9 +42,9 @@ AsksFor (Run path calls s plan) old new r = ReadsInOrder path.now calls.now old 
 AsksFor (Text text) old new r = ReadsPaths old new []
 
 -- a request of the words is done, and the status is that of what came of it; or the words ask for nothing that can be done, and nothing is asked for or written
-abbrev pub Obeys : List (List ℕ) → (List ℕ → Option (List ℕ)) → Option (List (List ℕ)) → Option (List (List ℕ)) → Option (List ℕ) → Option (List ℕ) → ℕ → Type 0
-Obeys words holds asked asked' old new status =
-    ((request : Request) × (r : Result Status Fault) × IsRequestOf words request × Does request holds old new r × AsksFor request asked asked' r × (status ≡ result_status r))
+abbrev pub AnswersWords : List (List ℕ) → (List ℕ → Option (List ℕ)) → Option (List (List ℕ)) → Option (List (List ℕ)) → Option (List ℕ) → Option (List ℕ) → ℕ → Type 0
+AnswersWords words holds asked asked' old new status =
+    ((request : Request) × (r : Result Status Fault) × IsRequestOf words request × AnswersRequest request holds old new r × AsksFor request asked asked' r × (status ≡ result_status r))
     ⊎ (((status ≡ 64) ⊎ (status ≡ 70)) × ReadsPaths asked asked' [] × Keeps old new)
 
 -- ---- by the status

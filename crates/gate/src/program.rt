@@ -2,7 +2,7 @@
 ghost use Rattle.std.specs.Prelude.{◌≡◌, ◌⊎◌, map};
 ghost use Rattle.std.specs.Io.KnownBytes.{Keeps};
 ghost use Rattle.gate.specs.Endings.{answer_status, IsStatus};
-ghost use Rattle.gate.specs.Prints.{AsksFor, Does, Obeys, PrintsCallsRefusal, PrintsGood, PrintsRefusal, Shows};
+ghost use Rattle.gate.specs.Prints.{AsksFor, AnswersRequest, AnswersWords, PrintsCallsRefusal, PrintsGood, PrintsRefusal, Shows};
 
 use crate::answer::answer_files;
 use crate::check::check_file;
@@ -26,7 +26,7 @@ pub fn run<R: Threads + Wait + Sync, S: Source, O: Write, E: Write>(
     err: &mut E,
 ) -> u8
     ensures named { IsStatus result }
-    ensures obeyed { Obeys (map (λ w. w.now) words.now) (S.holds source.old) (S.asked source.old) (S.asked source.new)
+    ensures obeyed { AnswersWords (map (λ w. w.now) words.now) (S.holds source.old) (S.asked source.old) (S.asked source.new)
         (O.contents out.old) (O.contents out.new) result }
     ensures silent { (result ≡ 64) ⊎ (result ≡ 70) → Keeps (O.contents out.old) (O.contents out.new) }
     ensures accepted { result ≡ 0 →
@@ -57,7 +57,7 @@ fn obey<'a, R: Threads + Wait + Sync, S: Source, O: Write>(
     source: &mut S,
     out: &mut O,
 ) -> Result<Status, Fault<'a>>
-    ensures done { Does request.entry (S.holds source.old) (O.contents out.old) (O.contents out.new) result }
+    ensures done { AnswersRequest request.entry (S.holds source.old) (O.contents out.old) (O.contents out.new) result }
     ensures asked { AsksFor request.entry (S.asked source.old) (S.asked source.new) result }
 {
     match request {

@@ -174,7 +174,8 @@ fn run_on(
     length: &mut usize,
     kept: &mut *mut u8,
 ) -> u32
-    ensures { HandsAnswer settings.now (IsAnswerOf held.now.accepted.value calls.now settings.now) out.old out.new length.old length.new result }
+    ensures { HandsAnswer settings.now (IsAnswerOf held.now.accepted.value calls.now settings.now)
+        out.old out.new length.old length.new result }
 {
     let Some(limits) = settings.settings() else {
         return BAD_ARGUMENT;

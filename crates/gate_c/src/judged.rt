@@ -6,7 +6,7 @@ ghost use Rattle.verdict.specs.Refusals.{fault_of, verdict_of};
 ghost use Rattle.batch.specs.Report.{given_verdict};
 ghost use Rattle.gate_c.specs.Verdicts.{numbers_of, IsNamed, IsNoVerdict};
 
-use verdict::{Class, Refusal};
+use verdict::{BodyRefusal, Refusal};
 
 /// A verdict. Of the numbers after the kind those are set that belong to it, and the others are 0.
 #[repr(C)]
@@ -55,13 +55,13 @@ impl GateVerdict {
     }
 
     /// The verdict that a body is refused.
-    fn of_body(function: u32, class: Class) -> GateVerdict
-        ensures { result ≡ numbers_of (BodyRefused function (fault_of class)) }
+    fn of_body(function: u32, refusal: BodyRefusal) -> GateVerdict
+        ensures { result ≡ numbers_of (BodyRefused function (fault_of refusal)) }
     {
-        match class {
-            Class::Malformed => GateVerdict::on_body(4, function, 0),
-            Class::TooManyLocals => GateVerdict::on_body(5, function, 0),
-            Class::IllTyped { at } => GateVerdict::on_body(6, function, at as u64),
+        match refusal {
+            BodyRefusal::Malformed => GateVerdict::on_body(4, function, 0),
+            BodyRefusal::TooManyLocals => GateVerdict::on_body(5, function, 0),
+            BodyRefusal::IllTyped { at } => GateVerdict::on_body(6, function, at as u64),
         }
     }
 
@@ -85,7 +85,7 @@ impl GateVerdict {
                 function: 0,
                 token: 0,
             }),
-            Refusal::Body { func, class } => Some(GateVerdict::of_body(func, class)),
+            Refusal::Body { func, refusal } => Some(GateVerdict::of_body(func, refusal)),
             Refusal::Memory => None,
         }
     }
@@ -93,22 +93,23 @@ impl GateVerdict {
     /// The refusal of that kind with these numbers, of which those that do not belong to the kind are not read. `None` where there
     /// is none, as where a rule has no such number.
     fn refusal(&self) -> Option<Refusal>
-        ensures { (v : Verdict) → IsNamed v → self.now ≡ numbers_of v → v ≢ Accepted → IsSomeAnd result (λ r. verdict_of r ≡ Some v) }
+        ensures { (v : Verdict) → IsNamed v → self.now ≡ numbers_of v → v ≢ Accepted →
+            IsSomeAnd result (λ r. verdict_of r ≡ Some v) }
     {
-        let class = match self.kind {
+        let refusal = match self.kind {
             1 => return Some(Refusal::TooLarge),
             2 => return Some(Refusal::Malformed),
             3 if 2 <= self.rule && self.rule <= 13 => return Some(Refusal::Rule(self.rule)),
-            4 => Class::Malformed,
-            5 => Class::TooManyLocals,
-            6 => Class::IllTyped {
+            4 => BodyRefusal::Malformed,
+            5 => BodyRefusal::TooManyLocals,
+            6 => BodyRefusal::IllTyped {
                 at: self.token as usize,
             },
             _ => return None,
         };
         Some(Refusal::Body {
             func: self.function,
-            class,
+            refusal,
         })
     }
 

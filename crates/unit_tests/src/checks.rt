@@ -3,7 +3,7 @@ ghost use Rattle.std.specs.List.{list_all};
 ghost use Rattle.std.specs.Prelude.{◌<◌, [], IsTrue, length};
 ghost use Rattle.wsyntax.specs.Brackets.{closes, lies_within};
 
-use checked::Destination;
+use checked::Branch;
 use std::alloc::{AllocError, Global};
 use std::process::Abort;
 use std::test::Fail;
@@ -556,7 +556,7 @@ fn table_of(
     module: &Module<'_>,
     tokens: &[Token],
     place: usize,
-) -> Option<(Destination, usize, usize)>
+) -> Option<(Branch, usize, usize)>
     requires closed { IsTrue (closes [] tokens.now) }
     requires within { IsTrue (list_all (lies_within 0) tokens.now) }
 {
@@ -575,7 +575,7 @@ fn loop_with_its_table(rt: HostRuntime) -> Result<(), Fail> {
     let module = one_function(rt.alloc())?;
     let tokens = [Loop(BlockType::Empty), ZERO, BrIf(0), End, End];
     let (entry, count, height) = table_of(rt.alloc(), &module, &tokens, 2).ok_or("a table")?;
-    let back = Destination {
+    let back = Branch {
         target: 0,
         arity: 0,
         height: 0,
@@ -591,7 +591,7 @@ fn loop_with_parameter_and_its_table(rt: HostRuntime) -> Result<(), Fail> {
     let module = several_types(rt.alloc())?;
     let tokens = [LONG_ZERO, ONE, Loop(SAME), Br(0), End, Drop, Drop, End];
     let (entry, _, height) = table_of(rt.alloc(), &module, &tokens, 3).ok_or("a table")?;
-    let back = Destination {
+    let back = Branch {
         target: 2,
         arity: 1,
         height: 1,

@@ -2,7 +2,7 @@ use std::alloc::{AllocError, Global};
 use std::test::Fail;
 use wcontext::*;
 use wsyntax::{
-    Data, Export, ExportKind, GlobalType, Import, ImportKind, Initial, Limits, Module, ValType,
+    ConstExpr, Data, Export, ExportKind, GlobalType, Import, ImportKind, Limits, Module, ValType,
 };
 
 /// A module that imports one function of type `[i32 i64] -> [f32 i32]`.
@@ -130,7 +130,7 @@ fn breaks_a_rule_of_either_part(rt: HostRuntime) -> Result<(), Fail> {
 fn segment_of<'a>(index: u32) -> Data<'a> {
     Data {
         memory: index,
-        offset: Initial::I32Const(0),
+        offset: ConstExpr::I32Const(0),
         bytes: b"abc",
     }
 }

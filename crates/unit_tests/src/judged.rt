@@ -1,7 +1,7 @@
 // What is judged on the calling thread alone. The verdicts that are expected are the standard's.
 use std::alloc::Global;
 use std::test::*;
-use verdict::{Class, Refusal, examine_alone, judge_alone};
+use verdict::{BodyRefusal, Refusal, examine_alone, judge_alone};
 
 // (module (func) (func))
 static GOOD: [u8; 28] = [
@@ -35,7 +35,7 @@ fn refusals(alloc: Global, bytes: &[u8]) -> (Option<Refusal>, Option<Refusal>) {
 fn modules_are_judged_alone(rt: HostRuntime) -> Result<(), Fail> {
     let ill_typed = Refusal::Body {
         func: 2,
-        class: Class::IllTyped { at: 0 },
+        refusal: BodyRefusal::IllTyped { at: 0 },
     };
     let cases = [
         (GOOD.as_slice(), None),

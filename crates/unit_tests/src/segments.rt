@@ -1,15 +1,15 @@
 use std::alloc::{AllocError, Global};
 use std::test::Fail;
-use wsyntax::{Elements, Initial};
+use wsyntax::{ConstExpr, Elements};
 
 /// A segment of two functions, one of none, and one of one function.
 fn three_segments(alloc: Global) -> Result<Elements, AllocError> {
     let mut segments = Elements::with_capacity(alloc, 1)?;
-    segments.push(0, Initial::Nothing)?;
+    segments.push(0, ConstExpr::Nothing)?;
     segments.push_function(7)?;
     segments.push_function(8)?;
-    segments.push(1, Initial::Nothing)?;
-    segments.push(2, Initial::Nothing)?;
+    segments.push(1, ConstExpr::Nothing)?;
+    segments.push(2, ConstExpr::Nothing)?;
     segments.push_function(9)?;
     Ok(segments)
 }

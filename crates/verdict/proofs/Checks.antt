@@ -1,4 +1,4 @@
--- The class of a body that is checked, and what it is, by what the check promises.
+-- The refusal of a body that is checked, and what it is, by what the check promises.
 use Rattle.std.proofs.Common.{◌≡◌, ℕ, List, Some, None, sym, ap, ◌∙◌}
 use Rattle.wsyntax.specs.declared.Body.{Body}
 use Rattle.wsyntax.specs.Modules.{body_shape}
@@ -13,24 +13,24 @@ use Rattle.wsyntax.specs.Validation.Verdict.{result_of}
 use Rattle.checked.specs.declared.body.CheckedBody.{CheckedBody}
 use Rattle.checked.specs.Bodies.{IsTypedAs, FitsAs}
 use Rattle.wcheck.specs.Refusals.{IsFaultyAt}
-use Rattle.verdict.specs.declared.refusal.Class.TheVariants.{IllTyped}
-use Rattle.verdict.specs.Judged.{class_of}
+use Rattle.verdict.specs.declared.refusal.BodyRefusal.TheVariants.{IllTyped}
+use Rattle.verdict.specs.Judged.{body_refusal_of}
 use Rattle.accepted.specs.Judgement.{IsCheckedFrom}
-use Rattle.verdict.proofs.Bodies.{tree_of, class_typing}
+use Rattle.verdict.proofs.Bodies.{tree_of, refusal_typing}
 
-pub typed_class : Agrees body → TypedIsAccepted → (C : Context) (f : ℕ) (bytes : List ℕ) (b : Body) → SpellsBody bytes (body_shape b) → FewLocals (body_shape b) → IsTypedAs C f b → class_of C f bytes ≡ None
-typed_class agrees law C f bytes b s few typed =
+pub typed_refusal : Agrees body → TypedIsAccepted → (C : Context) (f : ℕ) (bytes : List ℕ) (b : Body) → SpellsBody bytes (body_shape b) → FewLocals (body_shape b) → IsTypedAs C f b → body_refusal_of C f bytes ≡ None
+typed_refusal agrees law C f bytes b s few typed =
     let D = function_context C f b.runs.items in
     let r = result_of C f in
     let t = tree_of bytes (body_shape b) s in
-    class_typing agrees C f bytes (body_shape b) Accepted s few (ap (alg D r) (sym t.1) ∙ law D r t.0 (typed t.0 t.1))
+    refusal_typing agrees C f bytes (body_shape b) Accepted s few (ap (alg D r) (sym t.1) ∙ law D r t.0 (typed t.0 t.1))
 
-pub faulty_class : Agrees body → RefusedAtFirstFault → (C : Context) (f : ℕ) (bytes : List ℕ) (b : Body) (at : ℕ) → SpellsBody bytes (body_shape b) → FewLocals (body_shape b) → IsFaultyAt C f b at → class_of C f bytes ≡ Some (IllTyped at)
-faulty_class agrees law C f bytes b at s few fault =
+pub faulty_refusal : Agrees body → RefusedAtFirstFault → (C : Context) (f : ℕ) (bytes : List ℕ) (b : Body) (at : ℕ) → SpellsBody bytes (body_shape b) → FewLocals (body_shape b) → IsFaultyAt C f b at → body_refusal_of C f bytes ≡ Some (IllTyped at)
+faulty_refusal agrees law C f bytes b at s few fault =
     let D = function_context C f b.runs.items in
     let r = result_of C f in
     let t = tree_of bytes (body_shape b) s in
-    class_typing agrees C f bytes (body_shape b) (Refused at) s few (ap (alg D r) (sym t.1) ∙ (law D r t.0 at).1 (fault t.0 t.1))
+    refusal_typing agrees C f bytes (body_shape b) (Refused at) s few (ap (alg D r) (sym t.1) ∙ (law D r t.0 at).1 (fault t.0 t.1))
 
 -- what is decoded and checked has a tree, too
 pub checked_from : (C : Context) (f : ℕ) (bytes : List ℕ) (c : CheckedBody) → SpellsBody bytes (body_shape c.body) → FewLocals (body_shape c.body) → IsTypedAs C f c.body → FitsAs C f c → IsCheckedFrom C f bytes c

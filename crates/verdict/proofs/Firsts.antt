@@ -16,27 +16,27 @@ use Rattle.wsyntax.specs.Validation.Laws.{AcceptedIsTyped, RefusedAtFirstFault}
 use Rattle.wsyntax.specs.Validation.ModuleContext.{module_context, imported_functions, IndexedContext, indexed_context}
 use Rattle.wsyntax.specs.Validation.Rules.{NoneBroken, LeastBroken}
 use Rattle.wsyntax.specs.Validation.Verdict.{IsModule, IsVerdict, Accepted, AcceptedBefore, FirstRefused}
-use Rattle.verdict.specs.declared.refusal.Class.{Class}
+use Rattle.verdict.specs.declared.refusal.BodyRefusal.{BodyRefusal}
 use Rattle.verdict.specs.declared.refusal.Refusal.{Refusal}
 use Rattle.verdict.specs.declared.refusal.Refusal.TheVariants.{TooLarge, Malformed, Rule, Body, Memory}
 use Rattle.verdict.specs.Heads.{Known}
-use Rattle.verdict.specs.Judged.{class_of, given_class, class_at, PassBefore, IsFirstBody}
+use Rattle.verdict.specs.Judged.{body_refusal_of, given_refusal, body_refusal_at, PassBefore, IsFirstBody}
 use Rattle.verdict.specs.Refusals.{fault_of, verdict_of, of_decoding, of_rules}
 use Rattle.verdict.proofs.Sizes.{functions_fit}
-use Rattle.verdict.proofs.Bodies.{accepted_class, refused_class}
+use Rattle.verdict.proofs.Bodies.{accepted_where_none, refused_where_some}
 
--- the class of the bytes that stand at that place
-at_place : (C : Context) (imported : ℕ) (bodies : List (List ℕ)) (place : ℕ) (bytes : List ℕ) (o : Option Class) → slice_get bodies place ≡ Some bytes → class_at C imported bodies place ≡ o → class_of C (imported + place) bytes ≡ o
-at_place C imported bodies place bytes o is e = sym (ap (given_class C (imported + place)) is) ∙ e
+-- the refusal of the bytes that stand at that place
+at_place : (C : Context) (imported : ℕ) (bodies : List (List ℕ)) (place : ℕ) (bytes : List ℕ) (o : Option BodyRefusal) → slice_get bodies place ≡ Some bytes → body_refusal_at C imported bodies place ≡ o → body_refusal_of C (imported + place) bytes ≡ o
+at_place C imported bodies place bytes o is e = sym (ap (given_refusal C (imported + place)) is) ∙ e
 
 accepted_before : (bytes : List ℕ) (m : ModuleShape) (place : ℕ) → Known bytes m → PassBefore (module_context m) (length (imported_functions m)) m.bodies place → AcceptedBefore m place
-accepted_before bytes m place k before j b lt is = accepted_class k.reads k.typed _ _ b (at_place _ _ m.bodies j b None is (before j lt))
+accepted_before bytes m place k before j b lt is = accepted_where_none k.reads k.typed _ _ b (at_place _ _ m.bodies j b None is (before j lt))
 
 pub all_accepted : (bytes : List ℕ) (m : ModuleShape) → Known bytes m → PassBefore (module_context m) (length (imported_functions m)) m.bodies (length m.bodies) → IsVerdict bytes Accepted
 unfolding IsVerdict
 all_accepted bytes m k before = (m, k.whole, k.rules, accepted_before bytes m (length m.bodies) k before)
 
-first_refused : (bytes : List ℕ) (m : ModuleShape) (f : ℕ) (c : Class) (place : ℕ) → Known bytes m → place < length m.bodies → f ≡ length (imported_functions m) + place → class_at (module_context m) (length (imported_functions m)) m.bodies place ≡ Some c → PassBefore (module_context m) (length (imported_functions m)) m.bodies place → FirstRefused m f (fault_of c)
+first_refused : (bytes : List ℕ) (m : ModuleShape) (f : ℕ) (c : BodyRefusal) (place : ℕ) → Known bytes m → place < length m.bodies → f ≡ length (imported_functions m) + place → body_refusal_at (module_context m) (length (imported_functions m)) m.bodies place ≡ Some c → PassBefore (module_context m) (length (imported_functions m)) m.bodies place → FirstRefused m f (fault_of c)
 first_refused bytes m f c place k lt is e before =
     let b = get_or m.bodies place bytes in
     let stands : slice_get m.bodies place ≡ Some b = slice_get-get_or m.bodies place bytes lt in
@@ -45,8 +45,8 @@ first_refused bytes m f c place k lt is e before =
       bytes = b;
       stands = stands;
       index = is;
-      refused = refused_class k.reads k.faults (module_context m) f b c
-          (ap (λ (x : ℕ). class_of (module_context m) x b) is ∙ at_place _ _ m.bodies place b (Some c) stands e);
+      refused = refused_where_some k.reads k.faults (module_context m) f b c
+          (ap (λ (x : ℕ). body_refusal_of (module_context m) x b) is ∙ at_place _ _ m.bodies place b (Some c) stands e);
       before = accepted_before bytes m place k before;
     }
 
@@ -69,8 +69,8 @@ each_passes passes gives n outs all k lt =
     ]
 
 -- each body passes
-pub all_pass : {O : Type 0} (gives : ℕ → O → Type 0) (C : Context) (i j : ℕ) (bodies : List (List ℕ)) (n : ℕ) (outs : List O) → j ≡ i → AllPass n (λ k. class_at C j bodies k ≡ None) gives outs → PassBefore C i bodies n
-all_pass gives C i j bodies n outs is all k lt = ap (λ (x : ℕ). class_at C x bodies k) (sym is) ∙ each_passes (λ p. class_at C j bodies p ≡ None) gives n outs all k lt
+pub all_pass : {O : Type 0} (gives : ℕ → O → Type 0) (C : Context) (i j : ℕ) (bodies : List (List ℕ)) (n : ℕ) (outs : List O) → j ≡ i → AllPass n (λ k. body_refusal_at C j bodies k ≡ None) gives outs → PassBefore C i bodies n
+all_pass gives C i j bodies n outs is all k lt = ap (λ (x : ℕ). body_refusal_at C x bodies k) (sym is) ∙ each_passes (λ p. body_refusal_at C j bodies p ≡ None) gives n outs all k lt
 
 -- ---- the verdicts of the judge
 

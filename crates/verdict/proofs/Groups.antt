@@ -9,7 +9,7 @@ use mathlib.Core.Logic.{dite}
 use native.Mathlib.Decide.{dec_lt}
 use Rattle.wsyntax.specs.Validation.Context.{Context}
 use Rattle.verdict.specs.declared.refused_body.RefusedBody.{RefusedBody}
-use Rattle.verdict.specs.Judged.{class_of, given_class, class_at, PassBefore}
+use Rattle.verdict.specs.Judged.{body_refusal_of, given_refusal, body_refusal_at, PassBefore}
 use Rattle.verdict.specs.Groups.{IsInGroup, GroupPasses, IsFirstOfGroup}
 
 -- ---- each place is one of a group
@@ -47,21 +47,21 @@ pass_before C imported bodies size group r some first earlier k lt =
 pub bytes_there : (bodies : List (Bor (List ℕ))) (place : ℕ) (d : Bor (List ℕ)) → place < length bodies → slice_get (map (λ b. b.now) bodies) place ≡ Some (get_or bodies place d).now
 bytes_there bodies place d lt = slice_get-map (λ (b : Bor (List ℕ)). b.now) bodies place ∙ ap (option_map (λ (b : Bor (List ℕ)). b.now)) (slice_get-get_or bodies place d lt)
 
--- the class of the body at a place
-pub class_there : (C D : Context) (i j place : ℕ) (bodies : List (Bor (List ℕ))) (d : Bor (List ℕ)) → D ≡ C → j ≡ i → place < length bodies → class_of D (j + place) (get_or bodies place d).now ≡ class_at C i (map (λ b. b.now) bodies) place
-class_there C D i j place bodies d same is lt =
-    ap (λ (x : Context). class_of x (j + place) (get_or bodies place d).now) same
-    ∙ ap (λ (x : ℕ). class_of C (x + place) (get_or bodies place d).now) is
-    ∙ sym (ap (given_class C (i + place)) (bytes_there bodies place d lt))
+-- the refusal of the body at a place
+pub refusal_there : (C D : Context) (i j place : ℕ) (bodies : List (Bor (List ℕ))) (d : Bor (List ℕ)) → D ≡ C → j ≡ i → place < length bodies → body_refusal_of D (j + place) (get_or bodies place d).now ≡ body_refusal_at C i (map (λ b. b.now) bodies) place
+refusal_there C D i j place bodies d same is lt =
+    ap (λ (x : Context). body_refusal_of x (j + place) (get_or bodies place d).now) same
+    ∙ ap (λ (x : ℕ). body_refusal_of C (x + place) (get_or bodies place d).now) is
+    ∙ sym (ap (given_refusal C (i + place)) (bytes_there bodies place d lt))
 
 -- the bodies before a place pass, and so the one there
-pub pass_more : (C : Context) (imported : ℕ) (bodies : List (List ℕ)) (place : ℕ) → PassBefore C imported bodies place → class_at C imported bodies place ≡ None → PassBefore C imported bodies (place + 1)
+pub pass_more : (C : Context) (imported : ℕ) (bodies : List (List ℕ)) (place : ℕ) → PassBefore C imported bodies place → body_refusal_at C imported bodies place ≡ None → PassBefore C imported bodies (place + 1)
 pass_more C imported bodies place before here k lt =
     dite (dec_lt k place) (λ y. before k y)
-    (λ no. let same : place ≡ k = omega (arith, no, lt) in subst (λ (x : ℕ). class_at C imported bodies x ≡ None) same here)
+    (λ no. let same : place ≡ k = omega (arith, no, lt) in subst (λ (x : ℕ). body_refusal_at C imported bodies x ≡ None) same here)
 
 -- the same of the bodies of a group
-pub one_more : (C : Context) (imported : ℕ) (bodies : List (List ℕ)) (size group place : ℕ) → ((k : ℕ) → IsInGroup size (length bodies) group k → k < place → class_at C imported bodies k ≡ None) → class_at C imported bodies place ≡ None → (k : ℕ) → IsInGroup size (length bodies) group k → k < place + 1 → class_at C imported bodies k ≡ None
+pub one_more : (C : Context) (imported : ℕ) (bodies : List (List ℕ)) (size group place : ℕ) → ((k : ℕ) → IsInGroup size (length bodies) group k → k < place → body_refusal_at C imported bodies k ≡ None) → body_refusal_at C imported bodies place ≡ None → (k : ℕ) → IsInGroup size (length bodies) group k → k < place + 1 → body_refusal_at C imported bodies k ≡ None
 one_more C imported bodies size group place before here k inside lt =
     dite (dec_lt k place) (λ y. before k inside y)
-    (λ no. let same : place ≡ k = omega (arith, no, lt) in subst (λ (x : ℕ). class_at C imported bodies x ≡ None) same here)
+    (λ no. let same : place ≡ k = omega (arith, no, lt) in subst (λ (x : ℕ). body_refusal_at C imported bodies x ≡ None) same here)

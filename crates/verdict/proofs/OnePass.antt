@@ -21,10 +21,10 @@ use Rattle.wsyntax.specs.Validation.ModuleContext.{function_context}
 use Rattle.wsyntax.specs.Validation.Verdict.{result_of}
 use Rattle.wcheck.specs.Checking.{Checking, begun, with_frames}
 use Rattle.wdecode.specs.Gives.{ReadsPlain, ReadsBracket}
-use Rattle.verdict.specs.Judged.{typing_class, read_class, class_of}
+use Rattle.verdict.specs.Judged.{typing_refusal, read_refusal, body_refusal_of}
 use Rattle.verdict.specs.OnePass.{Takes, PassesAs}
-use Rattle.verdict.specs.declared.refusal.Class.{Class}
-use Rattle.verdict.specs.declared.refusal.Class.TheVariants.{TooManyLocals}
+use Rattle.verdict.specs.declared.refusal.BodyRefusal.{BodyRefusal}
+use Rattle.verdict.specs.declared.refusal.BodyRefusal.TheVariants.{TooManyLocals}
 
 some_is : {A : Type 0} (a c : A) → Some a ≡ Some c → a ≡ c
 some_is a c e = cc
@@ -157,20 +157,20 @@ expression_read : (C : Context) (r : Stack) (rest : List ℕ) (ts : List Token) 
 unfolding expression
 expression_read C r rest ts p = reads C ts _ [] rest (length rest) refl p (omega arith)
 
-few_class : (D : Context) (r : Stack) (n : ℕ) (v : Option Class) → ltb local_limit n ≡ false → v ≡ None → cond (leb n local_limit) v (Some TooManyLocals) ≡ None
-few_class D r n v few e =
+few_refusal : (D : Context) (r : Stack) (n : ℕ) (v : Option BodyRefusal) → ltb local_limit n ≡ false → v ≡ None → cond (leb n local_limit) v (Some TooManyLocals) ≡ None
+few_refusal D r n v few e =
     let le : n ≤ local_limit = ltb-false _ _ few in
     ap (λ (t : Bool). cond t v (Some TooManyLocals)) (le-leb _ _ le) ∙ e
 
 -- the body that is read in one pass passes
-pub passing_class : (C : Context) (f : ℕ) (bytes rest : List ℕ) (runs : List LocalRun) (ts : List Token) → locals.read bytes ≡ Some (runs, rest) → ltb local_limit (locals_of runs) ≡ false → PassesAs (body_context (result_of C f) (function_context C f runs)) (start (result_of C f)) rest ts → class_of C f bytes ≡ None
-unfolding class_of
-passing_class C f bytes rest runs ts a few p =
+pub passing_refusal : (C : Context) (f : ℕ) (bytes rest : List ℕ) (runs : List LocalRun) (ts : List Token) → locals.read bytes ≡ Some (runs, rest) → ltb local_limit (locals_of runs) ≡ false → PassesAs (body_context (result_of C f) (function_context C f runs)) (start (result_of C f)) rest ts → body_refusal_of C f bytes ≡ None
+unfolding body_refusal_of
+passing_refusal C f bytes rest runs ts a few p =
     let D = function_context C f runs in
     let r = result_of C f in
     let read : whole_at body.read bytes ≡ Some record { runs = runs; code = ts } = whole_body bytes rest runs ts a (expression_read (body_context r D) r rest ts p) in
     let taken : alg D r ts ≡ Accepted = accepts (body_context r D) ts (start r) rest 0 p in
-    ap (read_class C f) read ∙ few_class D r (locals_of runs) (typing_class (alg D r ts)) few (ap typing_class taken)
+    ap (read_refusal C f) read ∙ few_refusal D r (locals_of runs) (typing_refusal (alg D r ts)) few (ap typing_refusal taken)
 
 -- ---- the loop
 

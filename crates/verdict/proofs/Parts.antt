@@ -21,20 +21,20 @@ use Rattle.wcontext.specs.declared.fault.ModuleFault.TheVariants as rules
 use Rattle.wdecode.specs.declared.front.Front.{Front}
 use Rattle.verdict.specs.declared.head.Head.{Head}
 use Rattle.wsyntax.specs.Validation.Context.{Context}
-use Rattle.verdict.specs.declared.refusal.Class.{Class}
+use Rattle.verdict.specs.declared.refusal.BodyRefusal.{BodyRefusal}
 use Rattle.verdict.specs.declared.refusal.Refusal.{Refusal}
 use Rattle.verdict.specs.declared.refusal.Refusal.TheVariants.{TooLarge, Malformed, Rule, Body, Memory}
 use Rattle.verdict.specs.declared.part_fault.RestFault.TheVariants as rest
 use Rattle.verdict.specs.declared.part_fault.PartFault.{PartFault}
 use Rattle.verdict.specs.declared.part_fault.PartFault.TheVariants as part
 use Rattle.verdict.specs.declared.refused_body.RefusedBody.{RefusedBody}
-use Rattle.verdict.specs.Judged.{class_of, class_at}
+use Rattle.verdict.specs.Judged.{body_refusal_of, body_refusal_at}
 use Rattle.verdict.specs.Groups.{IsInGroup, IsFirstOfGroup}
-use Rattle.verdict.specs.Heads.{IsWhole, OneWhole, Decoded, Known, RestPasses, IsEarlyRefusal}
-use Rattle.verdict.specs.Parts.{bodies_of, class_in, BodiesPass, parts_of, PartPasses, PartRefused, IsOfRest, IsBodyAt, IsFirstPart, refusal_for, FitsIn, IsFirstFault, HasRun}
+use Rattle.verdict.specs.Heads.{IsWhole, UniqueWhole, Decoded, Known, RestPasses, IsEarlyRefusal}
+use Rattle.verdict.specs.Parts.{bodies_of, body_refusal_in, BodiesPass, parts_of, PartPasses, PartRefused, IsRestFault, IsBodyAt, IsFirstPart, refusal_for, FitsIn, IsFirstFault, HasRun}
 use Rattle.verdict.specs.Refusals.{verdict_of, of_rules}
 use Rattle.verdict.proofs.Firsts.{each_passes, judged}
-use Rattle.verdict.proofs.Groups.{class_there, groups_pass, pass_before}
+use Rattle.verdict.proofs.Groups.{refusal_there, groups_pass, pass_before}
 use Rattle.verdict.proofs.Rests.{least_of_whole}
 
 -- ---- one part
@@ -45,27 +45,27 @@ behind_the_first (suc i) ne = omega arith
 
 -- what was found of the bytes of a body is found of the body
 pub body_there : {T : Type 0} (C D : Context) (i j place : ℕ) (bodies : List (Bor (List ℕ))) (d : Bor (List ℕ)) (r : Result T (JobFault PartFault)) → D ≡ C → j ≡ i → place < length bodies
-    → MatchResult r (λ _. class_of D (j + place) (get_or bodies place d).now ≡ None) (AllowsFault (IsBodyAt place (class_of D (j + place) (get_or bodies place d).now)))
-    → MatchResult r (λ _. class_at C i (map (λ b. b.now) bodies) place ≡ None) (AllowsFault (IsBodyAt place (class_at C i (map (λ b. b.now) bodies) place)))
-body_there C D i j place bodies d r same is lt h = subst (λ (o : Option Class). MatchResult r (λ _. o ≡ None) (AllowsFault (IsBodyAt place o))) (class_there C D i j place bodies d same is lt) h
+    → MatchResult r (λ _. body_refusal_of D (j + place) (get_or bodies place d).now ≡ None) (AllowsFault (IsBodyAt place (body_refusal_of D (j + place) (get_or bodies place d).now)))
+    → MatchResult r (λ _. body_refusal_at C i (map (λ b. b.now) bodies) place ≡ None) (AllowsFault (IsBodyAt place (body_refusal_at C i (map (λ b. b.now) bodies) place)))
+body_there C D i j place bodies d r same is lt h = subst (λ (o : Option BodyRefusal). MatchResult r (λ _. o ≡ None) (AllowsFault (IsBodyAt place o))) (refusal_there C D i j place bodies d same is lt) h
 
 -- a body is refused, and those of its group before it are accepted
 pub body_part : {T : Type 0} (h : Head) (size index place : ℕ) (r : Result T (JobFault PartFault)) (x : JobFault PartFault) → IsErrAnd r (λ y. y ≡ x) → index ≢ 0
     → IsInGroup size (length (bodies_of h)) (index - 1) place
-    → ((k : ℕ) → IsInGroup size (length (bodies_of h)) (index - 1) k → k < place → class_in h k ≡ None)
-    → AllowsFault (IsBodyAt place (class_in h place)) x
+    → ((k : ℕ) → IsInGroup size (length (bodies_of h)) (index - 1) k → k < place → body_refusal_in h k ≡ None)
+    → AllowsFault (IsBodyAt place (body_refusal_in h place)) x
     → MatchResult r (λ _. PartPasses h size index × Unit {0}) (AllowsFault (PartRefused h size index))
 body_part h size index place (Ok t) x is ne inside before a = absurd is
 body_part h size index place (Err y) x is ne inside before a = subst (AllowsFault (PartRefused h size index)) (sym is) (allowed x a)
   where
-    first : (r : RefusedBody) → r.place ≡ place → class_in h place ≡ Some r.class → IsFirstOfGroup h.context.context h.context.imported (bodies_of h) size (index - 1) r
-    first r at class = record {
+    first : (r : RefusedBody) → r.place ≡ place → body_refusal_in h place ≡ Some r.refusal → IsFirstOfGroup h.context.context h.context.imported (bodies_of h) size (index - 1) r
+    first r at reason = record {
       inside = subst (IsInGroup size (length (bodies_of h)) (index - 1)) (sym at) inside;
-      refused = ap (class_in h) at ∙ class;
+      refused = ap (body_refusal_in h) at ∙ reason;
       before = λ k within lt. before k within (omega (arith, lt, at));
     }
 
-    allowed : (x : JobFault PartFault) → AllowsFault (IsBodyAt place (class_in h place)) x → AllowsFault (PartRefused h size index) x
+    allowed : (x : JobFault PartFault) → AllowsFault (IsBodyAt place (body_refusal_in h place)) x → AllowsFault (PartRefused h size index) x
     allowed (fault.Refused (part.Rest r)) a = absurd a
     allowed (fault.Refused (part.Body r)) a = subst (λ (k : ℕ). PartRefused h size k (part.Body r)) (behind_the_first index ne) (first r a.0 a.1)
     allowed fault.Memory a = tt
@@ -73,7 +73,7 @@ body_part h size index place (Err y) x is ne inside before a = subst (AllowsFaul
 -- each body of a group is accepted
 pub group_part : (h : Head) (size index end : ℕ) → index ≢ 0
     → (index - 1) * size + min size (length (bodies_of h) - (index - 1) * size) ≤ end
-    → ((k : ℕ) → IsInGroup size (length (bodies_of h)) (index - 1) k → k < end → class_in h k ≡ None)
+    → ((k : ℕ) → IsInGroup size (length (bodies_of h)) (index - 1) k → k < end → body_refusal_in h k ≡ None)
     → PartPasses h size index
 group_part h size index end ne whole before =
     subst (PartPasses h size) (behind_the_first index ne) (λ place inside. before place inside (let to = inside.to in let there = inside.there in ends place to there))
@@ -114,27 +114,27 @@ first_stop h size n i e r some is stop = first_part h size n i r some (subst (St
 -- ---- one body after the other
 
 -- the rest is refused
-pub rest_run : {T : Type 0} (h : Head) (r : Result T (JobFault PartFault)) (x : JobFault PartFault) → IsErrAnd r (λ y. y ≡ x) → AllowsFault (IsOfRest h) x → HasRun h r
+pub rest_run : {T : Type 0} (h : Head) (r : Result T (JobFault PartFault)) (x : JobFault PartFault) → IsErrAnd r (λ y. y ≡ x) → AllowsFault (IsRestFault h) x → HasRun h r
 rest_run h (Ok t) x is a = absurd is
 rest_run h (Err y) x is a = subst (AllowsFault (IsFirstFault h)) (sym is) (allowed x a)
   where
-    allowed : (x : JobFault PartFault) → AllowsFault (IsOfRest h) x → AllowsFault (IsFirstFault h) x
+    allowed : (x : JobFault PartFault) → AllowsFault (IsRestFault h) x → AllowsFault (IsFirstFault h) x
     allowed (fault.Refused (part.Rest rest.Malformed)) a = (tt, a)
     allowed (fault.Refused (part.Rest (rest.Rule k))) a = (tt, a)
     allowed (fault.Refused (part.Body r)) a = absurd a
     allowed fault.Memory a = tt
 
 -- a body is refused, and all before it are accepted
-pub body_run : {T : Type 0} (h : Head) (place : ℕ) (r : Result T (JobFault PartFault)) (x : JobFault PartFault) → IsErrAnd r (λ y. y ≡ x) → place < length (bodies_of h) → RestPasses h.front → BodiesPass h place → AllowsFault (IsBodyAt place (class_in h place)) x → HasRun h r
+pub body_run : {T : Type 0} (h : Head) (place : ℕ) (r : Result T (JobFault PartFault)) (x : JobFault PartFault) → IsErrAnd r (λ y. y ≡ x) → place < length (bodies_of h) → RestPasses h.front → BodiesPass h place → AllowsFault (IsBodyAt place (body_refusal_in h place)) x → HasRun h r
 body_run h place (Ok t) x is lt passes before a = absurd is
 body_run h place (Err y) x is lt passes before a = subst (AllowsFault (IsFirstFault h)) (sym is) (allowed x a)
   where
-    first : (r : RefusedBody) → place ≡ r.place → class_in h place ≡ Some r.class → IsFirstFault h (part.Body r)
-    first r at class =
+    first : (r : RefusedBody) → place ≡ r.place → body_refusal_in h place ≡ Some r.refusal → IsFirstFault h (part.Body r)
+    first r at reason =
         let few = h.few in
-        (omega (arith, at, lt, few), (passes, (place, lt, ap (λ (k : ℕ). h.context.imported + k) (sym at), class, before)))
+        (omega (arith, at, lt, few), (passes, (place, lt, ap (λ (k : ℕ). h.context.imported + k) (sym at), reason, before)))
 
-    allowed : (x : JobFault PartFault) → AllowsFault (IsBodyAt place (class_in h place)) x → AllowsFault (IsFirstFault h) x
+    allowed : (x : JobFault PartFault) → AllowsFault (IsBodyAt place (body_refusal_in h place)) x → AllowsFault (IsFirstFault h) x
     allowed (fault.Refused (part.Rest r)) a = absurd a
     allowed (fault.Refused (part.Body r)) a = first r (sym a.0) a.1
     allowed fault.Memory a = tt
@@ -203,7 +203,7 @@ is_early f bytes e (Body g c) d broken h = absurd h
 is_early f bytes e Memory d broken h = tt
 
 -- there is one whole
-pub one_whole : (bytes : List ℕ) (f : Front) → ((m : ModuleShape) → Shell bytes m ↔ IsWhole f m) → ((bytes : List ℕ) (m n : ModuleShape) → Shell bytes m → Shell bytes n → m ≡ n) → OneWhole f
+pub one_whole : (bytes : List ℕ) (f : Front) → ((m : ModuleShape) → Shell bytes m ↔ IsWhole f m) → ((bytes : List ℕ) (m n : ModuleShape) → Shell bytes m → Shell bytes n → m ≡ n) → UniqueWhole f
 one_whole bytes f whole determined m n a b = determined bytes m n ((whole m).1 a) ((whole n).1 b)
 
 -- ---- the functions

@@ -5,7 +5,7 @@ use Rattle.wsyntax.specs.Modules.{ModuleShape, DataShape}
 use Rattle.wsyntax.specs.declared.ValType.TheVariants.{I32}
 use Rattle.wsyntax.specs.declared.GlobalType.{GlobalType}
 use Rattle.wsyntax.specs.Validation.Rules.{Keeps, NoneBroken, LeastBroken, ConstantOf, ElementValid, DataValid, SegmentsValid}
-use Rattle.wcontext.specs.declared.counts.Counts.{Counts}
+use Rattle.wcontext.specs.declared.space_sizes.SpaceSizes.{SpaceSizes}
 use Rattle.wcontext.specs.Counted.{AreCountsOf, IsSegmentValid}
 use Rattle.wdecode.specs.Fronts.{with_segments}
 
@@ -35,19 +35,19 @@ least_of_whole m segments k lt b = record { broken = λ h. b.broken ((of_whole m
 
 -- ---- rule 13
 
-segment_of : (m : ModuleShape) (segments : List DataShape) (c : Counts) (d : DataShape) → AreCountsOf m c → IsSegmentValid c d ↔ DataValid (with_segments m segments) d
+segment_of : (m : ModuleShape) (segments : List DataShape) (c : SpaceSizes) (d : DataShape) → AreCountsOf m c → IsSegmentValid c d ↔ DataValid (with_segments m segments) d
 segment_of m segments c d are = (
   λ h. record { in_memory = subst (λ (n : ℕ). d.memory < n) are.memories h.0; constant = subst (λ (g : List GlobalType). ConstantOf g I32 d.offset) are.constants h.1 },
   λ h. (subst (λ (n : ℕ). d.memory < n) (sym are.memories) h.in_memory, subst (λ (g : List GlobalType). ConstantOf g I32 d.offset) (sym are.constants) h.constant),
 )
 
-each_segment : (m : ModuleShape) (segments : List DataShape) (c : Counts) → AreCountsOf m c → All (IsSegmentValid c) segments ↔ SegmentsValid (with_segments m segments)
+each_segment : (m : ModuleShape) (segments : List DataShape) (c : SpaceSizes) → AreCountsOf m c → All (IsSegmentValid c) segments ↔ SegmentsValid (with_segments m segments)
 each_segment m segments c are = (
   all_by (IsSegmentValid c) (DataValid (with_segments m segments)) (λ d. (segment_of m segments c d are).0) segments,
   all_by (DataValid (with_segments m segments)) (IsSegmentValid c) (λ d. (segment_of m segments c d are).1) segments,
 )
 
-pub none_of_whole : (m : ModuleShape) (segments : List DataShape) (c : Counts) → AreCountsOf m c → ((k : ℕ) → k < 13 → Keeps m k) → All (IsSegmentValid c) segments → NoneBroken (with_segments m segments)
+pub none_of_whole : (m : ModuleShape) (segments : List DataShape) (c : SpaceSizes) → AreCountsOf m c → ((k : ℕ) → k < 13 → Keeps m k) → All (IsSegmentValid c) segments → NoneBroken (with_segments m segments)
 none_of_whole m segments c are kept valid zero = tt
 none_of_whole m segments c are kept valid (suc zero) = tt
 none_of_whole m segments c are kept valid (suc (suc zero)) = kept 2 (omega arith)
@@ -65,7 +65,7 @@ none_of_whole m segments c are kept valid (suc (suc (suc (suc (suc (suc (suc (su
 none_of_whole m segments c are kept valid (suc (suc (suc (suc (suc (suc (suc (suc (suc (suc (suc (suc (suc (suc k)))))))))))))) = tt
 
 -- a segment that is not valid breaks rule 13 first
-pub segments_broken : (m : ModuleShape) (segments : List DataShape) (c : Counts) (b : Bool) → AreCountsOf m c → ((k : ℕ) → k < 13 → Keeps m k) → IsTrue b ↔ All (IsSegmentValid c) segments → b ≡ false → LeastBroken (with_segments m segments) 13
+pub segments_broken : (m : ModuleShape) (segments : List DataShape) (c : SpaceSizes) (b : Bool) → AreCountsOf m c → ((k : ℕ) → k < 13 → Keeps m k) → IsTrue b ↔ All (IsSegmentValid c) segments → b ≡ false → LeastBroken (with_segments m segments) 13
 segments_broken m segments c b are kept says refused = record {
   broken = λ h. not_true b refused (says.1 ((each_segment m segments c are).1 h));
   before = λ j lt. (of_whole m segments j lt).0 (kept j lt);

@@ -19,10 +19,10 @@ use Rattle.wcheck.specs.Checking.{Checking, begun}
 use Rattle.wdecode.specs.declared.fault.Fault.{Fault}
 use Rattle.wdecode.specs.declared.fault.Fault.TheVariants as fault
 use Rattle.wdecode.specs.Gives.{Fails}
-use Rattle.verdict.specs.declared.refusal.Class.{Class}
-use Rattle.verdict.specs.declared.refusal.Class.TheVariants.{Malformed, TooManyLocals}
-use Rattle.verdict.specs.Judged.{class_of, read_class}
-use Rattle.verdict.specs.WholeBodies.{class_from, class_behind, class_read, Tells}
+use Rattle.verdict.specs.declared.refusal.BodyRefusal.{BodyRefusal}
+use Rattle.verdict.specs.declared.refusal.BodyRefusal.TheVariants.{Malformed, TooManyLocals}
+use Rattle.verdict.specs.Judged.{body_refusal_of, read_refusal}
+use Rattle.verdict.specs.WholeBodies.{refusal_from, refusal_behind, refusal_read, GivesRefusal}
 
 is_false : (b : Bool) → (b ≡ true → ⊥) → b ≡ false
 is_false true never = absurd (never refl)
@@ -34,70 +34,70 @@ not_zero n = is_false (eqb (suc n) 0) (λ e. let is : suc n ≡ 0 = eqb-true _ _
 -- ---- the loop
 
 -- what is known with the token t, and the frames after it, tell the same of the tokens that come
-abbrev pub TellsOn : Context → Option Class → List Frame → ℕ → Token → Option Class → List Frame → Type 0
-TellsOn C known fs k t now gs = (ts : List Token) → class_from C known fs k (t ∷ ts) ≡ class_from C now gs (k + 1) ts
+abbrev pub KeepsRefusal : Context → Option BodyRefusal → List Frame → ℕ → Token → Option BodyRefusal → List Frame → Type 0
+KeepsRefusal C known fs k t now gs = (ts : List Token) → refusal_from C known fs k (t ∷ ts) ≡ refusal_from C now gs (k + 1) ts
 
-one_more : (C : Context) (known now : Option Class) (fs gs : List Frame) (k : ℕ) (t : Token) (o : Option (List Token × List ℕ)) → TellsOn C known fs k t now gs → class_read C known fs k (o >>= λ x. Some (t ∷ x.0, x.1)) ≡ class_read C now gs (k + 1) o
+one_more : (C : Context) (known now : Option BodyRefusal) (fs gs : List Frame) (k : ℕ) (t : Token) (o : Option (List Token × List ℕ)) → KeepsRefusal C known fs k t now gs → refusal_read C known fs k (o >>= λ x. Some (t ∷ x.0, x.1)) ≡ refusal_read C now gs (k + 1) o
 one_more C known now fs gs k t None on = refl
-one_more C known now fs gs k t (Some x) on = ap (class_behind x.1) (on x.0)
+one_more C known now fs gs k t (Some x) on = ap (refusal_behind x.1) (on x.0)
 
 -- the token moves what is open
 abbrev pub Moves : List Bool → List Bool → Token → Bool → Type 0
 Moves s now t ends = nest s t ≡ Some (cond ends None (Some now))
 
 -- a token is read after which blocks stay open, or the body
-pub reads_on : (C : Context) (known now : Option Class) (fs gs : List Frame) (k fuel m : ℕ) (s inner : List Bool) (rest after : List ℕ) (t : Token) (ends : Bool) → fuel ≡ suc m → token_at rest ≡ Some (t, after) → Moves s inner t ends → ends ≡ false → TellsOn C known fs k t now gs
-    → class_read C now gs (k + 1) (tokens_at m inner after) ≡ class_read C known fs k (tokens_at fuel s rest)
+pub reads_on : (C : Context) (known now : Option BodyRefusal) (fs gs : List Frame) (k fuel m : ℕ) (s inner : List Bool) (rest after : List ℕ) (t : Token) (ends : Bool) → fuel ≡ suc m → token_at rest ≡ Some (t, after) → Moves s inner t ends → ends ≡ false → KeepsRefusal C known fs k t now gs
+    → refusal_read C now gs (k + 1) (tokens_at m inner after) ≡ refusal_read C known fs k (tokens_at fuel s rest)
 reads_on C known now fs gs k fuel m s inner rest after t ends e read moves open_still on =
     let opened : nest s t ≡ Some (Some inner) = moves ∙ ap (λ (b : Bool). Some (cond b None (Some inner))) open_still in
     let one : tokens_at fuel s rest ≡ (tokens_at m inner after >>= λ x. Some (t ∷ x.0, x.1)) = rw (e, read, opened) refl in
-    sym (ap (class_read C known fs k) one ∙ one_more C known now fs gs k t (tokens_at m inner after) on)
+    sym (ap (refusal_read C known fs k) one ∙ one_more C known now fs gs k t (tokens_at m inner after) on)
 
 -- a token is read that closes the body
-pub reads_last : (C : Context) (known now : Option Class) (fs gs : List Frame) (k fuel m : ℕ) (s inner : List Bool) (rest after : List ℕ) (t : Token) (ends : Bool) → fuel ≡ suc m → token_at rest ≡ Some (t, after) → Moves s inner t ends → ends ≡ true → TellsOn C known fs k t now gs
-    → class_read C known fs k (tokens_at fuel s rest) ≡ class_behind after (class_from C now gs (k + 1) [])
+pub reads_last : (C : Context) (known now : Option BodyRefusal) (fs gs : List Frame) (k fuel m : ℕ) (s inner : List Bool) (rest after : List ℕ) (t : Token) (ends : Bool) → fuel ≡ suc m → token_at rest ≡ Some (t, after) → Moves s inner t ends → ends ≡ true → KeepsRefusal C known fs k t now gs
+    → refusal_read C known fs k (tokens_at fuel s rest) ≡ refusal_behind after (refusal_from C now gs (k + 1) [])
 reads_last C known now fs gs k fuel m s inner rest after t ends e read moves at_end on =
     let closed : nest s t ≡ Some None = moves ∙ ap (λ (b : Bool). Some (cond b None (Some inner))) at_end in
     let one : tokens_at fuel s rest ≡ Some (t ∷ [], after) = rw (e, read, closed) refl in
-    ap (class_read C known fs k) one ∙ ap (class_behind after) (on [])
+    ap (refusal_read C known fs k) one ∙ ap (refusal_behind after) (on [])
 
 -- bytes are left
-pub left_over : (bytes : List ℕ) (c : Option Class) → eqb (length bytes) 0 ≡ false → class_behind bytes c ≡ Some Malformed
+pub left_over : (bytes : List ℕ) (c : Option BodyRefusal) → eqb (length bytes) 0 ≡ false → refusal_behind bytes c ≡ Some Malformed
 left_over [] c e = absurd cc
 left_over (b ∷ bytes) c e = refl
 
 -- no bytes are left
-pub used_up : (bytes : List ℕ) (c : Option Class) → eqb (length bytes) 0 ≡ true → class_behind bytes c ≡ c
+pub used_up : (bytes : List ℕ) (c : Option BodyRefusal) → eqb (length bytes) 0 ≡ true → refusal_behind bytes c ≡ c
 used_up [] c e = refl
 used_up (b ∷ bytes) c e = let none : suc (length bytes) ≡ 0 = eqb-true _ _ e in absurd (omega arith)
 
 -- no token is read
-pub reads_none : (C : Context) (known : Option Class) (fs : List Frame) (k fuel m : ℕ) (s : List Bool) (rest : List ℕ) (e : Fault) → fuel ≡ suc m → Fails e (token_at rest) → Tells (Err e) (class_read C known fs k (tokens_at fuel s rest))
+pub reads_none : (C : Context) (known : Option BodyRefusal) (fs : List Frame) (k fuel m : ℕ) (s : List Bool) (rest : List ℕ) (e : Fault) → fuel ≡ suc m → Fails e (token_at rest) → GivesRefusal (Err e) (refusal_read C known fs k (tokens_at fuel s rest))
 reads_none C known fs k fuel m s rest fault.Memory is fails = tt
 reads_none C known fs k fuel m s rest fault.Malformed is fails =
     let one : tokens_at fuel s rest ≡ None = rw (is, fails) refl in
-    ap (class_read C known fs k) one
+    ap (refusal_read C known fs k) one
 
 -- a token is read that cannot stand there
-pub stands_nowhere : (C : Context) (known : Option Class) (fs : List Frame) (k fuel m : ℕ) (s : List Bool) (rest after : List ℕ) (t : Token) (e : Fault) → fuel ≡ suc m → token_at rest ≡ Some (t, after) → Fails e (nest s t) → Tells (Err e) (class_read C known fs k (tokens_at fuel s rest))
+pub stands_nowhere : (C : Context) (known : Option BodyRefusal) (fs : List Frame) (k fuel m : ℕ) (s : List Bool) (rest after : List ℕ) (t : Token) (e : Fault) → fuel ≡ suc m → token_at rest ≡ Some (t, after) → Fails e (nest s t) → GivesRefusal (Err e) (refusal_read C known fs k (tokens_at fuel s rest))
 stands_nowhere C known fs k fuel m s rest after t fault.Memory is read fails = tt
 stands_nowhere C known fs k fuel m s rest after t fault.Malformed is read fails =
     let one : tokens_at fuel s rest ≡ None = rw (is, read, fails) refl in
-    ap (class_read C known fs k) one
+    ap (refusal_read C known fs k) one
 
 -- nothing is read yet
-pub begins : (C : Context) (known : Option Class) (fs : List Frame) (bytes : List ℕ) (opened : List Bool) → opened ≡ [] → class_read C known fs 0 (tokens_at (length bytes - 0) (reverse opened) bytes) ≡ class_read C known fs 0 (expression.read bytes)
+pub begins : (C : Context) (known : Option BodyRefusal) (fs : List Frame) (bytes : List ℕ) (opened : List Bool) → opened ≡ [] → refusal_read C known fs 0 (tokens_at (length bytes - 0) (reverse opened) bytes) ≡ refusal_read C known fs 0 (expression.read bytes)
 unfolding expression
 begins C known fs bytes opened e =
     let all : length bytes - 0 ≡ length bytes = omega arith in
-    ap (λ (n : ℕ). class_read C known fs 0 (tokens_at n (reverse opened) bytes)) all ∙ ap (λ (s : List Bool). class_read C known fs 0 (tokens_at (length bytes) (reverse s) bytes)) e
+    ap (λ (n : ℕ). refusal_read C known fs 0 (tokens_at n (reverse opened) bytes)) all ∙ ap (λ (s : List Bool). refusal_read C known fs 0 (tokens_at (length bytes) (reverse s) bytes)) e
 
 -- what is told of a token, seen by what was lent
-pub told : (C D : Context) (known now : Option Class) (fs gs : List Frame) (k : ℕ) (new lent : List ℕ) (token : Held) → D ≡ C → lent ≡ new → ((ts : List Token) → class_from D known fs k (seen lent token ∷ ts) ≡ class_from D now gs (k + 1) ts) → TellsOn C known fs k (seen (new ++ []) token) now gs
+pub told : (C D : Context) (known now : Option BodyRefusal) (fs gs : List Frame) (k : ℕ) (new lent : List ℕ) (token : Held) → D ≡ C → lent ≡ new → ((ts : List Token) → refusal_from D known fs k (seen lent token ∷ ts) ≡ refusal_from D now gs (k + 1) ts) → KeepsRefusal C known fs k (seen (new ++ []) token) now gs
 told C D known now fs gs k new lent token same is law =
     let look : seen (new ++ []) token ≡ seen lent token = ap (λ (x : List ℕ). seen x token) (append-nil new ∙ sym is) in
-    subst (λ (x : Context). TellsOn x known fs k (seen (new ++ []) token) now gs) same
-    (subst (λ (t : Token). TellsOn D known fs k t now gs) (sym look) law)
+    subst (λ (x : Context). KeepsRefusal x known fs k (seen (new ++ []) token) now gs) same
+    (subst (λ (t : Token). KeepsRefusal D known fs k t now gs) (sym look) law)
 
 -- ---- the body
 
@@ -106,13 +106,13 @@ lt-not-le n lt = is_false (leb n local_limit) (λ e. let le : n ≤ local_limit 
 
 -- what is read as an expression, and the runs, are the body, if no byte is after
 whole_many : (C : Context) (f : ℕ) (runs : List LocalRun) (D : Context) (fs : List Frame) (o : Option (List Token × List ℕ)) → leb (locals_of runs) local_limit ≡ false
-    → read_class C f (o >>= λ x. cond (eqb (length x.1) 0) (Some record { runs = runs; code = x.0 }) None) ≡ class_read D (Some TooManyLocals) fs 0 o
+    → read_refusal C f (o >>= λ x. cond (eqb (length x.1) 0) (Some record { runs = runs; code = x.0 }) None) ≡ refusal_read D (Some TooManyLocals) fs 0 o
 whole_many C f runs D fs None many = refl
 whole_many C f runs D fs (Some (ts, [])) many = rw many refl
 whole_many C f runs D fs (Some (ts, b ∷ bs)) many = rw (not_zero (length bs)) refl
 
 whole_few : (C : Context) (f : ℕ) (runs : List LocalRun) (o : Option (List Token × List ℕ)) → leb (locals_of runs) local_limit ≡ true
-    → read_class C f (o >>= λ x. cond (eqb (length x.1) 0) (Some record { runs = runs; code = x.0 }) None) ≡ class_read (body_context (result_of C f) (function_context C f runs)) None (start (result_of C f)) 0 o
+    → read_refusal C f (o >>= λ x. cond (eqb (length x.1) 0) (Some record { runs = runs; code = x.0 }) None) ≡ refusal_read (body_context (result_of C f) (function_context C f runs)) None (start (result_of C f)) 0 o
 whole_few C f runs None few = refl
 whole_few C f runs (Some (ts, [])) few = rw few refl
 whole_few C f runs (Some (ts, b ∷ bs)) few = rw (not_zero (length bs)) refl
@@ -124,23 +124,23 @@ body_read bytes rest runs None a b = rw (a, b) refl
 body_read bytes rest runs (Some x) a b = rw (a, b) refl
 
 -- the body is refused for its locals, if its bytes spell one
-pub class_many : (C : Context) (f : ℕ) (bytes rest : List ℕ) (runs : List LocalRun) (D : Context) (fs : List Frame) → locals.read bytes ≡ Some (runs, rest) → ltb local_limit (locals_of runs) ≡ true → class_of C f bytes ≡ class_read D (Some TooManyLocals) fs 0 (expression.read rest)
-unfolding class_of
-class_many C f bytes rest runs D fs a many =
+pub refusal_many : (C : Context) (f : ℕ) (bytes rest : List ℕ) (runs : List LocalRun) (D : Context) (fs : List Frame) → locals.read bytes ≡ Some (runs, rest) → ltb local_limit (locals_of runs) ≡ true → body_refusal_of C f bytes ≡ refusal_read D (Some TooManyLocals) fs 0 (expression.read rest)
+unfolding body_refusal_of
+refusal_many C f bytes rest runs D fs a many =
     let no : leb (locals_of runs) local_limit ≡ false = lt-not-le (locals_of runs) (ltb-true _ _ many) in
-    ap (read_class C f) (body_read bytes rest runs (expression.read rest) a refl) ∙ whole_many C f runs D fs (expression.read rest) no
+    ap (read_refusal C f) (body_read bytes rest runs (expression.read rest) a refl) ∙ whole_many C f runs D fs (expression.read rest) no
 
 -- the body is judged by its tokens
-pub class_few : (C : Context) (f : ℕ) (bytes rest : List ℕ) (runs lent : List LocalRun) (x : Checking) → locals.read bytes ≡ Some (runs, rest) → ltb local_limit (locals_of runs) ≡ false → lent ≡ runs → x ≡ begun C f lent → class_of C f bytes ≡ class_read x.inside None x.frames 0 (expression.read rest)
-unfolding class_of
-class_few C f bytes rest runs lent x a few is e =
+pub refusal_few : (C : Context) (f : ℕ) (bytes rest : List ℕ) (runs lent : List LocalRun) (x : Checking) → locals.read bytes ≡ Some (runs, rest) → ltb local_limit (locals_of runs) ≡ false → lent ≡ runs → x ≡ begun C f lent → body_refusal_of C f bytes ≡ refusal_read x.inside None x.frames 0 (expression.read rest)
+unfolding body_refusal_of
+refusal_few C f bytes rest runs lent x a few is e =
     let le : leb (locals_of runs) local_limit ≡ true = le-leb _ _ (ltb-false _ _ few) in
-    ap (read_class C f) (body_read bytes rest runs (expression.read rest) a refl) ∙ whole_few C f runs (expression.read rest) le
-    ∙ ap (λ (y : List LocalRun). class_read (body_context (result_of C f) (function_context C f y)) None (start (result_of C f)) 0 (expression.read rest)) (sym is)
-    ∙ ap (λ (y : Checking). class_read y.inside None y.frames 0 (expression.read rest)) (sym e)
+    ap (read_refusal C f) (body_read bytes rest runs (expression.read rest) a refl) ∙ whole_few C f runs (expression.read rest) le
+    ∙ ap (λ (y : List LocalRun). refusal_read (body_context (result_of C f) (function_context C f y)) None (start (result_of C f)) 0 (expression.read rest)) (sym is)
+    ∙ ap (λ (y : Checking). refusal_read y.inside None y.frames 0 (expression.read rest)) (sym e)
 
 -- no runs of locals are read
-pub class_none : (C : Context) (f : ℕ) (bytes : List ℕ) (e : Fault) → Fails e (locals.read bytes) → Tells (Err e) (class_of C f bytes)
-unfolding class_of body
-class_none C f bytes fault.Memory fails = tt
-class_none C f bytes fault.Malformed fails = rw fails refl
+pub refusal_none : (C : Context) (f : ℕ) (bytes : List ℕ) (e : Fault) → Fails e (locals.read bytes) → GivesRefusal (Err e) (body_refusal_of C f bytes)
+unfolding body_refusal_of body
+refusal_none C f bytes fault.Memory fails = tt
+refusal_none C f bytes fault.Malformed fails = rw fails refl

@@ -6,7 +6,7 @@ use mathlib.Core.Logic.{dite}
 use native.Mathlib.Decide.{dec_le}
 use Rattle.wsyntax.specs.Validation.Context.{Context}
 use Rattle.verdict.specs.declared.refused_body.RefusedBody.{RefusedBody}
-use Rattle.verdict.specs.Judged.{class_at, none_and_some, one_class}
+use Rattle.verdict.specs.Judged.{body_refusal_at, none_and_some, one_body_refusal}
 
 -- of `count` bodies the one at `place` is one of the group
 pub record IsInGroup (size count group place : ℕ) : Type 0 where
@@ -16,22 +16,22 @@ pub record IsInGroup (size count group place : ℕ) : Type 0 where
 
 -- the bodies of the group are accepted
 abbrev pub GroupPasses : Context → ℕ → List (List ℕ) → ℕ → ℕ → Type 0
-GroupPasses C imported bodies size group = (place : ℕ) → IsInGroup size (length bodies) group place → class_at C imported bodies place ≡ None
+GroupPasses C imported bodies size group = (place : ℕ) → IsInGroup size (length bodies) group place → body_refusal_at C imported bodies place ≡ None
 
--- this body of the group is refused, of that class, and those of the group before it are accepted
+-- this body of the group is refused, for that reason, and those of the group before it are accepted
 pub record IsFirstOfGroup (C : Context) (imported : ℕ) (bodies : List (List ℕ)) (size group : ℕ) (r : RefusedBody) : Type 0 where
   pub inside : IsInGroup size (length bodies) group r.place
-  pub refused : class_at C imported bodies r.place ≡ Some r.class
-  pub before : (place : ℕ) → IsInGroup size (length bodies) group place → place < r.place → class_at C imported bodies place ≡ None
+  pub refused : body_refusal_at C imported bodies r.place ≡ Some r.refusal
+  pub before : (place : ℕ) → IsInGroup size (length bodies) group place → place < r.place → body_refusal_at C imported bodies place ≡ None
 
 -- ---- no group passes and is refused, nor is refused for two reasons
 
 pub passes_or_refused : (C : Context) (imported : ℕ) (bodies : List (List ℕ)) (size group : ℕ) (r : RefusedBody) → GroupPasses C imported bodies size group → IsFirstOfGroup C imported bodies size group r → ⊥
-passes_or_refused C imported bodies size group r all first = none_and_some (class_at C imported bodies r.place) r.class (all r.place first.inside) first.refused
+passes_or_refused C imported bodies size group r all first = none_and_some (body_refusal_at C imported bodies r.place) r.refusal (all r.place first.inside) first.refused
 
 -- no first one comes before another
 not_before : (C : Context) (imported : ℕ) (bodies : List (List ℕ)) (size group : ℕ) (r t : RefusedBody) → IsFirstOfGroup C imported bodies size group r → IsFirstOfGroup C imported bodies size group t → r.place < t.place → ⊥
-not_before C imported bodies size group r t a b lt = none_and_some (class_at C imported bodies r.place) r.class (b.before r.place a.inside lt) a.refused
+not_before C imported bodies size group r t a b lt = none_and_some (body_refusal_at C imported bodies r.place) r.refusal (b.before r.place a.inside lt) a.refused
 
 same_place : (C : Context) (imported : ℕ) (bodies : List (List ℕ)) (size group : ℕ) (r t : RefusedBody) → IsFirstOfGroup C imported bodies size group r → IsFirstOfGroup C imported bodies size group t → r.place ≡ t.place
 same_place C imported bodies size group r t a b =
@@ -39,10 +39,10 @@ same_place C imported bodies size group r t a b =
     (λ up. dite (dec_le t.place r.place) (λ down. le_antisymm up down) (λ no. absurd (not_before C imported bodies size group r t a b (lt_of_not-le no))))
     (λ no. absurd (not_before C imported bodies size group t r b a (lt_of_not-le no)))
 
-same_body : (r s : RefusedBody) → r.place ≡ s.place → r.class ≡ s.class → r ≡ s
-same_body r s p q = λ i. record { place = p i; class = q i }
+same_body : (r s : RefusedBody) → r.place ≡ s.place → r.refusal ≡ s.refusal → r ≡ s
+same_body r s p q = λ i. record { place = p i; refusal = q i }
 
 pub one_first : (C : Context) (imported : ℕ) (bodies : List (List ℕ)) (size group : ℕ) (r t : RefusedBody) → IsFirstOfGroup C imported bodies size group r → IsFirstOfGroup C imported bodies size group t → r ≡ t
 one_first C imported bodies size group r t a b =
     let p = same_place C imported bodies size group r t a b in
-    same_body r t p (one_class (class_at C imported bodies r.place) r.class t.class a.refused (ap (λ (k : ℕ). class_at C imported bodies k) p ∙ b.refused))
+    same_body r t p (one_body_refusal (body_refusal_at C imported bodies r.place) r.refusal t.refusal a.refused (ap (λ (k : ℕ). body_refusal_at C imported bodies k) p ∙ b.refused))

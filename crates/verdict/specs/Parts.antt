@@ -5,37 +5,37 @@ use Rattle.std.proofs.Common.{ap}
 use Rattle.pieces.specs.declared.job.JobFault.{JobFault}
 use Rattle.pieces.specs.Faults.{AllowsFault}
 use Rattle.wsyntax.specs.Modules.{module_shape}
-use Rattle.verdict.specs.declared.refusal.Class.{Class}
+use Rattle.verdict.specs.declared.refusal.BodyRefusal.{BodyRefusal}
 use Rattle.verdict.specs.declared.refusal.Refusal.{Refusal}
 use Rattle.verdict.specs.declared.refusal.Refusal.TheVariants as refusal
 use Rattle.verdict.specs.declared.part_fault.RestFault.TheVariants.{Malformed, Rule}
 use Rattle.verdict.specs.declared.part_fault.PartFault.{PartFault}
 use Rattle.verdict.specs.declared.part_fault.PartFault.TheVariants as part
 use Rattle.verdict.specs.declared.head.Head.{Head}
-use Rattle.verdict.specs.Judged.{class_at, PassBefore, IsFirstBody}
+use Rattle.verdict.specs.Judged.{body_refusal_at, PassBefore, IsFirstBody}
 use Rattle.verdict.specs.Groups.{GroupPasses, IsFirstOfGroup, passes_or_refused, one_first}
 use Rattle.verdict.specs.Heads.{RestPasses, RestRefused, rest_passes_or_refused, one_rest}
 
 -- the rest is refused so
-abbrev pub IsOfRest : Head → PartFault → Type 0
-IsOfRest h (part.Rest r) = RestRefused h.front r
-IsOfRest h (part.Body r) = ⊥
+abbrev pub IsRestFault : Head → PartFault → Type 0
+IsRestFault h (part.Rest r) = RestRefused h.front r
+IsRestFault h (part.Body r) = ⊥
 
 -- ---- the bodies of a module, under its context
 
 abbrev pub bodies_of : Head → List (List ℕ)
 bodies_of h = (module_shape h.front.«module»).bodies
 
-abbrev pub class_in : Head → ℕ → Option Class
-class_in h place = class_at h.context.context h.context.imported (bodies_of h) place
+abbrev pub body_refusal_in : Head → ℕ → Option BodyRefusal
+body_refusal_in h place = body_refusal_at h.context.context h.context.imported (bodies_of h) place
 
 -- those before that place are accepted
 abbrev pub BodiesPass : Head → ℕ → Type 0
 BodiesPass h place = PassBefore h.context.context h.context.imported (bodies_of h) place
 
--- the body at that place is refused, of that class
-abbrev pub IsBodyAt : ℕ → Option Class → PartFault → Type 0
-IsBodyAt place o (part.Body r) = (r.place ≡ place) × (o ≡ Some r.class)
+-- the body at that place is refused, for that reason
+abbrev pub IsBodyAt : ℕ → Option BodyRefusal → PartFault → Type 0
+IsBodyAt place o (part.Body r) = (r.place ≡ place) × (o ≡ Some r.refusal)
 IsBodyAt place o (part.Rest r) = ⊥
 
 -- ---- the parts, where groups have that size
@@ -68,7 +68,7 @@ IsFirstPart h refusal.TooLarge = ⊥
 abbrev pub refusal_for : ℕ → PartFault → Refusal
 refusal_for imported (part.Rest Malformed) = refusal.Malformed
 refusal_for imported (part.Rest (Rule k)) = refusal.Rule k
-refusal_for imported (part.Body r) = refusal.Body (imported + r.place) r.class
+refusal_for imported (part.Body r) = refusal.Body (imported + r.place) r.refusal
 
 -- the function's index is a number of 32 bits
 abbrev pub FitsIn : ℕ → PartFault → Type 0

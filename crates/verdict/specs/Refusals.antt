@@ -5,16 +5,16 @@ use Rattle.wdecode.specs.declared.fault.DecodeFault.{DecodeFault}
 use Rattle.wdecode.specs.declared.fault.DecodeFault.TheVariants as decoding
 use Rattle.wcontext.specs.declared.fault.ModuleFault.{ModuleFault}
 use Rattle.wcontext.specs.declared.fault.ModuleFault.TheVariants as rules
-use Rattle.verdict.specs.declared.refusal.Class.{Class}
-use Rattle.verdict.specs.declared.refusal.Class.TheVariants as «class»
+use Rattle.verdict.specs.declared.refusal.BodyRefusal.{BodyRefusal}
+use Rattle.verdict.specs.declared.refusal.BodyRefusal.TheVariants as body_refusal
 use Rattle.verdict.specs.declared.refusal.Refusal.{Refusal}
 use Rattle.verdict.specs.declared.refusal.Refusal.TheVariants as refusal
 
 -- why a body is refused
-abbrev pub fault_of : Class → BodyFault
-fault_of «class».Malformed = BodyMalformed
-fault_of «class».TooManyLocals = TooManyLocals
-fault_of («class».IllTyped at) = IllTyped at
+abbrev pub fault_of : BodyRefusal → BodyFault
+fault_of body_refusal.Malformed = BodyMalformed
+fault_of body_refusal.TooManyLocals = TooManyLocals
+fault_of (body_refusal.IllTyped at) = IllTyped at
 
 -- the verdict that a refusal gives; out of memory gives none
 abbrev pub verdict_of : Refusal → Option Verdict

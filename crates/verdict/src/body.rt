@@ -2,10 +2,10 @@ ghost use Rattle.std.specs.Prelude.{◌≡◌, ◌+◌, ◌<◌, [], Some, None,
 ghost use Rattle.pieces.specs.Faults.{AllowsFault};
 ghost use Rattle.wsyntax.specs.Modules.{seen};
 ghost use Rattle.wsyntax.specs.Binary.Nesting.{expression};
-ghost use Rattle.verdict.specs.Judged.{class_of};
-ghost use Rattle.verdict.specs.WholeBodies.{class_from, class_read, GoesOn, Tells};
+ghost use Rattle.verdict.specs.Judged.{body_refusal_of};
+ghost use Rattle.verdict.specs.WholeBodies.{refusal_from, refusal_read, GoesOn, GivesRefusal};
 
-use crate::refusal::Class;
+use crate::refusal::BodyRefusal;
 use pieces::JobFault;
 use smallvec::SmallVec;
 use std::alloc::{AllocError, Global};
@@ -17,10 +17,10 @@ use wsyntax::Token;
 fn look(
     checker: &mut Checker<'_>,
     targets: &[u32],
-    fault: Option<Class>,
+    fault: Option<BodyRefusal>,
     token: Token,
     at: usize,
-) -> Result<Option<Class>, AllocError>
+) -> Result<Option<BodyRefusal>, AllocError>
     ensures outside { checker.new.outside ≡ checker.old.outside }
     ensures inside { IfOk result (λ _. checker.new.inside ≡ checker.old.inside) }
     ensures goes_on { IfOk result (λ now. GoesOn checker.old fault at (seen targets.now token) checker.new now) }
@@ -31,18 +31,18 @@ fn look(
     if checker.step(token, targets)? {
         Ok(None)
     } else {
-        Ok(Some(Class::IllTyped { at }))
+        Ok(Some(BodyRefusal::IllTyped { at }))
     }
 }
 
 /// What a body of `count` tokens is refused for, after its last token.
-fn at_end(checker: &Checker<'_>, fault: Option<Class>, count: usize) -> Option<Class>
-    ensures { result ≡ class_from checker.now.inside fault checker.now.frames count [] }
+fn at_end(checker: &Checker<'_>, fault: Option<BodyRefusal>, count: usize) -> Option<BodyRefusal>
+    ensures { result ≡ refusal_from checker.now.inside fault checker.now.frames count [] }
 {
     match fault {
-        Some(class) => Some(class),
+        Some(refusal) => Some(refusal),
         None if checker.finish() => None,
-        None => Some(Class::IllTyped { at: count }),
+        None => Some(BodyRefusal::IllTyped { at: count }),
     }
 }
 
@@ -53,11 +53,11 @@ fn tokens_fault(
     alloc: Global,
     checker: &mut Checker<'_>,
     targets: &mut Vec<u32>,
-    known: Option<Class>,
+    known: Option<BodyRefusal>,
     bytes: &[u8],
-) -> Result<Option<Class>, Fault>
+) -> Result<Option<BodyRefusal>, Fault>
     ensures outside { checker.new.outside ≡ checker.old.outside }
-    ensures verdict { Tells result (class_read checker.old.inside known checker.old.frames 0 (expression.read bytes.now)) }
+    ensures verdict { GivesRefusal result (refusal_read checker.old.inside known checker.old.frames 0 (expression.read bytes.now)) }
 {
     let mut opened = SmallVec::new(alloc);
     let mut fault = known;
@@ -85,14 +85,14 @@ fn body_fault(
     targets: &mut Vec<u32>,
     func: u32,
     bytes: &[u8],
-) -> Result<Option<Class>, Fault>
+) -> Result<Option<BodyRefusal>, Fault>
     requires { func < length checker.old.outside.functions }
     ensures outside { checker.new.outside ≡ checker.old.outside }
-    ensures verdict { Tells result (class_of checker.old.outside func bytes.now) }
+    ensures verdict { GivesRefusal result (body_refusal_of checker.old.outside func bytes.now) }
 {
     let (runs, rest) = locals_at(alloc, bytes)?;
     if has_too_many_locals(&runs) {
-        let known = Some(Class::TooManyLocals);
+        let known = Some(BodyRefusal::TooManyLocals);
         return tokens_fault(alloc, checker, targets, known, rest);
     }
     checker.begin(func, &runs)?;
@@ -107,17 +107,17 @@ pub(crate) fn judge_body(
     targets: &mut Vec<u32>,
     func: u32,
     bytes: &[u8],
-) -> Result<(), JobFault<Class>>
+) -> Result<(), JobFault<BodyRefusal>>
     requires { func < length checker.old.outside.functions }
     ensures outside { checker.new.outside ≡ checker.old.outside }
     ensures verdict { MatchResult result
-        (λ _. class_of checker.old.outside func bytes.now ≡ None)
-        (AllowsFault (λ class. class_of checker.old.outside func bytes.now ≡ Some class)) }
+        (λ _. body_refusal_of checker.old.outside func bytes.now ≡ None)
+        (AllowsFault (λ refusal. body_refusal_of checker.old.outside func bytes.now ≡ Some refusal)) }
 {
     match body_fault(alloc, checker, targets, func, bytes) {
         Ok(None) => Ok(()),
-        Ok(Some(class)) => Err(JobFault::Refused(class)),
-        Err(Fault::Malformed) => Err(JobFault::Refused(Class::Malformed)),
+        Ok(Some(refusal)) => Err(JobFault::Refused(refusal)),
+        Err(Fault::Malformed) => Err(JobFault::Refused(BodyRefusal::Malformed)),
         Err(Fault::Memory) => Err(JobFault::Memory),
     }
 }

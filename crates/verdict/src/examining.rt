@@ -1,6 +1,6 @@
 ghost use Rattle.std.specs.Prelude.{◌≡◌, MatchResult, IfOk, IfSome, All, vec_len};
 ghost use Rattle.wsyntax.specs.Validation.Verdict.{IsVerdict, Accepted};
-ghost use Rattle.verdict.specs.Heads.{IsAwaited, IsHead};
+ghost use Rattle.verdict.specs.Heads.{EarlyRulesHold, IsHead};
 ghost use Rattle.verdict.specs.Parts.{HasRun, FitsIn, refusal_for};
 ghost use Rattle.verdict.specs.Refusals.{verdict_of};
 
@@ -48,7 +48,7 @@ fn judge_parts<R: Threads + Wait + Sync, W: Watch + Sync>(
     plan: Plan,
     watch: &W,
 ) -> Result<(), JobFault<PartFault>>
-    requires { IsAwaited head.now.front head.now.counts }
+    requires { EarlyRulesHold head.now.front head.now.counts }
     ensures { HasRun head.now result }
 {
     let bodies = head.front.module.bodies.len() as u32;
@@ -71,7 +71,7 @@ fn judge_parts<R: Threads + Wait + Sync, W: Watch + Sync>(
 
 /// Does the same on the calling thread, one body after the other.
 fn judge_in_order(alloc: Global, head: &Head<'_>) -> Result<(), JobFault<PartFault>>
-    requires { IsAwaited head.now.front head.now.counts }
+    requires { EarlyRulesHold head.now.front head.now.counts }
     ensures { HasRun head.now result }
 {
     let Ok(mut scratch) = new_scratch(alloc, head) else {
@@ -94,7 +94,7 @@ fn refusal_of(fault: PartFault, imported: u32) -> Refusal
         PartFault::Rest(RestFault::Rule(rule)) => Refusal::Rule(rule),
         PartFault::Body(body) => Refusal::Body {
             func: imported + body.place,
-            class: body.class,
+            refusal: body.refusal,
         },
     }
 }

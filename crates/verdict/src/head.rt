@@ -3,13 +3,13 @@ ghost use Rattle.std.specs.Prelude.{◌≡◌, ◌+◌, ◌<◌, ◌^◌, MatchR
 ghost use Rattle.wsyntax.specs.Modules.{module_shape};
 ghost use Rattle.wsyntax.specs.Validation.ModuleContext.{indexed_context};
 ghost use Rattle.wsyntax.specs.Validation.Verdict.{IsVerdict};
-ghost use Rattle.verdict.specs.Heads.{OneWhole, IsHead, IsEarlyRefusal};
+ghost use Rattle.verdict.specs.Heads.{UniqueWhole, IsHead, IsEarlyRefusal};
 ghost use Rattle.verdict.specs.Refusals.{verdict_of};
 
 use crate::refusal::Refusal;
 use soundness::validation::{accepted_is_typed, refused_at_first_fault};
 use std::alloc::Global;
-use wcontext::{Context, Counts, ModuleFault, check_early};
+use wcontext::{Context, ModuleFault, SpaceSizes, check_early};
 use wdecode::{Fault, Front, decode_front, grammar_is_read, shells_are_determined};
 
 /// The head of a module that keeps the early rules.
@@ -21,8 +21,8 @@ pub(crate) struct Head<'a> {
     /// What its bodies are judged under.
     pub(crate) context: Context,
     /// What its late rules look up.
-    pub(crate) counts: Counts,
-    ghost one: { OneWhole front },
+    pub(crate) counts: SpaceSizes,
+    ghost one: { UniqueWhole front },
     ghost indexed: { context ≡ indexed_context (module_shape front.module) },
     ghost each_has_type: { context.imported + length (module_shape front.module).bodies ≡ length context.context.functions },
     ghost few: { context.imported + length (module_shape front.module).bodies < 2 ^ 31 },

@@ -1,9 +1,9 @@
 ghost use Rattle.std.specs.Prelude.{◌≡◌, ◌+◌, ◌*◌, ◌-◌, ◌<◌, min, suc, Some, None, MatchResult, length};
 ghost use Rattle.std.specs.Int.{div_ceil};
 ghost use Rattle.pieces.specs.Faults.{AllowsFault};
-ghost use Rattle.verdict.specs.Judged.{class_of};
-ghost use Rattle.verdict.specs.Heads.{IsAwaited};
-ghost use Rattle.verdict.specs.Parts.{bodies_of, class_in, parts_of, IsBodyAt};
+ghost use Rattle.verdict.specs.Judged.{body_refusal_of};
+ghost use Rattle.verdict.specs.Heads.{EarlyRulesHold};
+ghost use Rattle.verdict.specs.Parts.{bodies_of, body_refusal_in, parts_of, IsBodyAt};
 
 use crate::body::judge_body;
 use crate::head::Head;
@@ -39,8 +39,8 @@ fn judge_bytes(
     requires { func < length scratch.old.checker.outside.functions }
     ensures outside { scratch.new.checker.outside ≡ scratch.old.checker.outside }
     ensures verdict { MatchResult result
-        (λ _. class_of scratch.old.checker.outside func bytes.now ≡ None)
-        (AllowsFault (IsBodyAt place (class_of scratch.old.checker.outside func bytes.now))) }
+        (λ _. body_refusal_of scratch.old.checker.outside func bytes.now ≡ None)
+        (AllowsFault (IsBodyAt place (body_refusal_of scratch.old.checker.outside func bytes.now))) }
 {
     if scratch.passes(alloc, func, bytes) {
         return Ok(());
@@ -52,8 +52,8 @@ fn judge_bytes(
     } = scratch;
     match judge_body(alloc, checker, targets, func, bytes) {
         Ok(()) => Ok(()),
-        Err(JobFault::Refused(class)) => {
-            let body = RefusedBody { place, class };
+        Err(JobFault::Refused(refusal)) => {
+            let body = RefusedBody { place, refusal };
             Err(JobFault::Refused(PartFault::Body(body)))
         }
         Err(JobFault::Memory) => Err(JobFault::Memory),
@@ -71,8 +71,8 @@ pub(crate) fn judge_at(
     requires outside { scratch.old.checker.outside ≡ head.now.context.context }
     ensures outside { scratch.new.checker.outside ≡ head.now.context.context }
     ensures verdict { MatchResult result
-        (λ _. class_in head.now place ≡ None)
-        (AllowsFault (IsBodyAt place (class_in head.now place))) }
+        (λ _. body_refusal_in head.now place ≡ None)
+        (AllowsFault (IsBodyAt place (body_refusal_in head.now place))) }
 {
     let imported = head.context.imported_functions() as u32;
     let bodies = head.front.module.bodies.as_slice();
@@ -116,7 +116,7 @@ impl<'a, 'b, W: Watch> Job for ModuleParts<'a, 'b, W> {
 
     ghost limit = { λ j. parts_of j.head.now j.size };
 
-    ghost belongs = { λ j s. (s.checker.outside ≡ j.head.now.context.context) × IsAwaited j.head.now.front j.head.now.counts };
+    ghost belongs = { λ j s. (s.checker.outside ≡ j.head.now.context.context) × EarlyRulesHold j.head.now.front j.head.now.counts };
 
     ghost passes = { λ j i. PartPasses j.head.now j.size i };
 

@@ -52,7 +52,7 @@ fn judge_bodies<R: Threads + Wait + Sync, W: Watch + Sync>(
         Ok(checked) => Ok(checked),
         Err(TryFault::Stopped { index, fault }) => Err(Refusal::Body {
             func: imported + index,
-            class: fault,
+            refusal: fault,
         }),
         Err(TryFault::Memory) => Err(Refusal::Memory),
     }
@@ -82,7 +82,7 @@ fn judge_bodies_alone(
                     return Err(Refusal::Memory);
                 }
             }
-            Err(JobFault::Refused(class)) => return Err(Refusal::Body { func, class }),
+            Err(JobFault::Refused(refusal)) => return Err(Refusal::Body { func, refusal }),
             Err(JobFault::Memory) => return Err(Refusal::Memory),
         }
     }

@@ -1,9 +1,9 @@
 ghost use Rattle.std.specs.Prelude.{◌≡◌, ◌+◌, ◌<◌, ◌^◌, Some, None, MatchResult, length, map};
 ghost use Rattle.pieces.specs.Faults.{AllowsFault};
-ghost use Rattle.verdict.specs.Judged.{class_of};
+ghost use Rattle.verdict.specs.Judged.{body_refusal_of};
 ghost use Rattle.accepted.specs.Judgement.{IsCheckedFrom};
 
-use crate::refusal::Class;
+use crate::refusal::BodyRefusal;
 use checked::CheckedBody;
 use pieces::JobFault;
 use soundness::validation::{refused_at_first_fault, typed_is_accepted};
@@ -18,24 +18,25 @@ pub(crate) fn checked_body(
     context: &Context,
     func: u32,
     bytes: &[u8],
-) -> Result<CheckedBody, JobFault<Class>>
+) -> Result<CheckedBody, JobFault<BodyRefusal>>
     requires { func < length context.now.context.functions }
     ensures { MatchResult result
-        (λ checked. (class_of context.now.context func bytes.now ≡ None) × IsCheckedFrom context.now.context func bytes.now checked)
-        (AllowsFault (λ class. class_of context.now.context func bytes.now ≡ Some class)) }
+        (λ checked. (body_refusal_of context.now.context func bytes.now ≡ None)
+        × IsCheckedFrom context.now.context func bytes.now checked)
+        (AllowsFault (λ refusal. body_refusal_of context.now.context func bytes.now ≡ Some refusal)) }
 {
     grammar_is_read();
     typed_is_accepted();
     refused_at_first_fault();
     let body = match decode_body(alloc, bytes) {
         Ok(body) => body,
-        Err(BodyFault::Malformed) => return Err(JobFault::Refused(Class::Malformed)),
-        Err(BodyFault::TooManyLocals) => return Err(JobFault::Refused(Class::TooManyLocals)),
+        Err(BodyFault::Malformed) => return Err(JobFault::Refused(BodyRefusal::Malformed)),
+        Err(BodyFault::TooManyLocals) => return Err(JobFault::Refused(BodyRefusal::TooManyLocals)),
         Err(BodyFault::Memory) => return Err(JobFault::Memory),
     };
     match check_body(alloc, context, func, body) {
         Ok(checked) => Ok(checked),
-        Err(CheckFault::IllTyped { at }) => Err(JobFault::Refused(Class::IllTyped { at })),
+        Err(CheckFault::IllTyped { at }) => Err(JobFault::Refused(BodyRefusal::IllTyped { at })),
         Err(CheckFault::Memory) => Err(JobFault::Memory),
     }
 }

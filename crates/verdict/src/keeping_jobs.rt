@@ -1,7 +1,7 @@
 ghost use Rattle.std.specs.Prelude.{◌≡◌, ◌+◌, ◌<◌, ◌^◌, Some, None, length, map};
 
 use crate::keeping::checked_body;
-use crate::refusal::Class;
+use crate::refusal::BodyRefusal;
 use checked::CheckedBody;
 use pieces::{Job, JobFault, Stage, Watch};
 use std::alloc::Global;
@@ -26,33 +26,34 @@ impl<'a, W: Watch> Job for KeptBodies<'a, W> {
 
     type Out = CheckedBody;
 
-    type Fault = Class;
+    type Fault = BodyRefusal;
 
-    ghost use Rattle.verdict.specs.Judged.{class_at, none_and_some, one_class};
+    ghost use Rattle.verdict.specs.Judged.{body_refusal_at, none_and_some, one_body_refusal};
     ghost use Rattle.accepted.specs.Judgement.{IsCheckedAt};
 
     ghost limit = { λ j. length j.bodies.now };
 
     ghost belongs = { λ j s. Unit {0} };
 
-    ghost passes = { λ j i. class_at j.context.now.context j.imported (map (λ b. b.now) j.bodies.now) i ≡ None };
+    ghost passes = { λ j i. body_refusal_at j.context.now.context j.imported (map (λ b. b.now) j.bodies.now) i ≡ None };
 
     ghost gives = { λ j i out. IsCheckedAt j.context.now.context j.imported (map (λ b. b.now) j.bodies.now) i out };
 
-    ghost refuses = { λ j i c. class_at j.context.now.context j.imported (map (λ b. b.now) j.bodies.now) i ≡ Some c };
+    ghost refuses = { λ j i c. body_refusal_at j.context.now.context j.imported (map (λ b. b.now) j.bodies.now) i ≡ Some c };
 
     fn run<R: Wait>(
         &self,
         _rt: &R,
         _local: &mut (),
         index: u32,
-    ) -> Result<CheckedBody, JobFault<Class>> {
+    ) -> Result<CheckedBody, JobFault<BodyRefusal>> {
         self.watch.note(Stage::Body, index);
         let func = self.imported + index;
         checked_body(self.alloc, self.context, func, self.bodies[index as usize])
     }
 
-    ghost never_both = { λ j i c. none_and_some (class_at j.context.now.context j.imported (map (λ b. b.now) j.bodies.now) i) c };
+    ghost never_both = { λ j i c. none_and_some (body_refusal_at j.context.now.context j.imported (map (λ b. b.now) j.bodies.now) i) c };
 
-    ghost one_fault = { λ j i c d. one_class (class_at j.context.now.context j.imported (map (λ b. b.now) j.bodies.now) i) c d };
+    ghost one_fault = { λ j i c d. one_body_refusal
+        (body_refusal_at j.context.now.context j.imported (map (λ b. b.now) j.bodies.now) i) c d };
 }

@@ -21,4 +21,4 @@ pub use accepted::Accepted;
 pub use examining::{examine, examine_alone};
 pub use judging::{judge, judge_alone};
 pub use laws::{one_verdict, segments_hold_bytes};
-pub use refusal::{Class, Refusal};
+pub use refusal::{BodyRefusal, Refusal};

@@ -14,7 +14,7 @@
 //! by the opcode. Two opcodes that shared an arm would be told apart again after it.
 ghost use Rattle.std.specs.Prelude.{◌≡◌, ◌<◌, List, [], ◌∷◌, None, true, IfOk, length};
 ghost use Rattle.wsyntax.specs.Instructions.{Token as Instruction};
-ghost use Rattle.verdict.specs.Judged.{class_of};
+ghost use Rattle.verdict.specs.Judged.{body_refusal_of};
 ghost use Rattle.verdict.specs.OnePass.{Passes, PassesAs};
 
 use crate::tuning::{EXPORTS, LABELS, LOCAL_RUNS};
@@ -63,7 +63,7 @@ impl<'a, 'b> Scratch<'a, 'b> {
     pub(crate) fn passes(&mut self, alloc: Global, func: u32, bytes: &[u8]) -> bool
         requires { func < length self.old.checker.outside.functions }
         ensures outside { self.new.checker.outside ≡ self.old.checker.outside }
-        ensures sound { result ≡ true → class_of self.old.checker.outside func bytes.now ≡ None }
+        ensures sound { result ≡ true → body_refusal_of self.old.checker.outside func bytes.now ≡ None }
     {
         let Ok(rest) = locals_into(alloc, &mut self.runs, bytes) else {
             return false;

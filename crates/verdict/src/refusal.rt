@@ -7,7 +7,7 @@ use wdecode::DecodeFault;
 
 /// Why a body is refused.
 #[derive(Clone, Copy, Debug, PartialEq, Eq, Error)]
-pub enum Class {
+pub enum BodyRefusal {
     /// Its bytes spell no body.
     #[error("malformed")]
     Malformed,
@@ -32,8 +32,8 @@ pub enum Refusal {
     #[error("rule {0}")]
     Rule(u32),
     /// The least function, imported ones counted first, whose body is refused.
-    #[error("body {func} {class}")]
-    Body { func: u32, class: Class },
+    #[error("body {func} {refusal}")]
+    Body { func: u32, refusal: BodyRefusal },
     /// A growth of memory was refused; nothing is said of the module.
     #[error("no memory")]
     Memory,

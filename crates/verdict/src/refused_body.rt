@@ -1,8 +1,8 @@
-use crate::refusal::Class;
+use crate::refusal::BodyRefusal;
 
 /// A refused body, by its place among those that the module has, and why it is refused.
 #[derive(Clone, Copy, Debug)]
 pub(crate) struct RefusedBody {
     pub(crate) place: u32,
-    pub(crate) class: Class,
+    pub(crate) refusal: BodyRefusal,
 }

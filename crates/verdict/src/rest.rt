@@ -2,21 +2,21 @@
 ghost use Rattle.std.specs.Prelude.{◌≡◌, MatchResult};
 ghost use Rattle.pieces.specs.declared.job.JobFault.TheVariants.{Refused};
 ghost use Rattle.pieces.specs.Faults.{AllowsFault};
-ghost use Rattle.verdict.specs.Heads.{IsAwaited, RestPasses};
-ghost use Rattle.verdict.specs.Parts.{IsOfRest};
+ghost use Rattle.verdict.specs.Heads.{EarlyRulesHold, RestPasses};
+ghost use Rattle.verdict.specs.Parts.{IsRestFault};
 
 use crate::head::Head;
 use crate::part_fault::{PartFault, RestFault};
 use pieces::JobFault;
 use std::alloc::Global;
-use wcontext::{Counts, ModuleFault, SEGMENTS_RULE, check_late};
+use wcontext::{ModuleFault, SEGMENTS_RULE, SpaceSizes, check_late};
 use wdecode::{Fault, SegmentRule};
 use wsyntax::Data;
 
 /// A data segment is valid (3.4.6) in a module of these counts.
 #[derive(Drop)]
 struct ValidSegment<'a> {
-    counts: &'a Counts,
+    counts: &'a SpaceSizes,
 }
 
 impl SegmentRule for ValidSegment<'_> {
@@ -43,8 +43,8 @@ pub(crate) fn judge_rest<'a>(
     head: &Head<'a>,
     names: &mut Vec<&'a [u8]>,
 ) -> Result<(), JobFault<PartFault>>
-    requires { IsAwaited head.now.front head.now.counts }
-    ensures { MatchResult result (λ _. RestPasses head.now.front) (AllowsFault (IsOfRest head.now)) }
+    requires { EarlyRulesHold head.now.front head.now.counts }
+    ensures { MatchResult result (λ _. RestPasses head.now.front) (AllowsFault (IsRestFault head.now)) }
 {
     let counts = &head.counts;
     let segments = match head.front.segments_pass(alloc, &ValidSegment { counts }) {

@@ -10,12 +10,12 @@ use Rattle.checked.specs.Promise.{filled_with}
 use Rattle.side_table.specs.Pass.{Notes, Through, Refused, pass_all, filled}
 
 -- the pass comes to this
-abbrev pub Comes : Context → Stack → List Token → Outcome → Type 0
-Comes C r tokens (outcome.Passes t floats) =
+abbrev pub IsOutcomeOf : Context → Stack → List Token → Outcome → Type 0
+IsOutcomeOf C r tokens (outcome.Passes t floats) =
     (n : Notes) × (pass_all C r tokens ≡ Through n) × (filled_with tokens t ≡ filled tokens n)
-Comes C r tokens (outcome.Refused k) = pass_all C r tokens ≡ Refused k
+IsOutcomeOf C r tokens (outcome.Refused k) = pass_all C r tokens ≡ Refused k
 
 -- of a body that passes it is known whether it has floats
-abbrev pub KnowsFloats : BodyShape → Outcome → Type 0
-KnowsFloats b (outcome.Passes t floats) = floats ≡ body_has_floats b
-KnowsFloats b (outcome.Refused k) = Unit {0}
+abbrev pub ReportsFloats : BodyShape → Outcome → Type 0
+ReportsFloats b (outcome.Passes t floats) = floats ≡ body_has_floats b
+ReportsFloats b (outcome.Refused k) = Unit {0}

@@ -47,13 +47,13 @@ fn selects(operands: &mut OperandStack) -> Result<bool, AllocError>
 
 /// Takes some types, and puts others.
 #[inline]
-fn moves(
+fn apply_signature(
     operands: &mut OperandStack,
     has_index: bool,
     takes: TypeList,
     gives: TypeList,
 ) -> Result<bool, AllocError>
-    ensures above { IfOk result (λ yes. apply (rule_of operands.old.types (OperandRule.Moves has_index takes gives)) operands.old.above
+    ensures above { IfOk result (λ yes. apply (rule_of operands.old.types (OperandRule.Signature has_index takes gives)) operands.old.above
         ≡ when yes (Some operands.new.above)) }
     ensures below { operands.new.below ≡ operands.old.below }
     ensures types { operands.new.types ≡ operands.old.types }
@@ -96,24 +96,24 @@ pub(crate) fn apply_rule(operands: &mut OperandStack, rule: OperandRule) -> Resu
 {
     match rule {
         OperandRule::Nothing => Ok(true),
-        OperandRule::Puts(t) => {
+        OperandRule::Push(t) => {
             operands.push(Some(t))?;
             Ok(true)
         }
-        OperandRule::Takes(t) => Ok(operands.take_one(t)),
-        OperandRule::Changes(t, u) => operands.change(t, u),
-        OperandRule::Combines(t, u) => operands.combine(t, u),
+        OperandRule::Pop(t) => Ok(operands.take_one(t)),
+        OperandRule::Unary(t, u) => operands.apply_unary(t, u),
+        OperandRule::Binary(t, u) => operands.apply_binary(t, u),
         OperandRule::Stores(t) => Ok(operands.take_two(t, ValType::I32)),
-        OperandRule::Moves {
+        OperandRule::Signature {
             has_index: true,
             takes: TypeList::Nothing,
             gives: TypeList::Nothing,
         } => Ok(operands.take_known(ValType::I32) || operands.take_one(ValType::I32)),
-        OperandRule::Moves {
+        OperandRule::Signature {
             has_index,
             takes,
             gives,
-        } => moves(operands, has_index, takes, gives),
+        } => apply_signature(operands, has_index, takes, gives),
         OperandRule::Ends { has_index, takes } => Ok(ends(operands, has_index, takes)),
         OperandRule::Drops => Ok(operands.drop_known() || operands.take_any().is_some()),
         OperandRule::Selects => selects(operands),
@@ -130,14 +130,14 @@ pub(crate) fn apply_known(operands: &mut OperandStack, rule: OperandRule) -> boo
     ensures types { operands.new.types ≡ operands.old.types }
 {
     match rule {
-        OperandRule::Puts(t) => operands.put_known(t),
-        OperandRule::Takes(t) => operands.take_known(t),
-        OperandRule::Changes(t, u) => operands.change_known(t, u),
-        OperandRule::Combines(t, u) => operands.combine_known(t, u),
+        OperandRule::Push(t) => operands.put_known(t),
+        OperandRule::Pop(t) => operands.take_known(t),
+        OperandRule::Unary(t, u) => operands.apply_unary_known(t, u),
+        OperandRule::Binary(t, u) => operands.apply_binary_known(t, u),
         OperandRule::Stores(t) => operands.take_two_known(t, ValType::I32),
         OperandRule::Drops => operands.drop_known(),
         OperandRule::Nothing
-        | OperandRule::Moves { .. }
+        | OperandRule::Signature { .. }
         | OperandRule::Ends { .. }
         | OperandRule::Selects => false,
     }

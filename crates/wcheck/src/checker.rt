@@ -4,7 +4,7 @@ ghost use Rattle.wsyntax.specs.Validation.Algorithm.{when, step};
 ghost use Rattle.wcheck.specs.Checking.{begun, with_frames};
 ghost use Rattle.side_table.specs.Pass.{height, below_size, label_size, in_if};
 
-use crate::control::{Control, is_far, step_control, step_known};
+use crate::control::{Control, is_past_expanded, step_control, step_known};
 use crate::frames::{ControlFrame, label};
 use crate::locals::Locals;
 use crate::operand_stack::OperandStack;
@@ -106,8 +106,8 @@ impl<'a> Checker<'a> {
         ensures same { IfOk result (λ _. self.new ≡ with_frames self.old self.new.frames) }
         ensures outside { self.new.outside ≡ self.old.outside }
     {
-        if is_far(&self.scope, token) {
-            self.scope.locals.note_far();
+        if is_past_expanded(&self.scope, token) {
+            self.scope.locals.note_look_past_expanded();
         }
         step_control(&self.scope, targets, &mut self.control, token)
     }

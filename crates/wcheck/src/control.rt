@@ -181,11 +181,11 @@ fn act(
 
 /// Whether the token reads a local that is not written out.
 #[inline(always)]
-pub(crate) fn is_far(scope: &Scope, token: Token) -> bool {
+pub(crate) fn is_past_expanded(scope: &Scope, token: Token) -> bool {
     match token {
         Token::LocalGet(x) | Token::LocalSet(x) | Token::LocalTee(x) => scope
             .locals
-            .near(x)
+            .expanded(x)
             .is_none(),
         _ => false,
     }
@@ -203,7 +203,7 @@ pub(crate) fn step_known(scope: &Scope, control: &mut Control, token: Token) -> 
     ensures tight { IsTight control.old → IsTight control.new }
     ensures types { control.new.operands.types ≡ control.old.operands.types }
 {
-    if is_far(scope, token) {
+    if is_past_expanded(scope, token) {
         return false;
     }
     match rule_of_token(scope, control.top, &control.outer, &[], token) {

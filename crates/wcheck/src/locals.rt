@@ -2,7 +2,7 @@ ghost use Rattle.std.specs.Prelude.{◌≡◌, ◌+◌, ◌<◌, min, List, [], 
 ghost use Rattle.wsyntax.specs.Validation.ModuleContext.{declared};
 ghost use Rattle.wcheck.specs.LocalRuns.{run_of, AreEnds, AreFirst};
 
-use crate::tuning::{FAR_LOOKS, LOCALS_A_LOOK, NEAR};
+use crate::tuning::{EXPANDED, LOCALS_A_LOOK, LOOKS_PAST_EXPANDED};
 use crate::types::first_of;
 use std::alloc::{AllocError, Global};
 use std::marker::Model;
@@ -22,11 +22,11 @@ pub(crate) struct Locals<'a> {
     params: &'a [ValType],
     runs: Vec<EndedRun>,
     /// The first of them all, written out.
-    near: Vec<ValType>,
+    expanded: Vec<ValType>,
     /// The declared ones, written out; none before the body has often looked past the first of them.
     written: Vec<ValType>,
     /// How often it has.
-    far_looks: usize,
+    looks_past_expanded: usize,
 }
 
 impl<'a> Model for Locals<'a> {
@@ -41,7 +41,7 @@ impl<'a> Model for Locals<'a> {
     ghost view = { λ l. l.params.now ++ declared (map run_of l.runs.items) };
 
     ghost invariant = { λ l. AreEnds 0 l.runs.items
-        × AreFirst l.near.items (l.params.now ++ declared (map run_of l.runs.items))
+        × AreFirst l.expanded.items (l.params.now ++ declared (map run_of l.runs.items))
         × AreFirst l.written.items (declared (map run_of l.runs.items)) };
 }
 
@@ -75,26 +75,26 @@ fn end_runs(ended: &mut Vec<EndedRun>, runs: &[LocalRun]) -> Result<(), AllocErr
 /// Writes out the first of the locals.
 #[tactic(auto, using(crate::proofs::FirstLocals::none_first, crate::proofs::FirstLocals::some_first, crate::proofs::FirstLocals::so_far_first, crate::proofs::FirstLocals::part_first, crate::proofs::FirstLocals::next_first))]
 fn write_first(
-    near: &mut Vec<ValType>,
+    expanded: &mut Vec<ValType>,
     params: &[ValType],
     runs: &[LocalRun],
 ) -> Result<(), AllocError>
-    requires { near.old.items ≡ [] }
-    ensures { AreFirst near.new.items (params.now ++ declared runs.now) }
+    requires { expanded.old.items ≡ [] }
+    ensures { AreFirst expanded.new.items (params.now ++ declared runs.now) }
 {
-    if params.len() > NEAR {
-        near.extend_from_slice(first_of(params, NEAR))?;
+    if params.len() > EXPANDED {
+        expanded.extend_from_slice(first_of(params, EXPANDED))?;
         return Ok(());
     }
-    near.extend_from_slice(params)?;
+    expanded.extend_from_slice(params)?;
     for run in runs {
-        let written = near.len();
+        let written = expanded.len();
         let count = run.count as usize;
-        if count > NEAR - written {
-            near.resize(NEAR, run.content)?;
+        if count > EXPANDED - written {
+            expanded.resize(EXPANDED, run.content)?;
             return Ok(());
         }
-        near.resize(written + count, run.content)?;
+        expanded.resize(written + count, run.content)?;
     }
     Ok(())
 }
@@ -140,7 +140,12 @@ fn declared_local(runs: &[EndedRun], x: usize) -> Option<ValType>
 
 /// The type of a local that need not be written out.
 #[inline(never)]
-fn far_local(params: &[ValType], written: &[ValType], runs: &[EndedRun], x: u32) -> Option<ValType>
+fn local_past_expanded(
+    params: &[ValType],
+    written: &[ValType],
+    runs: &[EndedRun],
+    x: u32,
+) -> Option<ValType>
     requires ends { AreEnds 0 runs.now }
     requires written { AreFirst written.now (declared (map run_of runs.now)) }
     ensures { result ≡ slice_get (params.now ++ declared (map run_of runs.now)) x }
@@ -165,9 +170,9 @@ impl<'a> Locals<'a> {
         Locals {
             params,
             runs: Vec::new(alloc),
-            near: Vec::new(alloc),
+            expanded: Vec::new(alloc),
             written: Vec::new(alloc),
-            far_looks: 0,
+            looks_past_expanded: 0,
         }
     }
 
@@ -176,7 +181,7 @@ impl<'a> Locals<'a> {
         ensures { self.new ≡ self.old }
     {
         self.runs.reserve(runs)?;
-        self.near.reserve(NEAR)?;
+        self.expanded.reserve(EXPANDED)?;
         Ok(())
     }
 
@@ -185,21 +190,21 @@ impl<'a> Locals<'a> {
     pub(crate) fn set(&mut self, params: &'a [ValType], runs: &[LocalRun]) -> Result<(), AllocError>
         ensures { IfOk result (λ _. self.new ≡ params.now ++ declared runs.now) }
     {
-        self.near.clear();
+        self.expanded.clear();
         self.written.clear();
-        self.far_looks = 0;
+        self.looks_past_expanded = 0;
         self.params = params;
         self.runs.clear();
         end_runs(&mut self.runs, runs)?;
-        write_first(&mut self.near, params, runs)
+        write_first(&mut self.expanded, params, runs)
     }
 
     /// The type of a local that is written out.
     #[inline(always)]
-    pub(crate) fn near(&self, x: u32) -> Option<ValType>
+    pub(crate) fn expanded(&self, x: u32) -> Option<ValType>
         ensures { IfSome result (λ t. slice_get self.now x ≡ Some t) }
     {
-        match self.near.get(x as usize) {
+        match self.expanded.get(x as usize) {
             Some(content) => Some(*content),
             None => None,
         }
@@ -209,15 +214,15 @@ impl<'a> Locals<'a> {
     /// are written out; where memory for them is refused, they are found as before.
     #[inline(never)]
     #[tactic(auto, using(crate::proofs::FirstLocals::none_first))]
-    pub(crate) fn note_far(&mut self)
+    pub(crate) fn note_look_past_expanded(&mut self)
         ensures { self.new ≡ self.old }
     {
-        self.far_looks = self.far_looks.saturating_add(1);
+        self.looks_past_expanded = self.looks_past_expanded.saturating_add(1);
         let declared = match self.runs.last() {
             Some(last) => last.end,
             None => 0,
         };
-        if self.far_looks == FAR_LOOKS + declared / LOCALS_A_LOOK {
+        if self.looks_past_expanded == LOOKS_PAST_EXPANDED + declared / LOCALS_A_LOOK {
             self.written.clear();
             let _ = write_declared(&mut self.written, &self.runs);
         }
@@ -228,9 +233,9 @@ impl<'a> Locals<'a> {
     pub(crate) fn get(&self, x: u32) -> Option<ValType>
         ensures { result ≡ slice_get self.now x }
     {
-        match self.near.get(x as usize) {
+        match self.expanded.get(x as usize) {
             Some(content) => Some(*content),
-            None => far_local(self.params, &self.written, &self.runs, x),
+            None => local_past_expanded(self.params, &self.written, &self.runs, x),
         }
     }
 }

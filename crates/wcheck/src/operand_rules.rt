@@ -39,20 +39,20 @@ impl OperandStack<'_> {
 
     /// Takes an operand of the first type, and puts one of the second.
     #[inline]
-    pub(crate) fn change(&mut self, t: ValType, u: ValType) -> Result<bool, AllocError>
+    pub(crate) fn apply_unary(&mut self, t: ValType, u: ValType) -> Result<bool, AllocError>
         ensures above { IfOk result (λ yes. apply (Takes (t ∷ []) (u ∷ [])) self.old.above ≡ when yes (Some self.new.above)) }
         ensures below { self.new.below ≡ self.old.below }
         ensures types { self.new.types ≡ self.old.types }
     {
-        if self.change_known(t, u) {
+        if self.apply_unary_known(t, u) {
             Ok(true)
         } else {
-            self.change_fitting(t, u)
+            self.apply_unary_fitting(t, u)
         }
     }
 
     #[inline(never)]
-    fn change_fitting(&mut self, t: ValType, u: ValType) -> Result<bool, AllocError>
+    fn apply_unary_fitting(&mut self, t: ValType, u: ValType) -> Result<bool, AllocError>
         ensures above { IfOk result (λ yes. apply (Takes (t ∷ []) (u ∷ [])) self.old.above ≡ when yes (Some self.new.above)) }
         ensures below { self.new.below ≡ self.old.below }
         ensures types { self.new.types ≡ self.old.types }
@@ -66,20 +66,20 @@ impl OperandStack<'_> {
 
     /// Takes two operands of the first type, and puts one of the second.
     #[inline]
-    pub(crate) fn combine(&mut self, t: ValType, u: ValType) -> Result<bool, AllocError>
+    pub(crate) fn apply_binary(&mut self, t: ValType, u: ValType) -> Result<bool, AllocError>
         ensures above { IfOk result (λ yes. apply (Takes (t ∷ t ∷ []) (u ∷ [])) self.old.above ≡ when yes (Some self.new.above)) }
         ensures below { self.new.below ≡ self.old.below }
         ensures types { self.new.types ≡ self.old.types }
     {
-        if self.combine_known(t, u) {
+        if self.apply_binary_known(t, u) {
             Ok(true)
         } else {
-            self.combine_fitting(t, u)
+            self.apply_binary_fitting(t, u)
         }
     }
 
     #[inline(never)]
-    fn combine_fitting(&mut self, t: ValType, u: ValType) -> Result<bool, AllocError>
+    fn apply_binary_fitting(&mut self, t: ValType, u: ValType) -> Result<bool, AllocError>
         ensures above { IfOk result (λ yes. apply (Takes (t ∷ t ∷ []) (u ∷ [])) self.old.above ≡ when yes (Some self.new.above)) }
         ensures below { self.new.below ≡ self.old.below }
         ensures types { self.new.types ≡ self.old.types }

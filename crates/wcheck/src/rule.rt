@@ -19,15 +19,15 @@ use wsyntax::{AccessRow, Arity, Load, Operator, OperatorRow, Store, Token, ValTy
 #[derive(Clone, Copy)]
 pub(crate) enum OperandRule {
     Nothing,
-    Puts(ValType),
-    Takes(ValType),
+    Push(ValType),
+    Pop(ValType),
     /// Takes one operand of the first type, and puts one of the second.
-    Changes(ValType, ValType),
+    Unary(ValType, ValType),
     /// Takes two operands of the first type, and puts one of the second.
-    Combines(ValType, ValType),
+    Binary(ValType, ValType),
     /// Takes a value of this type, and an address below it.
     Stores(ValType),
-    Moves {
+    Signature {
         has_index: bool,
         takes: TypeList,
         gives: TypeList,
@@ -52,8 +52,8 @@ pub(crate) fn numeric_rule(op: Operator) -> OperandRule
         result: leaves,
     } = op.row();
     match arity {
-        Arity::One => OperandRule::Changes(operand, leaves),
-        Arity::Two => OperandRule::Combines(operand, leaves),
+        Arity::One => OperandRule::Unary(operand, leaves),
+        Arity::Two => OperandRule::Binary(operand, leaves),
     }
 }
 
@@ -78,7 +78,7 @@ fn load_rule(context: &Context, load: Load, align: u32) -> Option<OperandRule>
     if !is_aligned(align, natural) {
         return None;
     }
-    Some(OperandRule::Changes(ValType::I32, of_type))
+    Some(OperandRule::Unary(ValType::I32, of_type))
 }
 
 /// A store whose alignment is at most its width, where there is a memory.
@@ -155,7 +155,7 @@ pub(crate) fn rule_of_token(
         }
         Token::BrIf(l) => {
             let takes = label_at(frame, outer, l)?;
-            Some(OperandRule::Moves {
+            Some(OperandRule::Signature {
                 has_index: true,
                 takes,
                 gives: takes,
@@ -183,7 +183,7 @@ pub(crate) fn rule_of_token(
         }),
         Token::Call(x) => {
             let ListPair { params, results } = context.function_lists(x)?;
-            Some(OperandRule::Moves {
+            Some(OperandRule::Signature {
                 has_index: false,
                 takes: params,
                 gives: results,
@@ -194,7 +194,7 @@ pub(crate) fn rule_of_token(
                 return None;
             }
             let ListPair { params, results } = context.lists(y)?;
-            Some(OperandRule::Moves {
+            Some(OperandRule::Signature {
                 has_index: true,
                 takes: params,
                 gives: results,
@@ -204,24 +204,24 @@ pub(crate) fn rule_of_token(
         Token::Select => Some(OperandRule::Selects),
         Token::LocalGet(x) => {
             let content = scope.locals.get(x)?;
-            Some(OperandRule::Puts(content))
+            Some(OperandRule::Push(content))
         }
         Token::LocalSet(x) => {
             let content = scope.locals.get(x)?;
-            Some(OperandRule::Takes(content))
+            Some(OperandRule::Pop(content))
         }
         Token::LocalTee(x) => {
             let content = scope.locals.get(x)?;
-            Some(OperandRule::Changes(content, content))
+            Some(OperandRule::Unary(content, content))
         }
         Token::GlobalGet(x) => {
             let global = context.global(x)?;
-            Some(OperandRule::Puts(global.content))
+            Some(OperandRule::Push(global.content))
         }
         Token::GlobalSet(x) => {
             let global = context.global(x)?;
             if global.mutable {
-                Some(OperandRule::Takes(global.content))
+                Some(OperandRule::Pop(global.content))
             } else {
                 None
             }
@@ -238,22 +238,22 @@ pub(crate) fn rule_of_token(
         } => store_rule(context, store, align),
         Token::MemorySize => {
             if context.has_memory() {
-                Some(OperandRule::Puts(ValType::I32))
+                Some(OperandRule::Push(ValType::I32))
             } else {
                 None
             }
         }
         Token::MemoryGrow => {
             if context.has_memory() {
-                Some(OperandRule::Changes(ValType::I32, ValType::I32))
+                Some(OperandRule::Unary(ValType::I32, ValType::I32))
             } else {
                 None
             }
         }
-        Token::I32Const(_) => Some(OperandRule::Puts(ValType::I32)),
-        Token::I64Const(_) => Some(OperandRule::Puts(ValType::I64)),
-        Token::F32Const(_) => Some(OperandRule::Puts(ValType::F32)),
-        Token::F64Const(_) => Some(OperandRule::Puts(ValType::F64)),
+        Token::I32Const(_) => Some(OperandRule::Push(ValType::I32)),
+        Token::I64Const(_) => Some(OperandRule::Push(ValType::I64)),
+        Token::F32Const(_) => Some(OperandRule::Push(ValType::F32)),
+        Token::F64Const(_) => Some(OperandRule::Push(ValType::F64)),
         Token::Numeric(op) => Some(numeric_rule(op)),
         Token::Block(_) | Token::Loop(_) | Token::If(_) | Token::Else | Token::End => None,
     }

@@ -22,11 +22,11 @@ pub(crate) const SHORT_LIST: usize = 8;
 pub(crate) const COMPARED_TYPES: usize = 8;
 
 /// How many locals are written out.
-pub(crate) const NEAR: usize = 256;
+pub(crate) const EXPANDED: usize = 256;
 
 /// All declared locals are written out once a body has looked past the first of them this often, and once more for each
 /// `LOCALS_A_LOOK` locals that it declares: to write them out takes as long as these looks.
-pub(crate) const FAR_LOOKS: usize = 16;
+pub(crate) const LOOKS_PAST_EXPANDED: usize = 16;
 
 /// How many locals are written out in the time of a look past the first of them.
 pub(crate) const LOCALS_A_LOOK: usize = 512;

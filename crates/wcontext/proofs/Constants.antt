@@ -3,7 +3,7 @@ use Rattle.std.proofs.Common.{◌≡◌, ◌↔◌, ℕ, List, [], ◌∷◌, ma
 use Rattle.wsyntax.specs.Instructions.{Do, End as Last, Const, GlobalGet as Get}
 use Rattle.wnum.specs.Arithmetic.{unsigned}
 use Rattle.wsyntax.specs.Table.{little_endian}
-use Rattle.wsyntax.specs.Modules.{seen, only}
+use Rattle.wsyntax.specs.Modules.{seen, single_instruction}
 use Rattle.wsyntax.specs.Validation.Rules.{ConstantOf, one_const, one_get}
 use Rattle.wsyntax.specs.declared.GlobalType.{GlobalType}
 use Rattle.wsyntax.specs.declared.ValType.{ValType}
@@ -82,7 +82,7 @@ constant_known globals t targets tokens is = known_as globals t targets tokens _
 
 -- ---- what the one instruction leaves
 
-pub leaves_constant : (globals : List GlobalType) (t : ValType) (targets : List ℕ) (tokens : List Token) (one : Option Token) (b : Bool) → one ≡ only tokens
+pub leaves_constant : (globals : List GlobalType) (t : ValType) (targets : List ℕ) (tokens : List Token) (one : Option Token) (b : Bool) → one ≡ single_instruction tokens
     → (IsTrue b ↔ (option_and_then (constant_type globals) one ≡ Some t)) → IsTrue b ↔ ConstantOf globals t (map (seen targets) tokens)
 leaves_constant globals t targets tokens one b is test =
     let same : option_and_then (constant_type globals) one ≡ constant_of globals tokens = ap (option_and_then (constant_type globals)) is in

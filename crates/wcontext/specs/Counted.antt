@@ -6,10 +6,10 @@ use Rattle.wsyntax.specs.Validation.Rules.{ConstantOf, StartsPlainly}
 use Rattle.wsyntax.specs.declared.ValType.TheVariants.{I32}
 use Rattle.wsyntax.specs.declared.ExportKind.{ExportKind}
 use Rattle.wsyntax.specs.declared.ExportKind.TheVariants.{Function, Table, Memory, Global}
-use Rattle.wcontext.specs.declared.counts.Counts.{Counts}
+use Rattle.wcontext.specs.declared.space_sizes.SpaceSizes.{SpaceSizes}
 
 -- they are the counts of that module
-pub record AreCountsOf (m : ModuleShape) (c : Counts) : Type 0 where
+pub record AreCountsOf (m : ModuleShape) (c : SpaceSizes) : Type 0 where
   pub functions : c.functions ≡ length (functions_of m)
   pub tables : c.tables ≡ length (tables_of m)
   pub memories : c.memories ≡ length (memories_of m)
@@ -18,12 +18,12 @@ pub record AreCountsOf (m : ModuleShape) (c : Counts) : Type 0 where
   pub start : IsTrue c.starts_plainly ↔ StartsPlainly m
 
 -- the number of items in the space of that kind
-abbrev pub counted : Counts → ExportKind → ℕ
+abbrev pub counted : SpaceSizes → ExportKind → ℕ
 counted c Function = c.functions
 counted c Table = c.tables
 counted c Memory = c.memories
 counted c Global = c.globals
 
 -- 3.4.6 the segment's memory exists, its offset is a constant expression of type i32
-abbrev pub IsSegmentValid : Counts → DataShape → Type 0
+abbrev pub IsSegmentValid : SpaceSizes → DataShape → Type 0
 IsSegmentValid c s = (s.memory < c.memories) × ConstantOf c.constant_globals.items I32 s.offset

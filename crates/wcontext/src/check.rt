@@ -6,9 +6,9 @@ ghost use Rattle.wcontext.specs.Spaces.{AreSpacesOf};
 ghost use Rattle.wcontext.specs.Counted.{AreCountsOf};
 
 use crate::context::Context;
-use crate::counts::Counts;
 use crate::fault::ModuleFault;
 use crate::rules;
+use crate::space_sizes::SpaceSizes;
 use crate::spaces::Spaces;
 use std::alloc::{AllocError, Global};
 use wsyntax::Module;
@@ -42,7 +42,7 @@ fn keeps_early(module: &Module<'_>, spaces: &Spaces, rule: u32) -> bool
 fn keeps_late<'a>(
     names: &mut Vec<&'a [u8]>,
     module: &Module<'a>,
-    counts: &Counts,
+    counts: &SpaceSizes,
     rule: u32,
 ) -> Result<bool, AllocError>
     requires counts { AreCountsOf (module_shape «module».now) counts.now }
@@ -60,7 +60,7 @@ fn keeps_late<'a>(
 
 /// What bodies are checked under (3.4) and what the late rules look up, of a module that keeps rules 1 to 8; or the
 /// least of these that it breaks.
-pub fn check_early(alloc: Global, module: &Module<'_>) -> Result<(Context, Counts), ModuleFault>
+pub fn check_early(alloc: Global, module: &Module<'_>) -> Result<(Context, SpaceSizes), ModuleFault>
     ensures context { IfOk result (λ x. x.0 ≡ indexed_context (module_shape «module».now)) }
     ensures counts { IfOk result (λ x. AreCountsOf (module_shape «module».now) x.1) }
     ensures valid { OnOk result ((k : ℕ) → k < 9 → Keeps (module_shape «module».now) k) }
@@ -73,7 +73,7 @@ pub fn check_early(alloc: Global, module: &Module<'_>) -> Result<(Context, Count
             return Err(ModuleFault::Rule(rule));
         }
     }
-    let counts = Counts::of(alloc, module, &spaces)?;
+    let counts = SpaceSizes::of(alloc, module, &spaces)?;
     let context = Context::new(alloc, module, spaces)?;
     Ok((context, counts))
 }
@@ -83,7 +83,7 @@ pub fn check_early(alloc: Global, module: &Module<'_>) -> Result<(Context, Count
 pub fn check_late<'a>(
     names: &mut Vec<&'a [u8]>,
     module: &Module<'a>,
-    counts: &Counts,
+    counts: &SpaceSizes,
 ) -> Result<(), ModuleFault>
     requires counts { AreCountsOf (module_shape «module».now) counts.now }
     requires early { (k : ℕ) → k < 9 → Keeps (module_shape «module».now) k }

@@ -4,7 +4,7 @@ ghost use Rattle.wsyntax.specs.Validation.Rules.{ConstantOf};
 ghost use Rattle.wcontext.specs.Segments.{IsGlobalConstant};
 ghost use Rattle.wcontext.specs.Constants.{constant_type};
 
-use wsyntax::{Global, GlobalType, Initial, Token, ValType};
+use wsyntax::{ConstExpr, Global, GlobalType, Token, ValType};
 
 /// The type of the value that an instruction of a constant expression leaves (3.3.7.2), under these imported globals.
 fn constant_type(token: &Token, globals: &[GlobalType]) -> Option<ValType>
@@ -35,21 +35,21 @@ fn leaves(only: Option<Token>, of_type: ValType, globals: &[GlobalType]) -> bool
 }
 
 /// Whether an expression is a constant expression of that type (3.3.7.2), under these imported globals.
-fn is_constant(initial: &Initial, of_type: ValType, globals: &[GlobalType]) -> bool
+fn is_constant(initial: &ConstExpr, of_type: ValType, globals: &[GlobalType]) -> bool
     ensures { IsTrue result ↔ ConstantOf globals.now of_type (initial_tokens initial.now) }
 {
-    leaves(initial.only(), of_type, globals)
+    leaves(initial.single_instruction(), of_type, globals)
 }
 
 /// Whether the offset of a segment is a constant expression of type i32 (3.3.7.2), under these imported globals.
 /// A constant i32, as nearly each offset is, is one in place.
 #[inline(always)]
-pub fn is_offset(offset: &Initial, globals: &[GlobalType]) -> bool
+pub fn is_offset(offset: &ConstExpr, globals: &[GlobalType]) -> bool
     ensures { IsTrue result ↔ ConstantOf globals.now ValType.I32 (initial_tokens offset.now) }
 {
     match offset {
-        Initial::I32Const(_) => true,
-        _ => leaves(offset.only(), ValType::I32, globals),
+        ConstExpr::I32Const(_) => true,
+        _ => leaves(offset.single_instruction(), ValType::I32, globals),
     }
 }
 

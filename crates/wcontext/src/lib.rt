@@ -4,7 +4,6 @@
 mod check;
 mod constant;
 mod context;
-mod counts;
 mod end_tree;
 mod fault;
 mod fronts;
@@ -14,6 +13,7 @@ mod lists;
 mod names;
 mod rules;
 mod segments;
+mod space_sizes;
 mod spaces;
 mod start;
 mod trie;
@@ -21,6 +21,6 @@ mod walk;
 
 pub use check::{SEGMENTS_RULE, check_early, check_late, check_module};
 pub use context::Context;
-pub use counts::Counts;
 pub use fault::ModuleFault;
 pub use lists::{Front, ListPair, TypeList};
+pub use space_sizes::SpaceSizes;

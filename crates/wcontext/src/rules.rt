@@ -9,10 +9,10 @@ ghost use Rattle.wcontext.specs.Spaces.{AreSpacesOf};
 ghost use Rattle.wcontext.specs.Counted.{AreCountsOf};
 
 use crate::constant::are_constant;
-use crate::counts::Counts;
 use crate::limits::{are_in_order, are_within_pages};
 use crate::names::are_distinct;
 use crate::segments::are_elements_valid;
+use crate::space_sizes::SpaceSizes;
 use crate::spaces::Spaces;
 use crate::start::has_empty_type;
 use std::alloc::AllocError;
@@ -84,7 +84,7 @@ pub fn globals_constant(module: &Module<'_>, spaces: &Spaces) -> bool
 }
 
 /// Rule 9: each exported index exists in its space.
-pub fn exports_exist(module: &Module<'_>, counts: &Counts) -> bool
+pub fn exports_exist(module: &Module<'_>, counts: &SpaceSizes) -> bool
     requires { AreCountsOf (module_shape «module».now) counts.now }
     ensures { IsTrue result ↔ ExportsExist (module_shape «module».now) }
 {
@@ -114,7 +114,7 @@ pub fn starts_plainly(module: &Module<'_>, spaces: &Spaces) -> bool
 
 /// Rule 12: of each element segment the table exists, the offset is a constant expression of type i32, the functions
 /// exist.
-pub fn elements_valid(module: &Module<'_>, counts: &Counts) -> bool
+pub fn elements_valid(module: &Module<'_>, counts: &SpaceSizes) -> bool
     requires { AreCountsOf (module_shape «module».now) counts.now }
     ensures { IsTrue result ↔ ElementsValid (module_shape «module».now) }
 {
@@ -127,7 +127,7 @@ pub fn elements_valid(module: &Module<'_>, counts: &Counts) -> bool
 }
 
 /// Rule 13: of each data segment the memory exists, the offset is a constant expression of type i32.
-pub fn segments_valid(module: &Module<'_>, counts: &Counts) -> bool
+pub fn segments_valid(module: &Module<'_>, counts: &SpaceSizes) -> bool
     requires { AreCountsOf (module_shape «module».now) counts.now }
     ensures { IsTrue result ↔ SegmentsValid (module_shape «module».now) }
 {

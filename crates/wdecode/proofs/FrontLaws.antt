@@ -8,12 +8,12 @@ use Rattle.wsyntax.specs.Modules.{ModuleShape, DataShape}
 use Rattle.wsyntax.specs.Binary.Production.{SpellsAll, whole_at}
 use Rattle.wsyntax.specs.Binary.Values.{blob, vector_at}
 use Rattle.wsyntax.specs.Binary.Sections.{SectionShape, Custom, Types, Imports, Functions, Tables, Memories, Globals, Exports, Start, Elements, Bodies, Segments, contents, section, data_segment}
-use Rattle.wsyntax.specs.Binary.Shell.{rank, may_follow, last_after, IsOrdered, put, put_all, empty_module, strip, header, Shell}
+use Rattle.wsyntax.specs.Binary.Shell.{section_id, may_follow, last_after, IsOrdered, put, put_all, empty_module, strip, header, Shell}
 use Rattle.wdecode.specs.declared.fault.Fault.{Fault}
 use Rattle.wdecode.specs.declared.fault.Fault.TheVariants.{Malformed, Memory}
 use Rattle.wdecode.specs.Gives.{Fails}
 use Rattle.wdecode.specs.Fronts.{with_segments, EndsAs, Ends, IsBeforeSegments, stops}
-use Rattle.wdecode.proofs.SectionList.{read_rank, spelled_rank, one_more, unread, shell_ends, ends_shell}
+use Rattle.wdecode.proofs.SectionList.{read_section_id, spelled_section_id, one_more, unread, shell_ends, ends_shell}
 
 -- what a `?` hands on is that fault only where its fault is
 pub fault_is : {T E : Type 0} (r : Result T E) (y e fault : E) → r ≡ Err y → y ≡ e → r ≡ Err fault → e ≡ fault
@@ -35,7 +35,7 @@ carried start last now m n bytes after s r ok is made so_far whole =
 
 -- ---- before the data segments
 
-early_put : (last : ℕ) (m : ModuleShape) (s : SectionShape) → rank s ≢ 11 → IsBeforeSegments last m → IsBeforeSegments (last_after last s) (put m s)
+early_put : (last : ℕ) (m : ModuleShape) (s : SectionShape) → section_id s ≢ 11 → IsBeforeSegments last m → IsBeforeSegments (last_after last s) (put m s)
 early_put last m Custom other e = e
 early_put last m (Types v) other e = (omega arith, e.1)
 early_put last m (Imports v) other e = (omega arith, e.1)
@@ -52,9 +52,9 @@ early_put last m (Segments v) other e = absurd (other refl)
 pub early_next : (before : Bool) (last now : ℕ) (m n : ModuleShape) (bytes after : List ℕ) (s : SectionShape) → section.read bytes ≡ Some (s, after) → last_after last s ≡ now → n ≡ put m s → stops before bytes ≡ false → before ≡ true → IsBeforeSegments last m → IsBeforeSegments now n
 early_next before last now m n bytes after s r is made goes_before wanted e =
     let goes : stops true bytes ≡ false = subst (λ (b : Bool). stops b bytes ≡ false) wanted goes_before in
-    let first = read_rank bytes after s r in
-    let other : eqb (rank s) 11 ≡ false = sym (ap (stops true) first.1) ∙ goes in
-    let put_early = early_put last m s (λ same. let clash : true ≡ false = sym (eq-eqb (rank s) 11 same) ∙ other in absurd cc) e in
+    let first = read_section_id bytes after s r in
+    let other : eqb (section_id s) 11 ≡ false = sym (ap (stops true) first.1) ∙ goes in
+    let put_early = early_put last m s (λ same. let clash : true ≡ false = sym (eq-eqb (section_id s) 11 same) ∙ other in absurd cc) e in
     subst (λ (l : ℕ). IsBeforeSegments l n) is (subst (λ (k : ModuleShape). IsBeforeSegments (last_after last s) k) (sym made) put_early)
 
 -- what is left where reading stops before the data segments
@@ -90,28 +90,28 @@ put_customs (Segments v ∷ ss) m ordered = absurd (let e = ordered.0 in cc)
 pub customs_after : (m n : ModuleShape) (bytes : List ℕ) (to : ModuleShape) → EndsAs 11 m bytes to → EndsAs 11 n bytes n
 customs_after m n bytes to e = (e.0, e.1, e.2, put_customs e.0 n e.2)
 
-segments_ranked : (s : SectionShape) → rank s ≡ 11 → (v : List DataShape) × (s ≡ Segments v)
-segments_ranked Custom r = absurd (omega arith)
-segments_ranked (Types v) r = absurd (omega arith)
-segments_ranked (Imports v) r = absurd (omega arith)
-segments_ranked (Functions v) r = absurd (omega arith)
-segments_ranked (Tables v) r = absurd (omega arith)
-segments_ranked (Memories v) r = absurd (omega arith)
-segments_ranked (Globals v) r = absurd (omega arith)
-segments_ranked (Exports v) r = absurd (omega arith)
-segments_ranked (Start x) r = absurd (omega arith)
-segments_ranked (Elements v) r = absurd (omega arith)
-segments_ranked (Bodies v) r = absurd (omega arith)
-segments_ranked (Segments v) r = (v, refl)
+segments_by_id : (s : SectionShape) → section_id s ≡ 11 → (v : List DataShape) × (s ≡ Segments v)
+segments_by_id Custom r = absurd (omega arith)
+segments_by_id (Types v) r = absurd (omega arith)
+segments_by_id (Imports v) r = absurd (omega arith)
+segments_by_id (Functions v) r = absurd (omega arith)
+segments_by_id (Tables v) r = absurd (omega arith)
+segments_by_id (Memories v) r = absurd (omega arith)
+segments_by_id (Globals v) r = absurd (omega arith)
+segments_by_id (Exports v) r = absurd (omega arith)
+segments_by_id (Start x) r = absurd (omega arith)
+segments_by_id (Elements v) r = absurd (omega arith)
+segments_by_id (Bodies v) r = absurd (omega arith)
+segments_by_id (Segments v) r = (v, refl)
 
 -- so the whole module differs in its data segments alone
 IsSame : ModuleShape → ModuleShape → Type 0
 IsSame m whole = whole ≡ with_segments m whole.segments
 
-segments_only : (last : ℕ) (m whole : ModuleShape) (s : SectionShape) (ss : List SectionShape) → rank s ≡ 11 → IsOrdered (last_after last s) ss → put_all (put m s) ss ≡ whole → IsSame m whole
+segments_only : (last : ℕ) (m whole : ModuleShape) (s : SectionShape) (ss : List SectionShape) → section_id s ≡ 11 → IsOrdered (last_after last s) ss → put_all (put m s) ss ≡ whole → IsSame m whole
 unfolding IsSame
 segments_only last m whole s ss r ordered is =
-    let v = segments_ranked s r in
+    let v = segments_by_id s r in
     let after : IsOrdered 11 ss = subst (λ (t : SectionShape). IsOrdered (last_after last t) ss) v.1 ordered in
     let made : put_all (with_segments m v.0) ss ≡ whole = ap (λ (t : SectionShape). put_all (put m t) ss) (sym v.1) ∙ is in
     subst (IsSame m) (sym (put_customs ss (with_segments m v.0) after) ∙ made) refl
@@ -121,9 +121,9 @@ rest_only : (last : ℕ) (m whole : ModuleShape) (bytes : List ℕ) (ss : List S
 unfolding IsSame
 rest_only last m whole bytes [] next sp ordered is = subst (IsSame m) is refl
 rest_only last m whole bytes (s ∷ ss) next sp ordered is =
-    let first = spelled_rank sp.0 s sp.3 in
-    let front : bytes ≡ rank s ∷ (first.0 ++ sp.1) = sp.2 ∙ ap (λ (w : List ℕ). w ++ sp.1) first.1 in
-    segments_only last m whole s ss (next (rank s) (first.0 ++ sp.1) front) ordered.1 is
+    let first = spelled_section_id sp.0 s sp.3 in
+    let front : bytes ≡ section_id s ∷ (first.0 ++ sp.1) = sp.2 ∙ ap (λ (w : List ℕ). w ++ sp.1) first.1 in
+    segments_only last m whole s ss (next (section_id s) (first.0 ++ sp.1) front) ordered.1 is
 
 pub only_segments : (last : ℕ) (m whole : ModuleShape) (bytes : List ℕ) → ((id : ℕ) (tail : List ℕ) → bytes ≡ id ∷ tail → id ≡ 11) → EndsAs last m bytes whole → whole ≡ with_segments m whole.segments
 unfolding IsSame

@@ -2,8 +2,8 @@
 use Rattle.std.proofs.Common.{◌≡◌, ℕ, ℤ, suc, ◌-◌, List, [], ◌∷◌, ◌++◌, length, Some, refl, sym, ap, ◌∙◌, arith}
 use Rattle.wsyntax.specs.declared.instructions.Token.{Token as Held}
 use Rattle.wsyntax.specs.declared.instructions.Token.TheVariants.{I32Const}
-use Rattle.wsyntax.specs.declared.module.Initial.{Initial}
-use Rattle.wsyntax.specs.declared.module.Initial.TheVariants as initial
+use Rattle.wsyntax.specs.declared.module.ConstExpr.{ConstExpr}
+use Rattle.wsyntax.specs.declared.module.ConstExpr.TheVariants as initial
 use Rattle.wnum.specs.Arithmetic.{unsigned}
 use Rattle.wsyntax.specs.declared.ValType.TheVariants.{I32}
 use Rattle.wsyntax.specs.Instructions.{Op, Token, Do, End, Const}
@@ -28,7 +28,7 @@ one_alone bytes rest after i first is =
     let fuel : length bytes ≡ suc (suc (length bytes - 2)) = omega arith in
     ap (λ (n : ℕ). tokens_at n [] bytes) fuel ∙ two_read (length bytes - 2) bytes rest after i first is
 
-pub one_given : (bytes rest after old new : List ℕ) (t : Held) (x : Initial) → GivesToken seen old new (t, rest) (token_at bytes) → rest ≡ 0x0B ∷ after
+pub one_given : (bytes rest after old new : List ℕ) (t : Held) (x : ConstExpr) → GivesToken seen old new (t, rest) (token_at bytes) → rest ≡ 0x0B ∷ after
     → ((targets : List ℕ) → (i : Op) × (seen targets t ≡ Do i) × (initial_tokens x ≡ Do i ∷ End ∷ [])) → expression.read bytes ≡ Some (initial_tokens x, after)
 one_given bytes rest after old new t x g is alone =
     let i = alone (new ++ []) in

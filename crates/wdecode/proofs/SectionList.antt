@@ -5,7 +5,7 @@ use Rattle.std.proofs.lemmas.Bool.{eqb-true, lt-ltb, le-ltb, ne_eqb}
 use Rattle.wsyntax.specs.Modules.{ModuleShape}
 use Rattle.wsyntax.specs.Binary.Production.{SpellsAll}
 use Rattle.wsyntax.specs.Binary.Sections.{SectionShape, Custom, Types, Imports, Functions, Tables, Memories, Globals, Exports, Start, Elements, Bodies, Segments, SectionKind, CustomSection, TypeSection, ImportSection, FunctionSection, TableSection, MemorySection, GlobalSection, ExportSection, StartSection, ElementSection, CodeSection, DataSection, kind_of, contents_of, contents, section}
-use Rattle.wsyntax.specs.Binary.Shell.{rank, may_follow, last_after, IsOrdered, put, put_all, empty_module, strip, header, Shell}
+use Rattle.wsyntax.specs.Binary.Shell.{section_id, may_follow, last_after, IsOrdered, put, put_all, empty_module, strip, header, Shell}
 use Rattle.wdecode.specs.declared.fault.Fault.{Fault}
 use Rattle.wdecode.specs.declared.fault.Fault.TheVariants.{Malformed, Memory}
 use Rattle.wdecode.specs.Gives.{Fails}
@@ -57,46 +57,46 @@ kind_number id k e =
     split (eqb id 10) CodeSection k _ P e (hit CodeSection) λ e.
     split (eqb id 11) DataSection k _ P e (hit DataSection) λ e. absurd cc
 
-made_rank : (a s : SectionShape) (n : ℕ) → rank a ≡ n → Some a ≡ Some s → rank s ≡ n
-made_rank a s n r e = ap rank (sym (section_is a s e)) ∙ r
+made_section_id : (a s : SectionShape) (n : ℕ) → section_id a ≡ n → Some a ≡ Some s → section_id s ≡ n
+made_section_id a s n r e = ap section_id (sym (section_is a s e)) ∙ r
 
-contents_rank : (k : SectionKind) (b bytes : List ℕ) (s : SectionShape) → (contents_of k b).spells bytes s → rank s ≡ number k
+contents_section_id : (k : SectionKind) (b bytes : List ℕ) (s : SectionShape) → (contents_of k b).spells bytes s → section_id s ≡ number k
 unfolding number
-contents_rank CustomSection b bytes s sp = made_rank Custom s 0 refl sp.5.1
-contents_rank TypeSection b bytes s sp = made_rank (Types sp.2) s 1 refl sp.5.1
-contents_rank ImportSection b bytes s sp = made_rank (Imports sp.2) s 2 refl sp.5.1
-contents_rank FunctionSection b bytes s sp = made_rank (Functions sp.2) s 3 refl sp.5.1
-contents_rank TableSection b bytes s sp = made_rank (Tables sp.2) s 4 refl sp.5.1
-contents_rank MemorySection b bytes s sp = made_rank (Memories sp.2) s 5 refl sp.5.1
-contents_rank GlobalSection b bytes s sp = made_rank (Globals sp.2) s 6 refl sp.5.1
-contents_rank ExportSection b bytes s sp = made_rank (Exports sp.2) s 7 refl sp.5.1
-contents_rank StartSection b bytes s sp = made_rank (Start sp.2) s 8 refl sp.5.1
-contents_rank ElementSection b bytes s sp = made_rank (Elements sp.2) s 9 refl sp.5.1
-contents_rank CodeSection b bytes s sp = made_rank (Bodies sp.2) s 10 refl sp.5.1
-contents_rank DataSection b bytes s sp = made_rank (Segments sp.2) s 11 refl sp.5.1
+contents_section_id CustomSection b bytes s sp = made_section_id Custom s 0 refl sp.5.1
+contents_section_id TypeSection b bytes s sp = made_section_id (Types sp.2) s 1 refl sp.5.1
+contents_section_id ImportSection b bytes s sp = made_section_id (Imports sp.2) s 2 refl sp.5.1
+contents_section_id FunctionSection b bytes s sp = made_section_id (Functions sp.2) s 3 refl sp.5.1
+contents_section_id TableSection b bytes s sp = made_section_id (Tables sp.2) s 4 refl sp.5.1
+contents_section_id MemorySection b bytes s sp = made_section_id (Memories sp.2) s 5 refl sp.5.1
+contents_section_id GlobalSection b bytes s sp = made_section_id (Globals sp.2) s 6 refl sp.5.1
+contents_section_id ExportSection b bytes s sp = made_section_id (Exports sp.2) s 7 refl sp.5.1
+contents_section_id StartSection b bytes s sp = made_section_id (Start sp.2) s 8 refl sp.5.1
+contents_section_id ElementSection b bytes s sp = made_section_id (Elements sp.2) s 9 refl sp.5.1
+contents_section_id CodeSection b bytes s sp = made_section_id (Bodies sp.2) s 10 refl sp.5.1
+contents_section_id DataSection b bytes s sp = made_section_id (Segments sp.2) s 11 refl sp.5.1
 
-contents_id : (id : ℕ) (b bytes : List ℕ) (s : SectionShape) → (contents id b).spells bytes s → id ≡ rank s
-contents_id id b bytes s sp = kind_number id sp.2 sp.4.1 ∙ sym (contents_rank sp.2 b sp.1 s sp.5)
+contents_id : (id : ℕ) (b bytes : List ℕ) (s : SectionShape) → (contents id b).spells bytes s → id ≡ section_id s
+contents_id id b bytes s sp = kind_number id sp.2 sp.4.1 ∙ sym (contents_section_id sp.2 b sp.1 s sp.5)
 
 -- bytes that spell a section begin with its id
-pub spelled_rank : (x : List ℕ) (s : SectionShape) → section.spells x s → (h : List ℕ) × (x ≡ rank s ∷ h)
+pub spelled_section_id : (x : List ℕ) (s : SectionShape) → section.spells x s → (h : List ℕ) × (x ≡ section_id s ∷ h)
 unfolding section
-spelled_rank x s sp =
+spelled_section_id x s sp =
     let inner = sp.5 in
-    let id : sp.2 ≡ rank s = contents_id sp.2 inner.2 inner.1 s inner.5 in
+    let id : sp.2 ≡ section_id s = contents_id sp.2 inner.2 inner.1 s inner.5 in
     (sp.1, sp.3 ∙ ap (λ (w : List ℕ). w ++ sp.1) sp.4 ∙ ap (λ (n : ℕ). n ∷ sp.1) id)
 
-pub read_rank : (bytes after : List ℕ) (s : SectionShape) → section.read bytes ≡ Some (s, after) → (h : List ℕ) × (bytes ≡ rank s ∷ h)
-read_rank bytes after s r =
+pub read_section_id : (bytes after : List ℕ) (s : SectionShape) → section.read bytes ≡ Some (s, after) → (h : List ℕ) × (bytes ≡ section_id s ∷ h)
+read_section_id bytes after s r =
     let f = section_agrees.sound bytes s after r in
-    let first = spelled_rank f.0 s f.1 in
+    let first = spelled_section_id f.0 s f.1 in
     (first.0 ++ after, f.2 ∙ ap (λ (w : List ℕ). w ++ after) first.1)
 
 -- so it leaves fewer bytes
 pub section_shorter : (bytes after : List ℕ) (s : SectionShape) → section.read bytes ≡ Some (s, after) → length after < length bytes
 section_shorter bytes after s h =
     let f = section_agrees.sound bytes s after h in
-    let first = spelled_rank f.0 s f.1 in
+    let first = spelled_section_id f.0 s f.1 in
     omega (arith, ap length f.2, length-append f.0 after, ap length first.1)
 
 -- ---- one section more
@@ -106,15 +106,15 @@ first_same bytes after x y s t r is sp = pair_is s t after y (sym r ∙ ap secti
 
 not_empty : (bytes x y : List ℕ) (s : SectionShape) → bytes ≡ [] → bytes ≡ x ++ y → section.spells x s → ⊥
 not_empty bytes x y s none is sp =
-    let first = spelled_rank x s sp in
-    let clash : ◌≡◌ {A = List ℕ} [] (rank s ∷ (first.0 ++ y)) = sym none ∙ is ∙ ap (λ (w : List ℕ). w ++ y) first.1 in
+    let first = spelled_section_id x s sp in
+    let clash : ◌≡◌ {A = List ℕ} [] (section_id s ∷ (first.0 ++ y)) = sym none ∙ is ∙ ap (λ (w : List ℕ). w ++ y) first.1 in
     absurd cc
 
 into : (last : ℕ) (m to : ModuleShape) (bytes after : List ℕ) (s : SectionShape) (ss : List SectionShape) → section.read bytes ≡ Some (s, after)
     → SpellsAll section.spells bytes ss → IsOrdered last ss → put_all m ss ≡ to → EndsAs (last_after last s) (put m s) after to
 into last m to bytes after s [] r sp ordered is =
-    let first = read_rank bytes after s r in
-    let clash : ◌≡◌ {A = List ℕ} [] (rank s ∷ first.0) = sym sp ∙ first.1 in
+    let first = read_section_id bytes after s r in
+    let clash : ◌≡◌ {A = List ℕ} [] (section_id s ∷ first.0) = sym sp ∙ first.1 in
     absurd cc
 into last m to bytes after s (t ∷ ss) r sp ordered is =
     let same = first_same bytes after sp.0 sp.1 s t r sp.2 sp.3 in (
@@ -170,22 +170,22 @@ one_list (s ∷ ss) (t ∷ ts) bytes a b =
 abbrev pub Follows : ℕ → SectionShape → ℕ → Type 0
 Follows last s now = (may_follow last s ≡ true) × (last_after last s ≡ now)
 
-pub follows_next : (s : SectionShape) (last id now : ℕ) → id ≡ rank s → id ≢ 0 → last < id → now ≡ id → Follows last s now
+pub follows_next : (s : SectionShape) (last id now : ℕ) → id ≡ section_id s → id ≢ 0 → last < id → now ≡ id → Follows last s now
 follows_next s last id now r ne lt is =
-    let no : eqb (rank s) 0 ≡ false = ne_eqb (rank s) 0 (λ e. ne (r ∙ e)) in
-    let yet : ltb last (rank s) ≡ true = lt-ltb last (rank s) (omega (arith, r)) in
+    let no : eqb (section_id s) 0 ≡ false = ne_eqb (section_id s) 0 (λ e. ne (r ∙ e)) in
+    let yet : ltb last (section_id s) ≡ true = lt-ltb last (section_id s) (omega (arith, r)) in
     (rw (no, yet) refl, rw no (sym r ∙ sym is))
 
-pub follows_custom : (s : SectionShape) (last id now : ℕ) → id ≡ rank s → id ≡ 0 → now ≡ last → Follows last s now
+pub follows_custom : (s : SectionShape) (last id now : ℕ) → id ≡ section_id s → id ≡ 0 → now ≡ last → Follows last s now
 follows_custom s last id now r zeroed is =
-    let e : rank s ≡ 0 = sym r ∙ zeroed in
+    let e : section_id s ≡ 0 = sym r ∙ zeroed in
     (rw e refl, rw e (sym is))
 
 -- a section whose id is not above that of the last one
-pub misplaced : (s : SectionShape) (last id : ℕ) → id ≡ rank s → id ≢ 0 → id ≤ last → may_follow last s ≡ false
+pub misplaced : (s : SectionShape) (last id : ℕ) → id ≡ section_id s → id ≢ 0 → id ≤ last → may_follow last s ≡ false
 misplaced s last id r ne le =
-    let named : eqb (rank s) 0 ≡ false = ne_eqb (rank s) 0 (λ e. ne (r ∙ e)) in
-    let behind : ltb last (rank s) ≡ false = le-ltb last (rank s) (omega (arith, r)) in
+    let named : eqb (section_id s) 0 ≡ false = ne_eqb (section_id s) 0 (λ e. ne (r ∙ e)) in
+    let behind : ltb last (section_id s) ≡ false = le-ltb last (section_id s) (omega (arith, r)) in
     rw (named, behind) refl
 
 -- ---- the header, and the whole

@@ -5,7 +5,7 @@ use Rattle.wsyntax.specs.HeldElement.{HeldElement}
 use Rattle.wsyntax.specs.Elements.{with_function}
 use Rattle.wsyntax.specs.Instructions.{Token}
 use Rattle.wsyntax.specs.Modules.{initial_tokens}
-use Rattle.wsyntax.specs.declared.module.Initial.{Initial}
+use Rattle.wsyntax.specs.declared.module.ConstExpr.{ConstExpr}
 use Rattle.wsyntax.specs.Binary.Production.{times_at}
 use Rattle.wsyntax.specs.Binary.Values.{u32}
 use Rattle.wsyntax.specs.Binary.Nesting.{expression}
@@ -59,7 +59,7 @@ unfolding element
 is_read bytes rest after behind end t n offset fs a b c h = rw (a, b, c, h) refl
 
 -- its functions come last
-pub element_given : {X : Type 0} (view : X → List ℕ) (old between new : List HeldElement) (r : Result X Fault) (offset : Initial) (bytes rest after behind : List ℕ) (t n : ℕ) → u32.read bytes ≡ Some (t, rest) → expression.read rest ≡ Some (initial_tokens offset, after) → between ≡ old ++ record { table = t; offset = offset; functions = [] } ∷ [] → u32.read after ≡ Some (n, behind) → GivesFunctions view between new r (times_at u32.read n behind) → GivesElement view old new r (element.read bytes)
+pub element_given : {X : Type 0} (view : X → List ℕ) (old between new : List HeldElement) (r : Result X Fault) (offset : ConstExpr) (bytes rest after behind : List ℕ) (t n : ℕ) → u32.read bytes ≡ Some (t, rest) → expression.read rest ≡ Some (initial_tokens offset, after) → between ≡ old ++ record { table = t; offset = offset; functions = [] } ∷ [] → u32.read after ≡ Some (n, behind) → GivesFunctions view between new r (times_at u32.read n behind) → GivesElement view old new r (element.read bytes)
 element_given view old between new (Ok x) offset bytes rest after behind t n a b one c g =
     let e : HeldElement = record { table = t; offset = offset; functions = g.0 } in (
       e,

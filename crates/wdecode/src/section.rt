@@ -4,7 +4,7 @@ ghost use Rattle.wdecode.specs.Held.{section_shape};
 ghost use Rattle.wsyntax.specs.Binary.Production.{whole_at};
 ghost use Rattle.wsyntax.specs.Binary.Values.{vector_at as vector_of};
 ghost use Rattle.wsyntax.specs.Binary.Sections.{contents, section};
-ghost use Rattle.wsyntax.specs.Binary.Shell.{rank};
+ghost use Rattle.wsyntax.specs.Binary.Shell.{section_id};
 
 use crate::elements::filled_elements;
 use crate::fault::Fault;
@@ -36,7 +36,7 @@ pub(crate) const DATA_SECTION: u8 = 11;
 impl<'a> Section<'a> {
     /// Its id (5.5.2).
     pub(crate) fn id(&self) -> u8
-        ensures { result ≡ rank (section_shape self.now) }
+        ensures { result ≡ section_id (section_shape self.now) }
     {
         match self {
             Section::Custom => 0,

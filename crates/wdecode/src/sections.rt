@@ -10,7 +10,7 @@ use crate::initial::{initial_at, number_at};
 use crate::types::{global_type_at, limits_at, table_type_at, val_type_at};
 use crate::values::{Item, blob_at, name_at, u32_at};
 use std::alloc::Global as Alloc;
-use wsyntax::{Data, Export, ExportKind, Global, Import, ImportKind, Initial, LocalRun};
+use wsyntax::{ConstExpr, Data, Export, ExportKind, Global, Import, ImportKind, LocalRun};
 
 /// What an import asks for (5.5.5).
 #[tactic(auto, unfolding(wsyntax::specs::Binary::Sections::import_kind))]
@@ -97,7 +97,7 @@ fn frequent_data_at(bytes: &[u8]) -> Option<(Data<'_>, &[u8])>
     let Ok((bytes, rest)) = blob_at(rest) else {
         return None;
     };
-    let offset = Initial::I32Const(number);
+    let offset = ConstExpr::I32Const(number);
     Some((
         Data {
             memory,
@@ -111,7 +111,7 @@ fn frequent_data_at(bytes: &[u8]) -> Option<(Data<'_>, &[u8])>
 /// A data segment at the front, whatever its offset is.
 #[inline(never)]
 #[tactic(auto, unfolding(wsyntax::specs::Binary::Sections::data_segment))]
-fn seldom_data_at(alloc: Alloc, bytes: &[u8]) -> Result<(Data<'_>, &[u8]), Fault>
+fn rare_data_at(alloc: Alloc, bytes: &[u8]) -> Result<(Data<'_>, &[u8]), Fault>
     ensures { Gives (λ x. (data_shape x.0, x.1.now)) result (data_segment.read bytes.now) }
 {
     let (memory, rest) = u32_at(bytes)?;
@@ -134,7 +134,7 @@ pub(crate) fn data_at(alloc: Alloc, bytes: &[u8]) -> Result<(Data<'_>, &[u8]), F
 {
     match frequent_data_at(bytes) {
         Some((data, rest)) => Ok((data, rest)),
-        None => seldom_data_at(alloc, bytes),
+        None => rare_data_at(alloc, bytes),
     }
 }
 

@@ -18,7 +18,7 @@ use Rattle.refinement.specs.Machine.{Body, Program}
 use Rattle.interpreter.specs.declared.code.Code.{Code}
 use Rattle.interpreter.specs.Code.{body_of, bodies_of, program_of, IsShapeOf, IsCode}
 use Rattle.accepted.specs.FunctionShapes.{function_shape, function_shapes}
-use Rattle.accepted.specs.TypeNumbers.{AreTypeNumbers}
+use Rattle.accepted.specs.TypeIds.{AreTypeIds}
 use Rattle.wstore.proofs.Programs.{StandsAt, body_at}
 
 -- ---- shapes
@@ -65,7 +65,7 @@ same_test a k false f g = untrue (nat_eq a k) (λ e. f (ap Some (eqb-true a k e)
 type_there : (types : List FuncType) (y : ℕ) → y < length types → slice_get types y ≡ Some (type_at types y)
 type_there types y h = slice_get-get_or types y empty_type h ∙ ap Some (sym (unwrap_or-slice_get types y empty_type))
 
-numbers_tell : (types : List FuncType) (numbers : List ℕ) (y z k : ℕ) (t : FuncType) → AreTypeNumbers types numbers → y < length types → slice_get types z ≡ Some t → slice_get numbers z ≡ Some k
+numbers_tell : (types : List FuncType) (numbers : List ℕ) (y z k : ℕ) (t : FuncType) → AreTypeIds types numbers → y < length types → slice_get types z ≡ Some t → slice_get numbers z ≡ Some k
     → nat_eq (slice_index numbers y) k ≡ same_func_type (type_at types y) t
 numbers_tell types numbers y z k t n within is there =
     let here : slice_get numbers y ≡ Some (slice_index numbers y) = slice_get-get_or numbers y 0 (omega (arith, n.count)) in
@@ -80,7 +80,7 @@ pub record HasParts (c : Code) (m : ModuleShape) (numbers : List ℕ) (all : Lis
   pub functions : c.functions.now ≡ m.functions
   pub bodies : c.bodies.now ≡ all
   pub shapes : c.shapes.now ≡ function_shapes m.types numbers m.functions all
-  pub kinds : c.kinds.now ≡ numbers
+  pub type_ids : c.type_ids.now ≡ numbers
 
 pub parts_program : (c : Code) (m : ModuleShape) (numbers : List ℕ) (all : List CheckedBody) → HasParts c m numbers all → program_of c ≡ record { types = m.types; bodies = bodies_of m.types m.functions all }
 parts_program c m numbers all h =
@@ -91,7 +91,7 @@ function_type m f y rule is =
     let Has : ℕ → Type 0 = λ z. z < length m.types in
     subst Has (get_or_from_slice_get m.functions f y 0 is) (All-get_or Has m.functions f 0 (slice_get_within m.functions f y is) rule)
 
-pub is_code : (c : Code) (m : ModuleShape) (numbers : List ℕ) (all : List CheckedBody) → HasParts c m numbers all → FunctionsTyped m → length m.functions ≡ length all → AreTypeNumbers m.types numbers → IsCode c
+pub is_code : (c : Code) (m : ModuleShape) (numbers : List ℕ) (all : List CheckedBody) → HasParts c m numbers all → FunctionsTyped m → length m.functions ≡ length all → AreTypeIds m.types numbers → IsCode c
 is_code c m numbers all h rule count n =
     let program = parts_program c m numbers all h in
     let stands : (f : ℕ) (b : Body) → slice_get (program_of c).bodies f ≡ Some b → StandsAt m.types m.functions all f b =
@@ -107,11 +107,11 @@ is_code c m numbers all h rule count n =
           let k = slice_index numbers at.of_type in
           subst (λ (x : Body). IsShapeOf x s) at.same
           (subst (IsShapeOf (body_of t at.checked)) (shape_at m.types numbers m.functions all f at.of_type at.checked s (shaped f s es) at.typed at.there) (shape_is t k at.checked));
-      kinds_count = ap length h.kinds ∙ n.count ∙ ap length (sym h.types);
-      kinds = λ f b s y t k eb es et ek.
+      type_ids_count = ap length h.type_ids ∙ n.count ∙ ap length (sym h.types);
+      type_ids = λ f b s y t k eb es et ek.
           let at = stands f b eb in
           let shape = shape_at m.types numbers m.functions all f at.of_type at.checked s (shaped f s es) at.typed at.there in
-          ap (λ (x : FunctionShape). nat_eq x.kind k) (sym shape)
-          ∙ numbers_tell m.types numbers at.of_type y k t n (function_type m f at.of_type rule at.typed) (ap (λ (p : Program). slice_get p.types y) (sym program) ∙ et) (ap (λ ks. slice_get ks y) (sym h.kinds) ∙ ek)
+          ap (λ (x : FunctionShape). nat_eq x.type_id k) (sym shape)
+          ∙ numbers_tell m.types numbers at.of_type y k t n (function_type m f at.of_type rule at.typed) (ap (λ (p : Program). slice_get p.types y) (sym program) ∙ et) (ap (λ ks. slice_get ks y) (sym h.type_ids) ∙ ek)
           ∙ ap (λ (x : Body). same_func_type (x.function).func_type t) at.same;
     }

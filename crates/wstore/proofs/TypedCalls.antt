@@ -28,7 +28,7 @@ use Rattle.interpreter.specs.declared.machine.OutOfMemory.{OutOfMemory}
 use Rattle.wsyntax.specs.Outcomes.{outcome_of}
 use Rattle.accepted.specs.Judgement.{IsJudged, shapes_of}
 use Rattle.accepted.specs.Small.{IsSmall}
-use Rattle.accepted.specs.TypeNumbers.{AreTypeNumbers}
+use Rattle.accepted.specs.TypeIds.{AreTypeIds}
 use Rattle.wstore.specs.Held.{store_of, IsHeld}
 use Rattle.wstore.specs.Runs.{Fits, Runs, StopsShort, IsTypedCall, longest}
 use Rattle.wstore.proofs.Held.{tagged_again, is_held}
@@ -41,11 +41,11 @@ use Rattle.wstore.proofs.ProgramCode.{HasParts, parts_program, is_code}
 pub record Known (m : ModuleShape) (x : IndexedContext) (all : List CheckedBody) (numbers : List ℕ) (store : SlotStore) : Type 0 where
   pub judged : IsJudged m x all
   pub small : IsSmall m all
-  pub numbered : AreTypeNumbers m.types numbers
+  pub numbered : AreTypeIds m.types numbers
   pub runnable : Runnable m (shapes_of all)
   pub held : IsHeld (module_context m) store
 
-pub known : (m : ModuleShape) (x : IndexedContext) (all : List CheckedBody) (numbers : List ℕ) (store : SlotStore) → ∥ IsJudged m x all ∥₁ → ∥ IsSmall m all ∥₁ → ∥ AreTypeNumbers m.types numbers ∥₁
+pub known : (m : ModuleShape) (x : IndexedContext) (all : List CheckedBody) (numbers : List ℕ) (store : SlotStore) → ∥ IsJudged m x all ∥₁ → ∥ IsSmall m all ∥₁ → ∥ AreTypeIds m.types numbers ∥₁
     → ∥ Runnable m (shapes_of all) ∥₁ → ∥ IsHeld (module_context m) store ∥₁ → ∥ Known m x all numbers store ∥₁
 known m x all numbers store judged small numbered runnable held =
     ∥∥₁_elim judged ∥∥₁_prop (λ j. ∥∥₁_elim small ∥∥₁_prop (λ s. ∥∥₁_elim numbered ∥∥₁_prop (λ n. ∥∥₁_elim runnable ∥∥₁_prop (λ r.

@@ -19,7 +19,7 @@ fn code_of<'a>(accepted: &'a Accepted<'_>) -> Code<'a>
     ensures functions { result.functions.now ≡ accepted.now.module.functions.items }
     ensures bodies { result.bodies.now ≡ accepted.now.bodies.items }
     ensures shapes { result.shapes.now ≡ accepted.now.shapes.items }
-    ensures kinds { result.kinds.now ≡ accepted.now.type_numbers.items }
+    ensures type_ids { result.type_ids.now ≡ accepted.now.type_ids.items }
 {
     let module = accepted.module();
     Code {
@@ -27,7 +27,7 @@ fn code_of<'a>(accepted: &'a Accepted<'_>) -> Code<'a>
         functions: &module.functions,
         bodies: accepted.bodies(),
         shapes: accepted.function_shapes(),
-        kinds: accepted.type_numbers(),
+        type_ids: accepted.type_ids(),
     }
 }
 

@@ -10,7 +10,7 @@ ghost use Rattle.wstore.specs.LaidOut.{IsLaidOut};
 use crate::memory_part::module_memory;
 use crate::table_part::module_table;
 use accepted::Layout;
-use interpreter::Parts;
+use interpreter::StoreParts;
 use memory::CleanMem;
 use std::alloc::Global;
 use wsyntax::Module;
@@ -23,7 +23,7 @@ pub(crate) fn fresh_parts(
     layout: &Layout,
     pages: u32,
     clean: CleanMem,
-) -> Result<(Parts, CleanMem), CleanMem>
+) -> Result<(StoreParts, CleanMem), CleanMem>
     requires allowed { IsLaidOut pages (module_shape «module».now) }
     requires laid { IsLayoutOf (module_shape «module».now) layout.now }
     ensures fresh { IfOk result (λ r. seen r.0 ≡ slot_store (fresh_store pages (module_shape «module».now))) }
@@ -37,7 +37,7 @@ pub(crate) fn fresh_parts(
         return Err(clean);
     };
     let (memory, lent) = module_memory(alloc, module, layout, pages, clean)?;
-    let parts = Parts {
+    let parts = StoreParts {
         memory,
         table,
         globals,

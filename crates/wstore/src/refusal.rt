@@ -10,22 +10,22 @@ use wsyntax::{Module, StartRefusal};
 /// The most entries that the table of an instance may have.
 const TABLE_LIMIT: u32 = 65_536;
 
-/// Why there is no instance of a module, the refusal of the least number where there are several. `mentions_floats` says whether
+/// Why there is no instance of a module, the refusal of the least number where there are several. `uses_floats` says whether
 /// the module mentions floats. It takes constant time.
 pub(crate) fn refusal(
     module: &Module<'_>,
     layout: &Layout,
-    mentions_floats: bool,
+    uses_floats: bool,
     pages: u32,
 ) -> Option<StartRefusal>
     requires { IsLayoutOf (module_shape «module».now) layout.now }
-    ensures { (bodies : List BodyShape) → mentions_floats ≡ has_floats (module_shape «module».now) bodies
+    ensures { (bodies : List BodyShape) → uses_floats ≡ has_floats (module_shape «module».now) bodies
         → option_map refusal_of result ≡ start_refusal pages (module_shape «module».now) bodies }
 {
     if !module.imports.is_empty() {
         return Some(StartRefusal::HasImports);
     }
-    if mentions_floats {
+    if uses_floats {
         return Some(StartRefusal::HasFloats);
     }
     if table_size(module) > TABLE_LIMIT {

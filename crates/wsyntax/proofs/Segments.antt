@@ -4,7 +4,7 @@ use Rattle.std.specs.List.{slice_range}
 use Rattle.std.proofs.lemmas.List.{drop-append-le, length-drop}
 use Rattle.std.proofs.Math.ListN.{set}
 use Rattle.std.proofs.Math.Seq.{take-length, set-append_seam, get_or-append_seam}
-use Rattle.wsyntax.specs.declared.module.Initial.{Initial}
+use Rattle.wsyntax.specs.declared.module.ConstExpr.{ConstExpr}
 use Rattle.wsyntax.specs.HeldElement.{HeldElement}
 use Rattle.wsyntax.specs.Elements.{element_in, elements_from, FillFrom, start_at, with_function}
 use Rattle.wsyntax.specs.declared.elements.Segment.{Segment}

@@ -1,8 +1,8 @@
 -- 2.5.7 An element segment as it is held.
 use Rattle.std.specs.Prelude.{ℕ, List}
-use Rattle.wsyntax.specs.declared.module.Initial.{Initial}
+use Rattle.wsyntax.specs.declared.module.ConstExpr.{ConstExpr}
 
 pub record HeldElement : Type 0 where
   pub table : ℕ
-  pub offset : Initial
+  pub offset : ConstExpr
   pub functions : List ℕ

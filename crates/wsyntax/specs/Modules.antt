@@ -9,8 +9,8 @@ use Rattle.wsyntax.specs.declared.instructions.Token.TheVariants as flat
 use Rattle.wsyntax.specs.HeldElement.{HeldElement}
 use Rattle.wsyntax.specs.declared.module.Module.{Module}
 use Rattle.wsyntax.specs.declared.module.Expression.{Expression}
-use Rattle.wsyntax.specs.declared.module.Initial.{Initial}
-use Rattle.wsyntax.specs.declared.module.Initial.TheVariants as initial
+use Rattle.wsyntax.specs.declared.module.ConstExpr.{ConstExpr}
+use Rattle.wsyntax.specs.declared.module.ConstExpr.TheVariants as initial
 use Rattle.wsyntax.specs.declared.module.Table.{Table}
 use Rattle.wsyntax.specs.declared.module.Global.{Global}
 use Rattle.wsyntax.specs.declared.module.Data.{Data}
@@ -60,12 +60,12 @@ abbrev pub tokens_of : Expression → List Token
 tokens_of e = map (seen e.targets.items) e.tokens.items
 
 -- the one instruction of an expression, where it is one and its end
-abbrev pub only : List Flat → Option Flat
-only (t ∷ flat.End ∷ []) = Some t
-only _ = None
+abbrev pub single_instruction : List Flat → Option Flat
+single_instruction (t ∷ flat.End ∷ []) = Some t
+single_instruction _ = None
 
 -- what the expression of a first value or an offset holds: the tokens of the code, the list of targets, and what they stand for
-abbrev pub initial_held : Initial → List Flat
+abbrev pub initial_held : ConstExpr → List Flat
 initial_held initial.Nothing = flat.End ∷ []
 initial_held (initial.I32Const n) = flat.I32Const n ∷ flat.End ∷ []
 initial_held (initial.I64Const n) = flat.I64Const n ∷ flat.End ∷ []
@@ -74,11 +74,11 @@ initial_held (initial.F64Const bytes) = flat.F64Const bytes ∷ flat.End ∷ []
 initial_held (initial.GlobalGet x) = flat.GlobalGet x ∷ flat.End ∷ []
 initial_held (initial.Other e) = e.value.tokens.items
 
-abbrev pub initial_targets : Initial → List ℕ
+abbrev pub initial_targets : ConstExpr → List ℕ
 initial_targets (initial.Other e) = e.value.targets.items
 initial_targets _ = []
 
-abbrev pub initial_tokens : Initial → List Token
+abbrev pub initial_tokens : ConstExpr → List Token
 initial_tokens i = map (seen (initial_targets i)) (initial_held i)
 
 -- ---- 2.5 modules

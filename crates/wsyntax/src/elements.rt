@@ -1,7 +1,7 @@
 ghost use Rattle.std.specs.Prelude.{◌≡◌, ◌<◌, ◌≤◌, IfOk, length, slice_range};
 ghost use Rattle.wsyntax.specs.Elements.{start_at};
 
-use crate::module::Initial;
+use crate::module::ConstExpr;
 use crate::places::place_in_list;
 use std::alloc::{AllocError, Global as Alloc};
 use std::marker::Model;
@@ -12,7 +12,7 @@ use std::mem::size_of;
 #[derive(Clone, Copy, Debug)]
 pub struct Element<'a> {
     pub table: u32,
-    pub offset: &'a Initial,
+    pub offset: &'a ConstExpr,
     pub functions: &'a [u32],
 }
 
@@ -22,7 +22,7 @@ pub struct Element<'a> {
 pub(crate) struct Segment {
     pub(crate) table: u32,
     pub(crate) end: u32,
-    pub(crate) offset: Initial,
+    pub(crate) offset: ConstExpr,
 }
 
 const _: () = prove!(size_of::<Segment>() == 24);
@@ -94,7 +94,7 @@ impl Elements {
     }
 
     /// Pushes a segment that has no functions yet.
-    pub fn push(&mut self, table: u32, offset: Initial) -> Result<(), AllocError>
+    pub fn push(&mut self, table: u32, offset: ConstExpr) -> Result<(), AllocError>
         ensures { IfOk result (λ _. self.new ≡ self.old ++ (record { table = table; offset = offset; functions = [] }) ∷ []) }
     {
         let end = place_in_list(self.functions.len())?;

@@ -28,7 +28,7 @@ pub use func_types::{FuncType, FuncTypes};
 pub use instruction_row::{Immediates, Row};
 pub use instructions::{BlockType, Load, Operator, Store, Token};
 pub use module::{
-    Body, Data, Export, ExportKind, Expression, Global, Import, ImportKind, Initial, LocalRun,
+    Body, ConstExpr, Data, Export, ExportKind, Expression, Global, Import, ImportKind, LocalRun,
     Module, Table,
 };
 pub use opcode::Opcode;

@@ -21,7 +21,7 @@ pub struct Expression {
 /// The expression of a first value (2.5.6) or of an offset (2.5.7, 2.5.8): in place where it is empty, one constant or one
 /// `global.get`, and in an allocation of its own where it is any other.
 #[derive(Debug, Drop)]
-pub enum Initial {
+pub enum ConstExpr {
     Nothing,
     I32Const(i32),
     I64Const(i64),
@@ -32,15 +32,15 @@ pub enum Initial {
     Other(Box<Expression>),
 }
 
-const _: () = prove!(size_of::<Initial>() == 16);
+const _: () = prove!(size_of::<ConstExpr>() == 16);
 
 impl Expression {
     ghost use Rattle.std.specs.Prelude.{◌≡◌};
-    ghost use Rattle.wsyntax.specs.Modules.{only};
+    ghost use Rattle.wsyntax.specs.Modules.{single_instruction};
 
     /// The one instruction of the expression, where it is one and its end.
-    fn only(&self) -> Option<Token>
-        ensures { result ≡ only self.now.tokens.items }
+    fn single_instruction(&self) -> Option<Token>
+        ensures { result ≡ single_instruction self.now.tokens.items }
     {
         match self.tokens.as_slice() {
             [token, Token::End] => Some(*token),
@@ -49,22 +49,22 @@ impl Expression {
     }
 }
 
-impl Initial {
+impl ConstExpr {
     ghost use Rattle.std.specs.Prelude.{◌≡◌};
-    ghost use Rattle.wsyntax.specs.Modules.{only, initial_held};
+    ghost use Rattle.wsyntax.specs.Modules.{single_instruction, initial_held};
 
     /// The one instruction of the expression, where it is one and its end.
-    pub fn only(&self) -> Option<Token>
-        ensures { result ≡ only (initial_held self.now) }
+    pub fn single_instruction(&self) -> Option<Token>
+        ensures { result ≡ single_instruction (initial_held self.now) }
     {
         match self {
-            Initial::Nothing => None,
-            Initial::I32Const(number) => Some(Token::I32Const(*number)),
-            Initial::I64Const(number) => Some(Token::I64Const(*number)),
-            Initial::F32Const(bytes) => Some(Token::F32Const(*bytes)),
-            Initial::F64Const(bytes) => Some(Token::F64Const(*bytes)),
-            Initial::GlobalGet(global) => Some(Token::GlobalGet(*global)),
-            Initial::Other(expression) => expression.only(),
+            ConstExpr::Nothing => None,
+            ConstExpr::I32Const(number) => Some(Token::I32Const(*number)),
+            ConstExpr::I64Const(number) => Some(Token::I64Const(*number)),
+            ConstExpr::F32Const(bytes) => Some(Token::F32Const(*bytes)),
+            ConstExpr::F64Const(bytes) => Some(Token::F64Const(*bytes)),
+            ConstExpr::GlobalGet(global) => Some(Token::GlobalGet(*global)),
+            ConstExpr::Other(expression) => expression.single_instruction(),
         }
     }
 }
@@ -79,14 +79,14 @@ pub struct Table {
 #[derive(Debug, Drop)]
 pub struct Global {
     pub content: GlobalType,
-    pub init: Initial,
+    pub init: ConstExpr,
 }
 
 /// A data segment (2.5.8): the index of its memory, the expression of its offset, and its bytes, which lie in the input.
 #[derive(Debug, Drop)]
 pub struct Data<'a> {
     pub memory: u32,
-    pub offset: Initial,
+    pub offset: ConstExpr,
     pub bytes: &'a [u8],
 }
 

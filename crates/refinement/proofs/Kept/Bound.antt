@@ -5,7 +5,7 @@ use Rattle.std.proofs.lemmas.Option.{slice_get_within}
 use Rattle.wsyntax.specs.Types.{FuncType, same_func_type}
 use Rattle.wsyntax.specs.Instructions.{Op, Unreachable, Nop, Return, Br, BrIf, Call, CallIndirect, BrTable, Drop, Select, LocalGet, LocalSet, LocalTee, GlobalGet, GlobalSet, MemoryLoad, MemoryStore, MemorySize, MemoryGrow, Const, Numeric, Token, Do, OpenBlock, OpenLoop, OpenIf, Else, End}
 use Rattle.wsyntax.specs.Execution.Store.{Entry, Unset, SetTo}
-use Rattle.checked.specs.declared.destination.Destination.{Destination}
+use Rattle.checked.specs.declared.branch.Branch.{Branch}
 use Rattle.checked.specs.SideTable.{LeadsOn, Bounded}
 use Rattle.soundness.specs.Slots.{Effect, Puts, Fails, Off, effect}
 use Rattle.refinement.specs.Machine.{Body, Program, Caller, Machine, Gave, TrappedBy, NoFuel, NoFrames, Did, Going, Over, Broken, goes, on_found, on_operand, kept_by, lands, entry_here, jumps_here, moves_here, case_of, paid, leaves_to, entered, enters, enters_entry, takes_effect, does, takes, turn, ticked, token_here}
@@ -59,7 +59,7 @@ module _ (L : ℕ) where
   next_less : (b : Body) (pc : ℕ) → pc < length (b.filled).tokens → remains b (pc + 1) < length (b.filled).tokens - pc
   next_less b pc h = omega (arith, h, remains_le b (pc + 1))
 
-  lead_less : (b : Body) (pc : ℕ) (e : Destination) → pc < length (b.filled).tokens → LeadsOn b.filled pc e → remains b e.target < length (b.filled).tokens - pc
+  lead_less : (b : Body) (pc : ℕ) (e : Branch) → pc < length (b.filled).tokens → LeadsOn b.filled pc e → remains b e.target < length (b.filled).tokens - pc
   lead_less b pc e h l =
       ⊎_elim
       (λ lt. omega (arith, h, lt, l.0, remains_le b e.target))
@@ -89,7 +89,7 @@ module _ (L : ℕ) where
     next_costs ns =
         on_to m (record m { pc = m.pc + 1; operands = ns }) refl refl refl (omega (arith, plain, next_less m.body m.pc within))
 
-    land_costs : (ns : List ℕ) (e : Destination) → LeadsOn (m.body).filled m.pc e → Costs 1 m (goes m e.target ns)
+    land_costs : (ns : List ℕ) (e : Branch) → LeadsOn (m.body).filled m.pc e → Costs 1 m (goes m e.target ns)
     land_costs ns e l =
         on_to m (record m { pc = e.target; operands = ns }) refl refl refl (omega (arith, plain, lead_less m.body m.pc e within l))
 
@@ -129,7 +129,7 @@ module _ (L : ℕ) where
           found_costs m (slice_get p.bodies f) (λ b. if same_func_type (b.function).func_type t then enters frames m ns b else Over (TrappedBy _) m.store m.fuel)
           (λ b e. test_costs m (same_func_type (b.function).func_type t) (enters frames m ns b) _ (enter_costs frames ns b (all f b e)) (fail_costs, refl))
 
-      does_costs : (i : Op) → ((ls : List ℕ) (d : ℕ) (e : Destination) → i ≡ BrTable ls d → entry_here m ≡ Some e → (n : ℕ) (to : Destination) → case_of m e n ≡ Some to → LeadsOn (m.body).filled m.pc to) → Costs 1 m (does p frames m i)
+      does_costs : (i : Op) → ((ls : List ℕ) (d : ℕ) (e : Branch) → i ≡ BrTable ls d → entry_here m ≡ Some e → (n : ℕ) (to : Branch) → case_of m e n ≡ Some to → LeadsOn (m.body).filled m.pc to) → Costs 1 m (does p frames m i)
       does_costs (Br l) tb = jump_costs m.operands
       does_costs (BrIf l) tb =
           operand_costs m m.operands (λ c ns. if nat_eq c 0 then goes m (m.pc + 1) ns else jumps_here m ns) (λ c ns. test_costs m (nat_eq c 0) (goes m (m.pc + 1) ns) (jumps_here m ns) (next_costs ns) (jump_costs ns))
@@ -177,7 +177,7 @@ module _ (L : ℕ) where
     pub short : length ((m.body).filled).tokens ≤ L
     pub all : (f : ℕ) (b : Body) → slice_get p.bodies f ≡ Some b → length (b.filled).tokens ≤ L
     pub bounded : Bounded (m.body).filled
-    pub cases : (ls : List ℕ) (d : ℕ) (e : Destination) → token_here m ≡ Some (Do (BrTable ls d)) → entry_here m ≡ Some e → e.arity ≡ length ls
+    pub cases : (ls : List ℕ) (d : ℕ) (e : Branch) → token_here m ≡ Some (Do (BrTable ls d)) → entry_here m ≡ Some e → e.arity ≡ length ls
 
   token_costs : (p : Program) (frames : ℕ) (m : Machine) (o : Option Token) → Fine p m → token_here m ≡ o → Costs (ticked o 0) m (takes p frames m o)
   token_costs p frames m None fine e = fall_costs m _ m.callers refl

@@ -14,7 +14,7 @@ use Rattle.wsyntax.specs.Execution.Values.{type_of, types}
 use Rattle.wsyntax.specs.Execution.Store.{SetTo}
 use Rattle.wsyntax.specs.Execution.Layers.{LabelLayer}
 use Rattle.wsyntax.specs.Execution.ConfigTyped.{MemoryTyped, TableTyped, ConfigTyped, global_types}
-use Rattle.checked.specs.declared.destination.Destination.{Destination}
+use Rattle.checked.specs.declared.branch.Branch.{Branch}
 use Rattle.checked.specs.SideTable.{Lab, Place, Begins, Entering, Bounded, chosen_label}
 use Rattle.soundness.specs.State.{belows, config_of}
 use Rattle.soundness.specs.Slots.{bits, slots}
@@ -54,14 +54,14 @@ module _ (w : World) (sp : Spot) (s : Stands w sp) (levels : List LabelLayer) (h
   locals_length = length-map sp.locals bits ∙ types_length sp.locals (locals_at sp) s.locals
 
   -- a branch finds its operands among that many
-  lands_among : (held : List Value) (l n : ℕ) (lab : Lab) (to : Destination) → slice_get here.labels l ≡ Some lab → Entering lab to → Begins lab.kept (types held) → n ≡ length held + length (belows levels) → to.height + to.arity ≤ n
+  lands_among : (held : List Value) (l n : ℕ) (lab : Lab) (to : Branch) → slice_get here.labels l ≡ Some lab → Entering lab to → Begins lab.kept (types held) → n ≡ length held + length (belows levels) → to.height + to.arity ≤ n
   lands_among held l n lab to at_label ent b e =
       let t = target_of (context_of w.C sp.body) (sp.body).filled (results_at sp) levels l lab here lf at_label in
       let all = ap length t.split ∙ length-append t.above _ in
       omega (arith, e, all, ent.1, ent.2, t.height, begins_length lab.kept held b)
 
   -- the entry leads to a token or after the last
-  pub moves : (held : List Value) (code : Code) (e : Destination) → slice_get ((sp.body).filled).table sp.pc ≡ Some e → CanMove (At held code)
+  pub moves : (held : List Value) (code : Code) (e : Branch) → slice_get ((sp.body).filled).table sp.pc ≡ Some e → CanMove (At held code)
   moves held code e at_entry = (e, at_entry, (bounded.leads sp.pc e at_entry).0)
 
   -- what an instruction takes is there

@@ -8,7 +8,7 @@ use Rattle.wsyntax.specs.Validation.Context.{Stack}
 use Rattle.wsyntax.specs.Execution.Values.{types}
 use Rattle.wsyntax.specs.Execution.Layers.{LabelLayer}
 use Rattle.wsyntax.specs.Execution.ConfigTyped.{ConfigTyped}
-use Rattle.checked.specs.declared.destination.Destination.{Destination}
+use Rattle.checked.specs.declared.branch.Branch.{Branch}
 use Rattle.checked.specs.SideTable.{Filled, Place, Closes, ByEnd, ByElse, Jumps}
 use Rattle.soundness.specs.State.{config_of}
 use Rattle.refinement.specs.Machine.{turn, ticked, token_here, entry_here}
@@ -100,16 +100,16 @@ took w j r t s =
 
 -- ---- the entry of a branch table has the number of its labels
 
-table_entry : (fn : Filled) (here : Place) (pc : ℕ) (i : Op) (ls : List ℕ) (d : ℕ) (e : Destination) → Do i ≡ Do (BrTable ls d) → Jumps fn here.labels pc i → slice_get fn.table pc ≡ Some e → e.arity ≡ length ls
+table_entry : (fn : Filled) (here : Place) (pc : ℕ) (i : Op) (ls : List ℕ) (d : ℕ) (e : Branch) → Do i ≡ Do (BrTable ls d) → Jumps fn here.labels pc i → slice_get fn.table pc ≡ Some e → e.arity ≡ length ls
 table_entry fn here pc i ls d e is jumps at_entry =
     let same : i ≡ BrTable ls d = cc is in
     let j : Jumps fn here.labels pc (BrTable ls d) = subst (Jumps fn here.labels pc) same jumps in
-    ap (λ (x : Destination). x.arity) (some_same e j.0 (sym at_entry ∙ j.1)) ∙ j.2
+    ap (λ (x : Branch). x.arity) (some_same e j.0 (sym at_entry ∙ j.1)) ∙ j.2
 
 no_table : {t : Token} {ls : List ℕ} {d : ℕ} (o : Option Token) → o ≡ Some t → o ≡ Some (Do (BrTable ls d)) → t ≡ Do (BrTable ls d)
 no_table o e h = some_same _ _ (sym e ∙ h)
 
-code_table : (code : Code) (w : World) (sp : Spot) (levels : List LabelLayer) (here : Place) → Levels w sp levels here → (held : List Value) → Fit w sp code here sp.pc (types held) → (ls : List ℕ) (d : ℕ) (e : Destination) → slice_get ((sp.body).filled).tokens sp.pc ≡ Some (Do (BrTable ls d)) → slice_get ((sp.body).filled).table sp.pc ≡ Some e → e.arity ≡ length ls
+code_table : (code : Code) (w : World) (sp : Spot) (levels : List LabelLayer) (here : Place) → Levels w sp levels here → (held : List Value) → Fit w sp code here sp.pc (types held) → (ls : List ℕ) (d : ℕ) (e : Branch) → slice_get ((sp.body).filled).tokens sp.pc ≡ Some (Do (BrTable ls d)) → slice_get ((sp.body).filled).table sp.pc ≡ Some e → e.arity ≡ length ls
 code_table Stop w sp [] here lf held f ls d e token at_entry =
     let lt = slice_get_within ((sp.body).filled).tokens sp.pc (Do (BrTable ls d)) token in
     absurd (omega (arith, lt, f.0, lf.2))
@@ -127,6 +127,6 @@ code_table (If b body rest) w sp levels here lf held f ls d e token at_entry =
 code_table (IfElse b body other rest) w sp levels here lf held f ls d e token at_entry =
     let h : OpenIf b ≡ Do (BrTable ls d) = no_table _ f.5 token in absurd (cc h)
 
-pub table_of : (w : World) (j : Joint) → Sites w.C w.p j → (ls : List ℕ) (d : ℕ) (e : Destination) → token_here (machine_of j) ≡ Some (Do (BrTable ls d)) → entry_here (machine_of j) ≡ Some e → e.arity ≡ length ls
+pub table_of : (w : World) (j : Joint) → Sites w.C w.p j → (ls : List ℕ) (d : ℕ) (e : Branch) → token_here (machine_of j) ≡ Some (Do (BrTable ls d)) → entry_here (machine_of j) ≡ Some e → e.arity ≡ length ls
 table_of w j s ls d e token at_entry =
     code_table (j.running).code w (spot j) (j.running).levels (s.running).here (s.running).levels (j.running).held (s.running).fits ls d e token at_entry

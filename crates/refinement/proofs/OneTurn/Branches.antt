@@ -10,7 +10,7 @@ use Rattle.wsyntax.specs.Execution.Chain.{Within}
 use Rattle.wsyntax.specs.Execution.Layers.{LabelLayer, in_labels}
 use Rattle.soundness.specs.State.{config_of, belows, frames_around}
 use Rattle.soundness.specs.Slots.{bits, slots}
-use Rattle.checked.specs.declared.destination.Destination.{Destination}
+use Rattle.checked.specs.declared.branch.Branch.{Branch}
 use Rattle.checked.specs.SideTable.{chosen_label}
 use Rattle.refinement.specs.Machine.{Program, module_of, Going, goes, lands, on_found, jumps_here, case_of, takes}
 use Rattle.refinement.specs.Joint.{Joint, activation, state_of, machine_of}
@@ -34,7 +34,7 @@ splits (y ∷ ys) (suc x) lv e =
     record { above = y.below ++ t.above; is = ap (λ l. y.below ++ l) t.is ∙ sym (append_assoc y.below t.above (lv.below ++ belows (drop (suc x) ys))) }
 
 -- the machine lands where the configuration does
-pub lands_there : (j : Joint) (x : ℕ) (lv : LabelLayer) (to : Destination) → slice_get (j.running).levels x ≡ Some lv → EntryFits j x lv to → lv.arity ≤ length (j.running).held → lands (machine_of j) (slots ((j.running).held ++ belows (j.running).levels)) to ≡ Going (machine_of (branched j x lv to.target))
+pub lands_there : (j : Joint) (x : ℕ) (lv : LabelLayer) (to : Branch) → slice_get (j.running).levels x ≡ Some lv → EntryFits j x lv to → lv.arity ≤ length (j.running).held → lands (machine_of j) (slots ((j.running).held ++ belows (j.running).levels)) to ≡ Going (machine_of (branched j x lv to.target))
 lands_there j x lv to el ef le =
     let vs = (j.running).held in
     let lower = belows (j.running).levels in

@@ -12,7 +12,7 @@ use Rattle.wsyntax.specs.Execution.Ends.{EndsAs}
 use Rattle.wsyntax.specs.Execution.Layers.{LabelLayer, label_around, in_labels}
 use Rattle.soundness.specs.State.{Activation, config_of, belows, frames_around}
 use Rattle.soundness.specs.Slots.{slots}
-use Rattle.checked.specs.declared.destination.Destination.{Destination}
+use Rattle.checked.specs.declared.branch.Branch.{Branch}
 use Rattle.refinement.specs.Machine.{Program, module_of, NoFuel, Going, Over, goes, paid, on_found, takes}
 use Rattle.refinement.specs.Joint.{Joint, activation, state_of, machine_of}
 use Rattle.refinement.specs.Reduction.{ReductionLaws}
@@ -91,7 +91,7 @@ module _ (laws : ReductionLaws) where
       record {
         kinds = Quiet ∷ [];
         machine = ap (takes p frames (machine_of (opened j lv (j.running).pc (j.running).held Stop))) et
-            ∙ ap (λ o. on_found o (λ (e : Destination). goes (machine_of j) e.target (slots vs))) ej
+            ∙ ap (λ o. on_found o (λ (e : Branch). goes (machine_of j) e.target (slots vs))) ej
             ∙ ap (λ vs. goes (machine_of j) to.target (slots vs)) (sym (append_assoc (j.running).held lv.below (belows (j.running).levels)));
         chain = Within.after {d = config_of (state_of (record j { running = record (j.running) { pc = to.target; held = (j.running).held ++ lv.below; code = lv.rest } }))} (leave_step p j lv) (omega arith) (λ q. absurd cc) Within.ends;
         few = omega arith;

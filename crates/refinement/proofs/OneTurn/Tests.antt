@@ -13,7 +13,7 @@ use Rattle.wsyntax.specs.Execution.Chain.{Within}
 use Rattle.wsyntax.specs.Execution.Layers.{label_around, in_labels}
 use Rattle.soundness.specs.State.{config_of, belows, frames_around}
 use Rattle.soundness.specs.Slots.{slots}
-use Rattle.checked.specs.declared.destination.Destination.{Destination}
+use Rattle.checked.specs.declared.branch.Branch.{Branch}
 use Rattle.refinement.specs.Machine.{Program, module_of, goes, on_found, moves_here, takes}
 use Rattle.refinement.specs.Joint.{Joint, activation, state_of, machine_of}
 use Rattle.refinement.specs.Reduction.{ReductionLaws}
@@ -54,7 +54,7 @@ module _ (laws : ReductionLaws) where
       let m = machine_of (holding j n) in
       record {
         kinds = Quiet ∷ [];
-        machine = ap (takes p frames m) et ∙ ap (λ c. cond c (moves_here m ns) (goes m ((j.running).pc + 1) ns)) en ∙ ap (λ o. on_found o (λ (e : Destination). goes m e.target ns)) ej ∙ ap (λ ns. goes (machine_of j) to.target ns) (split_again (length t.params) (j.running).held (belows (j.running).levels));
+        machine = ap (takes p frames m) et ∙ ap (λ c. cond c (moves_here m ns) (goes m ((j.running).pc + 1) ns)) en ∙ ap (λ o. on_found o (λ (e : Branch). goes m e.target ns)) ej ∙ ap (λ ns. goes (machine_of j) to.target ns) (split_again (length t.params) (j.running).held (belows (j.running).levels));
         chain = Within.after {d = config_of (state_of (opened j (block_label t (j.running).held rest) to.target (take (length t.params) (j.running).held) other))} (if_step p j n b body other rest other t (ap (λ c. cond c other body) en) ei eb le) (omega arith) (λ q. absurd cc) Within.ends;
         few = omega arith;
       }

@@ -1,6 +1,6 @@
 // What an accepted module lends: its parts, its context and its checked bodies.
 use batch::{Plan, Quiet};
-use checked::Destination;
+use checked::Branch;
 use std::alloc::Global;
 use std::process::Abort;
 use std::sync::Wait;
@@ -94,7 +94,7 @@ fn lends_locals_and_tokens<R: Abort>(rt: &R, accepted: &Accepted<'_>) -> Result<
 fn lends_the_place_of_a_branch<R: Abort>(rt: &R, accepted: &Accepted<'_>) -> Result<(), Fail> {
     let body = accepted.body(1).ok_or("no body")?;
     // on after the block's end, with one operand above the 5
-    let behind = Destination {
+    let behind = Branch {
         target: 8,
         arity: 1,
         height: 1,
@@ -105,8 +105,8 @@ fn lends_the_place_of_a_branch<R: Abort>(rt: &R, accepted: &Accepted<'_>) -> Res
     Ok(())
 }
 
-fn to(target: u32) -> Destination {
-    Destination {
+fn to(target: u32) -> Branch {
+    Branch {
         target,
         arity: 0,
         height: 0,
@@ -144,19 +144,24 @@ fn lends_the_shapes_of_functions<R: Abort>(rt: &R, accepted: &Accepted<'_>) -> R
         return Err("two shapes".into());
     };
     assert_eq!(rt;
-        (first.params, first.declared, first.results, first.kind),
+        (first.params, first.declared, first.results, first.type_id),
         (1, 2, 1, 1)
     );
     assert_eq!(rt;
-        (second.params, second.declared, second.results, second.kind),
+        (
+            second.params,
+            second.declared,
+            second.results,
+            second.type_id
+        ),
         (1, 0, 0, 2)
     );
     Ok(())
 }
 
 fn lends_the_numbers_of_types<R: Abort>(rt: &R, accepted: &Accepted<'_>) {
-    assert_eq!(rt; accepted.type_numbers(), [0, 1, 2].as_slice());
-    assert_eq!(rt; accepted.function_type_number(2), Some(2));
+    assert_eq!(rt; accepted.type_ids(), [0, 1, 2].as_slice());
+    assert_eq!(rt; accepted.function_type_id(2), Some(2));
     assert!(rt; !accepted.has_floats() && accepted.bodies().len() == 2);
 }
 

@@ -9,7 +9,7 @@ use std::sync::atomic::{AtomicBool, Ordering};
 use std::test::Fail;
 use std::thread;
 use std::thread::Threads;
-use verdict::{Accepted, Class, Refusal, examine, judge};
+use verdict::{Accepted, BodyRefusal, Refusal, examine, judge};
 
 // (module (func (export "f")) (func))
 const ACCEPTED: &[u8] = b"\0asm\x01\0\0\0\
@@ -39,7 +39,7 @@ const ACCEPTANCE: Result<(), Refusal> = Ok(());
 
 const REFUSAL: Result<(), Refusal> = Err(Refusal::Body {
     func: 1,
-    class: Class::IllTyped { at: 0 },
+    refusal: BodyRefusal::IllTyped { at: 0 },
 });
 
 /// How often an index looks for the other before it gives up.

@@ -4,7 +4,7 @@ use crate::judges::verdict_line;
 use batch::{Plan, Quiet, Status};
 use std::alloc::{AllocError, Global};
 use std::test::Fail;
-use verdict::{Class, Refusal, examine};
+use verdict::{BodyRefusal, Refusal, examine};
 
 // The header, the type [] -> [], and the head of a section of 1,000 functions.
 const FRONT: [u8; 19] = [
@@ -58,12 +58,12 @@ fn thousand_bodies(
 
 const THIRD: Refusal = Refusal::Body {
     func: 3,
-    class: Class::IllTyped { at: 0 },
+    refusal: BodyRefusal::IllTyped { at: 0 },
 };
 
 const LATE: Refusal = Refusal::Body {
     func: 900,
-    class: Class::IllTyped { at: 100 },
+    refusal: BodyRefusal::IllTyped { at: 100 },
 };
 
 #[test]

@@ -43,7 +43,7 @@ impl OperandStack<'_> {
 
     /// Writes the second type over that of the topmost operand, if that is known to be of the first.
     #[inline(always)]
-    pub(crate) fn change_known(&mut self, t: ValType, u: ValType) -> bool
+    pub(crate) fn apply_unary_known(&mut self, t: ValType, u: ValType) -> bool
         ensures above { result ≡ true → apply (Takes (t ∷ []) (u ∷ [])) self.old.above ≡ Some self.new.above }
         ensures others { result ≡ false → self.new.above ≡ self.old.above }
         ensures below { self.new.below ≡ self.old.below }
@@ -59,7 +59,7 @@ impl OperandStack<'_> {
 
     /// Puts an operand of the second type in the place of the two topmost, if both are known to be of the first.
     #[inline(always)]
-    pub(crate) fn combine_known(&mut self, t: ValType, u: ValType) -> bool
+    pub(crate) fn apply_binary_known(&mut self, t: ValType, u: ValType) -> bool
         ensures above { result ≡ true → apply (Takes (t ∷ t ∷ []) (u ∷ [])) self.old.above ≡ Some self.new.above }
         ensures others { result ≡ false → self.new.above ≡ self.old.above }
         ensures below { self.new.below ≡ self.old.below }

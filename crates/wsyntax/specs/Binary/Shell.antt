@@ -9,26 +9,26 @@ abbrev pub header : List ℕ
 header = 0x00 ∷ 0x61 ∷ 0x73 ∷ 0x6D ∷ 0x01 ∷ 0x00 ∷ 0x00 ∷ 0x00 ∷ []
 
 -- 5.5.2 the id of a section
-abbrev pub rank : SectionShape → ℕ
-rank Custom = 0
-rank (Types v) = 1
-rank (Imports v) = 2
-rank (Functions v) = 3
-rank (Tables v) = 4
-rank (Memories v) = 5
-rank (Globals v) = 6
-rank (Exports v) = 7
-rank (Start x) = 8
-rank (Elements v) = 9
-rank (Bodies v) = 10
-rank (Segments v) = 11
+abbrev pub section_id : SectionShape → ℕ
+section_id Custom = 0
+section_id (Types v) = 1
+section_id (Imports v) = 2
+section_id (Functions v) = 3
+section_id (Tables v) = 4
+section_id (Memories v) = 5
+section_id (Globals v) = 6
+section_id (Exports v) = 7
+section_id (Start x) = 8
+section_id (Elements v) = 9
+section_id (Bodies v) = 10
+section_id (Segments v) = 11
 
 -- a custom section stands anywhere, another one after those of smaller ids only
 abbrev pub may_follow : ℕ → SectionShape → Bool
-may_follow last s = rank s == 0 || nat_lt last (rank s)
+may_follow last s = section_id s == 0 || nat_lt last (section_id s)
 
 abbrev pub last_after : ℕ → SectionShape → ℕ
-last_after last s = if rank s == 0 then last else rank s
+last_after last s = if section_id s == 0 then last else section_id s
 
 abbrev pub IsOrdered : ℕ → List SectionShape → Type 0
 IsOrdered last [] = Unit {0}

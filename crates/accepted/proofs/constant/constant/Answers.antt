@@ -4,4 +4,4 @@ use Rattle.accepted.proofs.Numbers.{number_is}
 use Rattle.accepted.proofs.constant.constant.Goals as goal
 
 pub returns-in-Some : goal.returns-in-Some
-returns-in-Some c = c.number_in.ensures ∙ number_is (initial_targets c.args.initial.now) (initial_held c.args.initial.now) c.in-Some.token (sym c.in-Some.is ∙ c.only.ensures)
+returns-in-Some c = c.number_in.ensures ∙ number_is (initial_targets c.args.initial.now) (initial_held c.args.initial.now) c.in-Some.token (sym c.in-Some.is ∙ c.single_instruction.ensures)

@@ -2,7 +2,7 @@ use Rattle.std.proofs.Common.{Bor, ◌≡◌, ℕ, List, None, map, subst, arith
 use Rattle.std.specs.Prelude.{MatchResult}
 use Rattle.std.proofs.lemmas.List.{length-map}
 use Rattle.pieces.specs.Faults.{AllowsFault}
-use Rattle.verdict.specs.Judged.{class_at}
+use Rattle.verdict.specs.Judged.{body_refusal_at}
 use Rattle.verdict.specs.Parts.{IsBodyAt}
 use Rattle.verdict.proofs.Parts.{body_there}
 use Rattle.verdict.proofs.jobs.judge_at.Goals as goal
@@ -13,6 +13,6 @@ returns-clause-verdict c =
     let bodies = c.as_slice-bodies.result.now in
     let count = length-map c.args.head.now.front.«module».bodies.items (λ b. b.now) in
     subst (λ (bs : List (Bor (List ℕ))). MatchResult c.judge_bytes.result
-    (λ _. class_at x.context x.imported (map (λ b. b.now) bs) c.args.place ≡ None)
-    (AllowsFault (IsBodyAt c.args.place (class_at x.context x.imported (map (λ b. b.now) bs) c.args.place)))) c.as_slice-bodies.ensures.value
+    (λ _. body_refusal_at x.context x.imported (map (λ b. b.now) bs) c.args.place ≡ None)
+    (AllowsFault (IsBodyAt c.args.place (body_refusal_at x.context x.imported (map (λ b. b.now) bs) c.args.place)))) c.as_slice-bodies.ensures.value
     (body_there _ _ _ _ c.args.place bodies _ _ c.requires.outside c.imported_functions-imported.ensures.count (omega (arith, count, c.as_slice-bodies.ensures.len, c.requires.place)) c.judge_bytes.ensures.verdict)

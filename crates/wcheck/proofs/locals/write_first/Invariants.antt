@@ -4,4 +4,4 @@ use Rattle.wcheck.proofs.locals.write_first.Given as goal
 
 abbrev pub invariant-loop-run : goal.invariant-loop-run
 invariant-loop-run l =
-    (l.near.items ≡ l.params ++ declared (take l.run-index l.runs)) × (length l.near.items ≤ 256)
+    (l.expanded.items ≡ l.params ++ declared (take l.run-index l.runs)) × (length l.expanded.items ≤ 256)

@@ -9,4 +9,4 @@ pub returns-in-I32Const : goal.returns-in-I32Const
 returns-in-I32Const c = rw c.in-I32Const.is (λ _. one_const _, λ _. search rules)
 
 pub returns-in_default : goal.returns-in_default
-returns-in_default c = leaves_constant c.args.globals.now I32 (initial_targets c.args.offset.now) (initial_held c.args.offset.now) c.only.result c.leaves.result c.only.ensures c.leaves.ensures
+returns-in_default c = leaves_constant c.args.globals.now I32 (initial_targets c.args.offset.now) (initial_held c.args.offset.now) c.single_instruction.result c.leaves.result c.single_instruction.ensures c.leaves.ensures

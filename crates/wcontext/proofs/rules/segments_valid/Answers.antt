@@ -4,13 +4,13 @@ use Rattle.wsyntax.specs.Modules.{module_shape, data_shape}
 use Rattle.wsyntax.specs.Validation.Rules.{DataValid, SegmentsValid}
 use Rattle.wsyntax.specs.declared.module.Data.{Data}
 use Rattle.wsyntax.specs.declared.module.Module.{Module}
-use Rattle.wcontext.specs.declared.counts.Counts.{Counts}
+use Rattle.wcontext.specs.declared.space_sizes.SpaceSizes.{SpaceSizes}
 use Rattle.wcontext.specs.Counted.{AreCountsOf, IsSegmentValid}
 use Rattle.wcontext.proofs.Counted.{segment_valid, valid_segment}
 use Rattle.wcontext.proofs.Shapes.{all_shapes_of, fails_here, passes_here, passes_all}
 use Rattle.wcontext.proofs.rules.segments_valid.Goals as goal
 
-by_counts : (m : Module) (n : Counts) (segments : List Data) (b : Bool) → AreCountsOf (module_shape m) n → segments ≡ m.«data».items → (IsTrue b ↔ All (λ s. IsSegmentValid n (data_shape s)) segments) → (IsTrue b ↔ SegmentsValid (module_shape m))
+by_counts : (m : Module) (n : SpaceSizes) (segments : List Data) (b : Bool) → AreCountsOf (module_shape m) n → segments ≡ m.«data».items → (IsTrue b ↔ All (λ s. IsSegmentValid n (data_shape s)) segments) → (IsTrue b ↔ SegmentsValid (module_shape m))
 by_counts m n segments b are same test =
     all_shapes_of data_shape (DataValid (module_shape m)) (λ s. IsSegmentValid n (data_shape s)) m.«data».items segments b same
     (λ s. segment_valid are (data_shape s))

@@ -2,7 +2,7 @@ use Rattle.std.proofs.Common.{◌≡◌, ◌∷◌, Some, rules, subst, sym}
 use Rattle.std.specs.Prelude.{FitsSigned}
 use Rattle.std.specs.Int.{w32}
 use Rattle.std.proofs.lemmas.Int.{to_z-of_z}
-use Rattle.wsyntax.specs.declared.module.Initial.TheVariants as initial
+use Rattle.wsyntax.specs.declared.module.ConstExpr.TheVariants as initial
 use Rattle.wsyntax.specs.Modules.{initial_tokens}
 use Rattle.wsyntax.specs.Binary.Nesting.{expression}
 use Rattle.wdecode.specs.Gives.{ReadsPlain}

@@ -11,30 +11,30 @@ returns-then-not-is_empty c = λ bodies e.
     let some : 0 < length c.args.module.now.imports.items = search rules in
     at_imports c.args.pages (module_shape c.args.module.now) bodies (omega (arith, length-map c.args.module.now.imports.items import_shape))
 
-pub returns-then-mentions_floats : goal.returns-then-mentions_floats
-returns-then-mentions_floats c = λ bodies e.
+pub returns-then-uses_floats : goal.returns-then-uses_floats
+returns-then-uses_floats c = λ bodies e.
     let none : length c.args.module.now.imports.items ≡ 0 = search rules in
-    at_floats c.args.pages (module_shape c.args.module.now) bodies (length-map c.args.module.now.imports.items import_shape ∙ none) (sym e ∙ c.if-mentions_floats.true)
+    at_floats c.args.pages (module_shape c.args.module.now) bodies (length-map c.args.module.now.imports.items import_shape ∙ none) (sym e ∙ c.if-uses_floats.true)
 
 pub returns-then-table_size-gt-TABLE_LIMIT : goal.returns-then-table_size-gt-TABLE_LIMIT
 returns-then-table_size-gt-TABLE_LIMIT c = λ bodies e.
     let none : length c.args.module.now.imports.items ≡ 0 = search rules in
     let above : table_limit < table_size (module_shape c.args.module.now) = omega (arith, c.table_size.ensures) in
-    at_table c.args.pages (module_shape c.args.module.now) bodies (length-map c.args.module.now.imports.items import_shape ∙ none) (sym e ∙ c.if-mentions_floats.false) above
+    at_table c.args.pages (module_shape c.args.module.now) bodies (length-map c.args.module.now.imports.items import_shape ∙ none) (sym e ∙ c.if-uses_floats.false) above
 
 pub returns-then-memory_pages-pages : goal.returns-then-memory_pages-pages
 returns-then-memory_pages-pages c = λ bodies e.
     let none : length c.args.module.now.imports.items ≡ 0 = search rules in
     let table : table_size (module_shape c.args.module.now) ≤ table_limit = omega (arith, c.table_size.ensures) in
     let above : c.args.pages < memory_pages (module_shape c.args.module.now) = omega (arith, c.memory_pages.ensures) in
-    at_memory c.args.pages (module_shape c.args.module.now) bodies (length-map c.args.module.now.imports.items import_shape ∙ none) (sym e ∙ c.if-mentions_floats.false) table above
+    at_memory c.args.pages (module_shape c.args.module.now) bodies (length-map c.args.module.now.imports.items import_shape ∙ none) (sym e ∙ c.if-uses_floats.false) table above
 
 pub returns-in-Some : goal.returns-in-Some
 returns-in-Some c = λ bodies e.
     let none : length c.args.module.now.imports.items ≡ 0 = search rules in
     let p : Passes c.args.pages (module_shape c.args.module.now) bodies = record {
       imports = length-map c.args.module.now.imports.items import_shape ∙ none;
-      floats = sym e ∙ c.if-mentions_floats.false;
+      floats = sym e ∙ c.if-uses_floats.false;
       table = omega (arith, c.table_size.ensures);
       memory = omega (arith, c.memory_pages.ensures);
     } in
@@ -45,7 +45,7 @@ returns-in-Some-data_outside c = λ bodies e.
     let none : length c.args.module.now.imports.items ≡ 0 = search rules in
     let p : Passes c.args.pages (module_shape c.args.module.now) bodies = record {
       imports = length-map c.args.module.now.imports.items import_shape ∙ none;
-      floats = sym e ∙ c.if-mentions_floats.false;
+      floats = sym e ∙ c.if-uses_floats.false;
       table = omega (arith, c.table_size.ensures);
       memory = omega (arith, c.memory_pages.ensures);
     } in
@@ -56,7 +56,7 @@ returns c = λ bodies e.
     let none : length c.args.module.now.imports.items ≡ 0 = search rules in
     let p : Passes c.args.pages (module_shape c.args.module.now) bodies = record {
       imports = length-map c.args.module.now.imports.items import_shape ∙ none;
-      floats = sym e ∙ c.if-mentions_floats.false;
+      floats = sym e ∙ c.if-uses_floats.false;
       table = omega (arith, c.table_size.ensures);
       memory = omega (arith, c.memory_pages.ensures);
     } in

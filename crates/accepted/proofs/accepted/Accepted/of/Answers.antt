@@ -16,7 +16,7 @@ function_shapes-requires-clause-typed c =
 
 pub function_shapes-requires-clause-numbered : goal.function_shapes-requires-clause-numbered
 function_shapes-requires-clause-numbered c =
-    numbered_same c.args.«module».types c.deref-2.result.now c.in_ok-type_numbers.type_numbers.items c.deref-2.ensures.value c.in_ok-type_numbers.ensures
+    numbered_same c.args.«module».types c.deref-2.result.now c.in_ok-type_ids.type_ids.items c.deref-2.ensures.value c.in_ok-type_ids.ensures
 
 pub function_shapes-requires-clause-paired : goal.function_shapes-requires-clause-paired
 function_shapes-requires-clause-paired c =
@@ -59,13 +59,13 @@ invariant_of-result-clause-ascending c = subst (λ (es : List Export). AreAscend
 
 pub invariant_of-result-clause-numbered : goal.invariant_of-result-clause-numbered
 invariant_of-result-clause-numbered c =
-    ∣ c.in_ok-type_numbers.ensures ∣₁
+    ∣ c.in_ok-type_ids.ensures ∣₁
 
 pub invariant_of-result-clause-shaped : goal.invariant_of-result-clause-shaped
 invariant_of-result-clause-shaped c =
-    shaped_same _ c.args.«module».types c.deref-2.result.now c.in_ok-type_numbers.type_numbers.items c.deref-3.result.now c.args.«module».functions.items c.deref-4.result.now c.args.bodies.items
+    shaped_same _ c.args.«module».types c.deref-2.result.now c.in_ok-type_ids.type_ids.items c.deref-3.result.now c.args.«module».functions.items c.deref-4.result.now c.args.bodies.items
     c.deref-2.ensures.value c.deref-3.ensures.value c.deref-4.ensures.value c.in_ok-shapes.ensures
 
 pub invariant_of-result-clause-looked : goal.invariant_of-result-clause-looked
 invariant_of-result-clause-looked c =
-    looked_same c.has_floats-mentions_floats.result (module_shape c.args.«module») c.deref-5.result.now c.args.bodies.items c.deref-5.ensures.value c.has_floats-mentions_floats.ensures
+    looked_same c.has_floats-uses_floats.result (module_shape c.args.«module») c.deref-5.result.now c.args.bodies.items c.deref-5.ensures.value c.has_floats-uses_floats.ensures

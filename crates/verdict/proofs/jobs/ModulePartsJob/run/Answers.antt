@@ -10,7 +10,7 @@ loop-place-preserved g c =
     let old = c.loop-place.invariant in
     record {
       outside = c.in_ok-judge_at.ensures.outside;
-      awaited = old.awaited;
+      early_hold = old.early_hold;
       passed = one_more _ _ _ _ _ _ old.passed c.in_ok-judge_at.ensures.verdict;
     }
 

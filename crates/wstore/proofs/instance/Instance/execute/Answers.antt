@@ -10,7 +10,7 @@ pub is_typed_call-requires : goal.is_typed_call-requires
 is_typed_call-requires c =
     let i = c.args.self.now in
     let all = i.accepted.now.bodies.items in
-    let numbers = i.accepted.now.type_numbers.items in
+    let numbers = i.accepted.now.type_ids.items in
     let code = c.code_of-code in
     ∥∥₁_map (known (module_in i) i.accepted.now.context all numbers (seen i.parts) c.accepted_holds.ensures c.is_small.ensures c.types_are_numbered.ensures i.runnable i.held) (λ k.
     typed_call (module_in i) i.accepted.now.context all numbers (seen i.parts) code.result c.args.function c.args.args.now c.args.fuel c.args.frames c.tree_is_found.ensures c.one_instance.ensures k
@@ -19,7 +19,7 @@ is_typed_call-requires c =
       functions = code.ensures.functions;
       bodies = code.ensures.bodies;
       shapes = code.ensures.shapes ∙ c.functions_have_shapes.ensures;
-      kinds = code.ensures.kinds;
+      type_ids = code.ensures.type_ids;
     })
     c.requires)
 

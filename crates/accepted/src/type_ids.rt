@@ -1,6 +1,6 @@
 ghost use Rattle.std.specs.Prelude.{◌≡◌, ◌<◌, ◌^◌, IfOk, length, map};
 ghost use Rattle.wsyntax.specs.FuncTypes.{func_type_of};
-ghost use Rattle.accepted.specs.TypeNumbers.{code_of, key_of, Numbers, AreTypeNumbers};
+ghost use Rattle.accepted.specs.TypeIds.{code_of, key_of, Numbers, AreTypeIds};
 
 use std::alloc::{AllocError, Global};
 use std::collections::BTreeMap;
@@ -53,9 +53,9 @@ fn number_of(
 
 /// Of each type a number, equal for equal types alone. The time is near linear in the length of the
 /// types, whatever they are.
-pub(crate) fn type_numbers(alloc: Global, types: &FuncTypes) -> Result<Vec<u32>, AllocError>
+pub(crate) fn type_ids(alloc: Global, types: &FuncTypes) -> Result<Vec<u32>, AllocError>
     requires { length types.now < 2 ^ 32 }
-    ensures { IfOk result (λ v. AreTypeNumbers types.now v.items) }
+    ensures { IfOk result (λ v. AreTypeIds types.now v.items) }
 {
     let mut first = BTreeMap::new(alloc);
     let mut numbers = Vec::new(alloc);

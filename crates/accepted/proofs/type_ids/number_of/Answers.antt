@@ -1,8 +1,8 @@
 use Rattle.std.proofs.Common.{◌≡◌, ℕ, List, None, Vec, Global, sym, ap, subst, ◌∙◌, rules}
 use Rattle.std.specs.Option.{option_copied}
-use Rattle.accepted.specs.TypeNumbers.{number_at, Numbers}
+use Rattle.accepted.specs.TypeIds.{number_at, Numbers}
 use Rattle.accepted.proofs.NumberedTexts.{numbers_fresh}
-use Rattle.accepted.proofs.type_numbers.number_of.Goals as goal
+use Rattle.accepted.proofs.type_ids.number_of.Goals as goal
 
 pub returns : goal.returns
 returns c =

@@ -10,7 +10,7 @@ use Rattle.wsyntax.specs.declared.ValType.TheVariants.{I32, I64, F32, F64}
 use Rattle.wsyntax.specs.Types.{FuncType, same_func_type}
 
 -- of each type a number below the count of types; two are equal exactly where the types are the same
-pub record AreTypeNumbers (types : List FuncType) (numbers : List ℕ) : Type 0 where
+pub record AreTypeIds (types : List FuncType) (numbers : List ℕ) : Type 0 where
   pub count : length numbers ≡ length types
   pub below : All (λ n. n < length types) numbers
   pub same : (y z : ℕ) (s t : FuncType) → slice_get types y ≡ Some s → slice_get types z ≡ Some t → (slice_get numbers y ≡ slice_get numbers z) ↔ IsTrue (same_func_type s t)

@@ -1,9 +1,9 @@
 use Rattle.std.proofs.Common.{◌≡◌, ℕ, ◌+◌, List, length, Some, arith, sym, subst}
 use Rattle.std.specs.Prelude.{slice_get}
 use Rattle.wsyntax.specs.FuncTypes.{func_type_of}
-use Rattle.accepted.specs.TypeNumbers.{key_of, Numbers, AreNumbered}
+use Rattle.accepted.specs.TypeIds.{key_of, Numbers, AreNumbered}
 use Rattle.accepted.proofs.Numbering.{numbered_more, numbered_all}
-use Rattle.accepted.proofs.type_numbers.type_numbers.Goals as goal
+use Rattle.accepted.proofs.type_ids.type_ids.Goals as goal
 
 pub loop-index-preserved : goal.loop-index-preserved
 loop-index-preserved c =

@@ -7,7 +7,7 @@ use wsyntax::{Data, ExportKind, GlobalType, Module};
 /// How much each index space of a module holds (2.5.1), and what else its exports, its start function and its segments
 /// are looked at by. It does not borrow the module.
 #[derive(Debug, Drop)]
-pub struct Counts {
+pub struct SpaceSizes {
     pub(crate) functions: usize,
     pub(crate) tables: usize,
     memories: usize,
@@ -18,7 +18,7 @@ pub struct Counts {
     pub(crate) starts_plainly: bool,
 }
 
-impl Counts {
+impl SpaceSizes {
     ghost use Rattle.std.specs.Prelude.{◌≡◌, ◌↔◌, IsTrue, IfOk};
     ghost use Rattle.wsyntax.specs.Modules.{module_shape, data_shape};
     ghost use Rattle.wsyntax.specs.Validation.Rules.{StartsPlainly};
@@ -30,11 +30,11 @@ impl Counts {
         alloc: Global,
         module: &Module<'_>,
         spaces: &Spaces,
-    ) -> Result<Counts, AllocError>
+    ) -> Result<SpaceSizes, AllocError>
         requires { AreSpacesOf (module_shape «module».now) spaces.now }
         ensures { IfOk result (AreCountsOf (module_shape «module».now)) }
     {
-        Ok(Counts {
+        Ok(SpaceSizes {
             functions: spaces.functions.len(),
             tables: spaces.tables.len(),
             memories: spaces.memories.len(),

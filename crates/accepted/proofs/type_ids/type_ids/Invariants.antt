@@ -1,5 +1,5 @@
-use Rattle.accepted.specs.TypeNumbers.{AreNumbered}
-use Rattle.accepted.proofs.type_numbers.type_numbers.Given as goal
+use Rattle.accepted.specs.TypeIds.{AreNumbered}
+use Rattle.accepted.proofs.type_ids.type_ids.Given as goal
 
 abbrev pub invariant-loop-index : goal.invariant-loop-index
 invariant-loop-index l = AreNumbered l.types l.index l.first.entries l.numbers.items
