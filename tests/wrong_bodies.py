@@ -32,7 +32,7 @@ root = os.path.realpath(os.path.join(os.path.dirname(os.path.abspath(__file__)),
 # A check needs up to this many kilobytes.
 MEMORY_OF_A_CHECK = 3_000_000
 
-HEADER = re.compile(r'^([ \t]*)(?:pub(?:\([a-z]+\))? )?(?:const )?fn (\w+)', re.M)
+HEADER = re.compile(r'^([ \t]*)(?:pub(?:\([a-z]+\))? )?(?:const |extern "C" )?fn (\w+)', re.M)
 
 def load_kit():
     """The kit's `rt` as a module: it reads edits, and knows the words of a check."""
