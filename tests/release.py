@@ -152,23 +152,23 @@ def everything(folder):
 def installed(count, there, work):
     """Installs below a folder in which others have things too, and takes it away."""
     top = os.path.join(work, 'top')
-    os.makedirs(os.path.join(top, 'opt/other/share/man'))
-    at = {**os.environ, 'DESTDIR': top, 'PREFIX': '/opt/other'}
+    os.makedirs(os.path.join(top, 'srv/other/share/man'))
+    at = {**os.environ, 'DESTDIR': top, 'PREFIX': '/srv/other'}
     script = os.path.join(there, 'install.sh')
     before = everything(top)
     for _ in range(2):
         ended = run(script, env=at)
         count.expect(ended[0] == 0, 'an install', ended)
-    files = {os.path.relpath(it, os.path.join(top, 'opt/other')) for it in everything(top) if not os.path.isdir(it)}
+    files = {os.path.relpath(it, os.path.join(top, 'srv/other')) for it in everything(top) if not os.path.isdir(it)}
     wanted = {'bin/gate', 'lib/libgate.a', 'lib/libgate.so', 'lib/pkgconfig/gate.pc', 'include/gate.h', 'share/man/man3/gate.3'}
     count.expect(wanted <= files, 'what is installed', wanted - files)
     if is_there('cc', 'pkg-config'):
-        hosts(count, there, os.path.join(top, 'opt/other'), os.path.join(work, 'host'), top)
+        hosts(count, there, os.path.join(top, 'srv/other'), os.path.join(work, 'host'), top)
     ended = run(script, 'uninstall', env=at)
     count.expect(ended[0] == 0 and everything(top) == before, 'what an uninstall leaves', (ended, set(everything(top)) ^ set(before)))
     count.expect(run(script, 'uninstall', env=at)[0] == 1, 'an uninstall of nothing')
-    os.makedirs(os.path.join(top, 'opt/other/bin'))
-    with open(os.path.join(top, 'opt/other/bin/gate'), 'w') as file:
+    os.makedirs(os.path.join(top, 'srv/other/bin'))
+    with open(os.path.join(top, 'srv/other/bin/gate'), 'w') as file:
         file.write('of another one\n')
     before = everything(top)
     ended = run(script, 'install', env=at)
