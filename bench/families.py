@@ -18,6 +18,7 @@ I32, I64, F32, F64 = b'\x7F', b'\x7E', b'\x7D', b'\x7C'
 WRONG = b'\x42\x00\x45'
 ANYWHERE = ('accepted', 'refused', 'dead accepted', 'dead refused')
 DEAD = ('dead accepted', 'dead refused')
+LIVE = ('accepted', 'refused')
 SECTIONS = ('accepted', 'refused')
 
 
@@ -109,6 +110,10 @@ def selects(size, dead, chance):
     return b'\x1B' * size + b'\x1A', {}
 
 
+def binary_operators(size, dead, chance):
+    return b'\x6A' * size + b'\x1A', {}
+
+
 def rare_tokens(size, dead, chance):
     return at_random([b'\x1B', b'\x01', b'\x00', b'\x0F'], size, chance) + b'\x00', {}
 
@@ -143,6 +148,12 @@ def indirect_calls(size, dead, chance):
     return at_random(pieces, size // 2, chance), {'types': types, 'sections': {4: b'\x01\x70\x00\x01'}}
 
 
+def blocks_at_random(size, dead, chance):
+    count = size // 16
+    types = [EMPTY] + [function_type([], chance.choices([I32, I64, F32, F64], k=chance.randrange(5))) for _ in range(count - 1)]
+    return at_random([b'\x02' + signed(k) + b'\x00\x0B' for k in range(count)], size // 2, chance) + b'\x00', {'types': types}
+
+
 def names(size, front, chance):
     # Of a front that they share and four letters at random, in an order at random.
     letters = b'abcdefghijklmnopqrstuvwxyzABCDEFGHIJKLMNOPQRSTUVWXYZ0123456789_.'
@@ -156,6 +167,14 @@ def exports(length):
         many += [many[chance.randrange(len(many))]] if form == 'refused' else []
         return whole(b'', sections={7: vector([sized(name) + b'\x00\x00' for name in many])})
     return module
+
+
+def imports_without_names(size, chance):
+    return {'types': [EMPTY], 'sections': {2: vector([b'\x00\x00\x00\x00'] * (size // 4))}}
+
+
+def exports_of_one_name(size, chance):
+    return {'sections': {7: vector([b'\x00\x00\x00'] * (size // 3))}}
 
 
 def imports(size, chance):
@@ -172,6 +191,10 @@ def types_of(lengths, results=False):
             total += len(types[-1])
         return {'types': types}
     return make
+
+
+def one_list(size, chance):
+    return types_of([size])(size, chance)
 
 
 def same_types(one):
@@ -196,6 +219,18 @@ def element_segments_of_one(size, chance):
 
 def data_segments(size, chance):
     return {'sections': {5: b'\x01\x00\x01', 11: vector([b'\x00\x41\x00\x0B\x00'] * (size // 5))}}
+
+
+def globals_of_no_constant(size, chance):
+    return {'sections': {6: vector([I32 + b'\x00\x01\x0B'] * (size // 4))}}
+
+
+def offsets_of_no_constant(size, chance):
+    return {'sections': {4: b'\x01\x70\x00\x01', 9: vector([b'\x00\x01\x0B\x00'] * (size // 4))}}
+
+
+def bodies_without_functions(size, form, chance):
+    return HEADER + section(10, vector([b'\x00'] * size))
 
 
 def custom_sections(size, form, chance):
@@ -228,6 +263,34 @@ def long_list(of_parameters, code):
         many = [chance.choice([I32, I64]) for _ in range(size // 8)]
         types = [EMPTY, function_type(many if of_parameters else [], many)]
         return code(size // 2) + b'\x00', {'types': types, 'others': [(1, b'\x00\x00\x0B')]}
+    return of_code(make)
+
+
+def short_lists(code):
+    """Code over functions that give, and take and give, a list of 255 types: too short for the tree of ends."""
+    def make(size, dead, chance):
+        many = [chance.choice([I32, I64]) for _ in range(255)]
+        types = [EMPTY, function_type([], many), function_type(many, many), function_type(many[1:]), function_type(many[:1])]
+        return b'\x10\x01' + code(size) + b'\x00', {'types': types, 'others': [(k, b'\x00\x00\x0B') for k in range(1, 5)]}
+    return of_code(make)
+
+
+def tables_of_short_lists(size, dead, chance):
+    # Branch tables with labels of types of 255 results, all the same lists at different places.
+    many = [chance.choice([I32, I64]) for _ in range(255)]
+    count = min(2_000, size // 2_000)
+    labels = [unsigned(k) for k in range(count)]
+    code = b''.join(b'\x02' + signed(k + 1) for k in range(count)) + b'\x10\x01\x41\x00'
+    while len(code) < size - 300 * count:
+        code += b'\x0E' + vector(chance.choices(labels, k=min(100_000, size // 16))) + b'\x00'
+    return code + b'\x0B' * count + b'\x00', {'types': [EMPTY] + [function_type([], many)] * count, 'others': [(1, b'\x00\x00\x0B')]}
+
+
+def over_a_run(token):
+    """Tokens that take operands off one long list, which a call has given, a type at a time."""
+    def make(size, dead, chance):
+        types = [EMPTY, function_type([], [I32] * (size // 4))]
+        return (b'\x10\x01' + token * (size // 5)) * 3 + b'\x00', {'types': types, 'others': [(1, b'\x00\x00\x0B')]}
     return of_code(make)
 
 
@@ -307,25 +370,40 @@ FAMILIES = {
     'branches out of open blocks': (ANYWHERE, of_code(branches)),
     'branch tables': (ANYWHERE, of_code(branch_tables)),
     'select': (DEAD, of_code(selects)),
+    'binary operators': (DEAD, of_code(binary_operators)),
     'rare tokens': (DEAD, of_code(rare_tokens)),
     'constants dropped': (ANYWHERE, of_code(drops)),
     'globals at random': (ANYWHERE, of_code(globals_at_random)),
     'calls at random': (ANYWHERE, of_code(calls_at_random)),
     'indirect calls at random': (ANYWHERE, of_code(indirect_calls)),
+    'blocks of types at random': (DEAD, of_code(blocks_at_random)),
+    'operators over a run': (LIVE, over_a_run(b'\x6A')),
+    'drops over a run': (LIVE, over_a_run(b'\x1A')),
     'exports of short names': (SECTIONS, exports(1)),
     'exports of long fronts': (SECTIONS, exports(56)),
+    'exports of one name': (('refused',), of_sections(exports_of_one_name)),
     'imports': (SECTIONS, of_sections(imports)),
+    'imports without names': (SECTIONS, of_sections(imports_without_names)),
     'types of 9 to 16 parameters': (SECTIONS, of_sections(types_of(range(9, 17)))),
     'types of 9 to 16 results': (SECTIONS, of_sections(types_of(range(9, 17), True))),
+    'types of 256 parameters': (SECTIONS, of_sections(types_of([256]))),
+    'one list of types': (SECTIONS, of_sections(one_list)),
     'types of 1 to 3 parameters': (SECTIONS, of_sections(types_of(range(1, 4)))),
     'types of one parameter': (SECTIONS, of_sections(same_types(function_type([I32])))),
     'types of nothing': (SECTIONS, of_sections(same_types(EMPTY))),
     'bodies of no bytes': (('refused',), of_sections(bodies(b''))),
     'functions of two bytes': (SECTIONS, of_sections(bodies(b'\x00\x0B'))),
+    'bodies without functions': (('refused',), bodies_without_functions),
+    'globals of no constant': (('refused',), of_sections(globals_of_no_constant)),
+    'offsets of no constant': (('refused',), of_sections(offsets_of_no_constant)),
     'element segments': (SECTIONS, of_sections(element_segments)),
     'segments of a function': (SECTIONS, of_sections(element_segments_of_one)),
     'data segments': (SECTIONS, of_sections(data_segments)),
     'custom sections': (SECTIONS, custom_sections),
+    'blocks of 255 types': (LIVE, short_lists(lambda n: b'\x02\x02\x0B' * (n // 3))),
+    'calls of 255 types': (LIVE, short_lists(lambda n: b'\x10\x02' * (n // 2))),
+    'calls of 255 types, shifted': (LIVE, short_lists(lambda n: b'\x10\x03\x10\x04\x10\x01' * (n // 6))),
+    'branch tables of 255 types': (LIVE, of_code(tables_of_short_lists)),
     'calls of long results': (DEAD, long_list(False, lambda n: b'\x10\x01' * (n // 2))),
     'calls of long lists': (DEAD, long_list(True, lambda n: b'\x10\x01' * (n // 2))),
     'blocks of long lists': (DEAD, long_list(True, lambda n: b'\x02\x01\x0B' * (n // 3))),
