@@ -162,13 +162,15 @@ def held(gate):
             got = gate.run(['run', gate.module, gate.calls, '--workers', workers, '--piece', '1'], 1024)
             report = '\n'.join(lines + [total_of(lines), ''])
             gate.expect(got == (report, 0, b''), f'calls of a tall function, {begin}, {workers} workers', got)
-    # `f` branches out of a block in which 300 calls that are not reached would leave 100,000 operands each.
-    calls = b'\x02\x40\x0C\x00' + b'\x10\x01' * 300 + b'\x00\x0B'
-    rows.write(gate.module, whole(calls, types=[EMPTY, function_type([], [b'\x7F'] * 100_000)], others=[(1, b'\x00\x00\x0B')]))
+    # `f` branches out of a block in which 300 calls that are not reached would leave 100,000 operands each, by themselves or in
+    # blocks of their own, one in the other.
     rows.write(gate.calls, b'f\n')
-    got = gate.run(['run', gate.module, gate.calls, '--workers', '1'], ENTRY_ROOM)
     lines = ['0 values fuel 1']
-    gate.expect(got == ('\n'.join(lines + [total_of(lines), '']), 0, b''), 'operands that are not reached', got)
+    for depth in range(3):
+        calls = b'\x02\x40\x0C\x00' + b'\x02\x40' * depth + b'\x10\x01' * 300 + b'\x00' + b'\x0B' * depth + b'\x0B'
+        rows.write(gate.module, whole(calls, types=[EMPTY, function_type([], [b'\x7F'] * 100_000)], others=[(1, b'\x00\x00\x0B')]))
+        got = gate.run(['run', gate.module, gate.calls, '--workers', '1'], ENTRY_ROOM)
+        gate.expect(got == ('\n'.join(lines + [total_of(lines), '']), 0, b''), f'operands that are not reached, {depth} blocks deep', got)
 
 
 def all_modules():
