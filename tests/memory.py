@@ -8,7 +8,7 @@ refused    Each request for memory is refused in turn while some rows of the tab
            requests was refused, and one that asks more than MOST_REQUESTS times, count as failures. Of one row a request is
            found whose want ends its first call alone.
 held       A million open blocks are judged in little memory, which no contract promises; the calls of functions whose entry
-           wants 34 GB end in `no-memory`, each in its own line.
+           wants 34 GB end in `no-memory`, each in its own line; operands of code that is not reached take no room.
 granted    No request is refused while all modules of the tables, of counts.py and of bench/families.py are judged and run, by
            one worker and by four: nothing may be out of memory, and verdicts are those of the tables. What the program asked
            for before any call, at once and together, is at most some times the module's length: nothing is asked for by a
@@ -39,14 +39,13 @@ MOST_REQUESTS = 5000
 DEPTH = 3000
 # In this many megabytes of addresses a million open blocks fit where they are packed (20 do), and not else (40 do).
 ROOM = 32
+# In this many a call is run that enters few slots. The operands after its branch would take 240 more.
+ENTRY_ROOM = 128
 # What may be asked for at once and together, in lengths of the module, and beside: the worst are bodies of no bytes (26 and 49)
 # and, for runs, functions of two bytes (75 and 390), since each body has a record.
 LENGTHS = {'check': (48, 96), 'run': (128, 640)}
 BESIDE = 512 << 10
 SIZE = 100_000
-# The entry of `f` asks for room for all operands of its body, which grow with the square of its length: 2.4 GB and 260 MB, which
-# a machine may refuse. So `f` is not called.
-HIGH_ENTRIES = ['calls of long results', 'long lists cut anywhere']
 # The names of exports in the tables.
 NAMES = b'f\ng\ns\nl\nd\na\nb\nu\nadd\n'
 
@@ -163,29 +162,38 @@ def held(gate):
             got = gate.run(['run', gate.module, gate.calls, '--workers', workers, '--piece', '1'], 1024)
             report = '\n'.join(lines + [total_of(lines), ''])
             gate.expect(got == (report, 0, b''), f'calls of a tall function, {begin}, {workers} workers', got)
+    # `f` branches out of a block in which 300 calls that are not reached would leave 100,000 operands each, by themselves or in
+    # blocks of their own, one in the other.
+    rows.write(gate.calls, b'f\n')
+    lines = ['0 values fuel 1']
+    for depth in range(3):
+        calls = b'\x02\x40\x0C\x00' + b'\x02\x40' * depth + b'\x10\x01' * 300 + b'\x00' + b'\x0B' * depth + b'\x0B'
+        rows.write(gate.module, whole(calls, types=[EMPTY, function_type([], [b'\x7F'] * 100_000)], others=[(1, b'\x00\x00\x0B')]))
+        got = gate.run(['run', gate.module, gate.calls, '--workers', '1'], ENTRY_ROOM)
+        gate.expect(got == ('\n'.join(lines + [total_of(lines), '']), 0, b''), f'operands that are not reached, {depth} blocks deep', got)
 
 
 def all_modules():
-    # Each module with its name, the beginning of its verdict where that is known, and whether its calls are tried.
+    # Each module with its name, and the beginning of its verdict where that is known.
     seen = set()
     for name, spelled, verdict, _ in rows.rows('check.tsv'):
         seen.add(spelled)
-        yield name, rows.bytes_of(spelled), verdict, True
+        yield name, rows.bytes_of(spelled), verdict
     for name, spelled, _, _, text, _ in rows.rows('run.tsv'):
         if spelled not in seen:
             seen.add(spelled)
-            yield name, rows.bytes_of(spelled), '', True
+            yield name, rows.bytes_of(spelled), ''
     for name, module, verdict in counts.modules():
-        yield name, module, verdict, True
+        yield name, module, verdict
     for name, (forms, _) in FAMILIES.items():
         for form in forms:
             verdict = 'accepted' if form.endswith('accepted') else 'refused'
-            yield f'{name}, {form}', module_of(name, form, SIZE, 7), verdict, name not in HIGH_ENTRIES
+            yield f'{name}, {form}', module_of(name, form, SIZE, 7), verdict
 
 
 def granted(gate):
     rows.write(gate.calls, NAMES)
-    for name, module, verdict, is_called in all_modules():
+    for name, module, verdict in all_modules():
         rows.write(gate.module, module)
         for workers in ('1', '4'):
             for words in (['check', gate.module], ['run', gate.module, os.devnull]):
@@ -197,10 +205,9 @@ def granted(gate):
                     sizes = struct.unpack('QQ', file.read())
                 most = [times * len(module) + BESIDE for times in LENGTHS[words[0]]]
                 gate.expect(sizes[0] <= most[0] and sizes[1] <= most[1], f'{name}, {words[0]}, {workers} workers: bytes asked for', sizes)
-            if is_called:
-                got = gate.run(['run', gate.module, gate.calls, '--workers', workers, '--piece', '1', '--fuel', '1000'])
-                holds = got[1] in (0, 2) and got[2] == b'' and not re.search(r'^\d+ no-memory$', got[0], re.MULTILINE)
-                gate.expect(holds, f'{name}, calls, {workers} workers, nothing refused', got)
+            got = gate.run(['run', gate.module, gate.calls, '--workers', workers, '--piece', '1', '--fuel', '1000'])
+            holds = got[1] in (0, 2) and got[2] == b'' and not re.search(r'^\d+ no-memory$', got[0], re.MULTILINE)
+            gate.expect(holds, f'{name}, calls, {workers} workers, nothing refused', got)
 
 
 def main(program):

@@ -1,5 +1,6 @@
 -- What the code's proofs need.
 use Rattle.std.proofs.Common.{◌≡◌, ℕ, zero, suc, ◌-◌, ◌≤◌, ◌<◌, get_or, slice_get, Bool, true, false, List, [], ◌∷◌, ◌++◌, map, reverse, take, length, Option, Some, None, refl, sym, ap, ◌∙◌, arith}
+use mathlib.Core.List.{append_assoc}
 use Rattle.std.proofs.lemmas.List.{reverse-append, map-append, get_or-reverse, length-reverse, get_or-map, length-map}
 use Rattle.std.proofs.lemmas.Option.{slice_get-get_or, slice_get_past}
 use Rattle.wsyntax.specs.declared.ValType.{ValType}
@@ -58,3 +59,7 @@ labels_outside types xs below = labels_same types (reverse xs) below ∙ map-rev
 
 pub reversed_last : {A : Type 0} (xs : List A) (x : A) → reverse (xs ++ x ∷ []) ≡ x ∷ reverse xs
 reversed_last xs x = reverse-append xs (x ∷ [])
+
+-- the same of two lists, one after the other
+pub reversed_both : {A : Type 0} (xs ys : List A) (x : A) → reverse (xs ++ (ys ++ x ∷ [])) ≡ x ∷ reverse (xs ++ ys)
+reversed_both xs ys x = ap reverse (sym (append_assoc xs ys (x ∷ []))) ∙ reversed_last (xs ++ ys) x

@@ -1,13 +1,13 @@
 -- One list of operands, and the frames that it is cut into.
-use Rattle.std.proofs.Common.{◌≡◌, ◌+◌, arith, length-append, List, [], ◌∷◌, ◌++◌, length, take, drop, reverse, Option, sym, ap, ap₂, ◌∙◌}
+use Rattle.std.proofs.Common.{◌≡◌, ◌+◌, arith, length-append, List, [], ◌∷◌, ◌++◌, length, take, drop, reverse, Option, refl, sym, ap, ap₂, ◌∙◌}
 use Rattle.std.proofs.lemmas.List.{reverse-append, reverse-reverse, length-reverse, take-append-drop}
 use Rattle.std.proofs.Math.Seq.{take-append_seam, drop-append_seam}
 use Rattle.wsyntax.specs.declared.ValType.{ValType}
 use Rattle.wsyntax.specs.Types.{FuncType}
 use Rattle.wcheck.specs.declared.frames.OuterFrame.{OuterFrame}
 use Rattle.wsyntax.specs.Validation.Algorithm.{Frame}
-use Rattle.wcheck.specs.Views.{cut, frame_of, under_all}
-use Rattle.side_table.specs.Pass.{height}
+use Rattle.wcheck.specs.Views.{cut, frame_of, first_dead, under_all}
+use Rattle.side_table.specs.Pass.{height, outer_dead}
 
 frame_with : List FuncType → OuterFrame → List (Option ValType) → Frame
 frame_with types l k = frame_of types l.frame record { known = k; is_dead = l.unreachable }
@@ -26,6 +26,10 @@ opened_under outer l below more e h =
 
 pub closed_under : (outer : List OuterFrame) (l : OuterFrame) (below : List (Option ValType)) → under_all (reverse (outer ++ l ∷ [])) below ≡ [] → under_all (reverse outer) (take l.height below) ≡ []
 closed_under outer l below h = ap (λ z. under_all z below) (sym (reverse-append outer (l ∷ []))) ∙ h
+
+pub cut_dead : (types : List FuncType) (f : Frame) (ls : List OuterFrame) (below : List (Option ValType)) → outer_dead (f ∷ cut types ls below) ≡ first_dead ls
+cut_dead types f [] below = refl
+cut_dead types f (l ∷ ls) below = refl
 
 cut_height : (types : List FuncType) (ls : List OuterFrame) (below : List (Option ValType)) → height (cut types ls below) + length (under_all ls below) ≡ length below
 cut_height types [] below = omega arith

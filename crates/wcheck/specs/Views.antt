@@ -1,5 +1,5 @@
 -- What the code's values stand for.
-use Rattle.std.specs.Prelude.{◌≡◌, ◌<◌, ◌≤◌, ◌-◌, ℕ, List, [], ◌∷◌, Option, None, MatchOption, reverse, map, cond, take, drop, length, get_or}
+use Rattle.std.specs.Prelude.{◌≡◌, ◌<◌, ◌≤◌, ◌-◌, ℕ, Bool, false, List, [], ◌∷◌, Option, None, MatchOption, reverse, map, cond, take, drop, length, get_or}
 use Rattle.wsyntax.specs.declared.ValType.{ValType}
 use Rattle.wsyntax.specs.Types.{FuncType}
 use Rattle.wsyntax.specs.Instructions.{Token, Do}
@@ -41,6 +41,11 @@ abbrev pub cut : List FuncType → List OuterFrame → List (Option ValType) →
 cut types [] below = []
 cut types (l ∷ ls) below =
     frame_of types l.frame record { known = reverse (drop l.height below); is_dead = l.unreachable } ∷ cut types ls (take l.height below)
+
+-- whether what follows in the first of these is unreachable
+abbrev pub first_dead : List OuterFrame → Bool
+first_dead [] = false
+first_dead (l ∷ ls) = l.unreachable
 
 -- what lies under all frames
 abbrev pub under_all : List OuterFrame → List (Option ValType) → List (Option ValType)

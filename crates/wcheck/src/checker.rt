@@ -2,7 +2,7 @@ ghost use Rattle.std.specs.Prelude.{◌≡◌, ◌<◌, ◌^◌, ◌↔◌, true
 ghost use Rattle.wsyntax.specs.Modules.{seen};
 ghost use Rattle.wsyntax.specs.Validation.Algorithm.{when, step};
 ghost use Rattle.wcheck.specs.Checking.{begun, with_frames};
-ghost use Rattle.side_table.specs.Pass.{height, below_size, label_size, in_if};
+ghost use Rattle.side_table.specs.Pass.{reachable_height, outer_dead, below_size, label_size, in_if};
 
 use crate::control::{Control, is_past_expanded, step_control, step_known};
 use crate::frames::{ControlFrame, label};
@@ -132,12 +132,12 @@ impl<'a> Checker<'a> {
         !self.control.is_open
     }
 
-    /// The operands in all open frames.
+    /// The operands in all open frames, none where what follows in the innermost one is unreachable.
     #[tactic(auto, using(crate::proofs::Cuts::tight_height))]
-    pub(crate) fn height(&self) -> usize
-        ensures { result ≡ height self.now.frames }
+    pub(crate) fn reachable_height(&self) -> usize
+        ensures { result ≡ reachable_height self.now.frames }
     {
-        if self.control.is_open {
+        if self.control.is_open && !self.control.operands.is_unreachable() {
             self.control.operands.height()
         } else {
             0
@@ -167,6 +167,14 @@ impl<'a> Checker<'a> {
         } else {
             0
         }
+    }
+
+    /// Whether what follows in the frame outside the innermost one is unreachable.
+    #[tactic(auto, using(crate::proofs::Cuts::cut_dead))]
+    pub(crate) fn is_outer_dead(&self) -> bool
+        ensures { result ≡ outer_dead self.now.frames }
+    {
+        self.control.is_open && self.control.outer.is_last_dead()
     }
 
     /// Whether the innermost frame is an if whose else may still come.

@@ -1,5 +1,5 @@
-ghost use Rattle.std.specs.Prelude.{◌≡◌, ◌<◌, List, [], ◌∷◌, ◌++◌, true, MatchOption, MatchResult, length, take};
-ghost use Rattle.wcheck.specs.Views.{IsLabelBehind};
+ghost use Rattle.std.specs.Prelude.{◌≡◌, ◌<◌, List, [], ◌∷◌, ◌++◌, true, MatchOption, MatchResult, length, reverse, take};
+ghost use Rattle.wcheck.specs.Views.{IsLabelBehind, first_dead};
 
 use crate::frames::{OuterFrame, label};
 use crate::packed::PackedFrame;
@@ -142,6 +142,20 @@ impl OuterFrames {
         match self.innermost.pop() {
             Some(frame) => Some(frame),
             None => pop_packed(&mut self.outermost),
+        }
+    }
+
+    /// Whether what follows in the last is unreachable; `false` where there is none.
+    #[tactic(auto, using(crate::proofs::Behind::reversed_both))]
+    pub(crate) fn is_last_dead(&self) -> bool
+        ensures { result ≡ first_dead (reverse self.now) }
+    {
+        match self.innermost.last() {
+            Some(frame) => frame.unreachable,
+            None => match self.outermost.last() {
+                Some(packed) => packed.unpacked().unreachable,
+                None => false,
+            },
         }
     }
 
