@@ -1,6 +1,5 @@
 -- A body that passes in one loop is accepted.
-use Rattle.std.proofs.Common.{◌≡◌, ℕ, zero, suc, ◌+◌, ◌-◌, get_or, take, drop, ◌<◌, ◌≤◌, Bool, true, false, cond, eqb, leb, ltb, List, [], ◌∷◌, ◌++◌, length, Option, Some, None, refl, sym, ap, subst, ◌∙◌, arith}
-use Rattle.std.proofs.lemmas.Bool.{eqb-true, ltb-false, le-leb}
+use Rattle.std.proofs.Common.{Bor, ◌≡◌, ℕ, zero, suc, ◌+◌, ◌-◌, get_or, take, drop, ◌<◌, ◌≤◌, Bool, true, false, List, [], ◌∷◌, ◌++◌, length, Option, Some, None, Result, Ok, Err, IfOk, refl, sym, ap, subst, ◌∙◌, arith}
 use Rattle.std.proofs.lemmas.List.{append-nil, nil_from_length, take_rest}
 use Rattle.wnum.specs.Reading.{◌>>=◌}
 use Rattle.wsyntax.specs.Instructions.{Token, Do, Drop, Select, Return, Unreachable, Nop, OpenBlock, OpenLoop, OpenIf, Else, End}
@@ -8,23 +7,18 @@ use Rattle.wsyntax.specs.Types.{FuncType}
 use Rattle.wsyntax.specs.declared.ValType.TheVariants.{I32}
 use Rattle.wsyntax.specs.Modules.{seen}
 use Rattle.wsyntax.specs.declared.instructions.Token.{Token as Held}
-use Rattle.wsyntax.specs.declared.module.LocalRun.{LocalRun}
 use Rattle.wsyntax.specs.Table.{opcode_of}
 use Rattle.wsyntax.specs.Binary.Instructions.{plain_instruction}
-use Rattle.wsyntax.specs.Binary.Production.{whole_at}
 use Rattle.wsyntax.specs.Binary.Nesting.{token_at, nest, and_then, tokens_at, expression}
-use Rattle.wsyntax.specs.Binary.Sections.{locals, body, locals_of}
-use Rattle.wsyntax.specs.Binary.Shell.{local_limit}
-use Rattle.wsyntax.specs.Validation.Context.{Stack, Context, enter, leave, body_context, block_sig}
-use Rattle.wsyntax.specs.Validation.Algorithm.{Accepted, Operands, Frame, on, when, rule, apply, take_all, take_one, open_frame, ends_with, may_lack_else, pass_on, context_in, put, fresh, step, start, alg, alg_from}
-use Rattle.wsyntax.specs.Validation.ModuleContext.{function_context}
-use Rattle.wsyntax.specs.Validation.Verdict.{result_of}
-use Rattle.wcheck.specs.Checking.{Checking, begun, with_frames}
+use Rattle.wsyntax.specs.Validation.Context.{Stack, Context, enter, leave, block_sig}
+use Rattle.wsyntax.specs.Validation.Algorithm.{Accepted, Operands, Frame, on, when, rule, apply, take_all, take_one, open_frame, ends_with, may_lack_else, pass_on, context_in, put, fresh, step, start, alg_from}
+use Rattle.wcheck.specs.Checking.{Checking, with_frames}
 use Rattle.wdecode.specs.Gives.{ReadsPlain, ReadsBracket}
-use Rattle.verdict.specs.Judged.{typing_refusal, read_refusal, body_refusal_of}
-use Rattle.verdict.specs.OnePass.{Takes, PassesAs}
-use Rattle.verdict.specs.declared.refusal.BodyRefusal.{BodyRefusal}
-use Rattle.verdict.specs.declared.refusal.BodyRefusal.TheVariants.{TooManyLocals}
+use Rattle.verdict.specs.Judged.{typing_refusal}
+use Rattle.verdict.specs.OnePass.{Takes, Passes, first_token, Reaches, PassesAs, Refuses, StopsAt}
+use Rattle.verdict.specs.declared.passing.FirstToken.{FirstToken}
+use Rattle.verdict.specs.WholeBodies.{refusal_read}
+use Rattle.verdict.specs.declared.body.Known.TheVariants.{Nothing}
 
 some_is : {A : Type 0} (a c : A) → Some a ≡ Some c → a ≡ c
 some_is a c e = cc
@@ -123,16 +117,21 @@ follows C End f fs gs h e = closes f fs gs h e
 
 -- ---- what is read, and how it is judged
 
+-- after the last token no frame is open
+no_more : (C : Context) (ts : List Token) (bytes : List ℕ) → PassesAs C [] bytes ts → (ts ≡ []) × (bytes ≡ [])
+no_more C [] bytes p = (refl, p.1)
+no_more C (t ∷ ts) bytes p = let never : None ≡ Some p.1 = p.4 in absurd cc
+
 read_behind : (C : Context) (t : Token) (ts : List Token) (inner : List Bool) (rest : List ℕ) (n : ℕ) (gs : List Frame) (o : Option (Option (List Bool))) → nest inner t ≡ o → Follows o gs → PassesAs C gs rest ts → ((g : Frame) (hs : List Frame) → Grounded (g ∷ hs) → PassesAs C (g ∷ hs) rest ts → tokens_at n (flags (g ∷ hs)) rest ≡ Some (ts, [])) → (nest inner t >>= and_then t rest (λ now. tokens_at n now rest)) ≡ Some (t ∷ ts, [])
 read_behind C t ts inner rest n gs None is w q more = absurd w
-read_behind C t ts inner rest n [] (Some None) is w q more = rw (is, q.0, q.1) refl
+read_behind C t ts inner rest n [] (Some None) is w q more = let none = no_more C ts rest q in rw (is, none.0, none.1) refl
 read_behind C t ts inner rest n (g ∷ hs) (Some None) is w q more = absurd cc
 read_behind C t ts inner rest n [] (Some (Some now)) is w q more = absurd w
 read_behind C t ts inner rest n (g ∷ hs) (Some (Some now)) is w q more = rw (is, w.0, more g hs w.1 q) refl
 
 -- the frames tell what is read
 reads : (C : Context) (ts : List Token) (f : Frame) (fs : List Frame) (bytes : List ℕ) (n : ℕ) → Grounded (f ∷ fs) → PassesAs C (f ∷ fs) bytes ts → length bytes ≤ n → tokens_at n (flags (f ∷ fs)) bytes ≡ Some (ts, [])
-reads C [] f fs bytes n h p le = absurd p
+reads C [] f fs bytes n h p le = let never = p.0 in absurd cc
 reads C (t ∷ ts) f fs bytes zero h p le =
     let lt = p.3 in
     absurd (omega arith)
@@ -143,103 +142,88 @@ reads C (t ∷ ts) f fs bytes (suc n) h p le =
 
 -- each token is taken
 accepts : (C : Context) (ts : List Token) (fs : List Frame) (bytes : List ℕ) (k : ℕ) → PassesAs C fs bytes ts → alg_from C ts fs k ≡ Accepted
-accepts C ts [] bytes k p = rw p.0 refl
-accepts C [] (f ∷ fs) bytes k p = absurd p
-accepts C (t ∷ ts) (f ∷ fs) bytes k p = rw p.4 (accepts C ts p.1 p.0 (k + 1) p.5)
+accepts C [] fs bytes k p = rw p.0 refl
+accepts C (t ∷ ts) fs bytes k p = rw p.4 (accepts C ts p.1 p.0 (k + 1) p.5)
 
 -- ---- the body
-
-whole_body : (bytes rest : List ℕ) (runs : List LocalRun) (ts : List Token) → locals.read bytes ≡ Some (runs, rest) → expression.read rest ≡ Some (ts, []) → whole_at body.read bytes ≡ Some record { runs = runs; code = ts }
-unfolding body
-whole_body bytes rest runs ts a b = rw (a, b) refl
 
 expression_read : (C : Context) (r : Stack) (rest : List ℕ) (ts : List Token) → PassesAs C (start r) rest ts → expression.read rest ≡ Some (ts, [])
 unfolding expression
 expression_read C r rest ts p = reads C ts _ [] rest (length rest) refl p (omega arith)
 
-few_refusal : (D : Context) (r : Stack) (n : ℕ) (v : Option BodyRefusal) → ltb local_limit n ≡ false → v ≡ None → cond (leb n local_limit) v (Some TooManyLocals) ≡ None
-few_refusal D r n v few e =
-    let le : n ≤ local_limit = ltb-false _ _ few in
-    ap (λ (t : Bool). cond t v (Some TooManyLocals)) (le-leb _ _ le) ∙ e
-
--- the body that is read in one pass passes
-pub passing_refusal : (C : Context) (f : ℕ) (bytes rest : List ℕ) (runs : List LocalRun) (ts : List Token) → locals.read bytes ≡ Some (runs, rest) → ltb local_limit (locals_of runs) ≡ false → PassesAs (body_context (result_of C f) (function_context C f runs)) (start (result_of C f)) rest ts → body_refusal_of C f bytes ≡ None
-unfolding body_refusal_of
-passing_refusal C f bytes rest runs ts a few p =
-    let D = function_context C f runs in
-    let r = result_of C f in
-    let read : whole_at body.read bytes ≡ Some record { runs = runs; code = ts } = whole_body bytes rest runs ts a (expression_read (body_context r D) r rest ts p) in
-    let taken : alg D r ts ≡ Accepted = accepts (body_context r D) ts (start r) rest 0 p in
-    ap (read_refusal C f) read ∙ few_refusal D r (locals_of runs) (typing_refusal (alg D r ts)) few (ap typing_refusal taken)
+-- tokens that pass are not refused
+pub not_refused : (C : Context) (r : Stack) (fs : List Frame) (rest : List ℕ) (ts : List Token) → fs ≡ start r → PassesAs C fs rest ts → refusal_read C Nothing fs 0 (expression.read rest) ≡ None
+not_refused C r fs rest ts e p =
+    let began : PassesAs C (start r) rest ts = subst (λ (x : List Frame). PassesAs C x rest ts) e p in
+    ap (refusal_read C Nothing fs 0) (expression_read C r rest ts began) ∙ ap typing_refusal (accepts C ts fs rest 0 p)
 
 -- ---- the loop
 
 -- one token more
-next_token : (C : Context) (fs gs : List Frame) (bytes after : List ℕ) (t : Token) (All : Type 0) → (fs ≡ [] → ⊥) → token_at bytes ≡ Some (t, after) → length after < length bytes → step C t fs ≡ Some gs → ((ts : List Token) → PassesAs C fs bytes ts → All) → (ts : List Token) → PassesAs C gs after ts → All
-next_token C [] gs bytes after t All some a lt b so ts p = absurd (some refl)
-next_token C (f ∷ fs) gs bytes after t All some a lt b so ts p = so (t ∷ ts) (after, gs, a, lt, b, p)
+one_more : (C : Context) (ts : List Token) (fs gs hs : List Frame) (bytes rest after : List ℕ) (t : Token) → Reaches C fs bytes ts gs rest → token_at rest ≡ Some (t, after) → length after < length rest → step C t gs ≡ Some hs → Reaches C fs bytes (ts ++ t ∷ []) hs after
+one_more C [] fs gs hs bytes rest after t p a lt b =
+    (after, hs, ap token_at p.1 ∙ a, omega (arith, ap length p.1), ap (step C t) p.0 ∙ b, (refl, refl))
+one_more C (u ∷ us) fs gs hs bytes rest after t p a lt b =
+    (p.0, p.1, p.2, p.3, p.4, one_more C us p.1 gs hs p.0 rest after t p.5 a lt b)
 
-pub goes_on : (C D : Context) (fs gs : List Frame) (bytes after new lent : List ℕ) (token : Held) (ok : Bool) (All : Type 0) → D ≡ C → (fs ≡ [] → ⊥) → lent ≡ new → token_at bytes ≡ Some (seen (new ++ []) token, after) → length after < length bytes → step D (seen lent token) fs ≡ when ok (Some gs) → ok ≡ true → ((ts : List Token) → PassesAs C fs bytes ts → All) → (ts : List Token) → PassesAs C gs after ts → All
-goes_on C D fs gs bytes after new lent token ok All same some is a lt b taken so =
-    let look : seen (new ++ []) token ≡ seen lent token = ap (λ (x : List ℕ). seen x token) (append-nil new ∙ sym is) in
-    next_token C fs gs bytes after (seen lent token) All some
-    (a ∙ ap (λ (x : Token). Some (x, after)) look)
-    lt
-    (ap (λ (x : Context). step x (seen lent token) fs) (sym same) ∙ b ∙ ap (λ (x : Bool). when x (Some gs)) taken)
-    so
+-- tokens that were taken lead there
+abbrev pub Leads : Context → List Frame → List ℕ → List Frame → List ℕ → Type 0
+Leads C fs bytes gs rest = (ts : List Token) × Reaches C fs bytes ts gs rest
 
--- one instruction more that is frequent
-pub takes_on : (C : Context) (old new : Checking) (bytes after : List ℕ) (All : Type 0) → old.inside ≡ C → (old.frames ≡ [] → ⊥) → Takes bytes old new after → ((ts : List Token) → PassesAs C old.frames bytes ts → All) → (ts : List Token) → PassesAs C new.frames after ts → All
-takes_on C old new bytes after All same some h so =
-    next_token C old.frames new.frames bytes after h.0 All some h.1 h.2 (ap (λ (x : Context). step x h.0 old.frames) (sym same) ∙ h.3) so
+pub takes_on : (C : Context) (fs : List Frame) (bytes rest after : List ℕ) (old new : Checking) → old.inside ≡ C → Leads C fs bytes old.frames rest → Takes rest old new after → Leads C fs bytes new.frames after
+takes_on C fs bytes rest after old new same so h =
+    (so.0 ++ h.0 ∷ [], one_more C so.0 fs old.frames new.frames bytes rest after h.0 so.1 h.1 h.2 (ap (λ (x : Context). step x h.0 old.frames) (sym same) ∙ h.3))
+
+-- ---- the token at the front
 
 in_front : (bytes : List ℕ) → 1 ≤ length bytes → get_or bytes 0 0 ∷ take (length bytes - 1) (drop 1 bytes) ≡ bytes
 in_front [] le = absurd (omega arith)
 in_front (b ∷ bytes) le = ap (λ (x : List ℕ). b ∷ x) (take_rest (b ∷ bytes) 1)
 
--- a frequent instruction that is read and taken
-pub looked : (old new : Checking) (bytes after lent : List ℕ) (b : ℕ) (token : Held) (ok : Bool) → 1 ≤ length bytes → get_or bytes 0 0 ≡ b → ReadsPlain (b ∷ take (length bytes - 1) (drop 1 bytes)) token after → step old.inside (seen lent token) old.frames ≡ when ok (Some new.frames) → ok ≡ true → new ≡ with_frames old new.frames → Takes bytes old new after
-looked old new bytes after lent b token ok some is read step_is taken same =
-    let rest = take (length bytes - 1) (drop 1 bytes) in
-    let whole : b ∷ rest ≡ bytes = ap (λ (x : ℕ). x ∷ rest) (sym is) ∙ in_front bytes some in
-    let r : ReadsPlain bytes token after = subst (λ (x : List ℕ). ReadsPlain x token after) whole read in
-    let i = r.2 lent in (
-      Do i.0,
-      i.2,
-      r.0,
-      ap (λ (t : Token). step old.inside t old.frames) (sym i.1) ∙ step_is ∙ ap (λ (x : Bool). when x (Some new.frames)) taken,
-      same,
-    )
+-- the token t is at the front, and the checker looked at it
+pub told : {E : Type 0} (old new : Checking) (bytes : List ℕ) (after : Bor (List ℕ)) (t : Token) (r : Result Bool E) → token_at bytes ≡ Some (t, after.now) → length after.now < length bytes → IfOk r (λ ok. step old.inside t old.frames ≡ when ok (Some new.frames)) → IfOk r (λ _. new ≡ with_frames old new.frames) → Passes bytes old new (first_token r after)
+told old new bytes after t (Ok true) read lt step_is same = (t, read, lt, step_is, same)
+told old new bytes after t (Ok false) read lt step_is same =
+    λ u rest e. ap (λ (x : Token × List ℕ). step old.inside x.0 old.frames) (some_is _ _ (sym e ∙ read)) ∙ step_is
+told old new bytes after t (Err e) read lt step_is same = tt
 
--- the beginning of a block that is read and taken
-pub looked_open : (old new : Checking) (bytes after lent : List ℕ) (b : ℕ) (token : Held) (ok : Bool) → 1 ≤ length bytes → get_or bytes 0 0 ≡ b → ReadsBracket (b ∷ take (length bytes - 1) (drop 1 bytes)) token after → step old.inside (seen lent token) old.frames ≡ when ok (Some new.frames) → ok ≡ true → new ≡ with_frames old new.frames → Takes bytes old new after
-looked_open old new bytes after lent b token ok some is read step_is taken same =
-    let rest = take (length bytes - 1) (drop 1 bytes) in
-    let whole : b ∷ rest ≡ bytes = ap (λ (x : ℕ). x ∷ rest) (sym is) ∙ in_front bytes some in
-    let r : ReadsBracket bytes token after = subst (λ (x : List ℕ). ReadsBracket x token after) whole read in (
-      seen lent token,
-      r.1 lent,
-      r.0,
-      step_is ∙ ap (λ (x : Bool). when x (Some new.frames)) taken,
-      same,
-    )
+front : (bytes : List ℕ) (b : ℕ) → 1 ≤ length bytes → get_or bytes 0 0 ≡ b → b ∷ take (length bytes - 1) (drop 1 bytes) ≡ bytes
+front bytes b some is = ap (λ (x : ℕ). x ∷ take (length bytes - 1) (drop 1 bytes)) (sym is) ∙ in_front bytes some
+
+-- a frequent instruction that is read and looked at
+pub looked : {E : Type 0} (old new : Checking) (bytes : List ℕ) (after : Bor (List ℕ)) (lent : List ℕ) (b : ℕ) (token : Held) (r : Result Bool E) (given : FirstToken) → 1 ≤ length bytes → get_or bytes 0 0 ≡ b → ReadsPlain (b ∷ take (length bytes - 1) (drop 1 bytes)) token after.now → IfOk r (λ ok. step old.inside (seen lent token) old.frames ≡ when ok (Some new.frames)) → IfOk r (λ _. new ≡ with_frames old new.frames) → given ≡ first_token r after → Passes bytes old new given
+looked old new bytes after lent b token r given some is read step_is same e =
+    let front_read : ReadsPlain bytes token after.now = subst (λ (x : List ℕ). ReadsPlain x token after.now) (front bytes b some is) read in
+    let i = front_read.2 lent in
+    rw e (told old new bytes after (Do i.0) r i.2 front_read.0 (subst (λ (t : Token). IfOk r (λ ok. step old.inside t old.frames ≡ when ok (Some new.frames))) i.1 step_is) same)
+
+-- the beginning of a block that is read and looked at
+pub looked_open : {E : Type 0} (old new : Checking) (bytes : List ℕ) (after : Bor (List ℕ)) (lent : List ℕ) (b : ℕ) (token : Held) (r : Result Bool E) (given : FirstToken) → 1 ≤ length bytes → get_or bytes 0 0 ≡ b → ReadsBracket (b ∷ take (length bytes - 1) (drop 1 bytes)) token after.now → IfOk r (λ ok. step old.inside (seen lent token) old.frames ≡ when ok (Some new.frames)) → IfOk r (λ _. new ≡ with_frames old new.frames) → given ≡ first_token r after → Passes bytes old new given
+looked_open old new bytes after lent b token r given some is read step_is same e =
+    let front_read : ReadsBracket bytes token after.now = subst (λ (x : List ℕ). ReadsBracket x token after.now) (front bytes b some is) read in
+    rw e (told old new bytes after (seen lent token) r (front_read.1 lent) front_read.0 step_is same)
+
+-- a token of one byte that is looked at
+pub looked_one : {E : Type 0} (old new : Checking) (bytes : List ℕ) (after : Bor (List ℕ)) (b : ℕ) (t : Token) (r : Result Bool E) (given : FirstToken) → 1 ≤ length bytes → get_or bytes 0 0 ≡ b → after.now ≡ take (length bytes - 1) (drop 1 bytes) → ((rest : List ℕ) → token_at (b ∷ rest) ≡ Some (t, rest)) → IfOk r (λ ok. step old.inside t old.frames ≡ when ok (Some new.frames)) → IfOk r (λ _. new ≡ with_frames old new.frames) → given ≡ first_token r after → Passes bytes old new given
+looked_one old new bytes after b t r given some is rest_is read step_is same e =
+    let whole : b ∷ after.now ≡ bytes = ap (λ (x : List ℕ). b ∷ x) rest_is ∙ front bytes b some is in
+    rw e (told old new bytes after t r (ap token_at (sym whole) ∙ read after.now) (omega (arith, ap length whole)) step_is same)
+
+-- a token, whichever it is, that is read and looked at
+pub looked_any : {E : Type 0} (old new : Checking) (bytes : List ℕ) (after : Bor (List ℕ)) (lent labels : List ℕ) (token : Held) (r : Result Bool E) (given : FirstToken) → token_at bytes ≡ Some (seen (labels ++ []) token, after.now) → lent ≡ labels → length after.now < length bytes → IfOk r (λ ok. step old.inside (seen lent token) old.frames ≡ when ok (Some new.frames)) → IfOk r (λ _. new ≡ with_frames old new.frames) → given ≡ first_token r after → Passes bytes old new given
+looked_any old new bytes after lent labels token r given read is lt step_is same e =
+    let look : seen (labels ++ []) token ≡ seen lent token = ap (λ (x : List ℕ). seen x token) (append-nil labels ∙ sym is) in
+    rw e (told old new bytes after (seen lent token) r (read ∙ ap (λ (x : Token). Some (x, after.now)) look) lt step_is same)
 
 -- what is read and taken after a byte
 pub looked_behind : (old new : Checking) (bytes after : List ℕ) (token : Held) → ReadsPlain bytes token after → step old.inside (seen [] token) old.frames ≡ Some new.frames → new ≡ with_frames old new.frames → Takes bytes old new after
 looked_behind old new bytes after token read step_is same =
     let i = read.2 [] in (Do i.0, i.2, read.0, ap (λ (t : Token). step old.inside t old.frames) (sym i.1) ∙ step_is, same)
 
--- a token of one byte that is taken
-pub looked_one : (old new : Checking) (bytes : List ℕ) (b : ℕ) (t : Token) (ok : Bool) → 1 ≤ length bytes → get_or bytes 0 0 ≡ b → ((rest : List ℕ) → token_at (b ∷ rest) ≡ Some (t, rest)) → step old.inside t old.frames ≡ when ok (Some new.frames) → ok ≡ true → new ≡ with_frames old new.frames → Takes bytes old new (take (length bytes - 1) (drop 1 bytes))
-looked_one old new bytes b t ok some is read step_is taken same =
-    let rest = take (length bytes - 1) (drop 1 bytes) in
-    let whole : b ∷ rest ≡ bytes = ap (λ (x : ℕ). x ∷ rest) (sym is) ∙ in_front bytes some in (
-      t,
-      ap token_at (sym whole) ∙ read rest,
-      omega (arith, ap length whole),
-      step_is ∙ ap (λ (x : Bool). when x (Some new.frames)) taken,
-      same,
-    )
+-- a frequent instruction that is read and taken
+pub looked_known : (old new : Checking) (bytes after : List ℕ) (b : ℕ) (token : Held) → 1 ≤ length bytes → get_or bytes 0 0 ≡ b → ReadsPlain (b ∷ take (length bytes - 1) (drop 1 bytes)) token after → step old.inside (seen [] token) old.frames ≡ Some new.frames → new ≡ with_frames old new.frames → Takes bytes old new after
+looked_known old new bytes after b token some is read step_is same =
+    looked_behind old new bytes after token (subst (λ (x : List ℕ). ReadsPlain x token after) (front bytes b some is) read) step_is same
 
 pub end_read : (rest : List ℕ) → token_at (0x0B ∷ rest) ≡ Some (End, rest)
 unfolding token_at
@@ -268,14 +252,3 @@ unreachable_read rest = refl
 pub nop_read : (rest : List ℕ) → token_at (0x01 ∷ rest) ≡ Some (Do Nop, rest)
 unfolding token_at plain_instruction opcode_of
 nop_read rest = refl
-
--- no frame is open, and no byte is left
-pub finished : (C : Context) (fs : List Frame) (bytes : List ℕ) (All : Type 0) → fs ≡ [] → eqb (length bytes) 0 ≡ true → ((ts : List Token) → PassesAs C fs bytes ts → All) → All
-finished C [] bytes All e is so = so [] (refl, nil_from_length bytes (eqb-true _ _ is))
-finished C (f ∷ fs) bytes All e is so = absurd cc
-
--- from where the checker began
-pub begun_passes : (C : Context) (f : ℕ) (runs lent : List LocalRun) (x : Checking) (rest : List ℕ) (ts : List Token) → lent ≡ runs → x ≡ begun C f lent → PassesAs x.inside x.frames rest ts → PassesAs (body_context (result_of C f) (function_context C f runs)) (start (result_of C f)) rest ts
-begun_passes C f runs lent x rest ts is e p =
-    subst (λ (y : List LocalRun). PassesAs (body_context (result_of C f) (function_context C f y)) (start (result_of C f)) rest ts) is
-    (subst (λ (y : Checking). PassesAs y.inside y.frames rest ts) e p)

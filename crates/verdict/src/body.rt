@@ -1,10 +1,10 @@
-ghost use Rattle.std.specs.Prelude.{◌≡◌, ◌+◌, ◌<◌, [], Some, None, IfOk, MatchResult, length};
+ghost use Rattle.std.specs.Prelude.{◌≡◌, ◌+◌, ◌<◌, Some, None, IfOk, MatchResult, length};
 ghost use Rattle.pieces.specs.Faults.{AllowsFault};
 ghost use Rattle.wsyntax.specs.Modules.{seen};
-ghost use Rattle.wsyntax.specs.Binary.Nesting.{expression};
 ghost use Rattle.verdict.specs.Judged.{body_refusal_of};
-ghost use Rattle.verdict.specs.WholeBodies.{refusal_from, refusal_read, GoesOn, GivesRefusal};
+ghost use Rattle.verdict.specs.WholeBodies.{AtEnd, GivesRefusal, GoesOn, Judges};
 
+use crate::passing::{Passing, Scratch};
 use crate::refusal::BodyRefusal;
 use pieces::JobFault;
 use smallvec::SmallVec;
@@ -13,63 +13,79 @@ use wcheck::Checker;
 use wdecode::{Fault, enter, has_too_many_locals, locals_at, token_at};
 use wsyntax::Token;
 
-/// Looks at the token of that number, where no fault of the body is known yet: the fault that is known then.
+/// What is known of a body while its tokens are read to their end.
+#[derive(Clone, Copy)]
+pub(crate) enum Known {
+    /// No token so far is refused: the checker looked at each.
+    Nothing,
+    /// The first token that is refused, if one is, is that at which this many bytes are left.
+    Place(usize),
+    /// What it is refused for, if its bytes spell a body.
+    Refusal(BodyRefusal),
+}
+
+/// Looks at the token of that number, at which `left` bytes are left: what is known after it.
 fn look(
     checker: &mut Checker<'_>,
     targets: &[u32],
-    fault: Option<BodyRefusal>,
+    known: Known,
     token: Token,
     at: usize,
-) -> Result<Option<BodyRefusal>, AllocError>
+    left: usize,
+) -> Result<Known, AllocError>
     ensures outside { checker.new.outside ≡ checker.old.outside }
-    ensures inside { IfOk result (λ _. checker.new.inside ≡ checker.old.inside) }
-    ensures goes_on { IfOk result (λ now. GoesOn checker.old fault at (seen targets.now token) checker.new now) }
+    ensures goes_on { IfOk result (λ now. GoesOn checker.old known at left (seen targets.now token) checker.new now) }
 {
-    if fault.is_some() {
-        return Ok(fault);
-    }
-    if checker.step(token, targets)? {
-        Ok(None)
-    } else {
-        Ok(Some(BodyRefusal::IllTyped { at }))
+    let refused = Known::Refusal(BodyRefusal::IllTyped { at });
+    match known {
+        Known::Nothing => {
+            if checker.step(token, targets)? {
+                Ok(known)
+            } else {
+                Ok(refused)
+            }
+        }
+        Known::Place(place) if left == place => Ok(refused),
+        Known::Place(_) => Ok(known),
+        Known::Refusal(_) => Ok(known),
     }
 }
 
 /// What a body of `count` tokens is refused for, after its last token.
-fn at_end(checker: &Checker<'_>, fault: Option<BodyRefusal>, count: usize) -> Option<BodyRefusal>
-    ensures { result ≡ refusal_from checker.now.inside fault checker.now.frames count [] }
+fn at_end(checker: &Checker<'_>, known: Known, count: usize) -> Option<BodyRefusal>
+    ensures { AtEnd checker.now known count result }
 {
-    match fault {
-        Some(refusal) => Some(refusal),
-        None if checker.finish() => None,
-        None => Some(BodyRefusal::IllTyped { at: count }),
+    match known {
+        Known::Refusal(refusal) => Some(refusal),
+        Known::Nothing if checker.finish() => None,
+        _ => Some(BodyRefusal::IllTyped { at: count }),
     }
 }
 
-/// What a body is refused for that has these bytes after its locals, where a fault of it is known or none is: the bytes
-/// are read to their end all the same. Each token is let go as soon as the checker has seen it, so that no more is kept
-/// than the open blocks, and the labels of one branch table.
+/// What a body is refused for that has these bytes after its locals, of which that is known: the bytes are read to their
+/// end all the same. Each token is let go as soon as it was looked at, so that no more is kept than the open blocks, and
+/// the labels of one branch table.
 fn tokens_fault(
     alloc: Global,
     checker: &mut Checker<'_>,
     targets: &mut Vec<u32>,
-    known: Option<BodyRefusal>,
+    known: Known,
     bytes: &[u8],
 ) -> Result<Option<BodyRefusal>, Fault>
     ensures outside { checker.new.outside ≡ checker.old.outside }
-    ensures verdict { GivesRefusal result (refusal_read checker.old.inside known checker.old.frames 0 (expression.read bytes.now)) }
+    ensures verdict { Judges checker.old known bytes.now result }
 {
     let mut opened = SmallVec::new(alloc);
-    let mut fault = known;
+    let mut so_far = known;
     let mut rest = bytes;
     for at in 0..bytes.len() {
         targets.clear();
         let (token, after) = token_at(targets, rest)?;
-        fault = look(checker, targets, fault, token, at)?;
+        so_far = look(checker, targets, so_far, token, at, rest.len())?;
         let closes = enter(&mut opened, token)?;
         if closes {
             if after.is_empty() {
-                return Ok(at_end(checker, fault, at + 1));
+                return Ok(at_end(checker, so_far, at + 1));
             }
             return Err(Fault::Malformed);
         }
@@ -78,8 +94,8 @@ fn tokens_fault(
     Err(Fault::Malformed)
 }
 
-/// What a body is refused for, if it is; Malformed says that the bytes spell none.
-fn body_fault(
+/// What a body is refused for, if it is; Malformed says that the bytes spell none. The checker looks at each token.
+fn whole_fault(
     alloc: Global,
     checker: &mut Checker<'_>,
     targets: &mut Vec<u32>,
@@ -92,29 +108,54 @@ fn body_fault(
 {
     let (runs, rest) = locals_at(alloc, bytes)?;
     if has_too_many_locals(&runs) {
-        let known = Some(BodyRefusal::TooManyLocals);
+        let known = Known::Refusal(BodyRefusal::TooManyLocals);
         return tokens_fault(alloc, checker, targets, known, rest);
     }
     checker.begin(func, &runs)?;
-    tokens_fault(alloc, checker, targets, None, rest)
+    tokens_fault(alloc, checker, targets, Known::Nothing, rest)
 }
 
-/// Judges the bytes of the body of the function of that index, imported ones counted. The targets are room for the
-/// labels of a branch table, whatever they hold.
+/// What a body is refused for, if it is; Malformed says that the bytes spell none. Where one loop stopped at a token, the
+/// others are read to the end, and none is looked at twice.
+fn body_fault(
+    alloc: Global,
+    scratch: &mut Scratch<'_, '_>,
+    func: u32,
+    bytes: &[u8],
+) -> Result<Option<BodyRefusal>, Fault>
+    requires { func < length scratch.old.checker.outside.functions }
+    ensures outside { scratch.new.checker.outside ≡ scratch.old.checker.outside }
+    ensures verdict { GivesRefusal result (body_refusal_of scratch.old.checker.outside func bytes.now) }
+{
+    let passing = scratch.pass(alloc, func, bytes);
+    let Scratch {
+        checker,
+        targets,
+        ..
+    } = scratch;
+    match passing {
+        Passing::Passed => Ok(None),
+        Passing::Stopped { tokens, left } => {
+            tokens_fault(alloc, checker, targets, Known::Place(left), tokens)
+        }
+        Passing::Unknown => whole_fault(alloc, checker, targets, func, bytes),
+    }
+}
+
+/// Judges the bytes of the body of the function of that index, imported ones counted.
 pub(crate) fn judge_body(
     alloc: Global,
-    checker: &mut Checker<'_>,
-    targets: &mut Vec<u32>,
+    scratch: &mut Scratch<'_, '_>,
     func: u32,
     bytes: &[u8],
 ) -> Result<(), JobFault<BodyRefusal>>
-    requires { func < length checker.old.outside.functions }
-    ensures outside { checker.new.outside ≡ checker.old.outside }
+    requires { func < length scratch.old.checker.outside.functions }
+    ensures outside { scratch.new.checker.outside ≡ scratch.old.checker.outside }
     ensures verdict { MatchResult result
-        (λ _. body_refusal_of checker.old.outside func bytes.now ≡ None)
-        (AllowsFault (λ refusal. body_refusal_of checker.old.outside func bytes.now ≡ Some refusal)) }
+        (λ _. body_refusal_of scratch.old.checker.outside func bytes.now ≡ None)
+        (AllowsFault (λ refusal. body_refusal_of scratch.old.checker.outside func bytes.now ≡ Some refusal)) }
 {
-    match body_fault(alloc, checker, targets, func, bytes) {
+    match body_fault(alloc, scratch, func, bytes) {
         Ok(None) => Ok(()),
         Ok(Some(refusal)) => Err(JobFault::Refused(refusal)),
         Err(Fault::Malformed) => Err(JobFault::Refused(BodyRefusal::Malformed)),

@@ -42,15 +42,7 @@ fn judge_bytes(
         (λ _. body_refusal_of scratch.old.checker.outside func bytes.now ≡ None)
         (AllowsFault (IsBodyAt place (body_refusal_of scratch.old.checker.outside func bytes.now))) }
 {
-    if scratch.passes(alloc, func, bytes) {
-        return Ok(());
-    }
-    let Scratch {
-        checker,
-        targets,
-        ..
-    } = scratch;
-    match judge_body(alloc, checker, targets, func, bytes) {
+    match judge_body(alloc, scratch, func, bytes) {
         Ok(()) => Ok(()),
         Err(JobFault::Refused(refusal)) => {
             let body = RefusedBody { place, refusal };

@@ -12,20 +12,29 @@
 //!
 //! All of them are inlined, and each arm below gives the opcode as a constant. So the compiler folds the five into one jump
 //! by the opcode. Two opcodes that shared an arm would be told apart again after it.
-ghost use Rattle.std.specs.Prelude.{◌≡◌, ◌<◌, List, [], ◌∷◌, None, true, IfOk, length};
-ghost use Rattle.wsyntax.specs.Instructions.{Token as Instruction};
-ghost use Rattle.verdict.specs.Judged.{body_refusal_of};
-ghost use Rattle.verdict.specs.OnePass.{Passes, PassesAs};
+ghost use Rattle.std.specs.Prelude.{◌≡◌, ◌<◌, [], ◌∷◌, IfOk, length};
+ghost use Rattle.verdict.specs.OnePass.{first_token, Passes, TokensPass};
+ghost use Rattle.verdict.specs.WholeBodies.{BodyPasses};
 
 use crate::tuning::{EXPORTS, LABELS, LOCAL_RUNS};
 use std::alloc::{AllocError, Global};
 use wcheck::Checker;
 use wcontext::Context;
 use wdecode::{
-    block_start, br, br_if, call_at, has_too_many_locals, i32_const, i64_const, load_at,
+    Fault, block_start, br, br_if, call_at, has_too_many_locals, i32_const, i64_const, load_at,
     locals_into, numeric_at, op, store_at, token_at, variable_at,
 };
 use wsyntax::{LocalRun, Opcode, Token};
+
+/// What one loop says of a body.
+pub(crate) enum Passing<'a> {
+    /// It is accepted.
+    Passed,
+    /// It is not. The bytes of its tokens do not pass at the place where this many of them are left.
+    Stopped { tokens: &'a [u8], left: usize },
+    /// Nothing: its locals are none or too many, or memory was refused.
+    Unknown,
+}
 
 /// What one worker keeps from body to body.
 #[derive(Drop)]
@@ -58,21 +67,20 @@ impl<'a, 'b> Scratch<'a, 'b> {
         })
     }
 
-    /// Whether the bytes of the body of the function of that index surely pass: one loop reads and checks, and keeps no
-    /// token. `false` says nothing, and is also the answer where memory was refused.
-    pub(crate) fn passes(&mut self, alloc: Global, func: u32, bytes: &[u8]) -> bool
+    /// Reads and checks the bytes of the body of the function of that index in one loop, which keeps no token.
+    pub(crate) fn pass<'c>(&mut self, alloc: Global, func: u32, bytes: &'c [u8]) -> Passing<'c>
         requires { func < length self.old.checker.outside.functions }
         ensures outside { self.new.checker.outside ≡ self.old.checker.outside }
-        ensures sound { result ≡ true → body_refusal_of self.old.checker.outside func bytes.now ≡ None }
+        ensures sound { BodyPasses self.old.checker.outside func bytes.now result }
     {
         let Ok(rest) = locals_into(alloc, &mut self.runs, bytes) else {
-            return false;
+            return Passing::Unknown;
         };
         if has_too_many_locals(&self.runs) {
-            return false;
+            return Passing::Unknown;
         }
         let Ok(()) = self.checker.begin(func, &self.runs) else {
-            return false;
+            return Passing::Unknown;
         };
         tokens_pass(&mut self.checker, &mut self.targets, rest)
     }
@@ -82,19 +90,30 @@ impl<'a, 'b> Scratch<'a, 'b> {
 enum FirstToken<'a> {
     /// It was taken, and these are the bytes after it.
     Taken(&'a [u8]),
-    /// It was not taken, or memory was refused.
+    /// None is there, or it was not taken.
     Refused,
+    /// Memory was refused.
+    Memory,
     /// It was not looked at.
     Other,
+}
+
+/// What a look of the checker made of a token, with these bytes after it.
+#[inline(always)]
+fn looked_at<'a>(looked: Result<bool, AllocError>, after: &'a [u8]) -> FirstToken<'a>
+    ensures { result ≡ first_token looked after.entry }
+{
+    match looked {
+        Ok(true) => FirstToken::Taken(after),
+        Ok(false) => FirstToken::Refused,
+        Err(AllocError) => FirstToken::Memory,
+    }
 }
 
 /// Lets the checker look at a token that is its opcode alone.
 macro_rules! step_bare {
     ($checker:expr, $token:expr, $after:expr) => {
-        match $checker.step($token, &[]) {
-            Ok(true) => FirstToken::Taken($after),
-            _ => FirstToken::Refused,
-        }
+        looked_at($checker.step($token, &[]), $after)
     };
 }
 
@@ -199,29 +218,63 @@ fn frequent_passes<'a>(checker: &mut Checker<'_>, bytes: &'a [u8]) -> FirstToken
     }
 }
 
-/// Whether the bytes are the tokens of an expression, all of them, and each is taken.
-fn tokens_pass(checker: &mut Checker<'_>, targets: &mut Vec<u32>, bytes: &[u8]) -> bool
+/// Reads and checks the instruction at the front, whichever it is.
+#[inline(always)]
+fn any_passes<'a>(
+    checker: &mut Checker<'_>,
+    targets: &mut Vec<u32>,
+    bytes: &'a [u8],
+) -> FirstToken<'a>
     ensures outside { checker.new.outside ≡ checker.old.outside }
-    ensures sound { result ≡ true → (all : List Instruction) × PassesAs checker.old.inside checker.old.frames bytes.now all }
+    ensures passes { Passes bytes.now checker.old checker.new result }
 {
-    let mut rest = bytes;
-    'each: while !checker.finish() {
-        match frequent_passes(checker, rest) {
-            FirstToken::Taken(after) => {
-                rest = after;
-                continue 'each;
-            }
-            FirstToken::Refused => return false,
-            FirstToken::Other => (),
-        }
-        targets.clear();
-        let Ok((token, after)) = token_at(targets, rest) else {
-            return false;
-        };
-        let Ok(true) = checker.step(token, targets) else {
-            return false;
-        };
-        rest = after;
+    targets.clear();
+    match token_at(targets, bytes) {
+        Ok((token, after)) => looked_at(checker.step(token, targets), after),
+        Err(Fault::Malformed) => FirstToken::Refused,
+        Err(Fault::Memory) => FirstToken::Memory,
     }
-    rest.is_empty()
+}
+
+/// Reads and checks the instruction at the front, in less time where it is one of the frequent.
+#[inline(always)]
+fn token_passes<'a>(
+    checker: &mut Checker<'_>,
+    targets: &mut Vec<u32>,
+    bytes: &'a [u8],
+) -> FirstToken<'a>
+    requires { checker.old.frames ≡ [] → ⊥ }
+    ensures outside { checker.new.outside ≡ checker.old.outside }
+    ensures passes { Passes bytes.now checker.old checker.new result }
+{
+    match frequent_passes(checker, bytes) {
+        FirstToken::Other => any_passes(checker, targets, bytes),
+        first => first,
+    }
+}
+
+/// Whether the bytes are the tokens of an expression, all of them, and each is taken.
+fn tokens_pass<'a>(
+    checker: &mut Checker<'_>,
+    targets: &mut Vec<u32>,
+    tokens: &'a [u8],
+) -> Passing<'a>
+    ensures outside { checker.new.outside ≡ checker.old.outside }
+    ensures sound { TokensPass checker.old.inside checker.old.frames tokens.now result }
+{
+    let mut rest = tokens;
+    while !checker.finish() {
+        rest = match token_passes(checker, targets, rest) {
+            FirstToken::Taken(after) => after,
+            FirstToken::Refused => {
+                let left = rest.len();
+                return Passing::Stopped { tokens, left };
+            }
+            FirstToken::Memory | FirstToken::Other => return Passing::Unknown,
+        };
+    }
+    match rest.len() {
+        0 => Passing::Passed,
+        left => Passing::Stopped { tokens, left },
+    }
 }

@@ -1,60 +1,65 @@
-use Rattle.std.proofs.Common.{ap, sym, subst, refl, arith, ◌≡◌, ◌∙◌, ◌++◌, ◌-◌, ◌+◌, suc, [], length, reverse, Err, Option}
+use Rattle.std.proofs.Common.{refl, sym, arith, ◌≡◌, ◌∙◌, ◌-◌, ◌+◌, suc, [], length, reverse}
 use Rattle.std.proofs.lemmas.Result.{err_from_is_err_and}
 use Rattle.wsyntax.specs.Modules.{seen}
-use Rattle.verdict.specs.declared.refusal.BodyRefusal.{BodyRefusal}
-use Rattle.verdict.specs.WholeBodies.{refusal_from, GivesRefusal}
-use Rattle.verdict.proofs.WholeBodies.{begins, told, reads_on, reads_last, reads_none, stands_nowhere, left_over, used_up}
+use Rattle.verdict.proofs.WholeBodies.{begins, reads_one, closes_body, closes_early, none_there, cannot_stand, unclosed, read_lent}
 use Rattle.verdict.proofs.body.tokens_fault.Goals as goal
 
 pub loop-at-init : goal.loop-at-init
-loop-at-init c = (refl, refl, begins c.args.checker.now.inside c.args.known c.args.checker.now.frames c.args.bytes.now c.new-opened.result.items c.new-opened.ensures.items)
+loop-at-init c = record {
+  outside = refl;
+  tells_same = begins c.args.checker.now c.args.known c.args.bytes.now c.new-opened.result.items c.new-opened.ensures.items;
+}
 
 pub returns-in_err-token-clause-verdict : goal.returns-in_err-token-clause-verdict
 returns-in_err-token-clause-verdict c =
     let p = err_from_is_err_and c.from_residual.result c.from_residual.ensures.1 in
+    let l = c.loop-at in
     let n = length c.args.bytes.now in
-    let fuel : n - c.loop-at.at ≡ suc (n - (c.loop-at.at + 1)) = omega (arith, c.loop-at-test.true) in
-    rw (p.1, p.2) (subst (λ (v : Option BodyRefusal). GivesRefusal (Err c.in_err-token.field-0.0) v) c.loop-at.invariant.2
-    (reads_none c.args.checker.now.inside c.loop-at.fault c.loop-at.checker.frames c.loop-at.at (n - c.loop-at.at) (n - (c.loop-at.at + 1)) (reverse c.loop-at.opened.items) c.loop-at.rest.now c.in_err-token.field-0.0 fuel c.in_err-token.ensures.err))
+    let fuel : n - l.at ≡ suc (n - (l.at + 1)) = omega (arith, c.loop-at-test.true) in
+    rw (p.1, p.2) (none_there c.args.checker.now l.checker c.args.known l.so_far c.args.bytes.now l.rest.now l.at (n - l.at) (n - (l.at + 1)) (reverse l.opened.items) c.in_err-token.field-0.0 fuel c.in_err-token.ensures.err l.invariant.tells_same)
 
 pub returns-in_err-closes-clause-verdict : goal.returns-in_err-closes-clause-verdict
 returns-in_err-closes-clause-verdict c =
     let p = err_from_is_err_and c.from_residual-in_err-closes.result c.from_residual-in_err-closes.ensures.1 in
+    let l = c.loop-at in
     let n = length c.args.bytes.now in
-    let fuel : n - c.loop-at.at ≡ suc (n - (c.loop-at.at + 1)) = omega (arith, c.loop-at-test.true) in
-    let targets = c.token_at.new.targets.items ++ [] in
-    rw (p.1, p.2) (subst (λ (v : Option BodyRefusal). GivesRefusal (Err c.in_err-closes.field-0.0) v) c.loop-at.invariant.2
-    (stands_nowhere c.args.checker.now.inside c.loop-at.fault c.loop-at.checker.frames c.loop-at.at (n - c.loop-at.at) (n - (c.loop-at.at + 1)) (reverse c.loop-at.opened.items) c.loop-at.rest.now c.in_ok-token.after.now (seen targets c.in_ok-token.token) c.in_err-closes.field-0.0 fuel (c.in_ok-token.ensures.ok.2 []) (c.in_err-closes.ensures.err targets)))
+    let fuel : n - l.at ≡ suc (n - (l.at + 1)) = omega (arith, c.loop-at-test.true) in
+    let lent = c.deref.result.now in
+    let read = read_lent l.rest.now c.in_ok-token.after.now c.token_at.new.targets.items lent c.in_ok-token.token (c.in_ok-token.ensures.ok.2 []) c.deref.ensures.value in
+    rw (p.1, p.2) (cannot_stand c.args.checker.now l.checker c.args.known l.so_far c.args.bytes.now l.rest.now c.in_ok-token.after.now l.at (n - l.at) (n - (l.at + 1)) (reverse l.opened.items) (seen lent c.in_ok-token.token) c.in_err-closes.field-0.0 fuel read (c.in_err-closes.ensures.err lent) l.invariant.tells_same)
 
 pub returns-then-is_empty-clause-verdict : goal.returns-then-is_empty-clause-verdict
 returns-then-is_empty-clause-verdict c =
-    let C = c.args.checker.now.inside in
+    let l = c.loop-at in
     let n = length c.args.bytes.now in
-    let fuel : n - c.loop-at.at ≡ suc (n - (c.loop-at.at + 1)) = omega (arith, c.loop-at-test.true) in
-    let new = c.token_at.new.targets.items in
-    let on = told C c.loop-at.checker.inside c.loop-at.fault c.in_ok-fault.fault c.loop-at.checker.frames c.look.new.checker.frames c.loop-at.at new c.deref.result.now c.in_ok-token.token c.loop-at.invariant.1 c.deref.ensures.value c.in_ok-fault.ensures.goes_on in
-    let last = reads_last C c.loop-at.fault c.in_ok-fault.fault c.loop-at.checker.frames c.look.new.checker.frames c.loop-at.at (n - c.loop-at.at) (n - (c.loop-at.at + 1)) (reverse c.loop-at.opened.items) (reverse c.enter.new.opened.items) c.loop-at.rest.now c.in_ok-token.after.now (seen (new ++ []) c.in_ok-token.token) c.in_ok-closes.closes fuel (c.in_ok-token.ensures.ok.2 []) (c.in_ok-closes.ensures.ok (new ++ [])) c.if-closes.true on in
-    sym c.loop-at.invariant.2 ∙ last ∙ used_up c.in_ok-token.after.now (refusal_from C c.in_ok-fault.fault c.look.new.checker.frames (c.loop-at.at + 1) []) (sym c.is_empty.ensures ∙ c.if-is_empty.true)
-    ∙ ap (λ D. refusal_from D c.in_ok-fault.fault c.look.new.checker.frames (c.loop-at.at + 1) []) (sym (c.in_ok-fault.ensures.inside ∙ c.loop-at.invariant.1)) ∙ sym c.at_end.ensures
+    let fuel : n - l.at ≡ suc (n - (l.at + 1)) = omega (arith, c.loop-at-test.true) in
+    let lent = c.deref.result.now in
+    let read = read_lent l.rest.now c.in_ok-token.after.now c.token_at.new.targets.items lent c.in_ok-token.token (c.in_ok-token.ensures.ok.2 []) c.deref.ensures.value in
+    closes_body c.args.checker.now l.checker c.look.new.checker c.args.known l.so_far c.in_ok-so_far.so_far c.args.bytes.now l.rest.now c.in_ok-token.after.now l.at (n - l.at) (n - (l.at + 1)) _ (reverse l.opened.items) (reverse c.enter.new.opened.items) (seen lent c.in_ok-token.token) c.in_ok-closes.closes _ fuel refl read c.in_ok-so_far.ensures.goes_on (c.in_ok-closes.ensures.ok lent) c.if-closes.true (sym c.is_empty.ensures ∙ c.if-is_empty.true) c.at_end.ensures l.invariant.tells_same
 
 pub returns-then-closes-clause-verdict : goal.returns-then-closes-clause-verdict
 returns-then-closes-clause-verdict c =
-    let C = c.args.checker.now.inside in
+    let l = c.loop-at in
     let n = length c.args.bytes.now in
-    let fuel : n - c.loop-at.at ≡ suc (n - (c.loop-at.at + 1)) = omega (arith, c.loop-at-test.true) in
-    let new = c.token_at.new.targets.items in
-    let on = told C c.loop-at.checker.inside c.loop-at.fault c.in_ok-fault.fault c.loop-at.checker.frames c.look.new.checker.frames c.loop-at.at new c.deref.result.now c.in_ok-token.token c.loop-at.invariant.1 c.deref.ensures.value c.in_ok-fault.ensures.goes_on in
-    let last = reads_last C c.loop-at.fault c.in_ok-fault.fault c.loop-at.checker.frames c.look.new.checker.frames c.loop-at.at (n - c.loop-at.at) (n - (c.loop-at.at + 1)) (reverse c.loop-at.opened.items) (reverse c.enter.new.opened.items) c.loop-at.rest.now c.in_ok-token.after.now (seen (new ++ []) c.in_ok-token.token) c.in_ok-closes.closes fuel (c.in_ok-token.ensures.ok.2 []) (c.in_ok-closes.ensures.ok (new ++ [])) c.if-closes.true on in
-    sym c.loop-at.invariant.2 ∙ last ∙ left_over c.in_ok-token.after.now (refusal_from C c.in_ok-fault.fault c.look.new.checker.frames (c.loop-at.at + 1) []) (sym c.is_empty.ensures ∙ c.if-is_empty.false)
+    let fuel : n - l.at ≡ suc (n - (l.at + 1)) = omega (arith, c.loop-at-test.true) in
+    let lent = c.deref.result.now in
+    let read = read_lent l.rest.now c.in_ok-token.after.now c.token_at.new.targets.items lent c.in_ok-token.token (c.in_ok-token.ensures.ok.2 []) c.deref.ensures.value in
+    closes_early c.args.checker.now l.checker c.look.new.checker c.args.known l.so_far c.in_ok-so_far.so_far c.args.bytes.now l.rest.now c.in_ok-token.after.now l.at (n - l.at) (n - (l.at + 1)) _ (reverse l.opened.items) (reverse c.enter.new.opened.items) (seen lent c.in_ok-token.token) c.in_ok-closes.closes fuel refl read c.in_ok-so_far.ensures.goes_on (c.in_ok-closes.ensures.ok lent) c.if-closes.true (sym c.is_empty.ensures ∙ c.if-is_empty.false) l.invariant.tells_same
 
 pub loop-at-preserved : goal.loop-at-preserved
 loop-at-preserved c =
-    let C = c.args.checker.now.inside in
+    let l = c.loop-at in
     let n = length c.args.bytes.now in
-    let fuel : n - c.loop-at.at ≡ suc (n - (c.loop-at.at + 1)) = omega (arith, c.loop-at-test.true) in
-    let new = c.token_at.new.targets.items in
-    let on = told C c.loop-at.checker.inside c.loop-at.fault c.in_ok-fault.fault c.loop-at.checker.frames c.look.new.checker.frames c.loop-at.at new c.deref.result.now c.in_ok-token.token c.loop-at.invariant.1 c.deref.ensures.value c.in_ok-fault.ensures.goes_on in (
-      c.in_ok-fault.ensures.outside ∙ c.loop-at.invariant.0,
-      c.in_ok-fault.ensures.inside ∙ c.loop-at.invariant.1,
-      reads_on C c.loop-at.fault c.in_ok-fault.fault c.loop-at.checker.frames c.look.new.checker.frames c.loop-at.at (n - c.loop-at.at) (n - (c.loop-at.at + 1)) (reverse c.loop-at.opened.items) (reverse c.enter.new.opened.items) c.loop-at.rest.now c.in_ok-token.after.now (seen (new ++ []) c.in_ok-token.token) c.in_ok-closes.closes fuel (c.in_ok-token.ensures.ok.2 []) (c.in_ok-closes.ensures.ok (new ++ [])) c.if-closes.false on ∙ c.loop-at.invariant.2,
-    )
+    let fuel : n - l.at ≡ suc (n - (l.at + 1)) = omega (arith, c.loop-at-test.true) in
+    let lent = c.deref.result.now in
+    let read = read_lent l.rest.now c.in_ok-token.after.now c.token_at.new.targets.items lent c.in_ok-token.token (c.in_ok-token.ensures.ok.2 []) c.deref.ensures.value in
+    record {
+      outside = c.in_ok-so_far.ensures.outside ∙ l.invariant.outside;
+      tells_same = reads_one c.args.checker.now l.checker c.look.new.checker c.args.known l.so_far c.in_ok-so_far.so_far c.args.bytes.now l.rest.now c.in_ok-token.after.now l.at (n - l.at) (n - (l.at + 1)) _ (reverse l.opened.items) (reverse c.enter.new.opened.items) (seen lent c.in_ok-token.token) c.in_ok-closes.closes fuel refl read c.in_ok-so_far.ensures.goes_on (c.in_ok-closes.ensures.ok lent) c.if-closes.false l.invariant.tells_same;
+    }
+
+pub returns-clause-verdict : goal.returns-clause-verdict
+returns-clause-verdict c =
+    let l = c.loop-at in
+    let n = length c.args.bytes.now in
+    unclosed c.args.checker.now l.checker c.args.known l.so_far c.args.bytes.now l.rest.now l.at (n - l.at) (reverse l.opened.items) (omega (arith, c.loop-at-test.false)) l.invariant.tells_same
