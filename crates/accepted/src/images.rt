@@ -2,12 +2,12 @@
 
 // PERF: 16 MB have room for 2,800,000 segments of one item. To write them took each call 10 to 75 ms (docs/LAB.md, Instances and memory).
 
-ghost use Rattle.std.specs.Prelude.{◌≡◌, ◌+◌, ◌≤◌, length, map, replicate, IfOk, IfSome};
+ghost use Rattle.std.specs.Prelude.{◌≡◌, ◌+◌, ◌≤◌, length, map, replicate, nat_le, IfOk, IfSome};
 ghost use Rattle.wsyntax.specs.Execution.Allocation.{overwrite, put_elements, put_data, AllWithin};
 ghost use Rattle.wsyntax.specs.Execution.Store.{Unset, SetTo};
 ghost use Rattle.wsyntax.specs.Execution.Start.{first_outside};
 ghost use Rattle.accepted.specs.Segments.{element_segments, data_segments, places_of};
-ghost use Rattle.accepted.specs.Images.{entry_in};
+ghost use Rattle.accepted.specs.Images.{entry_in, written};
 
 use std::alloc::{AllocError, Global};
 use wsyntax::{Data, Elements};
@@ -61,9 +61,11 @@ fn table_image(
     Ok(entries)
 }
 
-/// Whether the segments write at least `size` entries, each segment counted as one more.
-fn write_as_many(segments: &Elements, size: usize) -> bool {
-    let mut left = size;
+/// Whether the segments write at least `count` entries, each segment counted as one more.
+fn write_as_many(segments: &Elements, count: usize) -> bool
+    ensures { result ≡ nat_le count (written (element_segments segments.now)) }
+{
+    let mut left = count;
     for number in 0..segments.len() {
         let Some(segment) = segments.get(number) else {
             unreachable!()
@@ -73,8 +75,8 @@ fn write_as_many(segments: &Elements, size: usize) -> bool {
     left == 0
 }
 
-/// The entries of a fresh table of that size, `None` of one that is unset. They are kept where the segments write as many, and
-/// an instance may have the table. `outside` is the first segment that does not end within it.
+/// The entries of a fresh table of that size, `None` of one that is unset. They are kept where the segments write twice as
+/// many, and an instance may have the table. `outside` is the first segment that does not end within it.
 pub(crate) fn kept_table(
     alloc: Global,
     size: usize,
@@ -87,7 +89,7 @@ pub(crate) fn kept_table(
     ensures { IfOk result (λ kept. IfSome kept
         (λ v. map entry_in v.items ≡ put_elements (element_segments segments.now) (replicate size Unset))) }
 {
-    if outside.is_some() || size > TABLE_LIMIT || !write_as_many(segments, size) {
+    if outside.is_some() || size > TABLE_LIMIT || !write_as_many(segments, 2 * size) {
         return Ok(None);
     }
     Ok(Some(table_image(alloc, size, segments, places)?))

@@ -99,7 +99,7 @@ impl Layout {
     }
 
     /// The entries of a fresh table, `None` of one that is unset. They are kept where the segments write
-    /// as many.
+    /// twice as many.
     pub fn table(&self) -> Option<&[Option<u32>]>
         ensures { option_map (λ s. s.now) result ≡ option_map (λ v. v.items) self.now.table }
     {
