@@ -11,3 +11,6 @@ pub mod CheckedBodies
 pub mod Lendings
 pub mod NumberedTexts
 pub mod Numbering
+pub mod Lists
+pub mod Steps
+pub mod Tables

@@ -1,6 +1,7 @@
 pub mod Constants
 pub mod Segments
 pub mod Sizes
+pub mod Images
 pub mod Layouts
 pub mod Floats
 pub mod Judgement

@@ -1,6 +1,7 @@
 ghost use Rattle.std.specs.Prelude.{◌≡◌, length};
 ghost use Rattle.std.specs.List.{range_with_len};
 ghost use Rattle.std.specs.List.Sorted.{IsPermutation};
+ghost use Rattle.std.proofs.Props.{props};
 ghost use Rattle.wsyntax.specs.Modules.{module_shape};
 ghost use Rattle.wsyntax.specs.Validation.Rules.{ExportsDistinct};
 ghost use Rattle.accepted.specs.Exports.{AreAscending};
@@ -40,7 +41,7 @@ pub struct Accepted<'a> {
     pub(crate) ghost numbered: { ∥ AreTypeIds (module_shape «module»).types type_ids.items ∥₁ },
     pub(crate) ghost shaped: { shapes.items
         ≡ function_shapes (module_shape «module»).types type_ids.items (module_shape «module»).functions bodies.items },
-    pub(crate) ghost laid: { IsLayoutOf (module_shape «module») layout },
+    pub(crate) ghost laid: { IsLayoutOf (module_shape «module») layout } by { Prim.hlevel props },
     pub(crate) ghost filled: { SegmentsAreBytes (module_shape «module») },
     pub(crate) ghost small: { ∥ IsSmall (module_shape «module») bodies.items ∥₁ },
     pub(crate) ghost distinct: { ExportsDistinct (module_shape «module») },

@@ -8,6 +8,7 @@ mod constant;
 mod exports;
 mod floats;
 mod globals;
+mod images;
 mod making;
 mod module_layout;
 mod places;

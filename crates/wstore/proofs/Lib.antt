@@ -3,10 +3,7 @@ pub mod Globals
 pub mod Held
 pub mod Judging
 pub mod LaidOut
-pub mod Lists
 pub mod Refusals
-pub mod Steps
-pub mod Tables
 pub mod Programs
 pub mod ProgramCode
 pub mod TypedCalls

@@ -1,7 +1,7 @@
 -- One step of a loop over segments and their places.
-use Rattle.std.proofs.Common.{◌≡◌, ℕ, ◌+◌, ◌<◌, ◌≤◌, List, ◌∷◌, length, drop, map, get_or, Some, sym, ap, ◌∙◌, subst, arith}
+use Rattle.std.proofs.Common.{◌≡◌, ℕ, ◌+◌, ◌<◌, ◌≤◌, List, ◌∷◌, length, map, get_or, Some, sym, ap, ◌∙◌, subst, arith}
 use Rattle.std.specs.Prelude.{slice_get}
-use Rattle.std.proofs.lemmas.List.{drop-map, drop_more, get_or-map, length-map}
+use Rattle.std.proofs.lemmas.List.{get_or-map, length-map}
 use Rattle.std.proofs.lemmas.Option.{slice_get_within, get_or_from_slice_get}
 use Rattle.wsyntax.specs.Modules.{element_shape, data_shape}
 use Rattle.wsyntax.specs.HeldElement.{HeldElement}
@@ -10,25 +10,6 @@ use Rattle.wsyntax.specs.Execution.Allocation.{Segment, AllWithin, overwrite, pu
 use Rattle.wsyntax.specs.Execution.Store.{Entry, SetTo}
 use Rattle.wsyntax.specs.Execution.Start.{element_segment, data_segment}
 use Rattle.accepted.specs.Segments.{element_segments, data_segments, places_of}
-
--- ---- the segments from one on
-
--- of a list that is mapped twice
-from_here : {X Y Z : Type 0} (g : Y → Z) (f : X → Y) (xs : List X) (i : ℕ) (x : X) → x ≡ get_or xs i x → i < length xs
-    → drop i (map g (map f xs)) ≡ g (f x) ∷ drop (i + 1) (map g (map f xs))
-from_here g f xs i x is below =
-    drop-map g i (map f xs) ∙ ap (map g) (drop-map f i xs) ∙ ap (λ l. map g (map f l)) (drop_more xs i x below)
-    ∙ ap (λ y. g (f y) ∷ map g (map f (drop (i + 1) xs))) (sym is)
-    ∙ ap (λ l. g (f x) ∷ map g l) (sym (drop-map f (i + 1) xs)) ∙ ap (λ l. g (f x) ∷ l) (sym (drop-map g (i + 1) (map f xs)))
-
-pub elements_from : (es : List HeldElement) (i : ℕ) (e : HeldElement) → Some e ≡ slice_get es i
-    → drop i (element_segments es) ≡ element_segment (element_shape e) ∷ drop (i + 1) (element_segments es)
-elements_from es i e read =
-    from_here element_segment element_shape es i e (sym (get_or_from_slice_get es i e e (sym read))) (slice_get_within es i e (sym read))
-
-pub data_from : (ds : List Data) (i : ℕ) (d : Data) → d ≡ get_or ds i d → i < length ds
-    → drop i (data_segments ds) ≡ data_segment (data_shape d) ∷ drop (i + 1) (data_segments ds)
-data_from ds i d is below = from_here data_segment data_shape ds i d is below
 
 -- ---- the place of one
 
