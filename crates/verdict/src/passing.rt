@@ -19,7 +19,7 @@ ghost use Rattle.verdict.specs.WholeBodies.{BodyPasses};
 use crate::tuning::{EXPORTS, LABELS, LOCAL_RUNS};
 use std::alloc::{AllocError, Global};
 use wcheck::Checker;
-use wcontext::Context;
+use wcontext::{Context, NameRoom};
 use wdecode::{
     Fault, block_start, br, br_if, call_at, has_too_many_locals, i32_const, i64_const, load_at,
     locals_into, numeric_at, op, store_at, token_at, variable_at,
@@ -45,7 +45,7 @@ pub(crate) struct Scratch<'a, 'b> {
     /// The labels of the branch table at hand.
     pub(crate) targets: Vec<u32>,
     /// Room for the names of exports.
-    pub(crate) names: Vec<&'b [u8]>,
+    pub(crate) names: NameRoom<'b>,
 }
 
 impl<'a, 'b> Scratch<'a, 'b> {
@@ -63,7 +63,7 @@ impl<'a, 'b> Scratch<'a, 'b> {
             checker,
             runs: Vec::with_capacity(alloc, LOCAL_RUNS)?,
             targets: Vec::with_capacity(alloc, LABELS)?,
-            names: Vec::with_capacity(alloc, exports.min(EXPORTS))?,
+            names: NameRoom::with_capacity(alloc, exports.min(EXPORTS))?,
         })
     }
 

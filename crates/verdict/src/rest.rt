@@ -9,7 +9,7 @@ use crate::head::Head;
 use crate::part_fault::{PartFault, RestFault};
 use pieces::JobFault;
 use std::alloc::Global;
-use wcontext::{ModuleFault, SEGMENTS_RULE, SpaceSizes, check_late};
+use wcontext::{ModuleFault, NameRoom, SEGMENTS_RULE, SpaceSizes, check_late};
 use wdecode::{Fault, SegmentRule};
 use wsyntax::Data;
 
@@ -37,11 +37,11 @@ fn refused(fault: RestFault) -> JobFault<PartFault>
 }
 
 /// Judges what is left of a module that keeps the early rules: decodes its data segments, and asks the late rules. That
-/// the bytes spell no module goes before every rule. The list is room for the names of exports.
+/// the bytes spell no module goes before every rule. What the room for the names of exports held is gone.
 pub(crate) fn judge_rest<'a>(
     alloc: Global,
     head: &Head<'a>,
-    names: &mut Vec<&'a [u8]>,
+    names: &mut NameRoom<'a>,
 ) -> Result<(), JobFault<PartFault>>
     requires { EarlyRulesHold head.now.front head.now.counts }
     ensures { MatchResult result (λ _. RestPasses head.now.front) (AllowsFault (IsRestFault head.now)) }

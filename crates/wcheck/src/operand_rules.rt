@@ -189,6 +189,9 @@ impl OperandStack<'_> {
         ensures below { self.new.below ≡ self.old.below }
         ensures types { self.new.types ≡ self.old.types }
     {
+        if self.gives_any() {
+            return true;
+        }
         let ts = self.types_of(list);
         if ts.len() <= SHORT_LIST {
             return self.take_all_known(ts) || self.take_each(ts);

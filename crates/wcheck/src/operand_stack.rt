@@ -1,6 +1,7 @@
 ghost use Rattle.std.specs.Prelude.{◌≡◌, ◌≤◌, ◌<◌, ◌+◌, ◌^◌, List, [], ◌∷◌, ◌++◌, true, Option, Some};
 ghost use Rattle.std.specs.Prelude.{IfSome, MatchOption, MatchResult, length, reverse, take, drop};
-ghost use Rattle.wsyntax.specs.Validation.Algorithm.{take_any, put, fresh, is_nil};
+ghost use Rattle.wsyntax.specs.declared.ValType.{ValType};
+ghost use Rattle.wsyntax.specs.Validation.Algorithm.{take_any, take_all, put, fresh, is_nil};
 ghost use Rattle.wcontext.specs.Lists.{list_of, front_of};
 ghost use Rattle.wcheck.specs.Heights.{all_of, topped, without, over, IsShortened, EndsIn};
 ghost use Rattle.wcheck.specs.Runs.{last_types};
@@ -114,6 +115,15 @@ impl<'a> OperandStack<'a> {
         ensures { result ≡ self.now.above.is_dead }
     {
         self.unreachable
+    }
+
+    /// Whether any operands may be taken, and nothing is left of them: none is known, and the rest cannot be reached.
+    #[inline]
+    #[tactic(auto, using(crate::proofs::ListFacts::taken_dead))]
+    pub(crate) fn gives_any(&self) -> bool
+        ensures { result ≡ true → (ts : List ValType) → take_all ts self.now.above ≡ Some self.now.above }
+    {
+        self.unreachable && self.is_empty()
     }
 
     /// The types of a list.

@@ -1,7 +1,10 @@
 pub mod Shapes
 pub mod Constants
 pub mod Counted
+pub mod NameNumbers
+pub mod Split
 pub mod Distinct
+pub mod Exports
 pub mod Made
 pub mod Kept
 pub mod EndsOfLists

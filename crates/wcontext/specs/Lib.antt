@@ -7,3 +7,4 @@ pub mod Counted
 pub mod Trie
 pub mod Walk
 pub mod EndTree
+pub mod Names

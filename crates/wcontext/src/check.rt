@@ -7,6 +7,7 @@ ghost use Rattle.wcontext.specs.Counted.{AreCountsOf};
 
 use crate::context::Context;
 use crate::fault::ModuleFault;
+use crate::names::NameRoom;
 use crate::rules;
 use crate::space_sizes::SpaceSizes;
 use crate::spaces::Spaces;
@@ -40,7 +41,7 @@ fn keeps_early(module: &Module<'_>, spaces: &Spaces, rule: u32) -> bool
 
 /// Whether a module keeps the late rule of that number.
 fn keeps_late<'a>(
-    names: &mut Vec<&'a [u8]>,
+    names: &mut NameRoom<'a>,
     module: &Module<'a>,
     counts: &SpaceSizes,
     rule: u32,
@@ -78,10 +79,10 @@ pub fn check_early(alloc: Global, module: &Module<'_>) -> Result<(Context, Space
     Ok((context, counts))
 }
 
-/// Whether a module that keeps rules 1 to 8 keeps rules 9 to 12 too, or the least of these that it breaks. The list is
-/// room for the names of its exports, and what it held is gone.
+/// Whether a module that keeps rules 1 to 8 keeps rules 9 to 12 too, or the least of these that it breaks. What the room
+/// for the names of its exports held is gone.
 pub fn check_late<'a>(
-    names: &mut Vec<&'a [u8]>,
+    names: &mut NameRoom<'a>,
     module: &Module<'a>,
     counts: &SpaceSizes,
 ) -> Result<(), ModuleFault>
@@ -107,7 +108,7 @@ pub fn check_module(alloc: Global, module: &Module<'_>) -> Result<Context, Modul
     ensures broken { IfErr result (λ e. (k : ℕ) → e ≡ ModuleFault.Rule k → LeastBroken (module_shape «module».now) k) }
 {
     let (context, counts) = check_early(alloc, module)?;
-    let mut names = Vec::new(alloc);
+    let mut names = NameRoom::with_capacity(alloc, 0)?;
     check_late(&mut names, module, &counts)?;
     if !rules::segments_valid(module, &counts) {
         return Err(ModuleFault::Rule(SEGMENTS_RULE));

@@ -23,4 +23,5 @@ pub use check::{SEGMENTS_RULE, check_early, check_late, check_module};
 pub use context::Context;
 pub use fault::ModuleFault;
 pub use lists::{Front, ListPair, TypeList};
+pub use names::NameRoom;
 pub use space_sizes::SpaceSizes;

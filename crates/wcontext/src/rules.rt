@@ -10,7 +10,7 @@ ghost use Rattle.wcontext.specs.Counted.{AreCountsOf};
 
 use crate::constant::are_constant;
 use crate::limits::{are_in_order, are_within_pages};
-use crate::names::are_distinct;
+use crate::names::{NameRoom, are_distinct};
 use crate::segments::are_elements_valid;
 use crate::space_sizes::SpaceSizes;
 use crate::spaces::Spaces;
@@ -91,9 +91,9 @@ pub fn exports_exist(module: &Module<'_>, counts: &SpaceSizes) -> bool
     module.exports.iter().all(|export| (export.index as usize) < counts.count(export.kind))
 }
 
-/// Rule 10: export names are distinct. The list is room for them, and what it held is gone.
+/// Rule 10: export names are distinct. What the room for them held is gone.
 pub fn exports_distinct<'a>(
-    names: &mut Vec<&'a [u8]>,
+    names: &mut NameRoom<'a>,
     module: &Module<'a>,
 ) -> Result<bool, AllocError>
     ensures { IfOk result (λ b. IsTrue b ↔ ExportsDistinct (module_shape «module».now)) }

@@ -1,7 +1,7 @@
 use Rattle.std.proofs.Common.{◌-◌, ◌≢◌, ◌<◌, length, arith}
 use Rattle.std.proofs.lemmas.List.Sorted.{all_adjacent_more}
 use Rattle.wcontext.proofs.Distinct.{differs_at}
-use Rattle.wcontext.proofs.names.differ_from_next.Goals as goal
+use Rattle.wcontext.proofs.names.names_differ.Goals as goal
 
 pub loop-i-preserved : goal.loop-i-preserved
 loop-i-preserved c =

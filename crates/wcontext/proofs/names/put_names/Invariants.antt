@@ -1,5 +1,0 @@
-use Rattle.std.proofs.Common.{◌≡◌, map, take}
-use Rattle.wcontext.proofs.names.put_names.Given as goal
-
-abbrev pub invariant-loop-export : goal.invariant-loop-export
-invariant-loop-export l = l.names.items ≡ map (λ e. e.name) (take l.export-index l.exports)
