@@ -22,7 +22,7 @@ in_range s = are_in_range s.fuel s.frames s.pages
 abbrev pub LeavesAll : List ℕ → List ℕ → ℕ → ℕ → ReportSlot → ReportSlot → Type 0
 LeavesAll old new before now was kept = AreKept old new before now × (kept ≡ was)
 
--- a limit is out of its range, and nothing is written; or memory was refused, and nothing is written; or an answer with P is handed out, or kept
+-- a limit is out of its range, or memory was refused, and nothing is written; or an answer with P is handed out or kept
 abbrev pub HandsAnswer : GateSettings → (List ℕ → Status → Type 0) → List ℕ → List ℕ → ℕ → ℕ → ReportSlot → ReportSlot → ℕ → Type 0
 HandsAnswer s P old new before now was kept answered =
     ((in_range s ≡ false) × (answered ≡ 64) × LeavesAll old new before now was kept)
