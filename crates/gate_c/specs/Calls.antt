@@ -1,6 +1,7 @@
 -- What calling an export by values answers.
 use Rattle.std.specs.Prelude.{◌≡◌, ◌⊎◌, ℕ, true, false, IsTrue, List, Some, map}
 use Rattle.wsyntax.specs.Modules.{module_shape}
+use Rattle.wsyntax.specs.Execution.Values.{AreWords}
 use Rattle.wsyntax.specs.declared.value.Value.{Value}
 use Rattle.wsyntax.specs.Texts.Answer.{EndOf}
 use Rattle.accepted.specs.Judgement.{shapes_of}
@@ -15,10 +16,10 @@ use Rattle.gate_c.specs.Ends.{end_numbers, values_of}
 use Rattle.gate_c.specs.Runs.{limits_of, in_range}
 use Rattle.gate_c.specs.Values.{value_numbers, AreNoArguments, overlay}
 
--- the line says how the call of this name with the arguments of these numbers ends
+-- the line says how the call of this name with the arguments of these numbers ends, which are words
 abbrev pub EndsCall : AcceptedModule → List ℕ → List GateValue → GateSettings → Line → Type 0
 EndsCall a name numbers s line =
-    (args : List Value) × (map value_numbers args ≡ numbers)
+    (args : List Value) × AreWords args × (map value_numbers args ≡ numbers)
     × EndOf (module_shape a.«module») (shapes_of a.bodies.items) (limits_of s) (IsTrue (is_short (Some line))) (record { name = name; args = args }) (end_of line)
 
 -- the numbers of that line are written, and the values that there is room for

@@ -4,5 +4,7 @@ pub mod Values
 pub mod Ends
 pub mod Texts
 pub mod Handles
+pub mod Slots
+pub mod Handed
 pub mod Runs
 pub mod Calls

@@ -7,8 +7,9 @@ use Rattle.wstore.specs.Settings.{limits, are_in_range}
 use Rattle.batch.specs.Answers.{IsSomeAnswer, IsAnswerOn, HasStatus, StatusBy}
 use Rattle.batch.specs.declared.status.Status.{Status}
 use Rattle.gate_c.specs.declared.settings.GateSettings.{GateSettings}
-use Rattle.gate_c.specs.Statuses.{number_of}
-use Rattle.gate_c.specs.Texts.{AreKept, Hands}
+use Rattle.gate_c.specs.declared.report.ReportSlot.{ReportSlot}
+use Rattle.gate_c.specs.Texts.{AreKept}
+use Rattle.gate_c.specs.Handed.{HandsOrKeeps}
 
 abbrev pub limits_of : GateSettings → Limits
 limits_of s = limits s.fuel s.frames s.pages
@@ -17,12 +18,16 @@ limits_of s = limits s.fuel s.frames s.pages
 abbrev pub in_range : GateSettings → Bool
 in_range s = are_in_range s.fuel s.frames s.pages
 
--- a limit is out of its range, and nothing is written; or memory was refused, and nothing is written; or an answer with P is handed out
-abbrev pub HandsAnswer : GateSettings → (List ℕ → Status → Type 0) → List ℕ → List ℕ → ℕ → ℕ → ℕ → Type 0
-HandsAnswer s P old new was now answered =
-    ((in_range s ≡ false) × (answered ≡ 64) × AreKept old new was now)
-    ⊎ ((in_range s ≡ true) × (((answered ≡ 70) × AreKept old new was now)
-    ⊎ ((text : List ℕ) × (status : Status) × P text status × Hands text (number_of status) old new now answered)))
+-- nothing is written and nothing is kept
+abbrev pub LeavesAll : List ℕ → List ℕ → ℕ → ℕ → ReportSlot → ReportSlot → Type 0
+LeavesAll old new before now was kept = AreKept old new before now × (kept ≡ was)
+
+-- a limit is out of its range, or memory was refused, and nothing is written; or an answer with P is handed out or kept
+abbrev pub HandsAnswer : GateSettings → (List ℕ → Status → Type 0) → List ℕ → List ℕ → ℕ → ℕ → ReportSlot → ReportSlot → ℕ → Type 0
+HandsAnswer s P old new before now was kept answered =
+    ((in_range s ≡ false) × (answered ≡ 64) × LeavesAll old new before now was kept)
+    ⊎ ((in_range s ≡ true) × (((answered ≡ 70) × LeavesAll old new before now was kept)
+    ⊎ ((text : List ℕ) × (status : Status) × P text status × HandsOrKeeps text status old new now was kept answered)))
 
 -- the answer of the definition to a module, calls and limits, and its status
 abbrev pub IsAnswerTo : List ℕ → List ℕ → GateSettings → List ℕ → Status → Type 0

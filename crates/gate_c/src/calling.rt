@@ -1,6 +1,7 @@
 //! Calls by values.
 
 ghost use Rattle.std.specs.Prelude.{◌≡◌, true, IfOk, IfErr, IsErrOf, OnOk, map};
+ghost use Rattle.wsyntax.specs.Execution.Values.{AreWords};
 ghost use Rattle.texts.specs.Args.{args_of};
 ghost use Rattle.gate_c.specs.Values.{value_numbers, AreNoArguments, overlay};
 ghost use Rattle.gate_c.specs.Ends.{end_numbers, values_of};
@@ -30,6 +31,7 @@ enum ArgsFault {
 /// The arguments that these are the numbers of.
 fn arguments(alloc: Global, numbers: &[GateValue]) -> Result<Args, ArgsFault>
     ensures ok { IfOk result (λ args. map value_numbers (args_of args) ≡ numbers.now) }
+    ensures words { IfOk result (λ args. AreWords (args_of args)) }
     ensures no_value { IsErrOf result ArgsFault.NoValue → AreNoArguments numbers.now }
 {
     let Ok(mut values) = Vec::with_capacity(alloc, numbers.len()) else {

@@ -1,9 +1,11 @@
 //! What C calls.
 
-ghost use Rattle.std.specs.Prelude.{◌≡◌, ◌⊎◌, ℕ, List, IfSome, string_bytes};
+ghost use Rattle.std.specs.Prelude.{◌≡◌, ◌≢◌, ◌⊎◌, ℕ, List, IfSome, string_bytes};
+ghost use Rattle.accepted.specs.Kept.{IsAcceptedFrom};
 ghost use Rattle.wsyntax.specs.Validation.Verdict.{IsVerdict};
 ghost use Rattle.verdict.specs.Refusals.{verdict_of};
 ghost use Rattle.gate_c.specs.Calls.{AnswersCall, EndsCall};
+ghost use Rattle.gate_c.specs.Handed.{HandsModule};
 ghost use Rattle.gate_c.specs.Handles.{IsAnswered};
 ghost use Rattle.gate_c.specs.Runs.{HandsAnswer, IsAnswerOf, IsAnswerTo};
 ghost use Rattle.gate_c.specs.Statuses.{number_of};
@@ -15,8 +17,8 @@ use crate::ending::GateCall;
 use crate::handing::hand_out;
 use crate::held::Held;
 use crate::judged::GateVerdict;
-use crate::module::GateModule;
-use crate::report::GateReport;
+use crate::module::{GateModule, ModuleSlot};
+use crate::report::{GateReport, ReportSlot};
 use crate::settings::GateSettings;
 use crate::status::{BAD_ARGUMENT, MODULE_REFUSED, NO_MEMORY, OK};
 use crate::text::hand_text;
@@ -49,7 +51,8 @@ pub extern "C" fn gate_check(alloc: Global, bytes: &[u8], verdict: &mut GateVerd
 
 /// Writes the verdict of a refusal.
 fn refuse(refusal: Refusal, verdict: &mut GateVerdict) -> u32
-    ensures { (bytes : List ℕ) → IfSome (verdict_of refusal) (IsVerdict bytes) → Answers bytes verdict.old verdict.new result }
+    ensures numbers { (bytes : List ℕ) → IfSome (verdict_of refusal) (IsVerdict bytes) → Answers bytes verdict.old verdict.new result }
+    ensures refused { result ≢ 0 }
 {
     let Some(numbers) = GateVerdict::of_refusal(refusal) else {
         return NO_MEMORY;
@@ -89,9 +92,10 @@ pub extern "C" fn gate_run(
     settings: &GateSettings,
     out: &mut [u8],
     length: &mut usize,
-    kept: &mut *mut u8,
+    kept: &mut ReportSlot,
 ) -> u32
-    ensures { HandsAnswer settings.now (IsAnswerTo «module».now calls.now settings.now) out.old out.new length.old length.new result }
+    ensures { HandsAnswer settings.now (IsAnswerTo «module».now calls.now settings.now)
+        out.old out.new length.old length.new kept.old kept.new result }
 {
     let Some(limits) = settings.settings() else {
         return BAD_ARGUMENT;
@@ -128,9 +132,10 @@ pub extern "C" fn gate_module_new(
     alloc: Global,
     bytes: &'static [u8],
     verdict: &mut GateVerdict,
-    module: &mut *mut u8,
+    module: &mut ModuleSlot,
 ) -> u32
-    ensures { Answers bytes.now verdict.old verdict.new result }
+    ensures verdict { Answers bytes.now verdict.old verdict.new result }
+    ensures handle { HandsModule (IsAcceptedFrom bytes.now) «module».old «module».new result }
 {
     let accepted = match judge_alone(alloc, bytes) {
         Ok(accepted) => accepted,
@@ -140,7 +145,7 @@ pub extern "C" fn gate_module_new(
         return NO_MEMORY;
     };
     *verdict = GateVerdict::accepted();
-    *module = Box::into_raw(held) as *mut u8;
+    *module = ModuleSlot::of(held);
     OK
 }
 
@@ -153,10 +158,10 @@ pub extern "C" fn gate_module_run(
     settings: &GateSettings,
     out: &mut [u8],
     length: &mut usize,
-    kept: &mut *mut u8,
+    kept: &mut ReportSlot,
 ) -> u32
     ensures { HandsAnswer settings.now (IsAnswerOf «module».value.accepted.value calls.now settings.now)
-        out.old out.new length.old length.new result }
+        out.old out.new length.old length.new kept.old kept.new result }
 {
     let held = module.into_box();
     let status = run_on(alloc, &held, calls, settings, out, length, kept);
@@ -172,10 +177,10 @@ fn run_on(
     settings: &GateSettings,
     out: &mut [u8],
     length: &mut usize,
-    kept: &mut *mut u8,
+    kept: &mut ReportSlot,
 ) -> u32
     ensures { HandsAnswer settings.now (IsAnswerOf held.now.accepted.value calls.now settings.now)
-        out.old out.new length.old length.new result }
+        out.old out.new length.old length.new kept.old kept.new result }
 {
     let Some(limits) = settings.settings() else {
         return BAD_ARGUMENT;
@@ -215,13 +220,18 @@ pub extern "C" fn gate_module_call(
 
 /// Another handle of the same module, for another thread. 0: it is written; 70: nothing is written.
 #[unsafe(no_mangle)]
-pub extern "C" fn gate_module_share(alloc: Global, module: GateModule, other: &mut *mut u8) -> u32
-    ensures { (result ≡ 0) ⊎ (result ≡ 70) }
+pub extern "C" fn gate_module_share(
+    alloc: Global,
+    module: GateModule,
+    other: &mut ModuleSlot,
+) -> u32
+    ensures status { (result ≡ 0) ⊎ (result ≡ 70) }
+    ensures handle { HandsModule (λ a. a ≡ «module».value.accepted.value) other.old other.new result }
 {
     let held = module.into_box();
     let status = match held.another(alloc) {
         Some(shared) => {
-            *other = Box::into_raw(shared) as *mut u8;
+            *other = ModuleSlot::of(shared);
             OK
         }
         None => NO_MEMORY,

@@ -1,11 +1,12 @@
 //! Answers to C.
 
 ghost use Rattle.std.specs.Prelude.{◌≡◌, ◌⊎◌, string_bytes};
+ghost use Rattle.gate_c.specs.Handed.{HandsOrKeeps};
 ghost use Rattle.gate_c.specs.Handles.{IsAnswered};
-ghost use Rattle.gate_c.specs.Statuses.{number_of};
-ghost use Rattle.gate_c.specs.Texts.{AreKept, Hands};
+ghost use Rattle.gate_c.specs.Runs.{LeavesAll};
 
 use crate::kept::Kept;
+use crate::report::ReportSlot;
 use crate::sending::sendable;
 use crate::status::NO_MEMORY;
 use batch::Answer;
@@ -17,11 +18,11 @@ pub(crate) fn hand_out(
     answer: Answer,
     out: &mut [u8],
     length: &mut usize,
-    kept: &mut *mut u8,
+    kept: &mut ReportSlot,
 ) -> u32
     requires { ∥ IsAnswered (string_bytes answer.text) answer.status ∥₁ }
-    ensures { ((result ≡ 70) × AreKept out.old out.new length.old length.new)
-        ⊎ Hands (string_bytes answer.text) (number_of answer.status) out.old out.new length.new result }
+    ensures { ((result ≡ 70) × LeavesAll out.old out.new length.old length.new kept.old kept.new)
+        ⊎ HandsOrKeeps (string_bytes answer.text) answer.status out.old out.new length.new kept.old kept.new result }
 {
     let answer = Kept { answer };
     if answer.fits(out) {
@@ -31,6 +32,6 @@ pub(crate) fn hand_out(
         return NO_MEMORY;
     };
     let status = report.read(out, length);
-    *kept = Box::into_raw(report) as *mut u8;
+    *kept = ReportSlot::of(report);
     status
 }

@@ -1,8 +1,10 @@
 //! What C holds of an accepted module: `gate_module` of gate.h.
 
-ghost use Rattle.std.specs.Prelude.{◌≡◌};
+ghost use Rattle.std.specs.Prelude.{◌≡◌, Option, Some};
+ghost use Rattle.std.specs.Coded.{coded_option};
 ghost use Rattle.std_alloc.specs.Box.Ownership.{box_owns};
 ghost use Rattle.std.specs.contracts.impls.GlobalAllocator.TheImpl.{ghosts};
+ghost use Rattle.gate_c.specs.Slots.{slot_owns};
 ghost use Rattle.gate_c.specs.contracts.held.Held.{the_row};
 ghost use Rattle.gate_c.specs.declared.held.Held.{Held};
 
@@ -11,7 +13,7 @@ use crate::loose::Loose;
 use std::alloc::Global;
 use std::marker::Model;
 
-/// A pointer to an accepted module.
+/// A handle that C gives up: it owns the box of the module.
 #[repr(C)]
 pub struct GateModule {
     at: *mut u8,
@@ -40,5 +42,38 @@ impl GateModule {
         ensures { result.value ≡ self.value }
     {
         self.loose().into_box()
+    }
+}
+
+/// Where C wants a handle. What C has there counts for nothing; what a call writes there owns its box.
+#[repr(C)]
+#[derive(Drop)]
+pub struct ModuleSlot {
+    at: *mut u8,
+    alloc: Global,
+    ghost value: { Option Held } by { coded_option the_row.coded },
+}
+
+impl Model for ModuleSlot {
+    ghost also_owns = { λ s. slot_owns (ghosts.dealloc_token s.alloc) the_row s.at s.value };
+}
+
+impl ModuleSlot {
+    /// A handle of this box.
+    pub(crate) fn of(held: Box<Held>) -> ModuleSlot
+        ensures { result.value ≡ Some held.value }
+    {
+        ModuleSlot::tied(Loose::of(held))
+    }
+
+    /// A handle of the box at this pointer.
+    fn tied(loose: Loose<Held, Global>) -> ModuleSlot
+        ensures { result.value ≡ Some loose.value }
+    {
+        let Loose { at, alloc } = loose;
+        ModuleSlot {
+            at: at as *mut u8,
+            alloc,
+        }
     }
 }

@@ -1,6 +1,7 @@
 //! Numbers of 32 and 64 bits: `gate_value` of gate.h.
 
 ghost use Rattle.std.specs.Prelude.{◌≡◌, IfSome, IfNone};
+ghost use Rattle.wsyntax.specs.Execution.Values.{IsWord};
 ghost use Rattle.gate_c.specs.Values.{value_numbers, IsNoValue};
 
 use wsyntax::Value;
@@ -30,9 +31,10 @@ impl GateValue {
     }
 
     /// The value that these are the numbers of; `None` where there is none.
-    pub(crate) fn value(&self) -> Option<Value>
-        ensures some { IfSome result (λ v. value_numbers v ≡ self.now) }
-        ensures none { IfNone result (IsNoValue self.now) }
+    pub(crate) fn value(self) -> Option<Value>
+        ensures some { IfSome result (λ v. value_numbers v ≡ self) }
+        ensures word { IfSome result IsWord }
+        ensures none { IfNone result (IsNoValue self) }
     {
         match self.width {
             32 => Some(Value::I32(u32::try_from(self.bits).ok()?)),
