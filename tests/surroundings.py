@@ -219,6 +219,8 @@ def inputs(gate):
     gate.expect('standard input is closed', gate.run('run', gate.module, gate.calls, preexec_fn=closed(0)), report(1))
     gate.expect('/dev/stdin where it is closed', gate.run('check', '/dev/stdin', preexec_fn=closed(0)), cannot_read('/dev/stdin'))
     gate.expect('the module is standard input', gate.run('check', '/dev/stdin', input=whole(b'')), ACCEPTED)
+    gate.expect('it has a byte too many', gate.run('check', '/dev/stdin', input=bytes(MODULE_LIMIT + 1)), TOO_LARGE)
+    gate.expect('it goes on past the limit', gate.run('run', '/dev/stdin', gate.calls, input=bytes(2 * MODULE_LIMIT)), TOO_LARGE)
     gate.expect('calls are standard input', gate.run('run', gate.module, '/dev/stdin', input=b'f\n' * 3), report(3))
     gate.expect('both are, one pipe', gate.run('run', '/dev/stdin', '/dev/stdin', input=HEADER), NO_CALLS)
     gate.expect('- is the name of a file', gate.run('check', '-', input=HEADER, cwd=gate.folder), cannot_read('-'))
