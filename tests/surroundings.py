@@ -487,7 +487,7 @@ def memory_limits(gate):
 
 def short_of(wanted, ended):
     """What was wanted, where some calls of that report ran out of memory; else what was said."""
-    is_report = ended and wanted[0].startswith(b'0 ') and ended[1:] == (0, b'')
+    is_report = ended and ended[0] and wanted[0].startswith(b'0 ') and ended[1:] == (0, b'')
     return wanted if is_report and may_report(wanted[0].decode(), ended[0].decode()) else ended
 
 
