@@ -1,10 +1,12 @@
 #!/usr/bin/env python3
 """Runs generated modules through `check` and `run`, and ends at the first difference.
 
-Modules are generated valid ones (bench/modules.py, bench/typed.py and small ones with loops, calls, memory, tables, traps), the
-same with bytes changed, cut or doubled, and random bytes after a header. Each is judged and run on 1, 4 and 64 workers with pieces
-of 1, 7 and 65,535, with stacks of 64 KiB, and with the address space held to 256 MB and to 1 GB: those answers must be
-equal to that of one worker, or be out of memory (status 70, nothing on standard output; a call's line `no-memory`).
+Modules are generated ones (bench/modules.py, bench/typed.py, short ones of the families of bench/families.py, and small ones with
+loops, calls, memory, tables, traps), the same with bytes changed, cut or doubled, and random bytes after a header. A generator that
+says the verdict of a module is held to it. Each is judged and run by one worker, and then with other numbers of workers and pieces,
+two of them the least and the greatest and three at random, with stacks of 64 KiB, and with the address space held to what was drawn:
+those answers must be equal to that of one worker. Where memory is held, and once more where one request for it is refused
+(tests/refuse_memory.c), they may be out of memory (status 70, nothing on standard output; a call's line `no-memory`).
 A crash, a hang of a minute or another answer ends the soak. It prints seeds and counts; a seed makes the same run again.
 
 Where node is installed, its answers are compared too (bench/answers.js): whether `WebAssembly.validate` accepts the module, and
@@ -15,7 +17,6 @@ want of fuel, frames or memory, and where its memory may grow past the pages tha
 import argparse
 import os
 import random
-import re
 import resource
 import shutil
 import subprocess
@@ -24,14 +25,21 @@ import tempfile
 import time
 
 here = os.path.dirname(os.path.abspath(__file__))
+refuser_source = os.path.join(here, '..', 'tests', 'refuse_memory.c')
+sys.path.insert(0, os.path.join(here, '..', 'tests'))
 sys.path.insert(0, here)
 import modules
 from beside_node import Node
 from encoding import HEADER, section, sized, signed, unsigned, vector
+from families import FAMILIES, module_of
+from memory import may_report
 from typed import typed_module
 
-PLANS = [('1', '1'), ('4', '16'), ('4', '1'), ('64', '7'), ('64', '65535')]
-HELD = [None, 256 << 20, 1 << 30]
+PIECES = [1, 2, 7, 16, 100, 1_000, 65_535]
+HELD = [None, 8 << 20, 12 << 20, 16 << 20, 24 << 20, 64 << 20, 256 << 20, 1 << 30]
+# A number past most of the requests that a small module makes.
+MOST_REQUESTS = 400
+NUMBERS = {b'\x7F': ('i32', [0, 1, -1, 5, 1000, -2 ** 31]), b'\x7E': ('i64', [0, 1, -1, 2 ** 40, 2 ** 63 - 1, -2 ** 63])}
 I32 = [0x6A, 0x6B, 0x6C, 0x6D, 0x6E, 0x6F, 0x70, 0x71, 0x72, 0x73, 0x74, 0x75, 0x76, 0x77, 0x78, 0x46, 0x47, 0x48, 0x4E, 0x4F]
 
 
@@ -105,35 +113,35 @@ def changed(r, module):
 
 
 def candidate(r):
-    # A module, and of each of its exports the types of the parameters, as far as they are known.
+    # A module, the types of the parameters of its exports as far as they are known, and how its verdict begins, where that is known.
+    if r.random() < 0.02:
+        return HEADER + r.randbytes(r.randrange(200)), {}, b''
+    module, exports, verdict = generated(r)
+    return (changed(r, module), exports, b'') if r.random() < 0.45 else (module, exports, verdict)
+
+
+def generated(r):
     pick = r.random()
     if pick < 0.5:
-        module, parameters = typed_module(r) if r.random() < 0.7 else (small_module(r), [])
-        return (module if pick < 0.3 else changed(r, module)), parameters
-    return other_candidate(r), []
+        module, parameters = typed_module(r)
+        return module, dict(zip('abcdef', parameters)), b'accepted'
+    if pick < 0.75:
+        return small_module(r), dict.fromkeys('abcde', [b'\x7F']), b'accepted'
+    if pick < 0.88:
+        name = r.choice([*FAMILIES])
+        form = r.choice(FAMILIES[name][0])
+        verdict = b'accepted' if form.endswith('accepted') else b'refused'
+        return module_of(name, form, r.choice([300, 1_000, 4_000]), r.randrange(2 ** 32)), {'f': []}, verdict
+    kind = r.choice(modules.KINDS)
+    size = r.choice([2_000, 40_000] if kind in ('lists', 'labels') else [2_000, 40_000, 300_000])
+    return modules.module(kind, size, r.randrange(2 ** 32)), {'f': [b'\x7F'] * 2}, b'accepted'
 
 
-def other_candidate(r):
-    pick = r.random()
-    if pick < 0.4:
-        return small_module(r)
-    if pick < 0.7:
-        return changed(r, small_module(r))
-    if pick < 0.85:
-        return modules.module(r.choice(['many', 'tiny', 'large', 'one']), r.choice([2_000, 40_000, 300_000]), r.randrange(2 ** 32))
-    if pick < 0.95:
-        return changed(r, modules.module(r.choice(['many', 'tiny', 'one']), r.choice([2_000, 40_000]), r.randrange(2 ** 32)))
-    return HEADER + bytes(r.randrange(256) for _ in range(r.randrange(200)))
-
-
-def calls_of(r, parameters):
-    numbers = {b'\x7F': ('i32', [0, 1, -1, 5, 1000, -2 ** 31]), b'\x7E': ('i64', [0, 1, -1, 2 ** 40, 2 ** 63 - 1, -2 ** 63])}
-
+def calls_of(r, exports):
     def line():
-        at = r.randrange(len(parameters)) if parameters and r.random() < 0.95 else r.randrange(7)
-        types = [it if it in numbers else b'\x7F' for it in parameters[at]] if at < len(parameters) else [b'\x7F']
-        words = [f'{numbers[it][0]}:{r.choice(numbers[it][1])}' for it in types]
-        return '\t'.join([['a', 'b', 'c', 'd', 'e', 'f', 'nothing'][at]] + words) + '\n'
+        name = r.choice([*exports]) if exports and r.random() < 0.95 else r.choice([*'abcdef', 'nothing'])
+        types = [it if it in NUMBERS else b'\x7F' for it in exports.get(name, [b'\x7F'])]
+        return '\t'.join([name] + [f'{NUMBERS[it][0]}:{r.choice(NUMBERS[it][1])}' for it in types]) + '\n'
     return ''.join(line() for _ in range(r.randrange(1, 40))).encode() + (b'' if r.random() < 0.95 else b'a\ti32:-0\n')
 
 
@@ -145,74 +153,97 @@ def held_to(bytes_of):
     return hold
 
 
-def answer(words, held):
-    ran = subprocess.run(words, capture_output=True, timeout=60, preexec_fn=held_to(held))
+def answer(words, held=None, **named):
+    env = {**os.environ, **named} if named else None
+    ran = subprocess.run(words, capture_output=True, timeout=60, preexec_fn=held_to(held), env=env)
     return ran.returncode, ran.stdout, ran.stderr
 
 
-def agrees(want, got):
-    if got == want or got == (70, b'', b'gate: no memory\n'):
-        return True
-    lines, others = got[1].split(b'\n')[:-2], want[1].split(b'\n')[:-2]
-    return (got[0], got[2]) == (want[0], want[2]) and len(lines) == len(others) and all(
-        line == other or re.fullmatch(rb'\d+ no-memory', line) for line, other in zip(lines, others))
+def is_short(want, got):
+    # Whether this is the answer that is wanted, but for what ran out of memory.
+    is_report = got[0] == want[0] == 0 and got[2] == b'' and want[1] != b'accepted\n'
+    return got == (70, b'', b'gate: no memory\n') or is_report and may_report(want[1].decode(), got[1].decode())
 
 
-def keep(path, calls, kept):
-    os.replace(path, kept + '.wasm')
-    os.replace(calls, kept + '.calls')
+class Soak:
+    """The program beside node, where that is installed, and what was compared."""
+
+    def __init__(self, gate, node, one, seed, folder):
+        self.gate, self.node, self.one, self.seed, self.r = gate, node, one, seed, random.Random(seed)
+        self.path, self.calls, self.refuser = (os.path.join(folder, name) for name in ('module.wasm', 'calls', 'refuse.so'))
+        if one or not shutil.which('cc'):
+            self.refuser = None
+        else:
+            subprocess.run(['cc', '-O1', '-shared', '-fPIC', '-o', self.refuser, refuser_source, '-ldl'], check=True)
+        names = ['modules', 'accepted', 'reported', 'calls', 'answers', 'out of memory']
+        self.count = dict.fromkeys(names + (['verdicts like node', 'calls like node', 'own limits', 'later features'] if node else []), 0)
+
+    def end(self, why):
+        kept = f'soak-{self.seed}-{self.count["modules"]}'
+        os.replace(self.path, kept + '.wasm')
+        os.replace(self.calls, kept + '.calls')
+        sys.exit(f'seed {self.seed}: {why}; kept as {kept}')
+
+    def ways(self):
+        # How many work, what they take at once, what the address space is held to, and what the environment says.
+        r = self.r
+        for workers, piece in ((1, 1), (64, 65_535), *((r.randrange(1, 65), r.choice(PIECES)) for _ in range(3))):
+            yield workers, piece, r.choice(HELD), {}
+        if self.refuser:
+            refused = {'LD_PRELOAD': self.refuser, 'REFUSED': str(r.randrange(1, MOST_REQUESTS))}
+            yield r.choice([1, 2, 4, 64]), r.choice(PIECES), None, refused
+
+    def compare(self, words, want):
+        # With the answers of other numbers of workers, and of little memory.
+        for workers, piece, held, named in self.ways():
+            got = answer(words + ['--workers', str(workers), '--piece', str(piece)], held, **named)
+            self.count['answers'] += 1
+            if got != want:
+                self.count['out of memory'] += 1
+                if not (held or named) or not is_short(want, got):
+                    self.end(f'{words[1:]} with {workers} workers, piece {piece}, {held} bytes, {named}: {got}, and not {want}')
+
+    def turn(self):
+        # One module.
+        module, exports, verdict = candidate(self.r)
+        text = calls_of(self.r, exports)
+        for name, contents in ((self.path, module), (self.calls, text)):
+            with open(name, 'wb') as file:
+                file.write(contents)
+        fuel, frames, pages = (self.r.choice(it) for it in (['0', '10', '20000'], ['1', '3', '200'], ['0', '2', '64']))
+        limits = ['--fuel', fuel, '--frames', frames, '--pages', pages]
+        commands = [self.gate, 'check', self.path], [self.gate, 'run', self.path, self.calls] + limits
+        checked, reported = wants = [answer(words + ['--workers', '1']) for words in commands]
+        if checked[0] not in (0, 2) or reported[0] not in (0, 2, 3) or not checked[1].startswith(verdict):
+            self.end(f'ended with {wants}; its verdict begins with {verdict}')
+        for words, want in zip(commands, wants):
+            if not self.one:
+                self.compare(words, want)
+        if self.node:
+            report = reported[1] if reported[0] == 0 else None
+            differs = self.node.difference(self.path, module, checked[1], text, report, int(pages), self.count)
+            if differs:
+                self.end(differs)
+        self.count['modules'] += 1
+        self.count['accepted'] += checked[0] == 0
+        self.count['reported'] += reported[0] == 0
+        self.count['calls'] += text.count(b'\n') if reported[0] == 0 else 0
 
 
-def main(gate, plans, seconds, seed):
+def main(gate, one, seconds, seed):
     print(f'seed {seed}' + ('' if shutil.which('node') else ', without node'), flush=True)
-    node = Node() if shutil.which('node') else None
+    node, end = Node() if shutil.which('node') else None, time.time() + seconds
     try:
-        soak(gate, node, plans, seconds, seed)
+        with tempfile.TemporaryDirectory() as folder:
+            soak = Soak(gate, node, one, seed, folder)
+            while time.time() < end:
+                soak.turn()
+                if soak.count['modules'] % 500 == 0:
+                    print(soak.count, flush=True)
+            print('no difference:', soak.count)
     finally:
         if node:
             node.end()
-
-
-def soak(gate, node, plans, seconds, seed):
-    r, end = random.Random(seed), time.time() + seconds
-    names = ['modules', 'accepted', 'reported', 'answers', 'calls']
-    count = dict.fromkeys(names + ['verdicts like node', 'calls like node', 'own limits', 'later features'] if node else names, 0)
-    with tempfile.TemporaryDirectory() as folder:
-        path, calls = os.path.join(folder, 'module.wasm'), os.path.join(folder, 'calls')
-        while time.time() < end:
-            module, parameters = candidate(r)
-            text = calls_of(r, parameters)
-            kept = f'soak-{seed}-{count["modules"]}'
-            for name, contents in ((path, module), (calls, text)):
-                with open(name, 'wb') as file:
-                    file.write(contents)
-            wants = []
-            limits = ['--fuel', r.choice(['0', '10', '20000']), '--frames', r.choice(['1', '3', '200']), '--pages', r.choice(['0', '2', '64'])]
-            for words in ([gate, 'check', path], [gate, 'run', path, calls] + limits):
-                want = answer(words + ['--workers', '1'], None)
-                wants.append(want)
-                if want[0] not in (0, 2, 3):
-                    sys.exit(f'seed {seed}, module {count["modules"]}: {words[1]} ended with {want}')
-                for workers, piece in plans:
-                    got = answer(words + ['--workers', workers, '--piece', piece], r.choice(HELD))
-                    count['answers'] += 1
-                    if not agrees(want, got):
-                        keep(path, calls, kept)
-                        sys.exit(f'seed {seed}: {words[1]} with {workers} workers, piece {piece}: {got}, and not {want}; kept as {kept}')
-            if node:
-                report = wants[1][1] if wants[1][0] == 0 else None
-                differs = node.difference(path, module, wants[0][1], text, report, int(limits[-1]), count)
-                if differs:
-                    keep(path, calls, kept)
-                    sys.exit(f'seed {seed}: {differs}; kept as {kept}')
-            count['modules'] += 1
-            count['accepted'] += want[0] in (0, 3)
-            if want[0] == 0:
-                count['reported'] += 1
-                count['calls'] += text.count(b'\n')
-            if count['modules'] % 500 == 0:
-                print(count, flush=True)
-    print('no difference:', count)
 
 
 if __name__ == '__main__':
@@ -223,4 +254,4 @@ if __name__ == '__main__':
                         help='at random where none is given')
     parser.add_argument('--one', action='store_true', help='one worker alone, beside node: many more modules')
     words = parser.parse_args()
-    main(os.path.abspath(words.gate), [] if words.one else PLANS, words.seconds, words.seed)
+    main(os.path.abspath(words.gate), words.one, words.seconds, words.seed)

@@ -1,12 +1,9 @@
 // The program over a source and writers in memory.
-mod modules;
-mod plans;
-mod rows;
-mod runs;
+mod answers;
 
 use crate::program::run;
 use crate::source::{ReadFault, Source};
-use std::alloc::{AllocError, Global};
+use std::alloc::Global;
 use std::io;
 use std::io::{ErrorKind, Write};
 use std::sync::Wait;
@@ -91,13 +88,6 @@ impl Write for Screen {
 }
 
 const HEADER: [u8; 8] = [0x00, 0x61, 0x73, 0x6D, 0x01, 0x00, 0x00, 0x00];
-
-// The header and what follows it.
-fn with_header(alloc: Global, rest: &[u8]) -> Result<Vec<u8>, AllocError> {
-    let mut bytes = HEADER.as_slice().to_vec(alloc)?;
-    bytes.extend_from_slice(rest)?;
-    Ok(bytes)
-}
 
 // The status of words over a source that has the header as its module, and no calls.
 fn status_of<R: Threads + Wait + Sync>(
