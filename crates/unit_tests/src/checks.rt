@@ -563,7 +563,8 @@ fn table_of(
     let context = check_module(alloc, module).ok()?;
     context.function(0)?;
     let body = body_of(alloc, tokens).ok()?;
-    let checked = check_body(alloc, &context, 0, body).ok()?;
+    let mut checker = Checker::new(alloc, &context);
+    let checked = check_body(alloc, &mut checker, 0, body).ok()?;
     let entries = checked.entries();
     let entry = entries.get(place).copied()?;
     Some((entry, entries.len(), checked.height()))

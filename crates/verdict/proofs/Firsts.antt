@@ -68,10 +68,6 @@ each_passes passes gives n outs all k lt =
       | inr h ↦ let len : length outs ≡ n = all.len in let past : length outs ≤ k = h.0 in absurd (omega arith)
     ]
 
--- each body passes
-pub all_pass : {O : Type 0} (gives : ℕ → O → Type 0) (C : Context) (i j : ℕ) (bodies : List (List ℕ)) (n : ℕ) (outs : List O) → j ≡ i → AllPass n (λ k. body_refusal_at C j bodies k ≡ None) gives outs → PassBefore C i bodies n
-all_pass gives C i j bodies n outs is all k lt = ap (λ (x : ℕ). body_refusal_at C x bodies k) (sym is) ∙ each_passes (λ p. body_refusal_at C j bodies p ≡ None) gives n outs all k lt
-
 -- ---- the verdicts of the judge
 
 at_most : (a b : ℕ) → (a < b → ⊥) → b ≤ a

@@ -14,3 +14,4 @@ pub mod OneVerdict
 pub mod Judgements
 pub mod Rules
 pub mod CheckedBodies
+pub mod KeptGroups

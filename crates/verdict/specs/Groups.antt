@@ -1,10 +1,12 @@
 -- The groups of consecutive bodies that are judged in one go: all have the same size, but that the last may be shorter.
-use Rattle.std.specs.Prelude.{◌≡◌, ◌<◌, ◌≤◌, ◌+◌, ◌*◌, ℕ, List, Option, Some, None, length}
+use Rattle.std.specs.Prelude.{◌≡◌, ◌<◌, ◌≤◌, ◌+◌, ◌*◌, ◌-◌, ℕ, min, List, Option, Some, None, length, slice_get}
 use Rattle.std.proofs.Common.{ap, ◌∙◌}
 use Rattle.std.proofs.Math.Nat.{le_antisymm, lt_of_not-le}
 use mathlib.Core.Logic.{dite}
 use native.Mathlib.Decide.{dec_le}
 use Rattle.wsyntax.specs.Validation.Context.{Context}
+use Rattle.checked.specs.declared.body.CheckedBody.{CheckedBody}
+use Rattle.accepted.specs.Judgement.{IsCheckedAt}
 use Rattle.verdict.specs.declared.refused_body.RefusedBody.{RefusedBody}
 use Rattle.verdict.specs.Judged.{body_refusal_at, none_and_some, one_body_refusal}
 
@@ -23,6 +25,15 @@ pub record IsFirstOfGroup (C : Context) (imported : ℕ) (bodies : List (List �
   pub inside : IsInGroup size (length bodies) group r.place
   pub refused : body_refusal_at C imported bodies r.place ≡ Some r.refusal
   pub before : (place : ℕ) → IsInGroup size (length bodies) group place → place < r.place → body_refusal_at C imported bodies place ≡ None
+
+-- from that place on these are the checked bodies
+abbrev pub StandFrom : Context → ℕ → List (List ℕ) → ℕ → List CheckedBody → Type 0
+StandFrom C imported bodies first kept = (k : ℕ) (checked : CheckedBody) → slice_get kept k ≡ Some checked → IsCheckedAt C imported bodies (first + k) checked
+
+-- these are the checked bodies of the group, in their order
+pub record AreOfGroup (C : Context) (imported : ℕ) (bodies : List (List ℕ)) (size group : ℕ) (kept : List CheckedBody) : Type 0 where
+  pub count : length kept ≡ min size (length bodies - group * size)
+  pub each : StandFrom C imported bodies (group * size) kept
 
 -- ---- no group passes and is refused, nor is refused for two reasons
 

@@ -1,5 +1,6 @@
 //! How many bodies workers judge in one go.
-ghost use Rattle.std.specs.Prelude.{◌<◌};
+ghost use Rattle.std.specs.Prelude.{◌≡◌, ◌+◌, ◌*◌, ◌-◌, ◌<◌, min};
+ghost use Rattle.std.specs.Int.{div_ceil};
 
 use crate::tuning::{FEWEST_GROUPS, SHORTEST_GROUP};
 use pieces::Plan;
@@ -26,4 +27,16 @@ pub(crate) fn groups_for(bodies: u32, bytes: usize, plan: Plan) -> (u32, Plan)
     let plan = grouping(plan, bodies, bytes);
     let groups = plan.count_groups(bodies);
     (plan.piece(), narrowed(plan.one_group_each(), groups))
+}
+
+/// The places of the bodies of a group, of `bodies` in all: the first, and that after the last.
+pub(crate) fn places_of(group: u32, size: u32, bodies: u32) -> (u32, u32)
+    requires sized { 0 < size }
+    requires there { group < div_ceil bodies size }
+    ensures from { result.0 ≡ group * size }
+    ensures to { result.1 ≡ group * size + min size (bodies - group * size) }
+{
+    let from = group * size;
+    let left = bodies - from;
+    (from, from + size.min(left))
 }

@@ -1,31 +1,85 @@
-ghost use Rattle.std.specs.Prelude.{◌≡◌, ◌+◌, ◌<◌, ◌^◌, ℕ, MatchResult, IfOk, IfSome, length, map};
+ghost use Rattle.std.specs.Prelude.{◌≡◌, ◌+◌, ◌<◌, ◌^◌, ℕ, MatchResult, IfOk, IfSome, All, length, map, vec_len};
+ghost use Rattle.std.specs.List.{flat_map};
 ghost use Rattle.wsyntax.specs.Validation.Verdict.{IsVerdict, Accepted as accepted_verdict};
 ghost use Rattle.verdict.specs.Judged.{PassBefore, IsFirstBody};
 ghost use Rattle.accepted.specs.Judgement.{AreChecked};
 ghost use Rattle.accepted.specs.Kept.{IsAcceptedFrom};
 ghost use Rattle.verdict.specs.Rules.{KeepsRules};
 ghost use Rattle.verdict.specs.Refusals.{verdict_of};
+ghost use Rattle.verdict.specs.declared.refusal.Refusal.TheVariants.{Body as refused_body};
 
+use crate::grouping::groups_for;
 use crate::keeping::checked_body;
 use crate::keeping_jobs::KeptBodies;
 use crate::refusal::Refusal;
+use crate::refused_body::RefusedBody;
 use accepted::Accepted;
 use checked::CheckedBody;
 use pieces::{JobFault, Plan, TryFault, Watch, try_all};
 use soundness::validation::{accepted_is_typed, refused_at_first_fault};
-use std::alloc::Global;
+use std::alloc::{AllocError, Global};
 use std::sync::Wait;
 use std::thread::Threads;
+use wcheck::Checker;
 use wcontext::{Context, check_module};
 use wdecode::{decode_module, grammar_is_read};
 use wsyntax::Module;
 
-/// Judges the bodies of a module, up to the first that is refused, and keeps them.
+/// A checker for each worker.
+fn new_checkers<'a>(
+    alloc: Global,
+    context: &'a Context,
+    workers: u32,
+) -> Result<Vec<Checker<'a>>, AllocError>
+    ensures count { IfOk result (λ v. vec_len v ≡ workers) }
+    ensures outside { IfOk result (λ v. All (λ s. s.outside ≡ context.now.context) v.items) }
+{
+    let mut checkers = Vec::with_capacity(alloc, workers as usize)?;
+    for _ in 0..workers {
+        checkers.push(Checker::new(alloc, context))?;
+    }
+    Ok(checkers)
+}
+
+/// The bodies of all groups in one list, which are `count`.
+fn joined(
+    alloc: Global,
+    groups: Vec<Vec<CheckedBody>>,
+    count: usize,
+) -> Result<Vec<CheckedBody>, AllocError>
+    ensures { IfOk result (λ v. v.items ≡ flat_map (λ g. g.items) groups.items) }
+{
+    let mut all = Vec::new(alloc);
+    for mut group in groups {
+        if all.is_empty() {
+            // The first group is not moved, so that a module of one group has its list at once.
+            all = group;
+            all.reserve_exact(count.saturating_sub(all.len()))?;
+        } else {
+            all.append(&mut group)?;
+        }
+    }
+    Ok(all)
+}
+
+/// The refusal of a module for that of one of its bodies.
+fn refused(imported: u32, body: RefusedBody) -> Refusal
+    requires { imported + body.place < 2 ^ 32 }
+    ensures { result ≡ refused_body (imported + body.place) body.refusal }
+{
+    Refusal::Body {
+        func: imported + body.place,
+        refusal: body.refusal,
+    }
+}
+
+/// Judges the bodies of a module of `module_size` bytes, up to the first that is refused, and keeps them.
 fn judge_bodies<R: Threads + Wait + Sync, W: Watch + Sync>(
     rt: &R,
     alloc: Global,
     context: &Context,
     bodies: &[&[u8]],
+    module_size: usize,
     plan: Plan,
     watch: &W,
 ) -> Result<Vec<CheckedBody>, Refusal>
@@ -37,23 +91,21 @@ fn judge_bodies<R: Threads + Wait + Sync, W: Watch + Sync>(
     ensures bodies { IfOk result (λ v.
         AreChecked context.now.context context.now.imported (map (λ b. b.now) bodies.now) (length bodies.now) v.items) }
 {
-    let Ok(locals) = Vec::from_elem(alloc, (), plan.workers() as usize) else {
-        return Err(Refusal::Memory);
-    };
+    let count = bodies.len() as u32;
+    let (size, plan) = groups_for(count, module_size, plan);
+    let checkers = new_checkers(alloc, context, plan.workers())?;
     let imported = context.imported_functions() as u32;
     let job = KeptBodies {
         alloc,
         context,
         bodies,
         imported,
+        size,
         watch,
     };
-    match try_all(rt, alloc, &job, locals, bodies.len() as u32, plan) {
-        Ok(checked) => Ok(checked),
-        Err(TryFault::Stopped { index, fault }) => Err(Refusal::Body {
-            func: imported + index,
-            refusal: fault,
-        }),
+    match try_all(rt, alloc, &job, checkers, count.div_ceil(size), plan) {
+        Ok(groups) => Ok(joined(alloc, groups, bodies.len())?),
+        Err(TryFault::Stopped { fault, .. }) => Err(refused(imported, fault)),
         Err(TryFault::Memory) => Err(Refusal::Memory),
     }
 }
@@ -73,10 +125,11 @@ fn judge_bodies_alone(
         AreChecked context.now.context context.now.imported (map (λ b. b.now) bodies.now) (length bodies.now) v.items) }
 {
     let imported = context.imported_functions() as u32;
+    let mut checker = Checker::new(alloc, context);
     let mut kept = Vec::with_capacity(alloc, bodies.len())?;
     for place in 0..bodies.len() as u32 {
         let func = imported + place;
-        match checked_body(alloc, context, func, bodies[place as usize]) {
+        match checked_body(alloc, &mut checker, func, bodies[place as usize]) {
             Ok(checked) => {
                 if kept.push(checked).is_err() {
                     return Err(Refusal::Memory);
@@ -113,7 +166,15 @@ pub fn judge<'a, R: Threads + Wait + Sync, W: Watch + Sync>(
     ensures parts { IfOk result (IsAcceptedFrom bytes.now) }
 {
     let (module, context) = decode_and_check(alloc, bytes)?;
-    let bodies = judge_bodies(rt, alloc, &context, &module.bodies, plan, watch)?;
+    let bodies = judge_bodies(
+        rt,
+        alloc,
+        &context,
+        &module.bodies,
+        bytes.len(),
+        plan,
+        watch,
+    )?;
     Ok(Accepted::of(alloc, module, context, bodies)?)
 }
 

@@ -8,22 +8,22 @@ use checked::CheckedBody;
 use pieces::JobFault;
 use soundness::validation::{refused_at_first_fault, typed_is_accepted};
 use std::alloc::Global;
-use wcheck::{CheckFault, check_body};
-use wcontext::Context;
+use wcheck::{CheckFault, Checker, check_body};
 use wdecode::{BodyFault, decode_body, grammar_is_read};
 
 /// The body of the function of that index, imported ones counted, decoded and checked.
 pub(crate) fn checked_body(
     alloc: Global,
-    context: &Context,
+    checker: &mut Checker<'_>,
     func: u32,
     bytes: &[u8],
 ) -> Result<CheckedBody, JobFault<BodyRefusal>>
-    requires { func < length context.now.context.functions }
-    ensures { MatchResult result
-        (λ checked. (body_refusal_of context.now.context func bytes.now ≡ None)
-        × IsCheckedFrom context.now.context func bytes.now checked)
-        (AllowsFault (λ refusal. body_refusal_of context.now.context func bytes.now ≡ Some refusal)) }
+    requires { func < length checker.old.outside.functions }
+    ensures outside { checker.new.outside ≡ checker.old.outside }
+    ensures verdict { MatchResult result
+        (λ checked. (body_refusal_of checker.old.outside func bytes.now ≡ None)
+        × IsCheckedFrom checker.old.outside func bytes.now checked)
+        (AllowsFault (λ refusal. body_refusal_of checker.old.outside func bytes.now ≡ Some refusal)) }
 {
     grammar_is_read();
     typed_is_accepted();
@@ -34,7 +34,7 @@ pub(crate) fn checked_body(
         Err(BodyFault::TooManyLocals) => return Err(JobFault::Refused(BodyRefusal::TooManyLocals)),
         Err(BodyFault::Memory) => return Err(JobFault::Memory),
     };
-    match check_body(alloc, context, func, body) {
+    match check_body(alloc, checker, func, body) {
         Ok(checked) => Ok(checked),
         Err(CheckFault::IllTyped { at }) => Err(JobFault::Refused(BodyRefusal::IllTyped { at })),
         Err(CheckFault::Memory) => Err(JobFault::Memory),

@@ -1,14 +1,20 @@
-ghost use Rattle.std.specs.Prelude.{◌≡◌, ◌+◌, ◌<◌, ◌^◌, Some, None, length, map};
+ghost use Rattle.std.specs.Prelude.{◌≡◌, ◌+◌, ◌<◌, ◌^◌, Some, None, MatchResult, length, map};
+ghost use Rattle.pieces.specs.Faults.{AllowsFault};
+ghost use Rattle.accepted.specs.Judgement.{IsCheckedAt};
+ghost use Rattle.verdict.specs.Judged.{body_refusal_at};
 
+use crate::grouping::places_of;
 use crate::keeping::checked_body;
 use crate::refusal::BodyRefusal;
+use crate::refused_body::RefusedBody;
 use checked::CheckedBody;
 use pieces::{Job, JobFault, Stage, Watch};
 use std::alloc::Global;
 use std::sync::Wait;
+use wcheck::Checker;
 use wcontext::Context;
 
-/// The bodies of a module, each to be judged under the module's context and kept.
+/// The bodies of a module, each to be judged under the module's context and kept, in groups of consecutive ones.
 #[derive(Drop)]
 pub(crate) struct KeptBodies<'a, W> {
     pub(crate) alloc: Global,
@@ -16,44 +22,87 @@ pub(crate) struct KeptBodies<'a, W> {
     pub(crate) bodies: &'a [&'a [u8]],
     /// How many functions are imported: the index of the first body's function.
     pub(crate) imported: u32,
+    /// How many bodies a group has. The last group may have fewer.
+    pub(crate) size: u32,
     pub(crate) watch: &'a W,
     ghost each_has_type: { imported + length bodies.now ≡ length context.now.context.functions },
     ghost few: { imported + length bodies.now < 2 ^ 32 },
+    ghost sized: { 0 < size },
+}
+
+impl<'a, W> KeptBodies<'a, W> {
+    /// Judges the body at that place, and keeps it.
+    fn keep_at(
+        &self,
+        checker: &mut Checker<'a>,
+        place: u32,
+    ) -> Result<CheckedBody, JobFault<BodyRefusal>>
+        requires place { place < length self.now.bodies.now }
+        requires outside { checker.old.outside ≡ self.now.context.now.context }
+        ensures outside { checker.new.outside ≡ self.now.context.now.context }
+        ensures verdict { MatchResult result
+            (λ checked. (body_refusal_at self.now.context.now.context self.now.imported (map (λ b. b.now) self.now.bodies.now) place ≡ None)
+            × IsCheckedAt self.now.context.now.context self.now.imported (map (λ b. b.now) self.now.bodies.now) place checked)
+            (AllowsFault (λ refusal. body_refusal_at
+            self.now.context.now.context
+            self.now.imported
+            (map (λ b. b.now) self.now.bodies.now)
+            place
+            ≡ Some refusal)) }
+    {
+        let func = self.imported + place;
+        checked_body(self.alloc, checker, func, self.bodies[place as usize])
+    }
 }
 
 impl<'a, W: Watch> Job for KeptBodies<'a, W> {
-    type Local = ();
+    type Local = Checker<'a>;
 
-    type Out = CheckedBody;
+    type Out = Vec<CheckedBody>;
 
-    type Fault = BodyRefusal;
+    type Fault = RefusedBody;
 
-    ghost use Rattle.verdict.specs.Judged.{body_refusal_at, none_and_some, one_body_refusal};
-    ghost use Rattle.accepted.specs.Judgement.{IsCheckedAt};
+    ghost use Rattle.std.specs.Int.{div_ceil};
+    ghost use Rattle.verdict.specs.Groups.{GroupPasses, IsFirstOfGroup, AreOfGroup, passes_or_refused, one_first};
 
-    ghost limit = { λ j. length j.bodies.now };
+    ghost limit = { λ j. div_ceil (length j.bodies.now) j.size };
 
-    ghost belongs = { λ j s. Unit {0} };
+    ghost belongs = { λ j s. s.outside ≡ j.context.now.context };
 
-    ghost passes = { λ j i. body_refusal_at j.context.now.context j.imported (map (λ b. b.now) j.bodies.now) i ≡ None };
+    ghost passes = { λ j i. GroupPasses j.context.now.context j.imported (map (λ b. b.now) j.bodies.now) j.size i };
 
-    ghost gives = { λ j i out. IsCheckedAt j.context.now.context j.imported (map (λ b. b.now) j.bodies.now) i out };
+    ghost gives = { λ j i out. AreOfGroup j.context.now.context j.imported (map (λ b. b.now) j.bodies.now) j.size i out.items };
 
-    ghost refuses = { λ j i c. body_refusal_at j.context.now.context j.imported (map (λ b. b.now) j.bodies.now) i ≡ Some c };
+    ghost refuses = { λ j i r. IsFirstOfGroup j.context.now.context j.imported (map (λ b. b.now) j.bodies.now) j.size i r };
 
     fn run<R: Wait>(
         &self,
         _rt: &R,
-        _local: &mut (),
+        checker: &mut Checker<'a>,
         index: u32,
-    ) -> Result<CheckedBody, JobFault<BodyRefusal>> {
-        self.watch.note(Stage::Body, index);
-        let func = self.imported + index;
-        checked_body(self.alloc, self.context, func, self.bodies[index as usize])
+    ) -> Result<Vec<CheckedBody>, JobFault<RefusedBody>> {
+        let (from, to) = places_of(index, self.size, self.bodies.len() as u32);
+        let Ok(mut kept) = Vec::with_capacity(self.alloc, (to - from) as usize) else {
+            return Err(JobFault::Memory);
+        };
+        for place in from..to {
+            self.watch.note(Stage::Body, place);
+            match self.keep_at(checker, place) {
+                Ok(checked) => {
+                    if kept.push(checked).is_err() {
+                        return Err(JobFault::Memory);
+                    }
+                }
+                Err(JobFault::Refused(refusal)) => {
+                    return Err(JobFault::Refused(RefusedBody { place, refusal }));
+                }
+                Err(JobFault::Memory) => return Err(JobFault::Memory),
+            }
+        }
+        Ok(kept)
     }
 
-    ghost never_both = { λ j i c. none_and_some (body_refusal_at j.context.now.context j.imported (map (λ b. b.now) j.bodies.now) i) c };
+    ghost never_both = { λ j i r. passes_or_refused j.context.now.context j.imported (map (λ b. b.now) j.bodies.now) j.size i r };
 
-    ghost one_fault = { λ j i c d. one_body_refusal
-        (body_refusal_at j.context.now.context j.imported (map (λ b. b.now) j.bodies.now) i) c d };
+    ghost one_fault = { λ j i r s. one_first j.context.now.context j.imported (map (λ b. b.now) j.bodies.now) j.size i r s };
 }

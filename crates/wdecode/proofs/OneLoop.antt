@@ -108,3 +108,8 @@ pub finishes : (bytes : List ℕ) (tokens pushed : List Held) (old new : List �
 finishes bytes tokens pushed old new s now rest after t ends h g fits adds moves at_end is =
     let closed : (targets : List ℕ) → nest s (seen targets t) ≡ Some None = λ targets. moves targets ∙ ap (λ (b : Bool). Some (cond b None (Some now))) at_end in
     subst (λ (x : List Held). AllRead bytes x new after) (sym is) (the_last bytes tokens old new s rest after t h g fits adds closed)
+
+-- the same lists without room to spare
+pub shrunk : (bytes : List ℕ) (tokens kept : List Held) (targets few rest : List ℕ) → kept ≡ tokens → few ≡ targets → AllRead bytes tokens targets rest → AllRead bytes kept few rest
+shrunk bytes tokens kept targets few rest e f all =
+    subst (λ (ts : List Held). AllRead bytes ts few rest) (sym e) (subst (λ (xs : List ℕ). AllRead bytes tokens xs rest) (sym f) all)

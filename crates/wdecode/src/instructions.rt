@@ -327,14 +327,18 @@ pub fn enter(opened: &mut SmallVec<bool, FEW>, token: Token) -> Result<bool, Fau
     }
 }
 
-/// An expression (5.4.6) at the front, up to and with the end that closes it, and the bytes after it.
+/// For how many tokens there is room at first, where so many bytes are left.
+const FEW_TOKENS: usize = 32;
+
+/// An expression (5.4.6) at the front, up to and with the end that closes it, and the bytes after it. It keeps room for no
+/// more tokens and targets than it has.
 #[tactic(auto, unfolding(wsyntax::specs::Binary::Nesting::expression))]
 pub fn expression_at(alloc: Global, bytes: &[u8]) -> Result<(Expression, &[u8]), Fault>
     ensures value { Gives (λ x. (tokens_of x.0, x.1.now)) result (expression.read bytes.now) }
     ensures follow { IfOk result (λ x. FollowAll 0 x.0.tokens.items (length x.0.targets.items)) }
     ensures targets { IfOk result (λ x. x.0.targets.items ≡ targets_of (tokens_of x.0)) }
 {
-    let mut tokens = Vec::new(alloc);
+    let mut tokens = Vec::with_capacity(alloc, bytes.len().min(FEW_TOKENS))?;
     let mut targets = Vec::new(alloc);
     let mut opened = SmallVec::new(alloc);
     let mut rest = bytes;
@@ -349,6 +353,8 @@ pub fn expression_at(alloc: Global, bytes: &[u8]) -> Result<(Expression, &[u8]),
         tokens.push(token)?;
         let closes = enter(&mut opened, token)?;
         if closes {
+            tokens.shrink_to_fit();
+            targets.shrink_to_fit();
             return Ok((Expression { tokens, targets }, rest));
         }
     }

@@ -1,9 +1,11 @@
-use Rattle.verdict.proofs.Firsts.{all_pass}
-use Rattle.verdict.proofs.CheckedBodies.{all_checked}
+use Rattle.verdict.proofs.KeptGroups.{groups_passed, groups_kept, group_stopped}
 use Rattle.verdict.proofs.judging.judge_bodies.Goals as goal
 
-pub returns-in-Ok-try_all-clause-verdict : goal.returns-in-Ok-try_all-clause-verdict
-returns-in-Ok-try_all-clause-verdict g c = all_pass _ _ _ _ _ _ _ c.imported_functions-imported.ensures.count c.in-Ok-try_all.ensures
+pub returns-in_ok-joined-in-Ok-clause-verdict : goal.returns-in_ok-joined-in-Ok-clause-verdict
+returns-in_ok-joined-in-Ok-clause-verdict g c = groups_passed _ _ _ _ _ _ _ _ c.imported_functions-imported.ensures.count c.groups_for-size.ensures c.div_ceil.ensures c.in-Ok.ensures
 
-pub returns-in-Ok-try_all-clause-bodies : goal.returns-in-Ok-try_all-clause-bodies
-returns-in-Ok-try_all-clause-bodies g c = all_checked _ _ _ _ _ _ _ c.imported_functions-imported.ensures.count c.in-Ok-try_all.ensures
+pub returns-in_ok-joined-in-Ok-clause-bodies : goal.returns-in_ok-joined-in-Ok-clause-bodies
+returns-in_ok-joined-in-Ok-clause-bodies g c = groups_kept _ _ _ _ _ _ _ _ _ _ c.imported_functions-imported.ensures.count c.groups_for-size.ensures c.div_ceil.ensures c.in-Ok.ensures c.in_ok-joined-in-Ok.ensures
+
+pub returns-in-Err-Stopped-clause-verdict : goal.returns-in-Err-Stopped-clause-verdict
+returns-in-Err-Stopped-clause-verdict g c = rw (c.refused.ensures, c.in-Err-Stopped.field-0-is) (group_stopped _ _ _ _ _ _ _ _ _ c.imported_functions-imported.ensures.count c.groups_for-size.ensures c.in-Err-Stopped.field-0-is c.in-Err-Stopped.ensures)

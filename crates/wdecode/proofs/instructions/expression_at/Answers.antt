@@ -4,7 +4,7 @@ use Rattle.wsyntax.specs.Modules.{seen}
 use Rattle.wsyntax.specs.Binary.Nesting.{tokens_at, expression}
 use Rattle.wdecode.proofs.FlatLoop.{token_fails, nest_fails}
 use Rattle.wdecode.proofs.BranchTables.{all_targets}
-use Rattle.wdecode.proofs.OneLoop.{continues, finishes, reads_on}
+use Rattle.wdecode.proofs.OneLoop.{continues, finishes, shrunk, reads_on}
 use Rattle.wdecode.proofs.instructions.expression_at.Goals as goal
 
 pub returns-in_err-token-clause-value : goal.returns-in_err-token-clause-value
@@ -23,21 +23,24 @@ returns-in_err-closes-clause-value c =
 
 pub returns-then-closes : goal.returns-then-closes
 returns-then-closes c =
-    let all = finishes c.args.bytes.now c.each.tokens.items c.push-in-each.new.self.items c.each.targets.items c.token_at.new.targets.items (reverse c.each.opened.items) (reverse c.enter.new.opened.items) c.each.rest.now c.in_ok-token.after.now c.in_ok-token.token c.in_ok-closes.closes c.each.invariant c.in_ok-token.ensures.ok c.in_ok-token.ensures.within c.in_ok-token.ensures.follows c.in_ok-closes.ensures.ok c.if-closes.true c.in_ok-push-2.ensures.items in
+    let read = finishes c.args.bytes.now c.each.tokens.items c.push-in-each.new.self.items c.each.targets.items c.token_at.new.targets.items (reverse c.each.opened.items) (reverse c.enter.new.opened.items) c.each.rest.now c.in_ok-token.after.now c.in_ok-token.token c.in_ok-closes.closes c.each.invariant c.in_ok-token.ensures.ok c.in_ok-token.ensures.within c.in_ok-token.ensures.follows c.in_ok-closes.ensures.ok c.if-closes.true c.in_ok-push-2.ensures.items in
+    let all = shrunk c.args.bytes.now _ _ _ _ c.in_ok-token.after.now c.shrink_to_fit.ensures.items c.shrink_to_fit-then-closes.ensures.items read in
     record {
       value = all.read;
       follow = all.follow;
-      targets = all_targets c.token_at.new.targets.items c.push-in-each.new.self.items all.follow all.within;
+      targets = all_targets c.shrink_to_fit-then-closes.new.self.items c.shrink_to_fit.new.self.items all.follow all.within;
     }
 
 pub invariant_of-result-clause-closed : goal.invariant_of-result-clause-closed
 invariant_of-result-clause-closed c =
-    let all = finishes c.args.bytes.now c.each.tokens.items c.push-in-each.new.self.items c.each.targets.items c.token_at.new.targets.items (reverse c.each.opened.items) (reverse c.enter.new.opened.items) c.each.rest.now c.in_ok-token.after.now c.in_ok-token.token c.in_ok-closes.closes c.each.invariant c.in_ok-token.ensures.ok c.in_ok-token.ensures.within c.in_ok-token.ensures.follows c.in_ok-closes.ensures.ok c.if-closes.true c.in_ok-push-2.ensures.items in
+    let read = finishes c.args.bytes.now c.each.tokens.items c.push-in-each.new.self.items c.each.targets.items c.token_at.new.targets.items (reverse c.each.opened.items) (reverse c.enter.new.opened.items) c.each.rest.now c.in_ok-token.after.now c.in_ok-token.token c.in_ok-closes.closes c.each.invariant c.in_ok-token.ensures.ok c.in_ok-token.ensures.within c.in_ok-token.ensures.follows c.in_ok-closes.ensures.ok c.if-closes.true c.in_ok-push-2.ensures.items in
+    let all = shrunk c.args.bytes.now _ _ _ _ c.in_ok-token.after.now c.shrink_to_fit.ensures.items c.shrink_to_fit-then-closes.ensures.items read in
     all.closed
 
 pub invariant_of-result-clause-within : goal.invariant_of-result-clause-within
 invariant_of-result-clause-within c =
-    let all = finishes c.args.bytes.now c.each.tokens.items c.push-in-each.new.self.items c.each.targets.items c.token_at.new.targets.items (reverse c.each.opened.items) (reverse c.enter.new.opened.items) c.each.rest.now c.in_ok-token.after.now c.in_ok-token.token c.in_ok-closes.closes c.each.invariant c.in_ok-token.ensures.ok c.in_ok-token.ensures.within c.in_ok-token.ensures.follows c.in_ok-closes.ensures.ok c.if-closes.true c.in_ok-push-2.ensures.items in
+    let read = finishes c.args.bytes.now c.each.tokens.items c.push-in-each.new.self.items c.each.targets.items c.token_at.new.targets.items (reverse c.each.opened.items) (reverse c.enter.new.opened.items) c.each.rest.now c.in_ok-token.after.now c.in_ok-token.token c.in_ok-closes.closes c.each.invariant c.in_ok-token.ensures.ok c.in_ok-token.ensures.within c.in_ok-token.ensures.follows c.in_ok-closes.ensures.ok c.if-closes.true c.in_ok-push-2.ensures.items in
+    let all = shrunk c.args.bytes.now _ _ _ _ c.in_ok-token.after.now c.shrink_to_fit.ensures.items c.shrink_to_fit-then-closes.ensures.items read in
     all.within
 
 pub each-smaller : goal.each-smaller

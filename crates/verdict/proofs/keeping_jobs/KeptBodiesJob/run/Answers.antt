@@ -1,0 +1,43 @@
+use Rattle.std.proofs.Common.{◌≡◌, true, ◌-◌, ◌*◌, length, arith}
+use Rattle.std.specs.Prelude.{is_ok}
+use Rattle.std.proofs.lemmas.List.{length-map, length_push}
+use Rattle.std.proofs.Math.Nat.{min-le_left, min-le_right}
+use Rattle.verdict.proofs.Groups.{one_more}
+use Rattle.verdict.proofs.KeptGroups.{stand_more, whole_group}
+use Rattle.verdict.proofs.keeping_jobs.KeptBodiesJob.run.Goals as goal
+
+pub loop-place-preserved : goal.loop-place-preserved
+loop-place-preserved g c =
+    let old = c.loop-place.invariant in
+    let found = c.in-Ok-keep_at.ensures.verdict in
+    let kept : is_ok c.push.result ≡ true = c.if-is_err.ensures.negation in
+    let items = rw kept at c.push.ensures.items in
+    let long = length_push c.loop-place.kept.items c.in-Ok-keep_at.checked in
+    record {
+      outside = c.in-Ok-keep_at.ensures.outside;
+      passed = one_more _ _ _ _ _ _ old.passed found.0;
+      count = rw items (let n = old.count in omega (arith, long, n));
+      each = rw items (stand_more _ _ _ _ _ _ _ old.each old.count found.1);
+    }
+
+pub returns-in-Err-Refused-clause-answer : goal.returns-in-Err-Refused-clause-answer
+returns-in-Err-Refused-clause-answer g c =
+    let j = c.args.self.now in
+    let n = length-map j.bodies.now (λ b. b.now) in
+    let most = min-le_left j.size (length j.bodies.now - c.args.index * j.size) in
+    let left = min-le_right j.size (length j.bodies.now - c.args.index * j.size) in
+    record {
+      inside = record {
+        from = omega (arith, c.loop-place.auto.place);
+        to = omega (arith, most, c.loop-place-test.true);
+        there = omega (arith, n, left, c.loop-place.auto.place, c.loop-place-test.true);
+      };
+      refused = rw c.in-Err-Refused.field-0-is at c.in-Err-Refused.ensures.verdict;
+      before = c.loop-place.invariant.passed;
+    }
+
+pub returns-clause-answer : goal.returns-clause-answer
+returns-clause-answer g c =
+    let old = c.loop-place.invariant in
+    let n = length-map c.args.self.now.bodies.now (λ b. b.now) in
+    whole_group _ _ _ _ _ _ _ _ n (omega (arith, c.loop-place-test.false)) old.passed old.count old.each
