@@ -7,7 +7,7 @@ says the verdict of a module is held to it. Each is judged and run by one worker
 two of them the least and the greatest and three at random, with stacks of 64 KiB, and with the address space held to what was drawn:
 those answers must be equal to that of one worker. Where memory is held, and once more where one request for it is refused
 (tests/refuse_memory.c), they may be out of memory (status 70, nothing on standard output; a call's line `no-memory`).
-A crash, a hang of a minute or another answer ends the soak. It prints seeds and counts; a seed makes the same run again.
+A crash, a run of ten minutes or another answer ends the soak. It prints seeds and counts; a seed makes the same run again.
 
 Where node is installed, its answers are compared too (bench/answers.js): whether `WebAssembly.validate` accepts the module, and
 how each call ends on a fresh instance, by its values or its trap. A module is passed over, and counted, where node refuses it by
@@ -155,13 +155,17 @@ def held_to(bytes_of):
 
 def answer(words, held=None, **named):
     env = {**os.environ, **named} if named else None
-    ran = subprocess.run(words, capture_output=True, timeout=60, preexec_fn=held_to(held), env=env)
+    # Long enough for the lowest priority on a busy machine.
+    try:
+        ran = subprocess.run(words, capture_output=True, timeout=600, preexec_fn=held_to(held), env=env)
+    except subprocess.TimeoutExpired:
+        return 'no end', b'', b''
     return ran.returncode, ran.stdout, ran.stderr
 
 
 def is_short(want, got):
     # Whether this is the answer that is wanted, but for what ran out of memory.
-    is_report = got[0] == want[0] == 0 and got[2] == b'' and want[1] != b'accepted\n'
+    is_report = got[0] == want[0] == 0 and got[1] and got[2] == b'' and want[1] != b'accepted\n'
     return got == (70, b'', b'gate: no memory\n') or is_report and may_report(want[1].decode(), got[1].decode())
 
 
