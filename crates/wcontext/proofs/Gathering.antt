@@ -15,8 +15,8 @@ use Rattle.wcontext.specs.declared.trie.Reading.{Reading}
 use Rattle.wcontext.specs.declared.trie.Nodes.{Nodes}
 use Rattle.wcontext.specs.Lists.{list_of, IsEnd}
 use Rattle.wcontext.specs.Trie.{text, HasFronts, IsUnread, AreNodesOf}
-use Rattle.wcontext.specs.Walk.{AreEnds, AreNumbersOf, MapsNumbers}
-use Rattle.wcontext.specs.EndTree.{none, starts_at, start_in, HaveFronts, IsGatheredFrom, PutsList}
+use Rattle.wcontext.specs.Walk.{AreNumbersOf}
+use Rattle.wcontext.specs.EndTree.{none, starts_at, start_in, AreEndsAt, HaveFronts, IsGatheredFrom, PutsList}
 use Rattle.wcontext.proofs.Tries.{text_front}
 
 -- the fronts of a list, up to that many types
@@ -116,14 +116,12 @@ gathered_next types old mid new t s kept before params results is more =
     )
 
 -- the numbers of the nodes become those of the fronts
-pub ends_mapped : (all : List (List ValType)) (lists : List Reading) (nodes : Nodes) (numbers ms : List Numbers) → All (IsUnread all) lists → AreNodesOf lists nodes → AreNumbersOf nodes.links.items numbers → MapsNumbers nodes.fronts.items numbers ms → AreEnds all ms
-ends_mapped all lists nodes numbers ms unread are given maps a b here there from to =
+pub ends_read : (all : List (List ValType)) (lists : List Reading) (nodes : Nodes) (numbers : List Numbers) → All (IsUnread all) lists → AreNodesOf lists nodes → AreNumbersOf nodes.links.items numbers → AreEndsAt all nodes.fronts.items numbers
+ends_read all lists nodes numbers unread are given a b here there from to =
     let fronts = nodes.fronts.items in
     let some = are all unread in
     let texts = some.0 in
-    let x = maps a here in
-    let y = maps b there in
-    let p = some.2 a x.0 in
-    let q = some.2 b y.0 in
+    let p = some.2 a here.0 in
+    let q = some.2 b there.0 in
     subst (λ l. IsEnd l (text all b)) p.1 (subst (λ l. IsEnd (text texts (get_or fronts a 0)) l) q.1
-    (given texts some.1 (get_or fronts a 0) (get_or fronts b 0) x.1 y.1 (omega (arith, from, x.2, y.2)) (omega (arith, to, x.3, y.2))))
+    (given texts some.1 (get_or fronts a 0) (get_or fronts b 0) here.1 there.1 from to))

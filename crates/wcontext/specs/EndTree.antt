@@ -11,7 +11,7 @@ use Rattle.wcontext.specs.declared.end_tree.EndTree.{EndTree}
 use Rattle.wcontext.specs.declared.walk.Numbers.{Numbers}
 use Rattle.wcontext.specs.Lists.{list_of, IsEnd}
 use Rattle.wcontext.specs.Trie.{text, HasFronts, IsUnread}
-use Rattle.wcontext.specs.Walk.{AreEnds}
+use Rattle.wcontext.specs.Walk.{start_at, end_at}
 
 -- the start that stands for none
 abbrev pub none : ℕ
@@ -48,13 +48,22 @@ PutsList old new types start = (all : List (List ValType)) → IsGathered all ol
 abbrev pub IsGatheredFrom : List FuncType → Gathered → Type 0
 IsGatheredFrom types g = (all : List (List ValType)) × IsGathered all g × HaveFronts types g.starts.items all
 
+-- the front at a place was read, and its node has numbers
+abbrev pub HasNumbers : List ℕ → List Numbers → ℕ → Type 0
+HasNumbers fronts numbers place = (0 < get_or fronts place 0) × (get_or fronts place 0 < length numbers)
+
+-- a front whose number lies within those of another has that as an end
+abbrev pub AreEndsAt : List (List ValType) → List ℕ → List Numbers → Type 0
+AreEndsAt all fronts numbers = (a b : ℕ) → HasNumbers fronts numbers a → HasNumbers fronts numbers b
+    → start_at numbers (get_or fronts a 0) ≤ start_at numbers (get_or fronts b 0) → start_at numbers (get_or fronts b 0) < end_at numbers (get_or fronts a 0) → IsEnd (text all a) (text all b)
+
 -- the numbers are those of the fronts of the types' lists
 abbrev pub IsEndTree : List FuncType → EndTree → Type 0
-IsEndTree types t = (all : List (List ValType)) × AreEnds all t.numbers.items × HaveFronts types t.starts.items all
+IsEndTree types t = (all : List (List ValType)) × AreEndsAt all t.fronts.items t.numbers.items × HaveFronts types t.starts.items all
 
 -- these are the numbers of the first `count` types of that list
 abbrev pub HoldsFront : EndTree → TypeList → ℕ → Numbers → Type 0
-HoldsFront t list count n = (place : ℕ) × (place < length t.numbers.items) × (get_or t.numbers.items place record { start = 0; end = 0 } ≡ n)
+HoldsFront t list count n = (place : ℕ) × HasNumbers t.fronts.items t.numbers.items place × (get_or t.numbers.items (get_or t.fronts.items place 0) record { start = 0; end = 0 } ≡ n)
     × ((types : List FuncType) (all : List (List ValType)) → HaveFronts types t.starts.items all → count ≤ length (list_of types list) → text all place ≡ take count (list_of types list))
 
 -- the one front is an end of the other, if both lists have as many types

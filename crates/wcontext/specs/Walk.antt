@@ -25,7 +25,3 @@ pub record IsWalk (IsBelow : ℕ → ℕ → Type 0) (start end next : ℕ → �
 
 abbrev pub AreNumbersOf : List ℕ → List Numbers → Type 0
 AreNumbersOf links ns = (texts : List (List ValType)) → IsLinked texts links → AreEnds texts ns
-
--- each front has the numbers of its node
-abbrev pub MapsNumbers : List ℕ → List Numbers → List Numbers → Type 0
-MapsNumbers fronts numbers all = (k : ℕ) → k < length all → (0 < get_or fronts k 0) × (get_or fronts k 0 < length numbers) × (start_at all k ≡ start_at numbers (get_or fronts k 0)) × (end_at all k ≡ end_at numbers (get_or fronts k 0))

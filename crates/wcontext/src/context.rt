@@ -11,7 +11,7 @@ use wsyntax::{FuncType, FuncTypes, GlobalType, Module, ValType};
 #[derive(Debug, Drop)]
 pub struct Context {
     types: FuncTypes,
-    /// The fronts of the long lists; `None` where no list is long, or where memory for them was refused.
+    /// The fronts of the long lists; `None` where they are compared instead, or where memory for them was refused.
     pub(crate) ends: Option<EndTree>,
     functions: Vec<u32>,
     imported: usize,
@@ -53,7 +53,7 @@ impl Context {
         ensures { IfOk result (λ c. c ≡ indexed_context (module_shape «module».now)) }
     {
         let types = module.types.copy(alloc)?;
-        let ends = EndTree::new(alloc, &types);
+        let ends = EndTree::new(alloc, &types, &module.bodies);
         Ok(Context {
             types,
             ends,

@@ -4,7 +4,7 @@ ghost use Rattle.wcontext.specs.EndTree.{PutsList, IsGatheredFrom, IsEndTree, Ho
 
 use crate::lists::TypeList;
 use crate::trie::{Reading, Trie};
-use crate::walk::{Numbers, number, numbers_of};
+use crate::walk::{Numbers, number};
 use std::alloc::Global;
 use wsyntax::{FuncTypes, ValType};
 
@@ -13,6 +13,9 @@ pub(crate) const LONG: usize = 256;
 
 /// In the place of the start of a list that is not long.
 const NONE: u32 = u32::MAX;
+
+/// So many types are compared, at least, in the time in which the tree takes in one.
+const COMPARED: usize = 2_048;
 
 /// The places of the first fronts of a function type's lists.
 #[derive(Clone, Copy, Debug)]
@@ -26,7 +29,9 @@ pub(crate) struct Starts {
 pub(crate) struct EndTree {
     /// Of each function type.
     starts: Vec<Starts>,
-    /// By the places of the fronts.
+    /// The nodes of the fronts, by their places.
+    fronts: Vec<u32>,
+    /// By the nodes.
     numbers: Vec<Numbers>,
 }
 
@@ -39,16 +44,56 @@ struct Gathered<'a> {
     fronts: u32,
 }
 
-/// How many of the lists are long.
-fn count_long(types: &FuncTypes) -> usize {
-    let mut count = 0usize;
-    for y in 0..types.len() {
-        if let Some(signature) = types.get(y) {
-            count = count.saturating_add(usize::from(signature.params.len() >= LONG));
-            count = count.saturating_add(usize::from(signature.results.len() >= LONG));
+/// What the long lists of some function types come to.
+#[derive(Clone, Copy)]
+struct LongLists {
+    count: usize,
+    types: usize,
+    longest: usize,
+}
+
+impl LongLists {
+    /// These and a list of that length, if it is long.
+    fn and(self, length: usize) -> LongLists {
+        if length < LONG {
+            return self;
+        }
+        LongLists {
+            count: self.count.saturating_add(1),
+            types: self.types.saturating_add(length),
+            longest: self.longest.max(length),
         }
     }
-    count
+
+    fn of(types: &FuncTypes) -> LongLists {
+        let mut long = LongLists {
+            count: 0,
+            types: 0,
+            longest: 0,
+        };
+        for y in 0..types.len() {
+            if let Some(signature) = types.get(y) {
+                long = long
+                    .and(signature.params.len())
+                    .and(signature.results.len());
+            }
+        }
+        long
+    }
+
+    /// Whether to compare them, once for each byte of the bodies, may take longer than to make the tree.
+    fn deserve_tree(self, bodies: &[&[u8]]) -> bool {
+        self.count > 0 && self.longest.saturating_mul(size_of_all(bodies)) / COMPARED > self.types
+    }
+}
+
+/// How many bytes the bodies have.
+fn size_of_all(bodies: &[&[u8]]) -> usize {
+    let mut size = 0usize;
+    for body in bodies {
+        size = size.saturating_add(body.len());
+    }
+    size
 }
 
 impl<'a> Gathered<'a> {
@@ -93,20 +138,21 @@ impl<'a> Gathered<'a> {
 }
 
 impl EndTree {
-    /// The fronts of the long lists; `None` where no list is long, or where memory is refused.
-    pub(crate) fn new(alloc: Global, types: &FuncTypes) -> Option<EndTree>
+    /// The fronts of the long lists; `None` where the bodies are too short to ask much of them, or where memory is
+    /// refused.
+    pub(crate) fn new(alloc: Global, types: &FuncTypes, bodies: &[&[u8]]) -> Option<EndTree>
         ensures { IfSome result (IsEndTree types.now) }
     {
-        let count = count_long(types);
-        if count == 0 {
+        let long = LongLists::of(types);
+        if !long.deserve_tree(bodies) {
             return None;
         }
-        let gathered = Gathered::of(alloc, types, count)?;
+        let gathered = Gathered::of(alloc, types, long.count)?;
         let nodes = Trie::read(alloc, gathered.lists, gathered.fronts as usize)?;
         let numbers = number(alloc, &nodes.links)?;
-        let numbers = numbers_of(alloc, &nodes.fronts, &numbers)?;
         Some(EndTree {
             starts: gathered.starts,
+            fronts: nodes.fronts,
             numbers,
         })
     }
@@ -131,7 +177,11 @@ impl EndTree {
     {
         let start = self.start_of(list)?;
         let place = (start as usize).checked_add(count.checked_sub(1)?)?;
-        self.numbers.get(place).copied()
+        let node = *self.fronts.get(place)?;
+        if node == 0 {
+            return None;
+        }
+        self.numbers.get(node as usize).copied()
     }
 
     /// Whether the first `short_count` types of `short` are an end of the first `long_count` types of `long`, where

@@ -1,6 +1,6 @@
 //! A walk over the tree of links, which gives each node and all below it numbers side by side.
 ghost use Rattle.std.specs.Prelude.{◌<◌, ◌≤◌, IfSome};
-ghost use Rattle.wcontext.specs.Walk.{AreNumbersOf, MapsNumbers};
+ghost use Rattle.wcontext.specs.Walk.{AreNumbersOf};
 
 use std::alloc::Global;
 
@@ -63,18 +63,4 @@ pub(crate) fn number(alloc: Global, links: &[u32]) -> Option<Vec<Numbers>>
         numbers.push(Numbers { start, end }).ok()?;
     }
     Some(numbers)
-}
-
-/// The numbers of the nodes of these fronts, where each has one.
-pub(crate) fn numbers_of(alloc: Global, fronts: &[u32], numbers: &[Numbers]) -> Option<Vec<Numbers>>
-    ensures { IfSome result (λ v. MapsNumbers fronts.now numbers.now v.items) }
-{
-    let mut all = Vec::with_capacity(alloc, fronts.len()).ok()?;
-    for node in fronts {
-        if *node == 0 {
-            return None;
-        }
-        all.push(*numbers.get(*node as usize)?).ok()?;
-    }
-    Some(all)
 }
