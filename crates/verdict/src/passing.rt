@@ -15,6 +15,7 @@
 ghost use Rattle.std.specs.Prelude.{◌≡◌, ◌<◌, [], ◌∷◌, IfOk, length};
 ghost use Rattle.verdict.specs.OnePass.{first_token, Passes, TokensPass};
 ghost use Rattle.verdict.specs.WholeBodies.{BodyPasses};
+ghost use Rattle.verdict.specs.declared.passing.Passing.TheVariants.{Stopped};
 
 use crate::tuning::{EXPORTS, LABELS, LOCAL_RUNS};
 use std::alloc::{AllocError, Global};
@@ -236,20 +237,13 @@ fn any_passes<'a>(
     }
 }
 
-/// Reads and checks the instruction at the front, in less time where it is one of the frequent.
-#[inline(always)]
-fn token_passes<'a>(
-    checker: &mut Checker<'_>,
-    targets: &mut Vec<u32>,
-    bytes: &'a [u8],
-) -> FirstToken<'a>
-    requires { checker.old.frames ≡ [] → ⊥ }
-    ensures outside { checker.new.outside ≡ checker.old.outside }
-    ensures passes { Passes bytes.now checker.old checker.new result }
+/// Where one loop stopped: these bytes are left of the tokens.
+fn stopped<'a>(tokens: &'a [u8], rest: &[u8]) -> Passing<'a>
+    ensures { result ≡ Stopped tokens.entry (length rest.now) }
 {
-    match frequent_passes(checker, bytes) {
-        FirstToken::Other => any_passes(checker, targets, bytes),
-        first => first,
+    Passing::Stopped {
+        tokens,
+        left: rest.len(),
     }
 }
 
@@ -263,18 +257,25 @@ fn tokens_pass<'a>(
     ensures sound { TokensPass checker.old.inside checker.old.frames tokens.now result }
 {
     let mut rest = tokens;
-    while !checker.finish() {
-        rest = match token_passes(checker, targets, rest) {
-            FirstToken::Taken(after) => after,
-            FirstToken::Refused => {
-                let left = rest.len();
-                return Passing::Stopped { tokens, left };
+    'each: while !checker.finish() {
+        match frequent_passes(checker, rest) {
+            FirstToken::Taken(after) => {
+                rest = after;
+                continue 'each;
             }
+            FirstToken::Refused => return stopped(tokens, rest),
+            FirstToken::Memory => return Passing::Unknown,
+            FirstToken::Other => (),
+        }
+        match any_passes(checker, targets, rest) {
+            FirstToken::Taken(after) => rest = after,
+            FirstToken::Refused => return stopped(tokens, rest),
             FirstToken::Memory | FirstToken::Other => return Passing::Unknown,
-        };
+        }
     }
-    match rest.len() {
-        0 => Passing::Passed,
-        left => Passing::Stopped { tokens, left },
+    if rest.is_empty() {
+        Passing::Passed
+    } else {
+        stopped(tokens, rest)
     }
 }
