@@ -193,6 +193,21 @@ def types_of(lengths, results=False):
     return make
 
 
+def lists_with_code(length):
+    """Lists of this many types at random, and code that is just long enough for the tree of ends to be made of them."""
+    def make(size, chance):
+        count = size * length // ((length + 1_100) * length)
+        types = [function_type(chance.choices([I32, I64, F32, F64], k=length)) for _ in range(max(1, count))]
+        return {'types': [EMPTY] + types, 'others': [(0, b'\x00' + b'\x01' * (size - count * length) + b'\x0B')]}
+    return make
+
+
+def compared_lists(size, dead, chance):
+    # Blocks over two lists that are the same, of half of the bytes each, in code that is just too short for the tree of ends.
+    many = [chance.choice([I32, I64]) for _ in range(size // 2 - 1_100)]
+    return b'\x02\x01\x0B' * 650 + b'\x00', {'types': [EMPTY, function_type(many, many)]}
+
+
 def one_list(size, chance):
     return types_of([size])(size, chance)
 
@@ -388,6 +403,9 @@ FAMILIES = {
     'types of 9 to 16 results': (SECTIONS, of_sections(types_of(range(9, 17), True))),
     'types of 256 parameters': (SECTIONS, of_sections(types_of([256]))),
     'one list of types': (SECTIONS, of_sections(one_list)),
+    'lists of 2,000 types with code': (SECTIONS, of_sections(lists_with_code(2_000))),
+    'lists of 8,000 types with code': (SECTIONS, of_sections(lists_with_code(8_000))),
+    'lists of 100,000 types with code': (SECTIONS, of_sections(lists_with_code(100_000))),
     'types of 1 to 3 parameters': (SECTIONS, of_sections(types_of(range(1, 4)))),
     'types of one parameter': (SECTIONS, of_sections(same_types(function_type([I32])))),
     'types of nothing': (SECTIONS, of_sections(same_types(EMPTY))),
@@ -406,6 +424,7 @@ FAMILIES = {
     'branch tables of 255 types': (LIVE, of_code(tables_of_short_lists)),
     'calls of long results': (DEAD, long_list(False, lambda n: b'\x10\x01' * (n // 2))),
     'calls of long lists': (DEAD, long_list(True, lambda n: b'\x10\x01' * (n // 2))),
+    'blocks of two lists': (DEAD, of_code(compared_lists)),
     'blocks of long lists': (DEAD, long_list(True, lambda n: b'\x02\x01\x0B' * (n // 3))),
     'branches over long lists': (DEAD, long_list(True, branches_in_a_block)),
     'ends of long lists': (DEAD, of_lists(ends_of_lists)),

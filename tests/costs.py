@@ -4,7 +4,7 @@
 A call of a module of n bytes, with F fuel and P pages, whose longest body has L tokens and whose longest list of types has V
 types, takes at most
 
-    n x 4 ns + P x 40 us + (F + 1) x (100 us + L x (20 ns + V x 2 ns)) + V x 200 ns
+    n x 4 ns + P x 100 us + (F + 1) x (100 us + L x (20 ns + V x 2 ns)) + V x 200 ns
 
 of a processor: its instance; the memory that it has written; its entries and turns of loops; its printed values. Judging the
 module comes before, once, and is measured apart and taken away. Each module is made for one term. The constants are some three
@@ -34,7 +34,7 @@ class Case:
     def bound(self):
         """The seconds that a call may take."""
         entries = (self.fuel + 1) * (100e-6 + self.tokens * (20e-9 + self.types * 2e-9))
-        return len(self.module) * 4e-9 + self.pages * 40e-6 + entries + self.types * 200e-9
+        return len(self.module) * 4e-9 + self.pages * 100e-6 + entries + self.types * 200e-9
 
 
 def shifting_branches(count, values):
@@ -78,6 +78,13 @@ def filled(globals_count, entries, data):
     return whole(b'', sections=sections)
 
 
+def scattered(count, pages):
+    """Data segments of a byte, in an order that jumps about so many pages."""
+    sections = {5: b'\x01\x00' + unsigned(pages),
+                11: vector([b'\x00\x41' + signed(n * 40_503 * 4_099 % (pages << 16)) + b'\x0B\x01\x01' for n in range(count)])}
+    return whole(b'', sections=sections)
+
+
 def written(pages):
     """Writes a byte in each block of 4,096 bytes of a memory."""
     stores = b''.join(b'\x41' + signed(at) + b'\x41\x01\x3A\x00\x00' for at in range(0, pages * 65536, 4096))
@@ -96,6 +103,7 @@ CASES = [
     Case('turns of a loop', turns(1_000_000), fuel=100, tokens=1_000_003, calls=1, end='exhausted'),
     Case('branch tables', seldom_turns(1_000_000), fuel=100, tokens=1_000_003, calls=1, end='exhausted'),
     Case('globals, entries and data', filled(200_000, 65_536, 200_000), fuel=1, pages=16),
+    Case('data in 256 pages', scattered(250_000, 256), fuel=1, pages=256),
     Case('16 pages of data', whole(b'', sections={5: b'\x01\x00\x10', 11: b'\x01\x00\x41\x00\x0B' + sized(b'\x01' * 1_000_000)}),
          fuel=1, pages=16, calls=200),
     Case('blocks of 1,024 pages', written(1024), fuel=1, pages=1024, tokens=50_000, calls=20),

@@ -15,7 +15,7 @@ pub(crate) const LONG: usize = 256;
 const NONE: u32 = u32::MAX;
 
 /// So many types are compared, at least, in the time in which the tree takes in one.
-const COMPARED: usize = 4_096;
+const COMPARED: usize = 1_024;
 
 /// The places of the first fronts of a function type's lists.
 #[derive(Clone, Copy, Debug)]
