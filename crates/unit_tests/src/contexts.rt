@@ -104,7 +104,9 @@ fn breaks_a_rule(rt: HostRuntime) -> Result<(), Fail> {
 /// Why the module is refused by the early rules, or by the late ones of those that exports, the start function and
 /// element segments keep.
 fn fault_in_parts(alloc: Global, module: &Module<'_>) -> Option<ModuleFault> {
-    let mut names = Vec::new(alloc);
+    let Ok(mut names) = NameRoom::with_capacity(alloc, 0) else {
+        return Some(ModuleFault::Memory);
+    };
     match check_early(alloc, module) {
         Ok((_, counts)) => check_late(&mut names, module, &counts).err(),
         Err(fault) => Some(fault),
