@@ -18,7 +18,7 @@ use std::marker::Model;
 pub struct GateModule {
     at: *mut u8,
     alloc: Global,
-    ghost value: { Held },
+    ghost value: { Held } by { the_row.coded },
 }
 
 impl Model for GateModule {

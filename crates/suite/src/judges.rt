@@ -13,7 +13,10 @@ pub fn verdict_line<R: Threads + Wait + Sync>(
     bytes: &[u8],
     plan: Plan,
 ) -> Result<(Vec<u8>, Status)> {
-    let kept = judge(rt, alloc, bytes, plan, &Quiet).map(|_| ());
+    let kept = match judge(rt, alloc, bytes, plan, &Quiet) {
+        Ok(_accepted) => Ok(()),
+        Err(refusal) => Err(refusal),
+    };
     ensure!(
         kept == examine(rt, alloc, bytes, plan, &Quiet),
         "the judges differ"

@@ -141,7 +141,10 @@ fn judged_bodies_meet<R: Threads + Wait + Abort + Sync>(
     let plan = Plan::new(2, 1).ok_or("plan")?;
     for _ in 0..TRIES {
         let meeting = Meeting::new();
-        let judged = judge(rt, alloc, module, plan, &meeting).map(|_| ());
+        let judged = match judge(rt, alloc, module, plan, &meeting) {
+            Ok(_accepted) => Ok(()),
+            Err(refusal) => Err(refusal),
+        };
         assert_eq!(rt; judged, verdict);
         if meeting.bodies.has_met() {
             return Ok(());
