@@ -5,9 +5,12 @@ For each family and size, of that of its forms which costs most a byte: nanoseco
 best of three processes, its start and the reading included), how many times those of a hot loop's code and of the mean of the
 programs (--programs, else of generated code) of that size, the peak memory in lengths of the module, the form, and the verdict.
 A verdict that is not the form's ends the run. Last the families for `gate run`: microseconds a call.
+
+With --table FILE.. nothing is measured: what runs of some sizes printed becomes the table of docs/SPEED.md, the worst first.
 """
 import argparse
 import os
+import re
 import resource
 import subprocess
 import sys
@@ -136,15 +139,40 @@ def calls(gate, path, calls_path):
         print(f'{name:44}{seconds / count * 1e6:10.2f}', flush=True)
 
 
+ROW = re.compile(r'(\S.*?) +([\d.]+) +([\d.]+) +([\d.]+) +([\d.]+) +([\d.]+)  ((?:dead )?\w+) +\w+ ')
+
+
+def table(files):
+    # Of each family, by the sizes in megabytes: how many times the mean, and of the largest size the rest of its line.
+    families, sizes = {}, set()
+    for row in filter(None, (ROW.match(line) for file in files for line in open(file))):
+        name, size, cost, _, times, memory, form = row.groups()
+        size = round(float(size))
+        sizes.add(size)
+        families.setdefault(name, {})[size] = float(times), float(cost), float(memory), form
+    sizes = sorted(sizes)
+    print(f'| family | form | times the generated code, {"; ".join(map(str, sizes))} MB | ns a byte | memory in lengths |')
+    print('|---|---|---|---|---|')
+    for name, rows in sorted(families.items(), key=lambda it: -max(times for times, *_ in it[1].values())):
+        times = '; '.join(f'{rows[size][0]:.1f}' if size in rows else '-' for size in sizes)
+        _, cost, _, form = rows[max(rows)]
+        print(f'| {name} | {form} | {times} | {cost:.0f} | {max(memory for _, _, memory, _ in rows.values()):.1f} |')
+
+
 def main():
     parser = argparse.ArgumentParser(description=__doc__, formatter_class=argparse.RawDescriptionHelpFormatter)
-    parser.add_argument('gate', help='the program')
+    parser.add_argument('gate', nargs='?', help='the program')
     parser.add_argument('sizes', nargs='*', type=float, help='megabytes; 1, 4 and 16 where none is given')
+    parser.add_argument('--table', nargs='+', metavar='FILE', help='what runs printed becomes a table')
     parser.add_argument('--only', action='append', choices=FAMILIES, metavar='FAMILY', help='this family; may be said more than once')
     parser.add_argument('--all', action='store_true', help='a line for each form, the worst first')
     parser.add_argument('--seed', type=int, default=7)
     parser.add_argument('--programs', nargs='+', default=[], metavar='FILE', help='real programs, whose mean counts')
     words = parser.parse_args()
+    if words.table:
+        return table(words.table)
+    if not words.gate:
+        parser.error('the program is missing')
     words.gate, words.sizes = os.path.abspath(words.gate), words.sizes or [1.0, 4.0, 16.0]
     with tempfile.TemporaryDirectory() as folder:
         path = os.path.join(folder, 'module.wasm')
