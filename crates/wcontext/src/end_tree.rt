@@ -14,8 +14,8 @@ pub(crate) const LONG: usize = 256;
 /// In the place of the start of a list that is not taken in.
 const NONE: u32 = u32::MAX;
 
-/// For so many types of long lists each byte of the bodies may have one type compared: that takes 10 to 30 ns a type of
-/// the lists, and the tree 35 to 70 for each type that it takes in.
+/// Lists are compared where the bodies can have so many types compared, at most, for each type of all long lists. That
+/// takes 8 to 27 ns for each type of all, the tree 35 to 115 for each type that it takes in.
 const COMPARED: usize = 256;
 
 /// The places of the first fronts of a function type's lists.
