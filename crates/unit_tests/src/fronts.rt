@@ -98,7 +98,10 @@ fn fronts_of_long_lists_are_ends_where_comparing_says_so(rt: HostRuntime) -> Res
         module.bodies.push(&BODY[..bytes])?;
         let (context, _) = check_early(rt.alloc(), &module)?;
         let differing = differing(&context, &types);
-        assert!(rt; differing.is_none(), "{bytes}: the first types of two lists: {differing:?}");
+        assert!(rt;
+            differing.is_none(),
+            "{bytes}: the first types of two lists: {differing:?}"
+        );
     }
     Ok(())
 }

@@ -7,7 +7,7 @@ use Rattle.std.proofs.lemmas.List.Elements.{AllWithin-more_set, AllWithin-upto, 
 use Rattle.wsyntax.specs.declared.ValType.{ValType}
 use Rattle.wsyntax.specs.declared.ValType.TheVariants.{I32, I64, F32, F64}
 use Rattle.wcontext.specs.Lists.{IsEnd}
-use Rattle.wcontext.specs.Trie.{type_number, text, entry, IsFilled, IsLinked, IsTrie, AreTexts, AreRead, HasFronts, IsReading, IsInBlock, BeginsBlocks, ReadsType, ReadsSome, ReadsColumn, ReadsBlock, PutsFronts, PutsBlock, IsNew, IsUnread, ReadsTo, CompletesTable, AreNodesOf}
+use Rattle.wcontext.specs.Trie.{type_number, text, entry, IsFilled, IsLinked, IsTrie, AreTexts, AreRead, HasFronts, IsReading, IsInBlock, BeginsBlocks, ReadsType, ReadsSome, ReadsColumn, ReadsBlock, PutsFronts, PutsBlock, IsNew, ReadsTo, CompletesTable, AreNodesOf}
 use Rattle.wcontext.specs.declared.trie.Reading.{Reading}
 use Rattle.wcontext.specs.declared.trie.Nodes.{Nodes}
 use Rattle.wcontext.specs.declared.trie.Trie.{Trie}

@@ -1,5 +1,4 @@
-use Rattle.std.proofs.Common.{◌≡◌, ◌<◌, length, arith}
-use Rattle.std.proofs.lemmas.List.Elements.{AllWithin-from_all, AllWithin-none, AllWithin-upto, All-from_all_within}
+use Rattle.std.proofs.Common.{◌<◌, length, arith}
 use Rattle.wcontext.specs.Trie.{IsReading, IsInBlock}
 use Rattle.wcontext.proofs.Tries.{one_more}
 use Rattle.wcontext.proofs.trie.begin_block.Goals as goal

@@ -1,4 +1,4 @@
-use Rattle.std.proofs.Common.{◌≡◌, ◌<◌, length, arith, ◌∙◌}
+use Rattle.std.proofs.Common.{◌<◌, length, arith, ◌∙◌}
 use Rattle.wcontext.proofs.trie.Trie.end_block.Goals as goal
 
 pub loop-k-preserved : goal.loop-k-preserved

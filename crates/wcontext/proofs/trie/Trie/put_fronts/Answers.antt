@@ -1,4 +1,4 @@
-use Rattle.std.proofs.Common.{◌≡◌, ◌+◌, get_or, arith, ap, ◌∙◌}
+use Rattle.std.proofs.Common.{◌≡◌, ◌+◌, arith, ap, ◌∙◌}
 use Rattle.wcontext.proofs.Tries.{put_front}
 use Rattle.wcontext.proofs.trie.Trie.put_fronts.Goals.{then-place-len, else-place-len}
 use Rattle.wcontext.proofs.trie.Trie.put_fronts.Goals as goal

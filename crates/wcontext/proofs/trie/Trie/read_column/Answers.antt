@@ -1,4 +1,4 @@
-use Rattle.std.proofs.Common.{◌≡◌, ◌<◌, ◌≤◌, length, get_or, arith, ◌∙◌}
+use Rattle.std.proofs.Common.{◌<◌, ◌≤◌, length, arith, ◌∙◌}
 use Rattle.wcontext.proofs.Tries.{next_read, all_read}
 use Rattle.wcontext.proofs.trie.Trie.read_column.Goals as goal
 
