@@ -193,19 +193,31 @@ def types_of(lengths, results=False):
     return make
 
 
-def lists_with_code(length):
-    """Lists of this many types at random, and code that is just long enough for the tree of ends to be made of them."""
-    def make(size, chance):
-        count = size * length // ((length + 1_100) * length)
-        types = [function_type(chance.choices([I32, I64, F32, F64], k=length)) for _ in range(max(1, count))]
-        return {'types': [EMPTY] + types, 'others': [(0, b'\x00' + b'\x01' * (size - count * length) + b'\x0B')]}
-    return make
+def pairs_of_lists(shapes, asked, enough=True, far=False):
+    """Pairs of lists of types at random: one that is given, and the same without its first type, which is taken; or, `far`, without
+    as many of its first types as chance says, up to half of them.
+
+    `shapes` has their lengths and of each its share of all types. The code gives and takes pairs of `asked` types in an order at
+    random. It is just long enough for the tree of ends to take in the longest lists, or just too short.
+    """
+    def make(size, dead, chance):
+        needed = 256 / min(max(shapes), size // 5) * (1.05 if enough else 0.95)
+        types, calls = [EMPTY], []
+        for length, share in shapes.items():
+            for _ in range(max(1, int(size / (1 + needed) * share / 2 / length))):
+                many = chance.choices([I32, I64, F32, F64], k=min(length, size // 5))
+                if length == asked:
+                    calls.append(b'\x10' + unsigned(len(types)) + b'\x10' + unsigned(len(types) + 1))
+                types += [function_type([], many), function_type(many[chance.randrange(1, len(many) // 2) if far else 1:])]
+        code = at_random(calls, needed * sum(map(len, types)) - 3 * len(types), chance)
+        return code + b'\x00', {'types': types, 'others': [(k, b'\x00\x00\x0B') for k in range(1, len(types))]}
+    return of_code(make)
 
 
 def compared_lists(size, dead, chance):
     # Blocks over two lists that are the same, of half of the bytes each, in code that is just too short for the tree of ends.
     many = [chance.choice([I32, I64]) for _ in range(size // 2 - 1_100)]
-    return b'\x02\x01\x0B' * 650 + b'\x00', {'types': [EMPTY, function_type(many, many)]}
+    return b'\x02\x01\x0B' * 165 + b'\x00', {'types': [EMPTY, function_type(many, many)]}
 
 
 def one_list(size, chance):
@@ -403,9 +415,6 @@ FAMILIES = {
     'types of 9 to 16 results': (SECTIONS, of_sections(types_of(range(9, 17), True))),
     'types of 256 parameters': (SECTIONS, of_sections(types_of([256]))),
     'one list of types': (SECTIONS, of_sections(one_list)),
-    'lists of 2,000 types with code': (SECTIONS, of_sections(lists_with_code(2_000))),
-    'lists of 8,000 types with code': (SECTIONS, of_sections(lists_with_code(8_000))),
-    'lists of 100,000 types with code': (SECTIONS, of_sections(lists_with_code(100_000))),
     'types of 1 to 3 parameters': (SECTIONS, of_sections(types_of(range(1, 4)))),
     'types of one parameter': (SECTIONS, of_sections(same_types(function_type([I32])))),
     'types of nothing': (SECTIONS, of_sections(same_types(EMPTY))),
@@ -424,6 +433,11 @@ FAMILIES = {
     'branch tables of 255 types': (LIVE, of_code(tables_of_short_lists)),
     'calls of long results': (DEAD, long_list(False, lambda n: b'\x10\x01' * (n // 2))),
     'calls of long lists': (DEAD, long_list(True, lambda n: b'\x10\x01' * (n // 2))),
+    'pairs of lists of 256 types': (DEAD, pairs_of_lists({256: 1.0}, 256)),
+    'pairs of lists of 2,000 types': (DEAD, pairs_of_lists({2_000: 1.0}, 2_000)),
+    'pairs of lists that lie far apart': (DEAD, pairs_of_lists({8_000: 1.0}, 8_000, far=True)),
+    'short lists beside the longest': (DEAD, pairs_of_lists({300: 0.85, 1_000_000: 0.15}, 1_000_000)),
+    'lists too short for the tree': (DEAD, pairs_of_lists({2_000: 0.9, 1_900: 0.1}, 1_900)),
     'blocks of two lists': (DEAD, of_code(compared_lists)),
     'blocks of long lists': (DEAD, long_list(True, lambda n: b'\x02\x01\x0B' * (n // 3))),
     'branches over long lists': (DEAD, long_list(True, branches_in_a_block)),

@@ -70,21 +70,38 @@ fn says_as_comparing(
 
 const COUNTS: [u32; 6] = [254, 255, 256, 299, 300, 601];
 
-#[test]
-fn fronts_of_long_lists_are_ends_where_comparing_says_so(rt: HostRuntime) -> Result<(), Fail> {
-    let types = long_lists(rt.alloc())?;
-    let mut module = Module::empty(rt.alloc());
-    module.types = long_lists(rt.alloc())?;
-    let (context, _) = check_early(rt.alloc(), &module)?;
+/// The first two fronts of which the context does not say what comparing says.
+fn differing(context: &Context, types: &FuncTypes) -> Option<((u32, u32), (u32, u32))> {
     for y in 0..6 {
         for z in 0..6 {
             for count in COUNTS {
                 for more in COUNTS {
-                    let same = says_as_comparing(&context, &types, (y, count), (z, more));
-                    assert!(rt; same, "the first {count} of {y}, the first {more} of {z}");
+                    if !says_as_comparing(context, types, (y, count), (z, more)) {
+                        return Some(((y, count), (z, more)));
+                    }
                 }
             }
         }
+    }
+    None
+}
+
+/// The bytes of a body: all of them are enough for a tree of all long lists, and 900 for the lists of 601 types alone.
+static BODY: [u8; 4_000] = [0; 4_000];
+
+#[test]
+fn fronts_of_long_lists_are_ends_where_comparing_says_so(rt: HostRuntime) -> Result<(), Fail> {
+    let types = long_lists(rt.alloc())?;
+    for bytes in [0, 900, BODY.len()] {
+        let mut module = Module::empty(rt.alloc());
+        module.types = long_lists(rt.alloc())?;
+        module.bodies.push(&BODY[..bytes])?;
+        let (context, _) = check_early(rt.alloc(), &module)?;
+        let differing = differing(&context, &types);
+        assert!(rt;
+            differing.is_none(),
+            "{bytes}: the first types of two lists: {differing:?}"
+        );
     }
     Ok(())
 }

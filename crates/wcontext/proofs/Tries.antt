@@ -1,12 +1,13 @@
 -- The trie of fronts: its nodes, entries and links.
-use Rattle.std.proofs.Common.{◌≡◌, ◌≢◌, ℕ, zero, suc, ◌+◌, ◌*◌, ◌<◌, ◌≤◌, List, [], ◌∷◌, ◌++◌, length, take, get_or, set, replicate, refl, sym, ap, subst, ◌∙◌, arith, inl, inr, length-append, length-set}
-use Rattle.std.specs.List.{All, AllWithin}
+use Rattle.std.proofs.Common.{◌≡◌, ◌≢◌, ℕ, zero, suc, ◌+◌, ◌*◌, ◌<◌, ◌≤◌, List, [], ◌∷◌, ◌++◌, length, take, get_or, set, replicate, Bool, refl, sym, ap, subst, ◌∙◌, arith, inl, inr, length-append, length-set}
+use Rattle.std.specs.List.{All, AllWithin, filter}
 use Rattle.std.proofs.lemmas.Bool.{cases_lt, cases_eq}
-use Rattle.std.proofs.lemmas.List.{get_or_append_left, get_or_at, get_or-append_right, get_or-set_same, get_or-set_other, append-nil, append_assoc, length_push, get_or_push, get_or_past, get_or-replicate, length-replicate, take_more, get_or-take, length-take}
+use Rattle.std.proofs.lemmas.List.{get_or_append_left, get_or_at, get_or-append_right, get_or-set_same, get_or-set_other, append-nil, append_assoc, length_push, get_or_push, get_or_past, get_or-replicate, length-replicate, take_more, take_all}
+use Rattle.std.proofs.lemmas.List.Elements.{AllWithin-more_set, AllWithin-upto, All-from_all_within, All-filter, All-weaker}
 use Rattle.wsyntax.specs.declared.ValType.{ValType}
 use Rattle.wsyntax.specs.declared.ValType.TheVariants.{I32, I64, F32, F64}
 use Rattle.wcontext.specs.Lists.{IsEnd}
-use Rattle.wcontext.specs.Trie.{type_number, text, entry, IsFilled, IsLinked, IsTrie, AreRead, IsReading, ReadsType, ReadsSome, ReadsColumn, IsNew, IsUnread, ReadsTo, CompletesTable, AreNodesOf}
+use Rattle.wcontext.specs.Trie.{type_number, text, entry, IsFilled, IsLinked, IsTrie, AreTexts, AreRead, HasFronts, IsReading, IsInBlock, BeginsBlocks, ReadsType, ReadsSome, ReadsColumn, ReadsBlock, PutsFronts, PutsBlock, IsNew, ReadsTo, CompletesTable, AreNodesOf}
 use Rattle.wcontext.specs.declared.trie.Reading.{Reading}
 use Rattle.wcontext.specs.declared.trie.Nodes.{Nodes}
 use Rattle.wcontext.specs.declared.trie.Trie.{Trie}
@@ -198,19 +199,32 @@ reading_more all texts more column r reading = record {
   is = text_front texts more r.node reading.within ∙ reading.is;
 }
 
+texts_more : (texts more : List (List ValType)) (wanted : ℕ → List ValType) (nodes : List ℕ) → AreTexts texts wanted nodes → AreTexts (texts ++ more) wanted nodes
+texts_more texts more wanted nodes read x above =
+    let old = read x above in
+    (omega (arith, old.0, length-append texts more), text_front texts more (get_or nodes x 0) old.0 ∙ old.1)
+
+pub in_block_more : (all texts more : List (List ValType)) (base column : ℕ) (r : Reading) → IsInBlock all texts base column r → IsInBlock all (texts ++ more) base column r
+in_block_more all texts more base column r held = record {
+  reading = reading_more all texts more column r held.reading;
+  block = held.block;
+  nodes = texts_more texts more (λ i. text all (r.start + base + i)) r.nodes held.nodes;
+}
+
 -- ---- one type more is read
 
--- the front of a list that ends at its next type is read
-pub read_front : (all texts : List (List ValType)) (fronts : List ℕ) (place d : ℕ) → AreRead all texts fronts → d < length texts → text texts d ≡ text all place → AreRead all texts (set fronts place d)
-read_front all texts fronts place d read below is x above = elim (cases_eq x place) [
-  | inl same ↦ elim (cases_lt place (length fronts)) [
+-- a node is put where its text is wanted
+pub put_node : (texts : List (List ValType)) (wanted : ℕ → List ValType) (nodes : List ℕ) (place d : ℕ) → AreTexts texts wanted nodes → (0 < d → (d < length texts) × (text texts d ≡ wanted place)) → AreTexts texts wanted (set nodes place d)
+put_node texts wanted nodes place d read is x above = elim (cases_eq x place) [
+  | inl same ↦ elim (cases_lt place (length nodes)) [
     | inl inside ↦
-        let now : get_or (set fronts place d) x 0 ≡ d = ap (λ i. get_or (set fronts place d) i 0) same ∙ get_or-set_same fronts place d 0 inside in
-        rw now (below, is ∙ ap (text all) (sym same))
-    | inr past ↦ absurd (omega (arith, above, get_or_past (set fronts place d) x 0 (omega (arith, same, past, length-set fronts place d))))
+        let now : get_or (set nodes place d) x 0 ≡ d = ap (λ i. get_or (set nodes place d) i 0) same ∙ get_or-set_same nodes place d 0 inside in
+        let one = is (subst (λ n. 0 < n) now above) in
+        rw now (one.0, one.1 ∙ ap wanted (sym same))
+    | inr past ↦ absurd (omega (arith, above, get_or_past (set nodes place d) x 0 (omega (arith, same, past, length-set nodes place d))))
   ]
   | inr other ↦
-      let now = get_or-set_other fronts place x d 0 other in
+      let now = get_or-set_other nodes place x d 0 other in
       rw now (read x (subst (λ n. 0 < n) now above))
 ]
 
@@ -218,62 +232,106 @@ pub next_types : (types : List ValType) (column : ℕ) (t d : ValType) → colum
 next_types types column t d below is = ap (λ x. take column types ++ x ∷ []) is ∙ sym (take_more types column d below)
 
 -- one type of a list is read
-pub type_read : (all texts : List (List ValType)) (fronts : List ℕ) (list : Reading) (column place d : ℕ) (t e : ValType) → AreRead all texts fronts → IsReading all texts column list → column < length list.types.now → t ≡ get_or list.types.now column e → place ≡ list.start + column
+pub type_read : (all texts : List (List ValType)) (list next : Reading) (base i d : ℕ) (t : ValType) → IsInBlock all texts base (base + i) list → i < 16 → base + i < length list.types.now → t ≡ get_or list.block i t
     → (more : List (List ValType)) → d < length (texts ++ more) → text (texts ++ more) d ≡ text texts list.node ++ t ∷ []
-    → AreRead all (texts ++ more) (set fronts place d) × IsReading all (texts ++ more) (column + 1) record { types = list.types; start = list.start; node = d }
-type_read all texts fronts list column place d t e read reading within is at more below child =
-    let front : text (texts ++ more) d ≡ take (column + 1) list.types.now = child ∙ ap (λ z. z ++ t ∷ []) reading.is ∙ next_types list.types.now column t e within is in
-    let there : text all (list.start + column) ≡ take (column + 1) list.types.now = (reading.fronts column within).1 in (
-      read_front all (texts ++ more) fronts place d (read_more all texts more fronts read) below (front ∙ sym there ∙ ap (text all) (sym at)),
-      record { fronts = reading.fronts; within = below; is = front },
-    )
+    → next.types ≡ list.types → next.start ≡ list.start → next.node ≡ d → next.block ≡ list.block → next.nodes ≡ set list.nodes i d → IsInBlock all (texts ++ more) base (base + i + 1) next
+type_read all texts list next base i d t held inside within is more below child types start node block nodes =
+    let at : t ≡ get_or list.types.now (base + i) t = is ∙ held.block i t inside within in
+    let front : text (texts ++ more) d ≡ take (base + i + 1) list.types.now = child ∙ ap (λ z. z ++ t ∷ []) held.reading.is ∙ next_types list.types.now (base + i) t t within at in
+    let there : text all (list.start + (base + i)) ≡ take (base + i + 1) list.types.now = (held.reading.fronts (base + i) within).1 in
+    let place : list.start + (base + i) ≡ list.start + base + i = omega arith in
+    let wanted : ℕ → List ValType = λ j. text all (list.start + base + j) in
+    let put = put_node (texts ++ more) wanted list.nodes i d (texts_more texts more wanted list.nodes held.nodes) (λ _. (below, front ∙ sym there ∙ ap (text all) place)) in
+    record {
+      reading = record {
+        fronts = subst (λ n. HasFronts all next.types.now n) (sym start) (subst (λ s. HasFronts all s.now list.start) (sym types) held.reading.fronts);
+        within = subst (λ n. n < length (texts ++ more)) (sym node) below;
+        is = ap (text (texts ++ more)) node ∙ front ∙ ap (λ s. take (base + i + 1) s.now) (sym types);
+      };
+      block = subst (λ s. (j : ℕ) (u : ValType) → j < 16 → base + j < length s.now → get_or next.block j u ≡ get_or s.now (base + j) u) (sym types) (subst (λ b. (j : ℕ) (u : ValType) → j < 16 → base + j < length list.types.now → get_or b j u ≡ get_or list.types.now (base + j) u) (sym block) held.block);
+      nodes = subst (λ n. AreTexts (texts ++ more) (λ j. text all (n + base + j)) next.nodes) (sym start) (subst (AreTexts (texts ++ more) wanted) (sym nodes) put);
+    }
+
+-- a list has no type there
+pub none_there : (all texts : List (List ValType)) (list : Reading) (base i : ℕ) → IsInBlock all texts base (base + i) list → length list.types.now ≤ base + i → IsInBlock all texts base (base + i + 1) list
+none_there all texts list base i held past = record {
+  reading = record {
+    fronts = held.reading.fronts;
+    within = held.reading.within;
+    is = held.reading.is ∙ take_all (base + i) list.types.now past ∙ sym (take_all (base + i + 1) list.types.now (omega (arith, past)));
+  };
+  block = held.block;
+  nodes = held.nodes;
+}
 
 -- ---- one type more of one list more
 
-pub next_kept : (old mid new : Trie) (lists now : List Reading) (column first kept k : ℕ) (list next : Reading) → ReadsSome old mid lists now column first kept k → ReadsType mid new list next column first → list ≡ get_or now k list → kept ≤ k → k < length now → ReadsSome old new lists (set now kept next) column first (kept + 1) (k + 1)
-next_kept old mid new lists now column first kept k list next before step is below within all texts trie read each =
-    let some = before all texts trie read each in
-    let one = step all (texts ++ some.0) some.1 some.2 (subst (IsReading all (texts ++ some.0) column) (sym is) (some.4 k list (omega arith) within)) in
-    let there = texts ++ some.0 ++ one.0 in
-    let P : List (List ValType) → Type 0 = λ z. IsTrie z new.table.items new.links.items first × AreRead all z new.fronts.items × AllWithin (IsReading all z (column + 1)) (set now kept next) 0 (kept + 1) × AllWithin (IsReading all z column) (set now kept next) (k + 1) (length (set now kept next)) in
-    let q : P (texts ++ (some.0 ++ one.0)) = subst P (append_assoc texts some.0 one.0) (
-      one.1,
-      one.2,
-      λ m d low high. elim (cases_eq m kept) [
-        | inl same ↦ subst (IsReading all there (column + 1)) (sym (ap (λ i. get_or (set now kept next) i d) same ∙ get_or-set_same now kept next d (omega arith))) one.3
-        | inr other ↦ subst (IsReading all there (column + 1)) (sym (get_or-set_other now kept m next d other)) (reading_more all (texts ++ some.0) one.0 (column + 1) (get_or now m d) (some.3 m d low (omega (arith, other, high))))
-      ],
-      λ m d low high.
-          let inside : m < length now = omega (arith, high, length-set now kept next) in
-          let other : m ≢ kept = λ same. omega (arith, same, low, below) in
-          subst (IsReading all there column) (sym (get_or-set_other now kept m next d other)) (reading_more all (texts ++ some.0) one.0 column (get_or now m d) (some.4 m d (omega arith) inside)),
-    ) in
-    (some.0 ++ one.0, q.0, q.1, q.2, q.3)
+-- one element more is as the first ones
+pub one_more : {X : Type 0} (P Q : X → Type 0) (now : List X) (k : ℕ) (next : X) → k < length now → Q next → AllWithin Q now 0 k → AllWithin P now k (length now) → AllWithin Q (set now k next) 0 (k + 1) × AllWithin P (set now k next) (k + 1) (length (set now k next))
+one_more P Q now k next within holds done left = (
+  AllWithin-more_set now k next within Q done holds,
+  λ m d low high.
+      let other : m ≢ k = λ same. omega (arith, same, low) in
+      subst P (sym (get_or-set_other now k m next d other)) (left m d (omega arith) (omega (arith, high, length-set now k next))),
+)
 
-pub next_left : (old mid new : Trie) (lists now : List Reading) (column first kept k : ℕ) (list next : Reading) → ReadsSome old mid lists now column first kept k → ReadsType mid new list next column first → list ≡ get_or now k list → kept ≤ k → k < length now → ReadsSome old new lists now column first kept (k + 1)
-next_left old mid new lists now column first kept k list next before step is below within all texts trie read each =
-    let some = before all texts trie read each in
-    let one = step all (texts ++ some.0) some.1 some.2 (subst (IsReading all (texts ++ some.0) column) (sym is) (some.4 k list (omega arith) within)) in
+pub next_read : (old mid new : Trie) (lists now : List Reading) (base i first k : ℕ) (list next : Reading) → ReadsSome old mid lists now base i first k → ReadsType mid new (get_or now k list) next base i first → k < length now → ReadsSome old new lists (set now k next) base i first (k + 1)
+next_read old mid new lists now base i first k list next before step within all texts trie each =
+    let some = before all texts trie each in
+    let one = step all (texts ++ some.0) some.1 (some.3 k list (omega arith) within) in
     let there = texts ++ some.0 ++ one.0 in
-    let P : List (List ValType) → Type 0 = λ z. IsTrie z new.table.items new.links.items first × AreRead all z new.fronts.items × AllWithin (IsReading all z (column + 1)) now 0 kept × AllWithin (IsReading all z column) now (k + 1) (length now) in
-    let q : P (texts ++ (some.0 ++ one.0)) = subst P (append_assoc texts some.0 one.0) (
-      one.1,
-      one.2,
-      λ m d low high. reading_more all (texts ++ some.0) one.0 (column + 1) (get_or now m d) (some.3 m d low high),
-      λ m d low high. reading_more all (texts ++ some.0) one.0 column (get_or now m d) (some.4 m d (omega arith) high),
-    ) in
-    (some.0 ++ one.0, q.0, q.1, q.2, q.3)
+    let P : ℕ → Reading → Type 0 = IsInBlock all there base in
+    let both = one_more (P (base + i)) (P (base + i + 1)) now k next within one.2
+    (λ m d low high. in_block_more all (texts ++ some.0) one.0 base (base + i + 1) (get_or now m d) (some.2 m d low high))
+    (λ m d low high. in_block_more all (texts ++ some.0) one.0 base (base + i) (get_or now m d) (some.3 m d low high)) in
+    let G : List (List ValType) → Type 0 = λ z. IsTrie z new.table.items new.links.items first × AllWithin (IsInBlock all z base (base + i + 1)) (set now k next) 0 (k + 1) × AllWithin (IsInBlock all z base (base + i)) (set now k next) (k + 1) (length (set now k next)) in
+    let q : G (texts ++ (some.0 ++ one.0)) = subst G (append_assoc texts some.0 one.0) (one.1, both.0, both.1) in
+    (some.0 ++ one.0, q.0, q.1, q.2)
 
-pub all_read : (old new : Trie) (lists now rest : List Reading) (column first kept k : ℕ) → ReadsSome old new lists now column first kept k → rest ≡ take kept now → ReadsColumn old new lists rest column first
-all_read old new lists now rest column first kept k before is all texts trie read each =
-    let some = before all texts trie read each in (
-      some.0,
-      some.1,
-      some.2,
-      subst (λ z. All (IsReading all (texts ++ some.0) (column + 1)) z) (sym is) (λ m d high.
-          let low : m < kept = omega (arith, high, length-take kept now) in
-          subst (IsReading all (texts ++ some.0) (column + 1)) (sym (get_or-take kept now m d low)) (some.3 m d (omega arith) low)),
-    )
+pub all_read : (old new : Trie) (lists now : List Reading) (base i first k : ℕ) → ReadsSome old new lists now base i first k → length now ≤ k → ReadsColumn old new lists now base i first
+all_read old new lists now base i first k before end all texts trie each =
+    let some = before all texts trie each in
+    (some.0, some.1, All-from_all_within (IsInBlock all (texts ++ some.0) base (base + i + 1)) now (AllWithin-upto (IsInBlock all (texts ++ some.0) base (base + i + 1)) now 0 k (length now) end some.2))
+
+-- ---- a block
+
+pub column_read : (start old mid : Trie) (table links : List ℕ) (lists left rest : List Reading) (base i first : ℕ) → ReadsBlock start old.table.items old.links.items lists left base i → first ≡ length old.links.items → ReadsColumn old mid left rest base i first
+    → CompletesTable mid.table.items table mid.links.items first → links ≡ mid.links.items → ReadsBlock start table links lists rest base (i + 1)
+column_read start old mid table links lists left rest base i first before is step completes same all texts above filled linked each =
+    let some = before all texts above filled linked each in
+    let there = texts ++ some.0 in
+    let size : length old.links.items ≡ length there = some.2.size in
+    let trie : IsTrie there old.table.items old.links.items first = record {
+      filled = some.1;
+      linked = some.2;
+      above = omega (arith, is, size, above, length-append texts some.0);
+      children = λ p t below made. absurd (let low : entry old.table.items p t < length there = some.1.within p t below in omega (arith, low, made, is, size));
+    } in
+    let one = step all there trie some.3 in
+    let G : List (List ValType) → Type 0 = λ z. IsFilled z table × IsLinked z links × All (IsInBlock all z base (base + (i + 1))) rest in
+    let sum : base + i + 1 ≡ base + (i + 1) = omega arith in
+    let q : G (texts ++ (some.0 ++ one.0)) = subst G (append_assoc texts some.0 one.0) (
+      completes (there ++ one.0) one.1.linked one.1.above one.1.filled,
+      subst (IsLinked (there ++ one.0)) (sym same) one.1.linked,
+      subst (λ n. All (IsInBlock all (there ++ one.0) base n) rest) sum one.2,
+    ) in
+    (some.0 ++ one.0, q.0, q.1, q.2)
+
+pub none_of_block : (trie : Trie) (lists : List Reading) (base : ℕ) → ReadsBlock trie trie.table.items trie.links.items lists lists base 0
+none_of_block trie lists base all texts above filled linked each =
+    let same : texts ≡ texts ++ [] = sym (append-nil texts) in
+    let sum : base ≡ base + 0 = omega arith in
+    let G : List (List ValType) → Type 0 = λ z. IsFilled z trie.table.items × IsLinked z trie.links.items × All (IsInBlock all z base (base + 0)) lists in
+    let q : G (texts ++ []) = subst G same (filled, linked, subst (λ n. All (IsInBlock all texts base n) lists) sum each) in
+    ([], q.0, q.1, q.2)
+
+-- ---- the fronts of a block
+
+pub put_front : (old now : List ℕ) (list : Reading) (base place i : ℕ) → PutsFronts old now list base → place ≡ list.start + base + i → PutsFronts old (set now place (get_or list.nodes i 0)) list base
+put_front old now list base place i before at all texts column held read =
+    put_node texts (text all) now place (get_or list.nodes i 0) (before all texts column held read) (λ above.
+    let node = held.nodes i above in
+    (node.0, node.1 ∙ ap (text all) (sym at)))
 
 -- ---- all columns
 
@@ -289,22 +347,27 @@ none_read lists trie new all each = (
       record { fronts = unread.fronts; within = omega (arith, unread.node); is = rw unread.node refl },
 )
 
-pub column_read : (lists left rest : List Reading) (old mid : Trie) (table kept : List ℕ) (column first : ℕ) → ReadsTo lists old left column → first ≡ length old.links.items → ReadsColumn old mid left rest column first
-    → CompletesTable mid.table.items table mid.links.items first → kept ≡ table
-    → (all : List (List ValType)) → All (IsUnread all) lists
-    → (texts : List (List ValType)) × (0 < length texts) × IsFilled texts kept × IsLinked texts mid.links.items × AreRead all texts mid.fronts.items × All (IsReading all texts (column + 1)) rest
-column_read lists left rest old mid table kept column first before is step completes same all each =
+pub block_read : (lists left begun rest : List Reading) (old mid new : Trie) (base end : ℕ) → ReadsTo lists old left base → BeginsBlocks left begun base → ReadsBlock old mid.table.items mid.links.items begun rest base 16 → mid.fronts ≡ old.fronts
+    → PutsBlock mid.fronts.items new.fronts.items rest base → new.table ≡ mid.table → new.links ≡ mid.links → end ≡ base + 16 → ReadsTo lists new rest end
+block_read lists left begun rest old mid new base end before begins step fronts puts table links is all each =
     let some = before all each in
     let texts = some.0 in
-    let size : length old.links.items ≡ length texts = some.3.size in
-    let trie : IsTrie texts old.table.items old.links.items first = record {
-      filled = some.2;
-      linked = some.3;
-      above = omega (arith, is, size, some.1);
-      children = λ p t below made. absurd (let low : entry old.table.items p t < length texts = some.2.within p t below in omega (arith, low, made, is, size));
-    } in
-    let one = step all texts trie some.4 some.5 in
-    (texts ++ one.0, omega (arith, some.1, length-append texts one.0), subst (IsFilled (texts ++ one.0)) (sym same) (completes (texts ++ one.0) one.1.linked one.1.above one.1.filled), one.1.linked, one.2, one.3)
+    let one = step all texts some.1 some.2 some.3 (begins all texts some.5) in
+    let there = texts ++ one.0 in
+    let kept : AreRead all there mid.fronts.items = subst (λ v. AreRead all there v.items) (sym fronts) (read_more all texts one.0 old.fronts.items some.4) in (
+      there,
+      omega (arith, some.1, length-append texts one.0),
+      subst (λ v. IsFilled there v.items) (sym table) one.1,
+      subst (λ v. IsLinked there v.items) (sym links) one.2,
+      puts all there (base + 16) one.3 kept,
+      subst (λ n. All (IsReading all there n) rest) (sym is) (All-weaker (IsInBlock all there base (base + 16)) (IsReading all there (base + 16)) (λ x held. held.reading) rest one.3),
+    )
+
+-- lists that have no more are left out
+pub fewer_left : (lists left rest : List Reading) (trie : Trie) (base : ℕ) (p : Reading → Bool) → ReadsTo lists trie left base → rest ≡ filter p left → ReadsTo lists trie rest base
+fewer_left lists left rest trie base p before is all each =
+    let some = before all each in
+    (some.0, some.1, some.2, some.3, some.4, subst (All (IsReading all some.0 base)) (sym is) (All-filter p (IsReading all some.0 base) left some.5))
 
 pub last_read : (lists left : List Reading) (trie : Trie) (nodes : Nodes) (column : ℕ) → ReadsTo lists trie left column → nodes.links ≡ trie.links → nodes.fronts ≡ trie.fronts → AreNodesOf lists nodes
 last_read lists left trie nodes column before links fronts all each =

@@ -75,8 +75,8 @@ walk_more R s e n u v m i f walk itself through before some within here next use
 -- the node whose link leads to f is numbered
 pub walk_next : (texts : List (List ValType)) (links next then : List ℕ) (ns ms : List Numbers) (node f start end : ℕ) → IsLinked texts links
     → IsWalk (λ a b. IsEnd (text texts a) (text texts b)) (start_at ns) (end_at ns) (λ a. get_or next a 0) node
-    → length ns ≡ node → length next ≡ node → 0 < node → node < length links → f ≡ get_or links node 0 → start ≡ get_or next f 0 → start < end → end ≤ end_at ns f
-    → ms ≡ ns ++ record { start = start; end = end } ∷ [] → then ≡ set next f end ++ (start + 1) ∷ []
+    → length ns ≡ node → node < length next → 0 < node → node < length links → f ≡ get_or links node 0 → start ≡ get_or next f 0 → start < end → end ≤ end_at ns f
+    → ms ≡ ns ++ record { start = start; end = end } ∷ [] → then ≡ set (set next f end) node (start + 1)
     → IsWalk (λ a b. IsEnd (text texts a) (text texts b)) (start_at ms) (end_at ms) (λ a. get_or then a 0) (node + 1)
 walk_next texts links next then ns ms node f start end linked walk count size some within is at one most more later =
     let none : Numbers = record { start = 0; end = 0 } in
@@ -85,8 +85,8 @@ walk_next texts links next then ns ms node f start end linked walk count size so
     let low : f < node = omega (arith, is, linked.below node some inside) in
     let last : get_or ms node none ≡ new = ap (λ l. get_or l node none) more ∙ get_or_push ns new none node count in
     let kept : (a : ℕ) → a < node → get_or ms a none ≡ get_or ns a none = λ a low. ap (λ l. get_or l a none) more ∙ get_or_append_left ns (new ∷ []) none a (omega (arith, low, count)) in
-    let length_set : length (set next f end) ≡ node = length-set next f end ∙ size in
-    let front : (a : ℕ) → a < node → get_or then a 0 ≡ get_or (set next f end) a 0 = λ a low. ap (λ (l : List ℕ). get_or l a 0) later ∙ get_or_append_left (set next f end) ((start + 1) ∷ []) 0 a (omega (arith, low, length_set)) in
+    let length_set : length (set next f end) ≡ length next = length-set next f end in
+    let front : (a : ℕ) → a < node → get_or then a 0 ≡ get_or (set next f end) a 0 = λ a low. ap (λ (l : List ℕ). get_or l a 0) later ∙ get_or-set_other (set next f end) node a (start + 1) 0 (λ same. omega (arith, same, low)) in
     walk_more (λ a b. IsEnd (text texts a) (text texts b)) (start_at ns) (end_at ns) (λ a. get_or next a 0) (start_at ms) (end_at ms) (λ a. get_or then a 0) node f walk
     (λ a. end_itself (text texts a))
     (λ a below. end_through _ _ _ below (subst (λ n. IsEnd (text texts n) (text texts node)) (sym is) (linked.ends node some inside)))
@@ -94,7 +94,7 @@ walk_next texts links next then ns ms node f start end linked walk count size so
     (omega (arith, at, one, ap (λ (m : Numbers). m.end) last))
     (omega (arith, most, ap (λ (m : Numbers). m.end) last))
     (ap (λ (m : Numbers). m.start) last ∙ at)
-    (ap (λ (l : List ℕ). get_or l node 0) later ∙ get_or_push (set next f end) (start + 1) 0 node length_set ∙ ap (λ n. n + 1) at)
+    (ap (λ (l : List ℕ). get_or l node 0) later ∙ get_or-set_same (set next f end) node (start + 1) 0 (omega (arith, size, length_set)) ∙ ap (λ n. n + 1) at)
     (front f low ∙ get_or-set_same next f end 0 (omega (arith, low, size)) ∙ sym (ap (λ (m : Numbers). m.end) last))
     (λ a below. ap (λ (m : Numbers). m.start) (kept a below))
     (λ a below. ap (λ (m : Numbers). m.end) (kept a below))

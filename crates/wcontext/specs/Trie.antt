@@ -42,9 +42,13 @@ pub record IsTrie (texts : List (List ValType)) (table links : List ℕ) (first 
   pub above : 0 < first
   pub children : (p : ℕ) (t : ValType) → p < length texts → first ≤ entry table p t → text texts (entry table p t) ≡ text texts p ++ t ∷ []
 
+-- each node that is not 0 has the text that is wanted at its place
+abbrev pub AreTexts : List (List ValType) → (ℕ → List ValType) → List ℕ → Type 0
+AreTexts texts wanted nodes = (x : ℕ) → 0 < get_or nodes x 0 → (get_or nodes x 0 < length texts) × (text texts (get_or nodes x 0) ≡ wanted x)
+
 -- the fronts that were read have the texts of their places
 abbrev pub AreRead : List (List ValType) → List (List ValType) → List ℕ → Type 0
-AreRead all texts fronts = (x : ℕ) → 0 < get_or fronts x 0 → (get_or fronts x 0 < length texts) × (text texts (get_or fronts x 0) ≡ text all x)
+AreRead all texts fronts = AreTexts texts (text all) fronts
 
 -- the places from start on have the fronts of that list
 abbrev pub HasFronts : List (List ValType) → List ValType → ℕ → Type 0
@@ -55,6 +59,23 @@ pub record IsReading (all texts : List (List ValType)) (column : ℕ) (r : Readi
   pub fronts : HasFronts all r.types.now r.start
   pub within : r.node < length texts
   pub is : text texts r.node ≡ take column r.types.now
+
+-- its block has its types from base on
+abbrev pub HasBlock : Reading → ℕ → Type 0
+HasBlock r base = (i : ℕ) (t : ValType) → i < 16 → base + i < length r.types.now → get_or r.block i t ≡ get_or r.types.now (base + i) t
+
+-- the same, of which the block that begins at base is being read
+pub record IsInBlock (all texts : List (List ValType)) (base column : ℕ) (r : Reading) : Type 0 where
+  pub reading : IsReading all texts column r
+  pub block : HasBlock r base
+  pub nodes : AreTexts texts (λ i. text all (r.start + base + i)) r.nodes
+
+-- a list's block begins at base
+abbrev pub BeginsBlock : Reading → Reading → ℕ → Type 0
+BeginsBlock old new base = (all texts : List (List ValType)) → IsReading all texts base old → IsInBlock all texts base base new
+
+abbrev pub BeginsBlocks : List Reading → List Reading → ℕ → Type 0
+BeginsBlocks lists now base = (all texts : List (List ValType)) → All (IsReading all texts base) lists → All (IsInBlock all texts base base) now
 
 -- node 0 alone, and no front that was read
 abbrev pub IsNew : Trie → Type 0
@@ -73,21 +94,33 @@ abbrev pub IsChild : Trie → Trie → ℕ → ℕ → ValType → ℕ → Type 
 IsChild old new first node t d = (texts : List (List ValType)) → IsTrie texts old.table.items old.links.items first → node < length texts
     → (more : List (List ValType)) × IsTrie (texts ++ more) new.table.items new.links.items first × (d < length (texts ++ more)) × (text (texts ++ more) d ≡ text texts node ++ t ∷ [])
 
--- one type more was read of a list
-abbrev pub ReadsType : Trie → Trie → Reading → Reading → ℕ → ℕ → Type 0
-ReadsType old new list next column first = (all texts : List (List ValType)) → IsTrie texts old.table.items old.links.items first → AreRead all texts old.fronts.items → IsReading all texts column list
-    → (more : List (List ValType)) × IsTrie (texts ++ more) new.table.items new.links.items first × AreRead all (texts ++ more) new.fronts.items × IsReading all (texts ++ more) (column + 1) next
+-- of a list the type at i of its block was read, if it has one there
+abbrev pub ReadsType : Trie → Trie → Reading → Reading → ℕ → ℕ → ℕ → Type 0
+ReadsType old new list next base i first = (all texts : List (List ValType)) → IsTrie texts old.table.items old.links.items first → IsInBlock all texts base (base + i) list
+    → (more : List (List ValType)) × IsTrie (texts ++ more) new.table.items new.links.items first × IsInBlock all (texts ++ more) base (base + i + 1) next
 
--- of the first k lists one type more was read, and kept of them have more, which stand first
+-- the same of the first k lists
 abbrev pub ReadsSome : Trie → Trie → List Reading → List Reading → ℕ → ℕ → ℕ → ℕ → Type 0
-ReadsSome old new lists now column first kept k = (all texts : List (List ValType)) → IsTrie texts old.table.items old.links.items first → AreRead all texts old.fronts.items → All (IsReading all texts column) lists
-    → (more : List (List ValType)) × IsTrie (texts ++ more) new.table.items new.links.items first × AreRead all (texts ++ more) new.fronts.items
-    × AllWithin (IsReading all (texts ++ more) (column + 1)) now 0 kept × AllWithin (IsReading all (texts ++ more) column) now k (length now)
+ReadsSome old new lists now base i first k = (all texts : List (List ValType)) → IsTrie texts old.table.items old.links.items first → All (IsInBlock all texts base (base + i)) lists
+    → (more : List (List ValType)) × IsTrie (texts ++ more) new.table.items new.links.items first
+    × AllWithin (IsInBlock all (texts ++ more) base (base + i + 1)) now 0 k × AllWithin (IsInBlock all (texts ++ more) base (base + i)) now k (length now)
 
--- one type more was read of each list, and the rest are those that have more
-abbrev pub ReadsColumn : Trie → Trie → List Reading → List Reading → ℕ → ℕ → Type 0
-ReadsColumn old new lists rest column first = (all texts : List (List ValType)) → IsTrie texts old.table.items old.links.items first → AreRead all texts old.fronts.items → All (IsReading all texts column) lists
-    → (more : List (List ValType)) × IsTrie (texts ++ more) new.table.items new.links.items first × AreRead all (texts ++ more) new.fronts.items × All (IsReading all (texts ++ more) (column + 1)) rest
+-- the same of each list
+abbrev pub ReadsColumn : Trie → Trie → List Reading → List Reading → ℕ → ℕ → ℕ → Type 0
+ReadsColumn old new lists now base i first = (all texts : List (List ValType)) → IsTrie texts old.table.items old.links.items first → All (IsInBlock all texts base (base + i)) lists
+    → (more : List (List ValType)) × IsTrie (texts ++ more) new.table.items new.links.items first × All (IsInBlock all (texts ++ more) base (base + i + 1)) now
+
+-- the first i types of each list's block were read
+abbrev pub ReadsBlock : Trie → List ℕ → List ℕ → List Reading → List Reading → ℕ → ℕ → Type 0
+ReadsBlock old table links lists now base i = (all texts : List (List ValType)) → 0 < length texts → IsFilled texts old.table.items → IsLinked texts old.links.items → All (IsInBlock all texts base base) lists
+    → (more : List (List ValType)) × IsFilled (texts ++ more) table × IsLinked (texts ++ more) links × All (IsInBlock all (texts ++ more) base (base + i)) now
+
+-- the nodes of the block that begins at base were put to the fronts
+abbrev pub PutsFronts : List ℕ → List ℕ → Reading → ℕ → Type 0
+PutsFronts old new list base = (all texts : List (List ValType)) (column : ℕ) → IsInBlock all texts base column list → AreRead all texts old → AreRead all texts new
+
+abbrev pub PutsBlock : List ℕ → List ℕ → List Reading → ℕ → Type 0
+PutsBlock old new lists base = (all texts : List (List ValType)) (column : ℕ) → All (IsInBlock all texts base column) lists → AreRead all texts old → AreRead all texts new
 
 -- none of its types was read
 pub record IsUnread (all : List (List ValType)) (r : Reading) : Type 0 where

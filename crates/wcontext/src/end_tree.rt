@@ -11,11 +11,12 @@ use wsyntax::{FuncTypes, ValType};
 /// A list of at least this many types is long. To compare shorter ones takes no longer than to look them up.
 pub(crate) const LONG: usize = 256;
 
-/// In the place of the start of a list that is not long.
+/// In the place of the start of a list that is not taken in.
 const NONE: u32 = u32::MAX;
 
-/// So many types are compared, at least, in the time in which the tree takes in one.
-const COMPARED: usize = 1_024;
+/// Lists are compared where the bodies can have so many types compared, at most, for each type of all long lists. That
+/// takes 8 to 27 ns for each type of all, the tree 35 to 115 for each type that it takes in.
+const COMPARED: usize = 256;
 
 /// The places of the first fronts of a function type's lists.
 #[derive(Clone, Copy, Debug)]
@@ -24,7 +25,7 @@ pub(crate) struct Starts {
     results: u32,
 }
 
-/// The fronts of all long lists, each with the numbers of those that it is an end of.
+/// The fronts of long lists, each with the numbers of those that it is an end of.
 #[derive(Debug, Drop)]
 pub(crate) struct EndTree {
     /// Of each function type.
@@ -35,9 +36,11 @@ pub(crate) struct EndTree {
     numbers: Vec<Numbers>,
 }
 
-/// The long lists of some function types.
+/// The long lists of some function types that are taken in.
 #[derive(Drop)]
 struct Gathered<'a> {
+    /// How many types the shortest may have.
+    least: usize,
     starts: Vec<Starts>,
     lists: Vec<Reading<'a>>,
     /// How many fronts these lists have.
@@ -81,9 +84,15 @@ impl LongLists {
         long
     }
 
-    /// Whether to compare them, once for each byte of the bodies, may take longer than to make the tree.
-    fn deserve_tree(self, bodies: &[&[u8]]) -> bool {
-        self.count > 0 && self.longest.saturating_mul(size_of_all(bodies)) / COMPARED > self.types
+    /// From how many types on a list is taken in, as those of which one may be compared for each byte of the bodies;
+    /// `None` where no list has as many.
+    fn least_taken(self, bodies: &[&[u8]]) -> Option<usize> {
+        let compared = self.types.saturating_mul(COMPARED);
+        let least = compared.checked_div(size_of_all(bodies))?.max(LONG);
+        if self.longest < least {
+            return None;
+        }
+        Some(least)
     }
 }
 
@@ -97,32 +106,27 @@ fn size_of_all(bodies: &[&[u8]]) -> usize {
 }
 
 impl<'a> Gathered<'a> {
-    /// Puts a list after the others, if it is long; where its fronts begin.
+    /// Puts a list after the others, if it is long enough; where its fronts begin.
     fn put(&mut self, types: &'a [ValType]) -> Option<u32>
         ensures put { IfSome result (λ start. PutsList self.old self.new types.now start) }
         ensures starts { self.new.starts ≡ self.old.starts }
     {
-        if types.len() < LONG {
+        if types.len() < self.least {
             return Some(NONE);
         }
         let start = self.fronts;
         let more = u32::try_from(types.len()).ok()?;
-        self.lists
-            .push(Reading {
-                types,
-                start,
-                node: 0,
-            })
-            .ok()?;
+        self.lists.push(Reading::new(types, start)).ok()?;
         self.fronts = start.checked_add(more)?;
         Some(start)
     }
 
-    /// The long lists, which are that many.
-    fn of(alloc: Global, types: &'a FuncTypes, count: usize) -> Option<Gathered<'a>>
+    /// The lists of at least that many types, which are at most `count`.
+    fn of(alloc: Global, types: &'a FuncTypes, least: usize, count: usize) -> Option<Gathered<'a>>
         ensures { IfSome result (IsGatheredFrom types.now) }
     {
         let mut gathered = Gathered {
+            least,
             starts: Vec::with_capacity(alloc, types.len()).ok()?,
             lists: Vec::with_capacity(alloc, count).ok()?,
             fronts: 0,
@@ -138,16 +142,14 @@ impl<'a> Gathered<'a> {
 }
 
 impl EndTree {
-    /// The fronts of the long lists; `None` where the bodies are too short to ask much of them, or where memory is
-    /// refused.
+    /// The fronts of the long lists, but of those that the bodies are too short to ask much of; `None` where these are
+    /// all, or where memory is refused.
     pub(crate) fn new(alloc: Global, types: &FuncTypes, bodies: &[&[u8]]) -> Option<EndTree>
         ensures { IfSome result (IsEndTree types.now) }
     {
         let long = LongLists::of(types);
-        if !long.deserve_tree(bodies) {
-            return None;
-        }
-        let gathered = Gathered::of(alloc, types, long.count)?;
+        let least = long.least_taken(bodies)?;
+        let gathered = Gathered::of(alloc, types, least, long.count)?;
         let nodes = Trie::read(alloc, gathered.lists, gathered.fronts as usize)?;
         let numbers = number(alloc, &nodes.links)?;
         Some(EndTree {
@@ -157,7 +159,7 @@ impl EndTree {
         })
     }
 
-    /// Where the fronts of a list begin; `None` where it is not long.
+    /// Where the fronts of a list begin; `None` where it is not taken in.
     #[inline]
     fn start_of(&self, list: TypeList) -> Option<u32>
         ensures { IfSome result (λ start. IsStart self.now.starts.items list start) }
@@ -170,7 +172,7 @@ impl EndTree {
         if start < NONE { Some(start) } else { None }
     }
 
-    /// The numbers of the front of that list that has `count` types; `None` where it is not long.
+    /// The numbers of the front of that list that has `count` types; `None` where the list is not taken in.
     #[inline]
     fn numbers(&self, list: TypeList, count: usize) -> Option<Numbers>
         ensures { IfSome result (HoldsFront self.now list count) }

@@ -3,7 +3,8 @@ ghost use Rattle.std.specs.Prelude.{◌≡◌, ◌+◌, ◌*◌, ◌<◌, ◌≤
 ghost use Rattle.std.specs.Prelude.{IfSome, slice_index, slice_set};
 ghost use Rattle.wsyntax.specs.declared.ValType.{ValType};
 ghost use Rattle.wcontext.specs.Trie.{type_number, text, IsTrie, IsFilled, IsLinked, IsChild, ReadsType};
-ghost use Rattle.wcontext.specs.Trie.{ReadsColumn, IsNew, CopiesRow, CompletesTable, AreNodesOf};
+ghost use Rattle.wcontext.specs.Trie.{BeginsBlock, BeginsBlocks, ReadsColumn, ReadsBlock, PutsFronts, PutsBlock};
+ghost use Rattle.wcontext.specs.Trie.{IsNew, CopiesRow, CompletesTable, AreNodesOf};
 
 use std::alloc::Global;
 use wsyntax::ValType;
@@ -11,14 +12,50 @@ use wsyntax::ValType;
 /// How many entries of the table a node has: one for each value type.
 const TYPES: usize = 4;
 
+/// How many types of each list are read at once: those of one list and their fronts lie together.
+const WIDTH: usize = 16;
+
 /// A list that is read type by type.
 #[derive(Clone, Copy)]
 pub(crate) struct Reading<'a> {
-    pub(crate) types: &'a [ValType],
+    types: &'a [ValType],
     /// The place of its first front.
-    pub(crate) start: u32,
+    start: u32,
     /// The node of the front that was read last.
-    pub(crate) node: u32,
+    node: u32,
+    /// The types of the block that is read.
+    block: [ValType; WIDTH],
+    /// The nodes of the fronts that end in the block; 0 where none was read.
+    nodes: [u32; WIDTH],
+}
+
+impl<'a> Reading<'a> {
+    /// That list, of which no type was read.
+    pub(crate) fn new(types: &'a [ValType], start: u32) -> Reading<'a>
+        ensures types { result.types.now ≡ types.now }
+        ensures start { result.start ≡ start }
+        ensures node { result.node ≡ 0 }
+    {
+        Reading {
+            types,
+            start,
+            node: 0,
+            block: [ValType::I32; WIDTH],
+            nodes: [0; WIDTH],
+        }
+    }
+
+    /// Begins the block of the types from `base` on.
+    fn begin(&mut self, base: usize)
+        ensures { BeginsBlock self.old self.new base }
+    {
+        self.nodes = [0; WIDTH];
+        for i in 0..WIDTH {
+            if let Some(t) = self.types.get(base.saturating_add(i)) {
+                self.block[i] = *t;
+            }
+        }
+    }
 }
 
 /// The nodes: each stands for a front of a list, and node 0 for no type.
@@ -80,6 +117,15 @@ fn complete(table: &mut [u32], links: &[u32], first: u32) -> Option<()>
     Some(())
 }
 
+/// Begins the block of each list that begins at `base`.
+fn begin_block(lists: &mut [Reading<'_>], base: usize)
+    ensures { BeginsBlocks lists.old lists.new base }
+{
+    for k in 0..lists.len() {
+        lists[k].begin(base);
+    }
+}
+
 impl Trie {
     /// Node 0, room for as many nodes more, and as many fronts of which none was read.
     fn new(alloc: Global, fronts: usize) -> Option<Trie>
@@ -118,38 +164,77 @@ impl Trie {
         Some(made)
     }
 
-    /// Reads the next type of a list that has more than `column` types, of which `column` were read.
+    /// Reads the type at `i` of a list's block, which begins at `base`, if the list has one there.
     #[inline]
-    fn read_type<'a>(&mut self, list: Reading<'a>, column: usize, first: u32) -> Option<Reading<'a>>
-        ensures { IfSome result (λ next. ReadsType self.old self.new list.entry next column first) }
+    fn read_type(&mut self, list: &mut Reading<'_>, base: usize, i: usize, first: u32) -> Option<()>
+        ensures read { IfSome result (λ _. ReadsType self.old self.new list.old list.new base i first) }
+        ensures fronts { self.new.fronts ≡ self.old.fronts }
     {
-        let t = *list.types.get(column)?;
-        let node = self.child(first, list.node, t)?;
-        let place = (list.start as usize).checked_add(column)?;
-        if place >= self.fronts.len() {
-            return None;
+        if base.checked_add(i)? >= list.types.len() {
+            return Some(());
         }
-        self.fronts[place] = node;
-        Some(Reading {
-            types: list.types,
-            start: list.start,
-            node,
-        })
+        let t = *list.block.get(i)?;
+        let node = self.child(first, list.node, t)?;
+        list.node = node;
+        list.nodes[i] = node;
+        Some(())
     }
 
-    /// Reads one type of each list, and leaves out the lists that have no more.
-    fn read_column(&mut self, lists: &mut Vec<Reading<'_>>, column: usize, first: u32) -> Option<()>
-        ensures { IfSome result (λ _. ReadsColumn self.old self.new lists.old.items lists.new.items column first) }
+    /// Reads the type at `i` of each list's block.
+    fn read_column(
+        &mut self,
+        lists: &mut [Reading<'_>],
+        base: usize,
+        i: usize,
+        first: u32,
+    ) -> Option<()>
+        ensures read { IfSome result (λ _. ReadsColumn self.old self.new lists.old lists.new base i first) }
+        ensures fronts { self.new.fronts ≡ self.old.fronts }
     {
-        let mut kept = 0;
         for k in 0..lists.len() {
-            let next = self.read_type(lists[k], column, first)?;
-            if next.types.len().saturating_sub(column) > 1 {
-                lists[kept] = next;
-                kept += 1;
+            self.read_type(&mut lists[k], base, i, first)?;
+        }
+        Some(())
+    }
+
+    /// Reads the blocks of the lists, which begin at `base`.
+    fn read_block(&mut self, lists: &mut [Reading<'_>], base: usize) -> Option<()>
+        ensures read { IfSome result (λ _. ReadsBlock self.old self.new.table.items self.new.links.items lists.old lists.new base 16) }
+        ensures fronts { self.new.fronts ≡ self.old.fronts }
+    {
+        for i in 0..WIDTH {
+            let first = u32::try_from(self.links.len()).ok()?;
+            self.read_column(lists, base, i, first)?;
+            complete(&mut self.table, &self.links, first)?;
+        }
+        Some(())
+    }
+
+    /// Puts the nodes of a list's block to the list's fronts.
+    fn put_fronts(&mut self, list: &Reading<'_>, base: usize) -> Option<()>
+        ensures fronts { IfSome result (λ _. PutsFronts self.old.fronts.items self.new.fronts.items list.now base) }
+        ensures table { self.new.table ≡ self.old.table }
+        ensures links { self.new.links ≡ self.old.links }
+    {
+        let start = (list.start as usize).checked_add(base)?;
+        for i in 0..list.types.len().saturating_sub(base).min(WIDTH) {
+            let place = start.checked_add(i)?;
+            if place < self.fronts.len() {
+                self.fronts[place] = list.nodes[i];
             }
         }
-        lists.truncate(kept);
+        Some(())
+    }
+
+    /// Puts the nodes of all blocks to the fronts.
+    fn end_block(&mut self, lists: &[Reading<'_>], base: usize) -> Option<()>
+        ensures fronts { IfSome result (λ _. PutsBlock self.old.fronts.items self.new.fronts.items lists.now base) }
+        ensures table { self.new.table ≡ self.old.table }
+        ensures links { self.new.links ≡ self.old.links }
+    {
+        for k in 0..lists.len() {
+            self.put_fronts(&lists[k], base)?;
+        }
         Some(())
     }
 
@@ -158,16 +243,18 @@ impl Trie {
         ensures { IfSome result (λ nodes. AreNodesOf lists.entry.items nodes) }
     {
         let mut trie = Trie::new(alloc, fronts)?;
-        for column in 0..usize::MAX {
+        for block in 0..usize::MAX / WIDTH {
+            let base = block * WIDTH;
+            lists.retain(|list| list.types.len() > base);
             if lists.is_empty() {
                 return Some(Nodes {
                     links: trie.links,
                     fronts: trie.fronts,
                 });
             }
-            let first = u32::try_from(trie.links.len()).ok()?;
-            trie.read_column(&mut lists, column, first)?;
-            complete(&mut trie.table, &trie.links, first)?;
+            begin_block(&mut lists, base);
+            trie.read_block(&mut lists, base)?;
+            trie.end_block(&lists, base)?;
         }
         None
     }

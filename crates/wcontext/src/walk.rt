@@ -41,25 +41,25 @@ fn sizes(alloc: Global, links: &[u32]) -> Option<Vec<u32>> {
 pub(crate) fn number(alloc: Global, links: &[u32]) -> Option<Vec<Numbers>>
     ensures { IfSome result (λ v. AreNumbersOf links.now v.items) }
 {
-    let sizes = sizes(alloc, links)?;
+    // Of each node that has numbers the first that none below it has yet, and of the others their sizes.
+    let mut next = sizes(alloc, links)?;
     let mut numbers = Vec::with_capacity(alloc, links.len()).ok()?;
-    let mut next = Vec::with_capacity(alloc, links.len()).ok()?;
     numbers
         .push(Numbers {
             start: 0,
-            end: *sizes.first()?,
+            end: *next.first()?,
         })
         .ok()?;
-    next.push(1u32).ok()?;
+    next[0] = 1;
     for node in 1..links.len() {
         let link = links[node] as usize;
-        if link >= node {
+        if link >= node || node >= next.len() {
             return None;
         }
         let start = next[link];
-        let end = end_of(start, *sizes.get(node)?, numbers[link].end)?;
+        let end = end_of(start, next[node], numbers[link].end)?;
         next[link] = end;
-        next.push(start + 1).ok()?;
+        next[node] = start + 1;
         numbers.push(Numbers { start, end }).ok()?;
     }
     Some(numbers)

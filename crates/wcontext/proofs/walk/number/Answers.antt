@@ -14,18 +14,17 @@ loop-node-preserved c =
     let start = c.index-start.result.now in
     let end = c.in_ok-end.end in
     let new : Numbers = record { start = start; end = end } in
-    let more : c.push-in-loop-node-2.new.self.items ≡ ns ++ new ∷ [] = grind arith in
-    let later : c.push-in-loop-node.new.self.items ≡ set next f end ++ (start + 1) ∷ [] = grind arith in
+    let more : c.push-in-loop-node.new.self.items ≡ ns ++ new ∷ [] = grind arith in
+    let inside : node < length next = grind arith in
     let low : f < node = omega (arith, c.if-link-node.false) in
-    let at : start ≡ get_or next f 0 = get_or_read next f start (omega (arith, low, c.loop-node.invariant.next)) c.index-start.ensures 0 in
+    let at : start ≡ get_or next f 0 = get_or_read next f start (omega (arith, low, inside)) c.index-start.ensures 0 in
     let none : Numbers = record { start = 0; end = 0 } in
-    let has : c.index.result.now ≡ get_or ns f none = get_or_read ns f c.index.result.now (omega (arith, low, c.loop-node.invariant.numbers)) c.index.ensures none in
+    let has : c.index-in-loop-node.result.now ≡ get_or ns f none = get_or_read ns f c.index-in-loop-node.result.now (omega (arith, low, c.loop-node.invariant.numbers)) c.index-in-loop-node.ensures none in
     let most : end ≤ end_at ns f = omega (arith, c.in_ok-end.ensures.below, ap (λ (m : Numbers). m.end) has) in
-    let size : length next ≡ node = c.loop-node.invariant.next in
     let count : length ns ≡ node = c.loop-node.invariant.numbers in
     record {
       numbers = ap length more ∙ length_push ns new ∙ ap (λ n. n + 1) count;
-      next = ap length later ∙ length_push (set next f end) (start + 1) ∙ ap (λ n. n + 1) (length-set next f end ∙ size);
+      next = omega (arith, inside, length-set next f end, length-set (set next f end) node (start + 1));
       some = omega arith;
-      walk = λ texts linked. walk_next texts c.args.links.now next c.push-in-loop-node.new.self.items ns c.push-in-loop-node-2.new.self.items node f start end linked (c.loop-node.invariant.walk texts linked) c.loop-node.invariant.numbers c.loop-node.invariant.next c.loop-node.invariant.some (omega arith) refl at c.in_ok-end.ensures.some most more later;
+      walk = λ texts linked. walk_next texts c.args.links.now next (set (set next f end) node (start + 1)) ns c.push-in-loop-node.new.self.items node f start end linked (c.loop-node.invariant.walk texts linked) c.loop-node.invariant.numbers inside c.loop-node.invariant.some (omega arith) refl at c.in_ok-end.ensures.some most more refl;
     }

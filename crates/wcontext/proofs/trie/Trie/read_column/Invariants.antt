@@ -1,10 +1,6 @@
-use Rattle.std.proofs.Common.{◌≡◌, ◌≤◌, length}
+use Rattle.std.proofs.Common.{◌≡◌}
 use Rattle.wcontext.specs.Trie.{ReadsSome}
 use Rattle.wcontext.proofs.trie.Trie.read_column.Given as goal
 
 abbrev pub invariant-loop-k : goal.invariant-loop-k
-invariant-loop-k l = record {
-  kept : l.kept ≤ l.k;
-  count : length l.lists.items ≡ length l.fn.lists.items;
-  read : ReadsSome l.fn.self l.self l.fn.lists.items l.lists.items l.column l.first l.kept l.k;
-}
+invariant-loop-k l = record { fronts : l.self.fronts ≡ l.fn.self.fronts; read : ReadsSome l.fn.self l.self l.fn.lists l.lists l.base l.i l.first l.k }

@@ -1,17 +1,23 @@
-use Rattle.std.proofs.Common.{◌≡◌, ◌<◌, ◌+◌, length, get_or, arith, subst, sym}
-use Rattle.wcontext.specs.Trie.{AreRead}
-use Rattle.wcontext.proofs.Tries.{type_read}
+use Rattle.std.proofs.Common.{◌≡◌, ◌<◌, ◌≤◌, ◌+◌, [], ◌++◌, length, get_or, arith, subst, sym, refl, append-nil}
+use Rattle.wcontext.specs.Trie.{IsTrie, IsInBlock}
+use Rattle.wcontext.proofs.Tries.{type_read, none_there}
 use Rattle.wcontext.proofs.trie.Trie.read_type.Goals as goal
 
-pub returns : goal.returns
-returns c all texts trie read reading =
-    let list = c.args.list in
-    let child = c.in_ok-node.ensures.child texts trie reading.within in
-    let within : c.args.column < length list.types.now = grind arith in
+pub returns-then-branch-list-clause-read : goal.returns-then-branch-list-clause-read
+returns-then-branch-list-clause-read c all texts trie held =
+    let same : texts ≡ texts ++ [] = sym (append-nil texts) in
+    let list = c.args.list.now in
+    let past : length list.types.now ≤ c.args.base + c.args.i = grind arith in
+    ([], subst (λ z. IsTrie z c.args.self.now.table.items c.args.self.now.links.items c.args.first) same trie, subst (λ z. IsInBlock all z c.args.base (c.args.base + c.args.i + 1) list) same (none_there all texts list c.args.base c.args.i held past))
+
+pub returns-clause-read : goal.returns-clause-read
+returns-clause-read c all texts trie held =
+    let list = c.args.list.now in
+    let base = c.args.base in
+    let i = c.args.i in
+    let child = c.in_ok-node.ensures.child texts trie held.reading.within in
+    let within : base + i < length list.types.now = grind arith in
+    let inside : i < 16 = grind arith in
     let t = c.in_ok-t.field-0.now in
-    let is : t ≡ get_or list.types.now c.args.column t = grind arith in
-    let at : c.in_ok-place.place ≡ list.start + c.args.column = grind arith in
-    let same : c.child.new.self.fronts ≡ c.args.self.now.fronts = c.child.ensures.fronts in
-    let kept : AreRead all texts c.child.new.self.fronts.items = subst (λ v. AreRead all texts v.items) (sym same) read in
-    let both = type_read all texts c.child.new.self.fronts.items list c.args.column c.in_ok-place.place c.in_ok-node.node t t kept reading within is at child.0 child.2 child.3 in
-    (child.0, child.1, both.0, both.1)
+    let is : t ≡ get_or list.block i t = grind arith in
+    (child.0, child.1, type_read all texts list _ base i c.in_ok-node.node t held inside within is child.0 child.2 child.3 refl refl refl refl refl)

@@ -1,0 +1,13 @@
+use Rattle.std.proofs.Common.{◌<◌, length, arith, ◌∙◌}
+use Rattle.wcontext.proofs.trie.Trie.end_block.Goals as goal
+
+pub loop-k-preserved : goal.loop-k-preserved
+loop-k-preserved c =
+    let before = c.loop-k.invariant in
+    let k = c.loop-k.k in
+    let within : k < length c.args.lists.now = grind arith in
+    record {
+      fronts = λ all texts column each read. c.in_ok-put_fronts.ensures.fronts all texts column (each k _ within) (before.fronts all texts column each read);
+      table = c.put_fronts.ensures.table ∙ before.table;
+      links = c.put_fronts.ensures.links ∙ before.links;
+    }

@@ -1,0 +1,10 @@
+use Rattle.std.proofs.Common.{◌≡◌}
+use Rattle.wcontext.specs.Trie.{PutsBlock}
+use Rattle.wcontext.proofs.trie.Trie.end_block.Given as goal
+
+abbrev pub invariant-loop-k : goal.invariant-loop-k
+invariant-loop-k l = record {
+  fronts : PutsBlock l.fn.self.fronts.items l.self.fronts.items l.lists l.base;
+  table : l.self.table ≡ l.fn.self.table;
+  links : l.self.links ≡ l.fn.self.links;
+}

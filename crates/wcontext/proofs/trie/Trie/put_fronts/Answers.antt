@@ -1,0 +1,20 @@
+use Rattle.std.proofs.Common.{◌≡◌, ◌+◌, arith, ap, ◌∙◌}
+use Rattle.wcontext.proofs.Tries.{put_front}
+use Rattle.wcontext.proofs.trie.Trie.put_fronts.Goals.{then-place-len, else-place-len}
+use Rattle.wcontext.proofs.trie.Trie.put_fronts.Goals as goal
+
+pub loop-i-preserved : goal.loop-i-preserved
+loop-i-preserved c =
+    let list = c.args.list.now in
+    let i = c.loop-i.i in
+    let place = c.in_ok-place.place in
+    let at : place ≡ list.start + c.args.base + i = grind arith in
+    let before = c.loop-i.invariant in
+    elim c.if-place-len.branch [
+      | then-place-len w ↦ record {
+        fronts = rw w.self-is (put_front c.args.self.now.fronts.items c.loop-i.self.fronts.items list c.args.base place i before.fronts at);
+        table = ap (λ s. s.table) w.self-is ∙ before.table;
+        links = ap (λ s. s.links) w.self-is ∙ before.links;
+      }
+      | else-place-len w ↦ rw w.self-is before
+    ]
