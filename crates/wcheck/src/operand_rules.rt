@@ -84,10 +84,10 @@ impl OperandStack<'_> {
         ensures below { self.new.below ≡ self.old.below }
         ensures types { self.new.types ≡ self.old.types }
     {
-        if !self.take_fitting(t) {
+        if !self.take_one(t) {
             return Ok(false);
         }
-        if !self.take_fitting(t) {
+        if !self.take_one(t) {
             return Ok(false);
         }
         self.push(Some(u))?;
@@ -110,7 +110,7 @@ impl OperandStack<'_> {
         ensures below { self.new.below ≡ self.old.below }
         ensures types { self.new.types ≡ self.old.types }
     {
-        self.take_fitting(t) && self.take_fitting(u)
+        self.take_one(t) && self.take_one(u)
     }
 
     /// Takes operands of the types of a list, the last first.

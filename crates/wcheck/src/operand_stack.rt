@@ -135,18 +135,25 @@ impl<'a> OperandStack<'a> {
         self.context.list(list)
     }
 
-    /// Removes the topmost entry, or what is too much of its run: some operands, but not more than `by`.
-    fn shorten(&mut self, by: usize)
+    /// Removes the topmost entry, or what is too much of its run: some operands, but not more than `by`. Gives the type of the
+    /// topmost operand.
+    fn shorten(&mut self, by: usize) -> Option<ValType>
         requires some { 0 < by }
         requires there { by ≤ length self.old.above.known }
+        ensures topmost { (rest : List (Option ValType)) × (all_of self.old ≡ rest ++ result ∷ []) }
         ensures above { IsShortened by self.old.above self.new.above }
         ensures below { self.new.below ≡ self.old.below }
         ensures types { self.new.types ≡ self.old.types }
     {
         let last = self.entries.len() - 1;
-        match top_run(self.context, self.entries[last], &self.runs) {
-            None => self.entries.truncate(last),
+        let entry = self.entries[last];
+        match top_run(self.context, entry, &self.runs) {
+            None => {
+                self.entries.truncate(last);
+                unpacked(entry)
+            }
             Some(types) => {
+                let topmost = types.last().copied();
                 let top = self.runs.len() - 1;
                 if by < types.len() {
                     self.runs[top].count = (types.len() - by) as u32;
@@ -156,6 +163,7 @@ impl<'a> OperandStack<'a> {
                     self.runs.truncate(top);
                     self.extra -= types.len().saturating_sub(1);
                 }
+                topmost
             }
         }
     }
@@ -184,7 +192,7 @@ impl<'a> OperandStack<'a> {
     {
         while self.height() > height {
             let over = self.height() - height;
-            self.shorten(over);
+            let _topmost = self.shorten(over);
         }
     }
 
@@ -229,21 +237,6 @@ impl<'a> OperandStack<'a> {
         Ok(())
     }
 
-    /// The topmost operand of all frames.
-    fn last(&self) -> Option<Option<ValType>>
-        ensures { MatchOption result
-            (all_of self.now ≡ [])
-            (λ x. (rest : List (Option ValType)) × (all_of self.now ≡ rest ++ x ∷ [])) }
-    {
-        match self.entries.last() {
-            None => None,
-            Some(entry) => match top_run(self.context, *entry, &self.runs) {
-                None => Some(unpacked(*entry)),
-                Some(types) => Some(types.last().copied()),
-            },
-        }
-    }
-
     /// Takes the topmost operand of the innermost frame.
     #[inline]
     pub(crate) fn take_any(&mut self) -> Option<Option<ValType>>
@@ -254,9 +247,7 @@ impl<'a> OperandStack<'a> {
         ensures types { self.new.types ≡ self.old.types }
     {
         if self.height() > self.base {
-            let x = self.last();
-            self.shorten(1);
-            x
+            Some(self.shorten(1))
         } else if self.unreachable {
             Some(None)
         } else {
