@@ -130,6 +130,7 @@ impl OperandStack<'_> {
     /// Takes operands of the last types of a front, as many as it shares with the run on top: none where no run is there.
     /// `None`: nothing was taken, since the run has other types.
     fn take_run(&mut self, front: Front) -> Option<usize>
+        requires whole { front.count ≡ length (front_of self.old.types front) }
         ensures count { IfSome result (λ n. n ≤ length (front_of self.old.types front)) }
         ensures taken { IfSome result (λ n. take_all (reverse (front_of self.old.types front)) self.old.above
             ≡ take_all (reverse (types_before n (front_of self.old.types front))) self.new.above) }

@@ -266,6 +266,7 @@ impl<'a> OperandStack<'a> {
     /// How many operands of the run on top are the last types of a front: all that the shorter of both has, or none where
     /// no run is on top. `None`: not all of these are.
     pub(crate) fn ends_in_run(&self, front: Front) -> Option<usize>
+        requires whole { front.count ≡ length (front_of self.now.types front) }
         ensures count { IfSome result (λ n. n ≤ length (front_of self.now.types front)) }
         ensures last { IfSome result (λ n. EndsIn (last_types n (front_of self.now.types front)) self.now) }
     {
@@ -276,9 +277,6 @@ impl<'a> OperandStack<'a> {
             return Some(0);
         };
         if !is_run(*entry) {
-            return Some(0);
-        }
-        if types_of_front(self.context, *run).is_empty() {
             return Some(0);
         }
         shared_end(self.context, front, *run)
