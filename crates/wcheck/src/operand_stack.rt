@@ -1,4 +1,4 @@
-ghost use Rattle.std.specs.Prelude.{◌≡◌, ◌≤◌, ◌<◌, ◌+◌, ◌^◌, List, [], ◌∷◌, ◌++◌, true, Option, Some};
+ghost use Rattle.std.specs.Prelude.{◌≡◌, ◌≤◌, ◌<◌, ◌+◌, ◌^◌, List, [], ◌∷◌, ◌++◌, true, false, Option, Some};
 ghost use Rattle.std.specs.Prelude.{IfSome, MatchOption, MatchResult, length, reverse, take, drop};
 ghost use Rattle.wsyntax.specs.declared.ValType.{ValType};
 ghost use Rattle.wsyntax.specs.Validation.Algorithm.{take_any, take_all, put, fresh, is_nil};
@@ -282,6 +282,25 @@ impl<'a> OperandStack<'a> {
         shared_end(self.context, front, *run)
     }
 
+    /// Whether a run of just the `count` types of a list is surely on top.
+    pub(crate) fn ends_in_whole_run(&self, list: TypeList, count: usize) -> bool
+        requires all { count ≡ length (list_of self.now.types list) }
+        requires few { count < 2 ^ 32 }
+        ensures { result ≡ true → EndsIn (list_of self.now.types list) self.now }
+    {
+        let Some(run) = self.runs.last() else {
+            return false;
+        };
+        let count = count as u32;
+        if run.count != count {
+            return false;
+        }
+        match self.ends_in_run(Front { list, count }) {
+            Some(shared) => shared == count as usize,
+            None => false,
+        }
+    }
+
     /// What follows cannot be reached: no operand is known, and any may be taken.
     #[inline]
     pub(crate) fn make_unreachable(&mut self)
@@ -304,6 +323,18 @@ impl<'a> OperandStack<'a> {
         self.unreachable = false;
     }
 
+    /// Begins a frame with the topmost `count` operands.
+    #[inline(always)]
+    pub(crate) fn open_over(&mut self, count: usize)
+        requires { count ≤ length self.old.above.known }
+        ensures above { self.new.above ≡ record { known = take count self.old.above.known; is_dead = false } }
+        ensures below { self.new.below ≡ self.old.below ++ reverse (drop count self.old.above.known) }
+        ensures types { self.new.types ≡ self.old.types }
+    {
+        self.base = self.height() - count;
+        self.unreachable = false;
+    }
+
     /// Begins the frame again, with no operands.
     #[inline]
     pub(crate) fn begin_again(&mut self)
@@ -323,6 +354,20 @@ impl<'a> OperandStack<'a> {
         ensures types { self.new.types ≡ self.old.types }
     {
         self.truncate(self.base);
+        self.base = self.base.min(base);
+        self.unreachable = unreachable;
+    }
+
+    /// Goes back to the frame that began at this height, and leaves it the operands of the innermost one.
+    #[inline(always)]
+    pub(crate) fn close_over(&mut self, base: usize, unreachable: bool)
+        ensures above { self.new.above ≡ record {
+            known = self.old.above.known ++ reverse (drop base self.old.below);
+            is_dead = unreachable;
+        } }
+        ensures below { self.new.below ≡ take base self.old.below }
+        ensures types { self.new.types ≡ self.old.types }
+    {
         self.base = self.base.min(base);
         self.unreachable = unreachable;
     }
