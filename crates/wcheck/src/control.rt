@@ -49,12 +49,7 @@ fn push_outer(
 
 /// Opens a frame over the topmost `count` operands, which are of its start types.
 #[inline(always)]
-#[tactic(auto, using(
-    crate::proofs::Cuts::opened_frames,
-    crate::proofs::Cuts::opened_under,
-    crate::proofs::Above::known_taken,
-    crate::proofs::Above::known_fresh
-))]
+#[tactic(auto, using(crate::proofs::Cuts::opened_frames, crate::proofs::Cuts::opened_under, crate::proofs::Above::known_taken, crate::proofs::Above::known_fresh))]
 fn open_in_place(
     control: &mut Control,
     opener: Opener,
@@ -181,11 +176,7 @@ fn leave_far(control: &mut Control) -> Result<bool, AllocError>
 
 /// Closes the innermost frame, whose operands go to the frame outside it as they are.
 #[inline(always)]
-#[tactic(auto, using(
-    crate::proofs::Cuts::closed_under,
-    crate::proofs::Behind::reversed_last,
-    crate::proofs::Above::known_end
-))]
+#[tactic(auto, using(crate::proofs::Cuts::closed_under, crate::proofs::Behind::reversed_last, crate::proofs::Above::known_end))]
 fn close_in_place(control: &mut Control) -> Result<bool, AllocError>
     requires open { control.old.is_open ≡ true }
     requires known { control.old.operands.above.known ≡ map Some (innermost_of control.old).gives }

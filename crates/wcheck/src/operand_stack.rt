@@ -362,8 +362,8 @@ impl<'a> OperandStack<'a> {
     #[inline(always)]
     pub(crate) fn close_over(&mut self, base: usize, unreachable: bool)
         ensures above { self.new.above ≡ record {
-            known = self.old.above.known ++ reverse (drop base self.old.below);
-            is_dead = unreachable;
+          known = self.old.above.known ++ reverse (drop base self.old.below);
+          is_dead = unreachable;
         } }
         ensures below { self.new.below ≡ take base self.old.below }
         ensures types { self.new.types ≡ self.old.types }
