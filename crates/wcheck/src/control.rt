@@ -38,13 +38,7 @@ fn push_outer(
     ensures laid { IfOk result (λ _. outer.new ≡ outer.old ++ outer_frame_of top.now operands.now ∷ []) }
     ensures refused { IfErr result (λ _. outer.new ≡ outer.old) }
 {
-    let frame = OuterFrame {
-        frame: *top,
-        unreachable: operands.is_unreachable(),
-        height: operands.base(),
-    };
-    outer.push(frame)?;
-    Ok(())
+    outer.push(top, operands.is_unreachable(), operands.base())
 }
 
 /// Opens a frame over the topmost `count` operands, which are of its start types.

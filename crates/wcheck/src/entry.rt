@@ -112,6 +112,7 @@ pub(crate) fn top_run<'a>(
 }
 
 /// How many types the shorter of two fronts has, where these surely are the last types of the longer one too.
+#[inline(always)]
 pub(crate) fn shared_end(context: &Context, one: Front, other: Front) -> Option<usize>
     requires whole { one.count ≡ length (front_of context.now.context.types one) }
     ensures first { IfSome result (λ n. n ≤ length (front_of context.now.context.types one)) }

@@ -265,6 +265,7 @@ impl<'a> OperandStack<'a> {
 
     /// How many operands of the run on top are the last types of a front: all that the shorter of both has, or none where
     /// no run is on top. `None`: not all of these are.
+    #[inline(always)]
     pub(crate) fn ends_in_run(&self, front: Front) -> Option<usize>
         requires whole { front.count ≡ length (front_of self.now.types front) }
         ensures count { IfSome result (λ n. n ≤ length (front_of self.now.types front)) }
