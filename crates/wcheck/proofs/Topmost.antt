@@ -1,8 +1,8 @@
 -- The topmost operand of a list.
-use Rattle.std.proofs.Common.{◌≡◌, ℕ, ◌-◌, ◌<◌, true, false, Bool, List, [], ◌∷◌, ◌++◌, map, length, take, get_or, slice_get, Option, Some, None, refl, sym, ap, ◌∙◌, arith}
+use Rattle.std.proofs.Common.{◌≡◌, ℕ, ◌-◌, ◌<◌, ◌≤◌, true, false, List, [], ◌∷◌, ◌++◌, map, length, take, get_or, slice_get, Option, Some, None, refl, sym, ap, subst, ◌∙◌, arith}
 use Rattle.std.proofs.lemmas.List.{append_assoc, append-nil, map-append, length-map, take-append-drop}
 use Rattle.std.proofs.Math.ListN.{drop_of_length-le}
-use Rattle.std.specs.Prelude.{option_map, ◌==◌, IfSome}
+use Rattle.std.specs.Prelude.{option_map, IfSome}
 use Rattle.std.proofs.lemmas.Option.{slice_get-get_or, slice_get-map}
 use Rattle.wsyntax.specs.declared.ValType.{ValType}
 use Rattle.wsyntax.specs.Types.{FuncType}
@@ -80,18 +80,18 @@ pub ends_in_none : (v : List (Option ValType)) (us : List ValType) → (rest : L
 ends_in_none v us =
     (v, sym (ap (λ z. v ++ map Some z) (drop_of_length-le us (omega arith)) ∙ append-nil v))
 
--- what the types of the run on top share with others
-pub ends_in_shared : (v rest : List (Option ValType)) (us ts : List ValType) (r : Option ℕ) → v ≡ rest ++ map Some ts → IfSome r (λ n. last_types n us ≡ last_types n ts) → IfSome r (λ n. (x : List (Option ValType)) × (v ≡ x ++ map Some (last_types n us)))
-ends_in_shared v rest us ts None e same = tt
-ends_in_shared v rest us ts (Some n) e same = (
-  rest ++ map Some (types_before n ts),
-  e
-      ∙ ap (λ z. rest ++ map Some z) (sym (take-append-drop (length ts - n) ts))
-      ∙ ap (λ z. rest ++ z) (map-append Some (types_before n ts) (last_types n ts))
-      ∙ sym (append_assoc rest (map Some (types_before n ts)) (map Some (last_types n ts)))
-      ∙ ap (λ z. (rest ++ map Some (types_before n ts)) ++ map Some z) (sym same),
-)
-
-pub has_some : (xs : List ValType) (b : Bool) → b ≡ (length xs == 0) → b ≡ false → 0 < length xs
-has_some [] b e f = absurd (let h : true ≡ false = sym e ∙ f in cc)
-has_some (x ∷ xs) b e f = omega arith
+-- what the types of the run on top, if it has some, share with others
+pub ends_in_shared : (v : List (Option ValType)) (us ts : List ValType) (r : Option ℕ) → (0 < length ts → (rest : List (Option ValType)) × (v ≡ rest ++ map Some ts)) → IfSome r (λ n. n ≤ length ts) → IfSome r (λ n. last_types n us ≡ last_types n ts) → IfSome r (λ n. (x : List (Option ValType)) × (v ≡ x ++ map Some (last_types n us)))
+ends_in_shared v us ts None top few same = tt
+ends_in_shared v us [] (Some n) top few same =
+    let none : n ≡ 0 = omega (arith, few) in
+    subst (λ k. (x : List (Option ValType)) × (v ≡ x ++ map Some (last_types k us))) (sym none) (ends_in_none v us)
+ends_in_shared v us (t ∷ ts) (Some n) top few same =
+    let on_top = top (omega arith) in (
+      on_top.0 ++ map Some (types_before n (t ∷ ts)),
+      on_top.1
+          ∙ ap (λ z. on_top.0 ++ map Some z) (sym (take-append-drop (length (t ∷ ts) - n) (t ∷ ts)))
+          ∙ ap (λ z. on_top.0 ++ z) (map-append Some (types_before n (t ∷ ts)) (last_types n (t ∷ ts)))
+          ∙ sym (append_assoc on_top.0 (map Some (types_before n (t ∷ ts))) (map Some (last_types n (t ∷ ts))))
+          ∙ ap (λ z. (on_top.0 ++ map Some (types_before n (t ∷ ts))) ++ map Some z) (sym same),
+    )

@@ -1,4 +1,5 @@
-ghost use Rattle.std.specs.Prelude.{◌≡◌, [], ◌∷◌, ◌++◌, true, false, IfOk, IfErr, reverse};
+ghost use Rattle.std.specs.Prelude.{◌≡◌, ◌≤◌, [], ◌∷◌, ◌++◌, true, false, Some, IfOk, IfErr, reverse, length, map, take};
+ghost use Rattle.wcontext.specs.Lists.{list_of};
 ghost use Rattle.wsyntax.specs.Instructions.{Op, Do};
 ghost use Rattle.wsyntax.specs.Modules.{seen};
 ghost use Rattle.wsyntax.specs.Validation.Algorithm.{when, pass_on, step};
@@ -37,19 +38,41 @@ fn push_outer(
     ensures laid { IfOk result (λ _. outer.new ≡ outer.old ++ outer_frame_of top.now operands.now ∷ []) }
     ensures refused { IfErr result (λ _. outer.new ≡ outer.old) }
 {
-    let frame = OuterFrame {
-        frame: *top,
-        unreachable: operands.is_unreachable(),
-        height: operands.base(),
-    };
-    outer.push(frame)?;
-    Ok(())
+    outer.push(top, operands.is_unreachable(), operands.base())
 }
 
-/// Opens a frame.
+/// Opens a frame over the topmost `count` operands, which are of its start types.
 #[inline(always)]
+#[tactic(auto, using(crate::proofs::Cuts::opened_frames, crate::proofs::Cuts::opened_under, crate::proofs::Above::known_taken, crate::proofs::Above::known_fresh))]
+fn open_in_place(
+    control: &mut Control,
+    opener: Opener,
+    params: TypeList,
+    results: TypeList,
+    count: usize,
+) -> Result<bool, AllocError>
+    requires there { count ≤ length control.old.operands.above.known }
+    requires types { take count control.old.operands.above.known ≡ map Some (reverse (list_of control.old.operands.types params)) }
+    ensures frames { IfOk result (λ yes. opened opener params results control.old ≡ when yes (Some (inner_of control.new))) }
+    ensures open { IfOk result (λ yes. control.new.is_open ≡ control.old.is_open) }
+    ensures tight { IsTight control.old → IsTight control.new }
+    ensures types { control.new.operands.types ≡ control.old.operands.types }
+{
+    push_outer(&mut control.outer, &control.top, &control.operands)?;
+    control.operands.open_over(count);
+    control.top = ControlFrame {
+        is_if: opener.is_if(),
+        is_loop: opener.is_loop(),
+        start_types: params,
+        end_types: results,
+    };
+    Ok(true)
+}
+
+/// Opens a frame whose start types are taken, and put again.
+#[inline(never)]
 #[tactic(auto, using(crate::proofs::Cuts::opened_frames, crate::proofs::Cuts::opened_under))]
-pub(crate) fn open_frame(
+fn open_anew(
     control: &mut Control,
     opener: Opener,
     params: TypeList,
@@ -73,6 +96,25 @@ pub(crate) fn open_frame(
         end_types: results,
     };
     Ok(true)
+}
+
+/// Opens a frame.
+#[inline(always)]
+pub(crate) fn open_frame(
+    control: &mut Control,
+    opener: Opener,
+    params: TypeList,
+    results: TypeList,
+) -> Result<bool, AllocError>
+    ensures frames { IfOk result (λ yes. opened opener params results control.old ≡ when yes (Some (inner_of control.new))) }
+    ensures open { IfOk result (λ yes. control.new.is_open ≡ control.old.is_open) }
+    ensures tight { IsTight control.old → IsTight control.new }
+    ensures types { control.new.operands.types ≡ control.old.operands.types }
+{
+    match control.operands.known_on_top(params) {
+        Some(count) => open_in_place(control, opener, params, results, count),
+        None => open_anew(control, opener, params, results),
+    }
 }
 
 /// Goes on from the first branch of an if to the second.
@@ -126,10 +168,32 @@ fn leave_far(control: &mut Control) -> Result<bool, AllocError>
     Ok(true)
 }
 
-/// Closes the innermost frame.
+/// Closes the innermost frame, whose operands go to the frame outside it as they are.
 #[inline(always)]
+#[tactic(auto, using(crate::proofs::Cuts::closed_under, crate::proofs::Behind::reversed_last, crate::proofs::Above::known_end))]
+fn close_in_place(control: &mut Control) -> Result<bool, AllocError>
+    requires open { control.old.is_open ≡ true }
+    requires known { control.old.operands.above.known ≡ map Some (innermost_of control.old).gives }
+    requires ended { control.old.top.is_if ≡ false }
+    ensures tight { IsTight control.old → IsTight control.new }
+    ensures types { control.new.operands.types ≡ control.old.operands.types }
+    ensures frames { IfOk result (λ yes.
+        closed (innermost_of control.old) (outside_of control.old) ≡ when yes (Some (frames_of control.new))) }
+{
+    match control.outer.pop_near() {
+        Some(outer) => {
+            control.operands.close_over(outer.height, outer.unreachable);
+            control.top = outer.frame;
+            Ok(true)
+        }
+        None => leave_far(control),
+    }
+}
+
+/// Closes the innermost frame, whose end types are taken, and put on the frame outside it.
+#[inline(never)]
 #[tactic(auto, using(crate::proofs::Cuts::closed_under, crate::proofs::Behind::reversed_last))]
-pub(crate) fn close_frame(control: &mut Control) -> Result<bool, AllocError>
+fn close_anew(control: &mut Control) -> Result<bool, AllocError>
     requires { control.old.is_open ≡ true }
     ensures tight { IsTight control.old → IsTight control.new }
     ensures types { control.new.operands.types ≡ control.old.operands.types }
@@ -151,6 +215,22 @@ pub(crate) fn close_frame(control: &mut Control) -> Result<bool, AllocError>
         None => return leave_far(control),
     }
     Ok(true)
+}
+
+/// Closes the innermost frame.
+#[inline(always)]
+pub(crate) fn close_frame(control: &mut Control) -> Result<bool, AllocError>
+    requires { control.old.is_open ≡ true }
+    ensures tight { IsTight control.old → IsTight control.new }
+    ensures types { control.new.operands.types ≡ control.old.operands.types }
+    ensures frames { IfOk result (λ yes.
+        closed (innermost_of control.old) (outside_of control.old) ≡ when yes (Some (frames_of control.new))) }
+{
+    if !control.top.is_if && control.operands.are_known(control.top.end_types) {
+        close_in_place(control)
+    } else {
+        close_anew(control)
+    }
 }
 
 /// An instruction without a body.

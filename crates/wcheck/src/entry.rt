@@ -112,13 +112,15 @@ pub(crate) fn top_run<'a>(
 }
 
 /// How many types the shorter of two fronts has, where these surely are the last types of the longer one too.
+#[inline(always)]
 pub(crate) fn shared_end(context: &Context, one: Front, other: Front) -> Option<usize>
+    requires whole { one.count ≡ length (front_of context.now.context.types one) }
     ensures first { IfSome result (λ n. n ≤ length (front_of context.now.context.types one)) }
     ensures second { IfSome result (λ n. n ≤ length (front_of context.now.context.types other)) }
     ensures same { IfSome result (λ n. last_types n (front_of context.now.context.types one)
         ≡ last_types n (front_of context.now.context.types other)) }
 {
-    let first = types_of_front(context, one).len();
+    let first = one.count as usize;
     if one.count == other.count && one.list.is_at(other.list) {
         return Some(first);
     }

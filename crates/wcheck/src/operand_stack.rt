@@ -1,4 +1,4 @@
-ghost use Rattle.std.specs.Prelude.{◌≡◌, ◌≤◌, ◌<◌, ◌+◌, ◌^◌, List, [], ◌∷◌, ◌++◌, true, Option, Some};
+ghost use Rattle.std.specs.Prelude.{◌≡◌, ◌≤◌, ◌<◌, ◌+◌, ◌^◌, List, [], ◌∷◌, ◌++◌, true, false, Option, Some};
 ghost use Rattle.std.specs.Prelude.{IfSome, MatchOption, MatchResult, length, reverse, take, drop};
 ghost use Rattle.wsyntax.specs.declared.ValType.{ValType};
 ghost use Rattle.wsyntax.specs.Validation.Algorithm.{take_any, take_all, put, fresh, is_nil};
@@ -135,18 +135,25 @@ impl<'a> OperandStack<'a> {
         self.context.list(list)
     }
 
-    /// Removes the topmost entry, or what is too much of its run: some operands, but not more than `by`.
-    fn shorten(&mut self, by: usize)
+    /// Removes the topmost entry, or what is too much of its run: some operands, but not more than `by`. Gives the type of the
+    /// topmost operand.
+    fn shorten(&mut self, by: usize) -> Option<ValType>
         requires some { 0 < by }
         requires there { by ≤ length self.old.above.known }
+        ensures topmost { (rest : List (Option ValType)) × (all_of self.old ≡ rest ++ result ∷ []) }
         ensures above { IsShortened by self.old.above self.new.above }
         ensures below { self.new.below ≡ self.old.below }
         ensures types { self.new.types ≡ self.old.types }
     {
         let last = self.entries.len() - 1;
-        match top_run(self.context, self.entries[last], &self.runs) {
-            None => self.entries.truncate(last),
+        let entry = self.entries[last];
+        match top_run(self.context, entry, &self.runs) {
+            None => {
+                self.entries.truncate(last);
+                unpacked(entry)
+            }
             Some(types) => {
+                let topmost = types.last().copied();
                 let top = self.runs.len() - 1;
                 if by < types.len() {
                     self.runs[top].count = (types.len() - by) as u32;
@@ -156,6 +163,7 @@ impl<'a> OperandStack<'a> {
                     self.runs.truncate(top);
                     self.extra -= types.len().saturating_sub(1);
                 }
+                topmost
             }
         }
     }
@@ -184,7 +192,7 @@ impl<'a> OperandStack<'a> {
     {
         while self.height() > height {
             let over = self.height() - height;
-            self.shorten(over);
+            let _topmost = self.shorten(over);
         }
     }
 
@@ -229,21 +237,6 @@ impl<'a> OperandStack<'a> {
         Ok(())
     }
 
-    /// The topmost operand of all frames.
-    fn last(&self) -> Option<Option<ValType>>
-        ensures { MatchOption result
-            (all_of self.now ≡ [])
-            (λ x. (rest : List (Option ValType)) × (all_of self.now ≡ rest ++ x ∷ [])) }
-    {
-        match self.entries.last() {
-            None => None,
-            Some(entry) => match top_run(self.context, *entry, &self.runs) {
-                None => Some(unpacked(*entry)),
-                Some(types) => Some(types.last().copied()),
-            },
-        }
-    }
-
     /// Takes the topmost operand of the innermost frame.
     #[inline]
     pub(crate) fn take_any(&mut self) -> Option<Option<ValType>>
@@ -254,9 +247,7 @@ impl<'a> OperandStack<'a> {
         ensures types { self.new.types ≡ self.old.types }
     {
         if self.height() > self.base {
-            let x = self.last();
-            self.shorten(1);
-            x
+            Some(self.shorten(1))
         } else if self.unreachable {
             Some(None)
         } else {
@@ -274,7 +265,9 @@ impl<'a> OperandStack<'a> {
 
     /// How many operands of the run on top are the last types of a front: all that the shorter of both has, or none where
     /// no run is on top. `None`: not all of these are.
+    #[inline(always)]
     pub(crate) fn ends_in_run(&self, front: Front) -> Option<usize>
+        requires whole { front.count ≡ length (front_of self.now.types front) }
         ensures count { IfSome result (λ n. n ≤ length (front_of self.now.types front)) }
         ensures last { IfSome result (λ n. EndsIn (last_types n (front_of self.now.types front)) self.now) }
     {
@@ -287,10 +280,26 @@ impl<'a> OperandStack<'a> {
         if !is_run(*entry) {
             return Some(0);
         }
-        if types_of_front(self.context, *run).is_empty() {
-            return Some(0);
-        }
         shared_end(self.context, front, *run)
+    }
+
+    /// Whether a run of just the `count` types of a list is surely on top.
+    pub(crate) fn ends_in_whole_run(&self, list: TypeList, count: usize) -> bool
+        requires all { count ≡ length (list_of self.now.types list) }
+        requires few { count < 2 ^ 32 }
+        ensures { result ≡ true → EndsIn (list_of self.now.types list) self.now }
+    {
+        let Some(run) = self.runs.last() else {
+            return false;
+        };
+        let count = count as u32;
+        if run.count != count {
+            return false;
+        }
+        match self.ends_in_run(Front { list, count }) {
+            Some(shared) => shared == count as usize,
+            None => false,
+        }
     }
 
     /// What follows cannot be reached: no operand is known, and any may be taken.
@@ -315,6 +324,18 @@ impl<'a> OperandStack<'a> {
         self.unreachable = false;
     }
 
+    /// Begins a frame with the topmost `count` operands.
+    #[inline(always)]
+    pub(crate) fn open_over(&mut self, count: usize)
+        requires { count ≤ length self.old.above.known }
+        ensures above { self.new.above ≡ record { known = take count self.old.above.known; is_dead = false } }
+        ensures below { self.new.below ≡ self.old.below ++ reverse (drop count self.old.above.known) }
+        ensures types { self.new.types ≡ self.old.types }
+    {
+        self.base = self.height() - count;
+        self.unreachable = false;
+    }
+
     /// Begins the frame again, with no operands.
     #[inline]
     pub(crate) fn begin_again(&mut self)
@@ -334,6 +355,20 @@ impl<'a> OperandStack<'a> {
         ensures types { self.new.types ≡ self.old.types }
     {
         self.truncate(self.base);
+        self.base = self.base.min(base);
+        self.unreachable = unreachable;
+    }
+
+    /// Goes back to the frame that began at this height, and leaves it the operands of the innermost one.
+    #[inline(always)]
+    pub(crate) fn close_over(&mut self, base: usize, unreachable: bool)
+        ensures above { self.new.above ≡ record {
+          known = self.old.above.known ++ reverse (drop base self.old.below);
+          is_dead = unreachable;
+        } }
+        ensures below { self.new.below ≡ take base self.old.below }
+        ensures types { self.new.types ≡ self.old.types }
+    {
         self.base = self.base.min(base);
         self.unreachable = unreachable;
     }

@@ -1,7 +1,7 @@
 ghost use Rattle.std.specs.Prelude.{◌≡◌, ◌<◌, List, [], ◌∷◌, ◌++◌, true, MatchOption, MatchResult, length, reverse, take};
 ghost use Rattle.wcheck.specs.Views.{IsLabelBehind, first_dead};
 
-use crate::frames::{OuterFrame, label};
+use crate::frames::{ControlFrame, OuterFrame, label};
 use crate::packed::PackedFrame;
 use crate::tuning::UNPACKED_FRAMES;
 use std::alloc::{AllocError, Global};
@@ -107,23 +107,45 @@ impl OuterFrames {
 
     /// The same as `push`, where there is no room.
     #[inline(never)]
-    fn push_beyond(&mut self, frame: OuterFrame) -> Result<(), AllocError>
-        ensures { MatchResult result (λ _. self.new ≡ self.old ++ frame ∷ []) (λ _. self.new ≡ self.old) }
+    fn push_beyond(
+        &mut self,
+        frame: &ControlFrame,
+        unreachable: bool,
+        height: usize,
+    ) -> Result<(), AllocError>
+        ensures { MatchResult result
+            (λ _. self.new ≡ self.old ++ (record { frame = frame.now; unreachable = unreachable; height = height }) ∷ [])
+            (λ _. self.new ≡ self.old) }
     {
         self.pack();
-        self.innermost.push(frame)?;
+        self.innermost.push(OuterFrame {
+            frame: *frame,
+            unreachable,
+            height,
+        })?;
         Ok(())
     }
 
-    /// After an error they are as before.
+    /// Pushes a frame, by its parts: a whole one would be written to memory, and waited for. After an error they are as before.
     #[inline(always)]
-    pub(crate) fn push(&mut self, frame: OuterFrame) -> Result<(), AllocError>
-        ensures { MatchResult result (λ _. self.new ≡ self.old ++ frame ∷ []) (λ _. self.new ≡ self.old) }
+    pub(crate) fn push(
+        &mut self,
+        frame: &ControlFrame,
+        unreachable: bool,
+        height: usize,
+    ) -> Result<(), AllocError>
+        ensures { MatchResult result
+            (λ _. self.new ≡ self.old ++ (record { frame = frame.now; unreachable = unreachable; height = height }) ∷ [])
+            (λ _. self.new ≡ self.old) }
     {
         if self.innermost.len() == self.innermost.capacity() {
-            return self.push_beyond(frame);
+            return self.push_beyond(frame, unreachable, height);
         }
-        self.innermost.push(frame)?;
+        self.innermost.push(OuterFrame {
+            frame: *frame,
+            unreachable,
+            height,
+        })?;
         Ok(())
     }
 
