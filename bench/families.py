@@ -305,12 +305,12 @@ def short_lists(code):
 def tables_of_short_lists(size, dead, chance):
     # Branch tables with labels of types of 255 results, all the same lists at different places.
     many = [chance.choice([I32, I64]) for _ in range(255)]
-    count = min(2_000, size // 2_000)
+    count = max(1, min(2_000, size // 2_000))
     labels = [unsigned(k) for k in range(count)]
-    code = b''.join(b'\x02' + signed(k + 1) for k in range(count)) + b'\x10\x01\x41\x00'
-    while len(code) < size - 300 * count:
-        code += b'\x0E' + vector(chance.choices(labels, k=min(100_000, size // 16))) + b'\x00'
-    return code + b'\x0B' * count + b'\x00', {'types': [EMPTY] + [function_type([], many)] * count, 'others': [(1, b'\x00\x00\x0B')]}
+    code, tables = b''.join(b'\x02' + signed(k + 1) for k in range(count)) + b'\x10\x01\x41\x00', b''
+    while not tables or len(code) + len(tables) < size - 300 * count:
+        tables += b'\x0E' + vector(chance.choices(labels, k=min(100_000, size // 16))) + b'\x00'
+    return code + tables + b'\x0B' * count + b'\x00', {'types': [EMPTY] + [function_type([], many)] * count, 'others': [(1, b'\x00\x00\x0B')]}
 
 
 def over_a_run(token):
