@@ -92,15 +92,16 @@ static BODY: [u8; 4_000] = [0; 4_000];
 #[test]
 fn fronts_of_long_lists_are_ends_where_comparing_says_so(rt: HostRuntime) -> Result<(), Fail> {
     let types = long_lists(rt.alloc())?;
-    for bytes in [0, 900, BODY.len()] {
+    for body in [&BODY[..0], &BODY[..900], &BODY[..]] {
         let mut module = Module::empty(rt.alloc());
         module.types = long_lists(rt.alloc())?;
-        module.bodies.push(&BODY[..bytes])?;
+        module.bodies.push(body)?;
         let (context, _) = check_early(rt.alloc(), &module)?;
         let differing = differing(&context, &types);
         assert!(rt;
             differing.is_none(),
-            "{bytes}: the first types of two lists: {differing:?}"
+            "{} bytes: the first types of two lists: {differing:?}",
+            body.len()
         );
     }
     Ok(())
