@@ -139,24 +139,36 @@ def calls(gate, path, calls_path):
         print(f'{name:44}{seconds / count * 1e6:10.2f}', flush=True)
 
 
-ROW = re.compile(r'(\S.*?) +([\d.]+) +([\d.]+) +([\d.]+) +([\d.]+) +([\d.]+)  ((?:dead )?\w+) +\w+ ')
+FIRST = re.compile(r'a hot loop +([\d.]+) ')
+ROW = re.compile(r'(\S.*?) +[\d.]+ +([\d.]+) +[\d.]+ +([\d.]+) +([\d.]+)  (dead \w+|\w+) +(?:accepted|refused)')
+
+
+def rows_of(files):
+    # The lines of families, each with the megabytes of its run: those of the hot loop, which stands before them.
+    size = 0
+    for line in (line for file in files for line in open(file)):
+        first, row = FIRST.match(line), ROW.match(line)
+        if first:
+            size = round(float(first.group(1)))
+        elif row:
+            yield size, row
 
 
 def table(files):
-    # Of each family, by the sizes in megabytes: how many times the mean, and of the largest size the rest of its line.
-    families, sizes = {}, set()
-    for row in filter(None, (ROW.match(line) for file in files for line in open(file))):
-        name, size, cost, _, times, memory, form = row.groups()
-        size = round(float(size))
-        sizes.add(size)
+    # Of each family, by the sizes: how many times the mean; of the largest size the form and the cost; and the most memory past
+    # one megabyte, since an empty process takes nearly two.
+    families = {}
+    for size, row in rows_of(files):
+        name, cost, times, memory, form = row.groups()
         families.setdefault(name, {})[size] = float(times), float(cost), float(memory), form
-    sizes = sorted(sizes)
+    sizes = sorted({size for rows in families.values() for size in rows})
     print(f'| family | form | times the generated code, {"; ".join(map(str, sizes))} MB | ns a byte | memory in lengths |')
     print('|---|---|---|---|---|')
     for name, rows in sorted(families.items(), key=lambda it: -max(times for times, *_ in it[1].values())):
         times = '; '.join(f'{rows[size][0]:.1f}' if size in rows else '-' for size in sizes)
         _, cost, _, form = rows[max(rows)]
-        print(f'| {name} | {form} | {times} | {cost:.0f} | {max(memory for _, _, memory, _ in rows.values()):.1f} |')
+        memory = max(rows[size][2] for size in rows if size > 1 or len(rows) == 1)
+        print(f'| {name} | {form} | {times} | {cost:.0f} | {memory:.1f} |')
 
 
 def main():
