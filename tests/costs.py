@@ -4,7 +4,7 @@
 A call of a module of n bytes, with F fuel and P pages, whose longest body has L tokens and whose longest list of types has V
 types, takes at most
 
-    n x 4 ns + P x 100 us + (F + 1) x (100 us + L x (20 ns + V x 2 ns)) + V x 200 ns
+    n x 4 ns + P x 100 us + (F + 1) x (100 us + L x (20 ns + V x 8 ns)) + V x 200 ns
 
 of a processor: its instance; the memory that it has written; its entries and turns of loops; its printed values. Judging the
 module comes before, once, and is measured apart and taken away. Each module is made for one term. The constants are some three
@@ -33,7 +33,7 @@ class Case:
 
     def bound(self):
         """The seconds that a call may take."""
-        entries = (self.fuel + 1) * (100e-6 + self.tokens * (20e-9 + self.types * 2e-9))
+        entries = (self.fuel + 1) * (100e-6 + self.tokens * (20e-9 + self.types * 8e-9))
         return len(self.module) * 4e-9 + self.pages * 100e-6 + entries + self.types * 200e-9
 
 
@@ -55,6 +55,12 @@ def entered(locals_count):
     """A loop that calls a function with so many locals until the fuel is gone."""
     declared = b'\x01' + unsigned(locals_count) + I32
     return whole(b'\x03\x40\x10\x01\x0C\x00\x0B', others=[(0, declared + b'\x0B')])
+
+
+def not_taken(count, values):
+    """Calls with `values` results each, in an `if` that is not taken: the entry makes room for all of them."""
+    types = [EMPTY, function_type([], [I32] * values)]
+    return whole(b'\x41\x00\x04\x40' + b'\x10\x01' * count + b'\x00\x0B', types=types, others=[(1, b'\x00\x00\x0B')])
 
 
 def turns(tokens):
@@ -99,6 +105,7 @@ def printed(values):
 CASES = [
     Case('branches over a long list', shifting_branches(400, 100_000), fuel=2, tokens=2_000, types=100_000, calls=1),
     Case('calls with long results', returned_lists(400, 100_000), fuel=401, tokens=100_003, types=100_000, calls=1),
+    Case('room for an if that is not taken', not_taken(10_000, 1_000), fuel=1, tokens=10_005, types=1_000, calls=1),
     Case('entries of 100,000 locals', entered(100_000), fuel=1_000, tokens=4, calls=1, end='exhausted'),
     Case('turns of a loop', turns(1_000_000), fuel=100, tokens=1_000_003, calls=1, end='exhausted'),
     Case('branch tables', seldom_turns(1_000_000), fuel=100, tokens=1_000_003, calls=1, end='exhausted'),
