@@ -6,6 +6,7 @@ pub mod SearchedNames
 pub mod ExportNumbers
 pub mod PlainStarts
 pub mod Mentions
+pub mod Floating
 pub mod FunctionShapes
 pub mod CheckedBodies
 pub mod Lendings

@@ -1,9 +1,8 @@
 -- One of a list passes a test, in the words of the definition and in those of the code.
-use Rattle.std.proofs.Common.{◌≡◌, ℕ, zero, suc, ◌+◌, ◌≤◌, Bool, true, false, ◌||◌, List, [], ◌∷◌, map, take, Some, length, refl, sym, ap, subst, ◌∙◌, add-one}
+use Rattle.std.proofs.Common.{◌≡◌, ℕ, zero, suc, ◌+◌, Bool, true, false, ◌||◌, List, [], ◌∷◌, map, take, Some, refl, sym, ap, ◌∙◌, add-one}
 use Rattle.std.specs.Prelude.{slice_get}
 use Rattle.std.proofs.Math.Bool.{or-true}
 use Rattle.std.specs.List.{list_any}
-use Rattle.std.proofs.lemmas.List.{take_all}
 use Rattle.wsyntax.specs.Execution.Start.{any}
 
 pub any_is : {A : Type 0} (p : A → Bool) (xs : List A) → list_any p xs ≡ any p xs
@@ -14,10 +13,6 @@ any_is p (x ∷ xs) = ap (λ (t : Bool). p x || t) (any_is p xs)
 pub any_shown : {A B : Type 0} (shows : A → B) (p : B → Bool) (xs : List A) → list_any (λ x. p (shows x)) xs ≡ any p (map shows xs)
 any_shown shows p [] = refl
 any_shown shows p (x ∷ xs) = ap (λ (t : Bool). p (shows x) || t) (any_shown shows p xs)
-
--- the same in the words of the definition
-pub any_of_shown : {A B : Type 0} (shows : A → B) (p : B → Bool) (xs : List A) → any (λ x. p (shows x)) xs ≡ any p (map shows xs)
-any_of_shown shows p xs = sym (any_is (λ x. p (shows x)) xs) ∙ any_shown shows p xs
 
 -- where the first part is false, the whole is the second
 pub second_is : (a b r : Bool) → a ≡ false → r ≡ b → r ≡ (a || b)
@@ -49,7 +44,3 @@ one_found p (y ∷ ys) zero x is here =
     let same : y ≡ x = cc in
     rw (same, here) refl
 one_found p (y ∷ ys) (suc i) x is here = ap (λ (t : Bool). p y || t) (one_found p ys i x is here) ∙ or-true (p y)
-
--- none of all
-pub none_found : {A : Type 0} (p : A → Bool) (xs : List A) (n : ℕ) → length xs ≤ n → any p (take n xs) ≡ false → any p xs ≡ false
-none_found p xs n end none = subst (λ ys. any p ys ≡ false) (take_all n xs end) none

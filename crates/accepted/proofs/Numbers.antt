@@ -1,44 +1,38 @@
--- The number of an expression that is one instruction and its end.
-use Rattle.std.proofs.Common.{◌≡◌, ℕ, ℤ, List, [], ◌∷◌, map, Some, refl, ap, ◌∙◌, sym}
-use Rattle.wsyntax.specs.declared.instructions.Token.{Token}
-use Rattle.wsyntax.specs.declared.instructions.Token.TheVariants as flat
-use Rattle.wsyntax.specs.declared.types.ValType.TheVariants.{I32}
+-- The numbers of expressions that are not one `t.const`.
+use Rattle.std.proofs.Common.{◌≡◌, ◌⊎◌, inl, inr, ℕ, ℤ, false, List, [], ◌∷◌, refl, sym, ap, ◌∙◌}
+use Rattle.wsyntax.specs.declared.types.ValType.{ValType}
+use Rattle.wsyntax.specs.declared.types.ValType.TheVariants.{I32, I64, F32, F64}
 use Rattle.wsyntax.specs.declared.types.GlobalType.{GlobalType}
-use Rattle.wsyntax.specs.Instructions.{Do, Const, End}
-use Rattle.wsyntax.specs.Modules.{seen, single_instruction}
+use Rattle.wsyntax.specs.declared.module.ConstExpr.{ConstExpr}
+use Rattle.wsyntax.specs.declared.module.ConstExpr.TheVariants as initial
+use Rattle.wsyntax.specs.declared.other_expression.OtherExpression.{OtherExpression}
+use Rattle.wsyntax.specs.Instructions.{Token, Do, Const, End}
+use Rattle.wsyntax.specs.Initials.{tokens_read, has_constant_form}
+use Rattle.wsyntax.specs.Modules.{initial_tokens}
 use Rattle.wsyntax.specs.Validation.Rules.{ConstantOf, one_const, one_get}
 use Rattle.wsyntax.specs.Execution.Start.{constant_in}
-use Rattle.accepted.specs.Constants.{number_in}
+use Rattle.accepted.specs.Segments.{IsOffset}
 
--- of the instruction
-of_token : (targets : List ℕ) (t : Token) → number_in t ≡ constant_in (seen targets t ∷ End ∷ [])
-of_token targets (flat.I32Const n) = refl
-of_token targets (flat.I64Const n) = refl
-of_token targets (flat.F32Const bytes) = refl
-of_token targets (flat.F64Const bytes) = refl
-of_token targets _ = refl
+-- of no constant form
+no_form : (tokens : List Token) → has_constant_form tokens ≡ false → 0 ≡ constant_in tokens
+no_form (Do (Const t n) ∷ End ∷ []) other = absurd cc
+no_form _ other = refl
 
--- the tokens
-one_token : (targets : List ℕ) (tokens : List Token) (t : Token) → Some t ≡ single_instruction tokens → map (seen targets) tokens ≡ seen targets t ∷ End ∷ []
-one_token targets [] t is = cc
-one_token targets (i ∷ []) t is = cc
-one_token targets (i ∷ flat.End ∷ []) t is = let same : i ≡ t = cc in ap (λ j. seen targets j ∷ End ∷ []) same
-one_token targets (i ∷ _ ∷ rest) t is = cc
-
-pub number_is : (targets : List ℕ) (tokens : List Token) (t : Token) → Some t ≡ single_instruction tokens → number_in t ≡ constant_in (map (seen targets) tokens)
-number_is targets tokens t is = of_token targets t ∙ sym (ap constant_in (one_token targets tokens t is))
+-- a global.get, or no constant
+pub no_word : (e : ConstExpr) → ((x : ℕ) × (e ≡ initial.GlobalGet x)) ⊎ ((x : OtherExpression) × (e ≡ initial.Other x)) → 0 ≡ constant_in (initial_tokens e)
+no_word e (inl h) = sym (ap (λ (d : ConstExpr). constant_in (initial_tokens d)) h.1)
+no_word e (inr h) = no_form (tokens_read h.0.bytes.now) h.0.other ∙ sym (ap (λ (d : ConstExpr). constant_in (initial_tokens d)) h.1)
 
 -- ---- an offset that is no i32.const
 
-i32_const : (n : ℕ) (targets : List ℕ) (t : Token) → seen targets t ≡ Do (Const I32 n) → (m : ℤ) × (t ≡ flat.I32Const m)
-i32_const n targets (flat.I32Const m) is = (m, refl)
-i32_const n targets _ is = absurd cc
+its_type : (globals : List GlobalType) (t : ValType) (n : ℕ) (tokens : List Token) → ConstantOf globals I32 tokens → tokens ≡ Do (Const t n) ∷ End ∷ [] → t ≡ I32
+its_type globals t n _ (one_const m) is = cc
+its_type globals t n _ (one_get x there) is = cc
 
-no_const : (globals : List GlobalType) (targets : List ℕ) (t : Token) (shown : _) → ConstantOf globals I32 shown → seen targets t ∷ End ∷ [] ≡ shown → ((m : ℤ) → t ≡ flat.I32Const m → ⊥) → 0 ≡ constant_in shown
-no_const globals targets t _ (one_const n) is other =
-    let first : seen targets t ≡ Do (Const I32 n) = cc in
-    let known = i32_const n targets t first in absurd (other known.0 known.1)
-no_const globals targets t _ (one_get x there) is other = refl
-
-pub no_number : (globals : List GlobalType) (targets : List ℕ) (tokens : List Token) (t : Token) → Some t ≡ single_instruction tokens → ConstantOf globals I32 (map (seen targets) tokens) → ((m : ℤ) → t ≡ flat.I32Const m → ⊥) → 0 ≡ constant_in (map (seen targets) tokens)
-no_number globals targets tokens t is constant other = no_const globals targets t _ constant (sym (one_token targets tokens t is)) other
+pub no_place : (e : ConstExpr) → IsOffset e → ((m : ℤ) → e ≡ initial.I32Const m → ⊥) → 0 ≡ constant_in (initial_tokens e)
+no_place (initial.I32Const m) constant other = absurd (other m refl)
+no_place (initial.I64Const m) constant other = let same : I64 ≡ I32 = its_type constant.0 I64 _ _ constant.1 refl in cc
+no_place (initial.F32Const bytes) constant other = let same : F32 ≡ I32 = its_type constant.0 F32 _ _ constant.1 refl in cc
+no_place (initial.F64Const bytes) constant other = let same : F64 ≡ I32 = its_type constant.0 F64 _ _ constant.1 refl in cc
+no_place (initial.GlobalGet x) constant other = refl
+no_place (initial.Other x) constant other = no_form (tokens_read x.bytes.now) x.other

@@ -1,4 +1,3 @@
-pub mod Constants
 pub mod Segments
 pub mod Sizes
 pub mod Images

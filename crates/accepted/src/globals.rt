@@ -9,7 +9,7 @@ use wnum::conversions::wrap;
 use wsyntax::{Global, ValType};
 
 /// The first value of a global without its tag; 0 of a global of a float type, which no instance has.
-fn first_word(global: &Global) -> u64
+fn first_word(global: &Global<'_>) -> u64
     ensures { result ≡ bits (first_value (global_shape global.now)) }
 {
     let number = constant(&global.init);
@@ -21,7 +21,7 @@ fn first_word(global: &Global) -> u64
 }
 
 /// The first values of the globals in order. Where there is none, no memory is asked for.
-pub(crate) fn first_words(alloc: Alloc, globals: &[Global]) -> Result<Vec<u64>, AllocError>
+pub(crate) fn first_words(alloc: Alloc, globals: &[Global<'_>]) -> Result<Vec<u64>, AllocError>
     ensures { IfOk result (λ v. v.items ≡ map (λ g. bits (first_value (global_shape g))) globals.now) }
 {
     let mut words = Vec::new(alloc);

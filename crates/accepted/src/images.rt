@@ -32,7 +32,7 @@ fn put_functions(entries: &mut [Option<u32>], place: usize, functions: &[u32])
 }
 
 /// Writes the element segments in order, each from its place in `places` on.
-fn put_elements(entries: &mut [Option<u32>], segments: &Elements, places: &[u32])
+fn put_elements(entries: &mut [Option<u32>], segments: &Elements<'_>, places: &[u32])
     requires within { AllWithin (length entries.old) (element_segments segments.now) }
     requires placed { places.now ≡ places_of (element_segments segments.now) }
     ensures { map entry_in entries.new ≡ put_elements (element_segments segments.now) (map entry_in entries.old) }
@@ -49,7 +49,7 @@ fn put_elements(entries: &mut [Option<u32>], segments: &Elements, places: &[u32]
 fn table_image(
     alloc: Global,
     size: usize,
-    segments: &Elements,
+    segments: &Elements<'_>,
     places: &[u32],
 ) -> Result<Vec<Option<u32>>, AllocError>
     requires within { AllWithin size (element_segments segments.now) }
@@ -62,7 +62,7 @@ fn table_image(
 }
 
 /// Whether the segments write at least `count` entries, each segment counted as one more.
-fn write_as_many(segments: &Elements, count: usize) -> bool
+fn write_as_many(segments: &Elements<'_>, count: usize) -> bool
     ensures { result ≡ nat_le count (written (element_segments segments.now)) }
 {
     let mut left = count;
@@ -80,7 +80,7 @@ fn write_as_many(segments: &Elements, count: usize) -> bool
 pub(crate) fn kept_table(
     alloc: Global,
     size: usize,
-    segments: &Elements,
+    segments: &Elements<'_>,
     places: &[u32],
     outside: Option<u32>,
 ) -> Result<Option<Vec<Option<u32>>>, AllocError>

@@ -6,24 +6,21 @@ ghost use Rattle.wsyntax.specs.Execution.Start.{constant_in};
 ghost use Rattle.accepted.specs.Segments.{IsOffset, element_place, data_place};
 
 use std::alloc::{AllocError, Global};
-use wsyntax::{ConstExpr, Data, Elements, Token};
+use wsyntax::{ConstExpr, Data, Elements};
 
 /// The number of an offset: of one `i32.const`, without sign; 0 of an offset that reads an imported global.
-pub(crate) fn place_of(offset: &ConstExpr) -> u32
+pub(crate) fn place_of(offset: &ConstExpr<'_>) -> u32
     requires { IsOffset offset.now }
     ensures { result ≡ constant_in (initial_tokens offset.now) }
 {
-    let Some(token) = offset.single_instruction() else {
-        return 0;
-    };
-    match token {
-        Token::I32Const(number) => number.cast_unsigned(),
+    match *offset {
+        ConstExpr::I32Const(number) => number.cast_unsigned(),
         _ => 0,
     }
 }
 
 /// The place of each element segment in its table.
-pub(crate) fn element_places(alloc: Global, segments: &Elements) -> Result<Vec<u32>, AllocError>
+pub(crate) fn element_places(alloc: Global, segments: &Elements<'_>) -> Result<Vec<u32>, AllocError>
     requires { All (λ s. IsOffset s.offset) segments.now }
     ensures { IfOk result (λ v. v.items ≡ map element_place segments.now) }
 {

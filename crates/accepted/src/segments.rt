@@ -15,7 +15,7 @@ fn ends_within(place: u32, count: usize, size: usize) -> bool
 }
 
 /// The number of the first element segment that does not end within a table of that size.
-pub(crate) fn first_element_outside(size: usize, segments: &Elements) -> Option<u32>
+pub(crate) fn first_element_outside(size: usize, segments: &Elements<'_>) -> Option<u32>
     requires few { length segments.now < 2 ^ 32 }
     requires offsets { All (λ s. IsOffset s.offset) segments.now }
     ensures { result ≡ first_outside 0 size (element_segments segments.now) }

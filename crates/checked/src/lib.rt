@@ -13,6 +13,6 @@ mod table;
 
 pub use body::CheckedBody;
 pub use branch::Branch;
-pub use floats::{expression_has_floats, is_float, runs_have_floats, token_has_floats};
+pub use floats::{is_float, runs_have_floats, token_has_floats};
 pub use function_shape::FunctionShape;
 pub use table::SideTable;

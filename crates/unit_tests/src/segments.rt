@@ -3,19 +3,19 @@ use std::test::Fail;
 use wsyntax::{ConstExpr, Elements};
 
 /// A segment of two functions, one of none, and one of one function.
-fn three_segments(alloc: Global) -> Result<Elements, AllocError> {
+fn three_segments(alloc: Global) -> Result<Elements<'static>, AllocError> {
     let mut segments = Elements::with_capacity(alloc, 1)?;
-    segments.push(0, ConstExpr::Nothing)?;
+    segments.push(0, ConstExpr::I32Const(0))?;
     segments.push_function(7)?;
     segments.push_function(8)?;
-    segments.push(1, ConstExpr::Nothing)?;
-    segments.push(2, ConstExpr::Nothing)?;
+    segments.push(1, ConstExpr::I32Const(0))?;
+    segments.push(2, ConstExpr::I32Const(0))?;
     segments.push_function(9)?;
     Ok(segments)
 }
 
 /// Whether the segment of that number goes to the table of the same number, and has these functions.
-fn is_at(segments: &Elements, number: u32, functions: &[u32]) -> bool {
+fn is_at(segments: &Elements<'_>, number: u32, functions: &[u32]) -> bool {
     match segments.get(number as usize) {
         Some(segment) => segment.table == number && segment.functions == functions,
         None => false,

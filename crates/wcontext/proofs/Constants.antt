@@ -1,15 +1,18 @@
 -- The type of a constant expression that is computed is the one that it has.
-use Rattle.std.proofs.Common.{◌≡◌, ◌↔◌, ℕ, List, [], ◌∷◌, map, Option, Some, None, Bool, true, false, IsTrue, if◌then◌else◌, option_and_then, slice_get, refl, sym, ap, ◌∙◌}
-use Rattle.wsyntax.specs.Instructions.{Do, End as Last, Const, GlobalGet as Get}
+use Rattle.std.proofs.Common.{◌≡◌, ◌↔◌, ℕ, List, [], ◌∷◌, Option, Some, None, Bool, true, false, IsTrue, if◌then◌else◌, option_and_then, slice_get, refl, sym, ap, ◌∙◌}
+use Rattle.wsyntax.specs.Instructions.{Token as Shown, Do, End as Last, Const, GlobalGet as Get}
 use Rattle.wnum.specs.Arithmetic.{unsigned}
 use Rattle.wsyntax.specs.Table.{little_endian}
-use Rattle.wsyntax.specs.Modules.{seen, single_instruction}
+use Rattle.wsyntax.specs.Initials.{has_constant_form, tokens_read}
+use Rattle.wsyntax.specs.Modules.{seen, constant_instruction, initial_tokens}
+use Rattle.wsyntax.specs.declared.module.ConstExpr.{ConstExpr}
+use Rattle.wsyntax.specs.declared.module.ConstExpr.TheVariants as initial
 use Rattle.wsyntax.specs.Validation.Rules.{ConstantOf, one_const, one_get}
 use Rattle.wsyntax.specs.declared.GlobalType.{GlobalType}
 use Rattle.wsyntax.specs.declared.ValType.{ValType}
 use Rattle.wsyntax.specs.declared.ValType.TheVariants.{I32, I64, F32, F64}
 use Rattle.wsyntax.specs.declared.Token.{Token}
-use Rattle.wsyntax.specs.declared.Token.TheVariants.{I32Const, I64Const, F32Const, F64Const, GlobalGet, End}
+use Rattle.wsyntax.specs.declared.Token.TheVariants.{I32Const, I64Const, F32Const, F64Const, GlobalGet}
 use Rattle.wcontext.specs.Constants.{immutable_type, constant_type, constant_of}
 
 -- ---- what is computed is so
@@ -34,56 +37,48 @@ one_holds globals t targets (F64Const n) e = const_holds globals F64 t (little_e
 one_holds globals t targets (GlobalGet x) e = one_get x (global_is (slice_get globals x) t e)
 one_holds globals t targets _ e = cc
 
-pub constant_holds : (globals : List GlobalType) (t : ValType) (targets : List ℕ) (tokens : List Token) → constant_of globals tokens ≡ Some t → ConstantOf globals t (map (seen targets) tokens)
-constant_holds globals t targets [] e = cc
-constant_holds globals t targets (i ∷ []) e = cc
-constant_holds globals t targets (i ∷ End ∷ []) e = one_holds globals t targets i e
-constant_holds globals t targets (i ∷ _ ∷ rest) e = cc
+pub constant_holds : (globals : List GlobalType) (t : ValType) (e : ConstExpr) → constant_of globals e ≡ Some t → ConstantOf globals t (initial_tokens e)
+constant_holds globals t (initial.I32Const n) is = one_holds globals t [] (I32Const n) is
+constant_holds globals t (initial.I64Const n) is = one_holds globals t [] (I64Const n) is
+constant_holds globals t (initial.F32Const n) is = one_holds globals t [] (F32Const n) is
+constant_holds globals t (initial.F64Const n) is = one_holds globals t [] (F64Const n) is
+constant_holds globals t (initial.GlobalGet x) is = one_holds globals t [] (GlobalGet x) is
+constant_holds globals t (initial.Other e) is = cc
 
 -- ---- what is so is computed
 
-is_last : (targets : List ℕ) (j : Token) → seen targets j ≡ Last → j ≡ End
-is_last targets End e = refl
-is_last targets _ e = cc
+-- a constant expression has the form of one
+has_form : (globals : List GlobalType) (t : ValType) (tokens : List Shown) → ConstantOf globals t tokens → has_constant_form tokens ≡ true
+has_form globals t _ (one_const n) = refl
+has_form globals t _ (one_get x there) = refl
 
-const_of : (globals : List GlobalType) (t : ValType) (n : ℕ) (targets : List ℕ) (i : Token) → seen targets i ≡ Do (Const t n) → constant_type globals i ≡ Some t
-const_of globals t n targets (I32Const m) e = cc
-const_of globals t n targets (I64Const m) e = cc
-const_of globals t n targets (F32Const m) e = cc
-const_of globals t n targets (F64Const m) e = cc
-const_of globals t n targets _ e = cc
+const_of : (globals : List GlobalType) (t : ValType) (n : ℕ) (i : Token) → seen [] i ≡ Do (Const t n) → constant_type globals i ≡ Some t
+const_of globals t n (I32Const m) e = cc
+const_of globals t n (I64Const m) e = cc
+const_of globals t n (F32Const m) e = cc
+const_of globals t n (F64Const m) e = cc
+const_of globals t n _ e = cc
 
-get_of : (x : ℕ) (targets : List ℕ) (i : Token) → seen targets i ≡ Do (Get x) → i ≡ GlobalGet x
-get_of x targets (GlobalGet y) e = cc
-get_of x targets _ e = cc
+get_of : (x : ℕ) (i : Token) → seen [] i ≡ Do (Get x) → i ≡ GlobalGet x
+get_of x (GlobalGet y) e = cc
+get_of x _ e = cc
 
-const_known : (globals : List GlobalType) (t : ValType) (n : ℕ) (targets : List ℕ) (tokens : List Token) → map (seen targets) tokens ≡ Do (Const t n) ∷ Last ∷ [] → constant_of globals tokens ≡ Some t
-const_known globals t n targets [] e = cc
-const_known globals t n targets (i ∷ []) e = cc
-const_known globals t n targets (i ∷ j ∷ []) e =
-    let first : seen targets i ≡ Do (Const t n) = cc in
-    let last : seen targets j ≡ Last = cc in rw (is_last targets j last) (const_of globals t n targets i first)
-const_known globals t n targets (i ∷ j ∷ k ∷ rest) e = cc
+one_known : (globals : List GlobalType) (t : ValType) (i : Token) (tokens : List Shown) → ConstantOf globals t tokens → seen [] i ∷ Last ∷ [] ≡ tokens → constant_type globals i ≡ Some t
+one_known globals t i _ (one_const n) e = const_of globals t n i cc
+one_known globals t i _ (one_get x is) e = rw (get_of x i cc, is) refl
 
-get_known : (globals : List GlobalType) (t : ValType) (x : ℕ) (targets : List ℕ) (tokens : List Token) → slice_get globals x ≡ Some record { content = t; mutable = false } → map (seen targets) tokens ≡ Do (Get x) ∷ Last ∷ [] → constant_of globals tokens ≡ Some t
-get_known globals t x targets [] is e = cc
-get_known globals t x targets (i ∷ []) is e = cc
-get_known globals t x targets (i ∷ j ∷ []) is e =
-    let first : seen targets i ≡ Do (Get x) = cc in
-    let last : seen targets j ≡ Last = cc in rw (is_last targets j last, get_of x targets i first, is) refl
-get_known globals t x targets (i ∷ j ∷ k ∷ rest) is e = cc
+pub constant_known : (globals : List GlobalType) (t : ValType) (e : ConstExpr) → ConstantOf globals t (initial_tokens e) → constant_of globals e ≡ Some t
+constant_known globals t (initial.I32Const n) is = one_known globals t (I32Const n) _ is refl
+constant_known globals t (initial.I64Const n) is = one_known globals t (I64Const n) _ is refl
+constant_known globals t (initial.F32Const n) is = one_known globals t (F32Const n) _ is refl
+constant_known globals t (initial.F64Const n) is = one_known globals t (F64Const n) _ is refl
+constant_known globals t (initial.GlobalGet x) is = one_known globals t (GlobalGet x) _ is refl
+constant_known globals t (initial.Other e) is = cc (has_form globals t (tokens_read e.bytes.now) is, e.other)
 
-known_as : (globals : List GlobalType) (t : ValType) (targets : List ℕ) (tokens : List Token) (shown : _) → ConstantOf globals t shown → map (seen targets) tokens ≡ shown → constant_of globals tokens ≡ Some t
-known_as globals t targets tokens _ (one_const n) e = const_known globals t n targets tokens e
-known_as globals t targets tokens _ (one_get x is) e = get_known globals t x targets tokens is e
+-- ---- what the instruction leaves
 
-pub constant_known : (globals : List GlobalType) (t : ValType) (targets : List ℕ) (tokens : List Token) → ConstantOf globals t (map (seen targets) tokens) → constant_of globals tokens ≡ Some t
-constant_known globals t targets tokens is = known_as globals t targets tokens _ is refl
-
--- ---- what the one instruction leaves
-
-pub leaves_constant : (globals : List GlobalType) (t : ValType) (targets : List ℕ) (tokens : List Token) (one : Option Token) (b : Bool) → one ≡ single_instruction tokens
-    → (IsTrue b ↔ (option_and_then (constant_type globals) one ≡ Some t)) → IsTrue b ↔ ConstantOf globals t (map (seen targets) tokens)
-leaves_constant globals t targets tokens one b is test =
-    let same : option_and_then (constant_type globals) one ≡ constant_of globals tokens = ap (option_and_then (constant_type globals)) is in
-    (λ h. constant_holds globals t targets tokens (sym same ∙ test.0 h), λ k. test.1 (same ∙ constant_known globals t targets tokens k))
+pub leaves_constant : (globals : List GlobalType) (t : ValType) (e : ConstExpr) (one : Option Token) (b : Bool) → one ≡ constant_instruction e
+    → (IsTrue b ↔ (option_and_then (constant_type globals) one ≡ Some t)) → IsTrue b ↔ ConstantOf globals t (initial_tokens e)
+leaves_constant globals t e one b is test =
+    let same : option_and_then (constant_type globals) one ≡ constant_of globals e = ap (option_and_then (constant_type globals)) is in
+    (λ h. constant_holds globals t e (sym same ∙ test.0 h), λ k. test.1 (same ∙ constant_known globals t e k))

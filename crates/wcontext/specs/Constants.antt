@@ -1,6 +1,7 @@
 -- 3.3.7.2 The types of constant expressions, computed.
 use Rattle.std.specs.Prelude.{List, Option, Some, None, if◌then◌else◌, option_and_then, slice_get}
-use Rattle.wsyntax.specs.Modules.{single_instruction}
+use Rattle.wsyntax.specs.Modules.{constant_instruction}
+use Rattle.wsyntax.specs.declared.module.ConstExpr.{ConstExpr}
 use Rattle.wsyntax.specs.declared.ValType.TheVariants.{I32, I64, F32, F64}
 use Rattle.wsyntax.specs.declared.GlobalType.{GlobalType}
 use Rattle.wsyntax.specs.declared.ValType.{ValType}
@@ -21,5 +22,5 @@ constant_type globals (token.GlobalGet x) = option_and_then immutable_type (slic
 constant_type globals _ = None
 
 -- the type of a constant expression
-abbrev pub constant_of : List GlobalType → List Token → Option ValType
-constant_of globals tokens = option_and_then (constant_type globals) (single_instruction tokens)
+abbrev pub constant_of : List GlobalType → ConstExpr → Option ValType
+constant_of globals e = option_and_then (constant_type globals) (constant_instruction e)

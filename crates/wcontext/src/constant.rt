@@ -23,8 +23,8 @@ fn constant_type(token: &Token, globals: &[GlobalType]) -> Option<ValType>
     }
 }
 
-/// Whether the one instruction of an expression, where it has one, leaves a value of that type, under these imported
-/// globals.
+/// Whether the instruction of an expression, where it is one constant or one `global.get`, leaves a value of that type, under
+/// these imported globals.
 fn leaves(only: Option<Token>, of_type: ValType, globals: &[GlobalType]) -> bool
     ensures { IsTrue result ↔ (option_and_then (constant_type globals.now) only ≡ Some of_type) }
 {
@@ -35,26 +35,26 @@ fn leaves(only: Option<Token>, of_type: ValType, globals: &[GlobalType]) -> bool
 }
 
 /// Whether an expression is a constant expression of that type (3.3.7.2), under these imported globals.
-fn is_constant(initial: &ConstExpr, of_type: ValType, globals: &[GlobalType]) -> bool
+fn is_constant(initial: &ConstExpr<'_>, of_type: ValType, globals: &[GlobalType]) -> bool
     ensures { IsTrue result ↔ ConstantOf globals.now of_type (initial_tokens initial.now) }
 {
-    leaves(initial.single_instruction(), of_type, globals)
+    leaves(initial.constant_instruction(), of_type, globals)
 }
 
 /// Whether the offset of a segment is a constant expression of type i32 (3.3.7.2), under these imported globals.
 /// A constant i32, as nearly each offset is, is one in place.
 #[inline(always)]
-pub fn is_offset(offset: &ConstExpr, globals: &[GlobalType]) -> bool
+pub fn is_offset(offset: &ConstExpr<'_>, globals: &[GlobalType]) -> bool
     ensures { IsTrue result ↔ ConstantOf globals.now ValType.I32 (initial_tokens offset.now) }
 {
     match offset {
         ConstExpr::I32Const(_) => true,
-        _ => leaves(offset.single_instruction(), ValType::I32, globals),
+        _ => leaves(offset.constant_instruction(), ValType::I32, globals),
     }
 }
 
 /// Whether each global's first value is a constant expression of its type (3.4.4), under these imported globals.
-pub fn are_constant(globals: &[Global], imported: &[GlobalType]) -> bool
+pub fn are_constant(globals: &[Global<'_>], imported: &[GlobalType]) -> bool
     ensures { IsTrue result ↔ All (IsGlobalConstant imported.now) globals.now }
 {
     for global in globals {

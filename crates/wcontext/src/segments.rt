@@ -24,7 +24,7 @@ fn is_element_valid(
 
 /// Whether all element segments are valid.
 pub fn are_elements_valid(
-    segments: &Elements,
+    segments: &Elements<'_>,
     tables: usize,
     functions: usize,
     globals: &[GlobalType],

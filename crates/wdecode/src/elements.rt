@@ -13,7 +13,11 @@ use std::alloc::Global;
 use wsyntax::Elements;
 
 /// Reads `count` functions into the last segment, after those that it has.
-fn functions_at<'a>(elements: &mut Elements, count: u32, bytes: &'a [u8]) -> Result<&'a [u8], Fault>
+fn functions_at<'a>(
+    elements: &mut Elements<'_>,
+    count: u32,
+    bytes: &'a [u8],
+) -> Result<&'a [u8], Fault>
     ensures { GivesFunctions (λ x. x.now) elements.old elements.new result (times_of u32_production.read count bytes.now) }
 {
     let mut rest = bytes;
@@ -28,7 +32,7 @@ fn functions_at<'a>(elements: &mut Elements, count: u32, bytes: &'a [u8]) -> Res
 /// An element segment (5.5.12), which is put after the others.
 fn element_at<'a>(
     alloc: Global,
-    elements: &mut Elements,
+    elements: &mut Elements<'a>,
     bytes: &'a [u8],
 ) -> Result<&'a [u8], Fault>
     ensures { GivesElement (λ x. x.now) elements.old elements.new result (element.read bytes.now) }
@@ -44,7 +48,7 @@ fn element_at<'a>(
 const LEAST_ELEMENT: usize = 3;
 
 /// Element segments, `count` of them in a row. Room is made for as many as the bytes can hold, and for no more.
-fn elements_at(alloc: Global, count: u32, bytes: &[u8]) -> Result<(Elements, &[u8]), Fault>
+fn elements_at(alloc: Global, count: u32, bytes: &[u8]) -> Result<(Elements<'_>, &[u8]), Fault>
     ensures { Gives (λ x. (map element_shape x.0, x.1.now)) result (times_of element.read count bytes.now) }
 {
     let most = bytes.len() / LEAST_ELEMENT;
@@ -57,7 +61,7 @@ fn elements_at(alloc: Global, count: u32, bytes: &[u8]) -> Result<(Elements, &[u
 }
 
 /// The element segments that fill bytes (5.5.12).
-pub fn filled_elements(alloc: Global, bytes: &[u8]) -> Result<Elements, Fault>
+pub fn filled_elements(alloc: Global, bytes: &[u8]) -> Result<Elements<'_>, Fault>
     ensures { Gives (map element_shape) result (whole_at (vector_of element.read) bytes.now) }
 {
     let (count, rest) = u32_at(bytes)?;

@@ -22,10 +22,10 @@ pub enum Section<'a> {
     Functions(Vec<u32>),
     Tables(Vec<Table>),
     Memories(Vec<Limits>),
-    Globals(Vec<Global>),
+    Globals(Vec<Global<'a>>),
     Exports(Vec<Export<'a>>),
     Start(u32),
-    Elements(Elements),
+    Elements(Elements<'a>),
     Code(Vec<&'a [u8]>),
     Data(Vec<Data<'a>>),
 }

@@ -51,7 +51,7 @@ fn import_at(bytes: &[u8]) -> Result<(Import<'_>, &[u8]), Fault>
 
 /// A global (5.5.9).
 #[tactic(auto, unfolding(wsyntax::specs::Binary::Sections::global))]
-fn global_at(alloc: Alloc, bytes: &[u8]) -> Result<(Global, &[u8]), Fault>
+fn global_at(alloc: Alloc, bytes: &[u8]) -> Result<(Global<'_>, &[u8]), Fault>
     ensures { Gives (λ x. (global_shape x.0, x.1.now)) result (global.read bytes.now) }
 {
     let (content, rest) = global_type_at(bytes)?;
@@ -152,7 +152,7 @@ impl<'a> Item<'a> for Import<'a> {
     }
 }
 
-impl<'a> Item<'a> for Global {
+impl<'a> Item<'a> for Global<'a> {
     ghost Shape = { GlobalShape };
 
     ghost shape = { global_shape };
@@ -161,7 +161,7 @@ impl<'a> Item<'a> for Global {
 
     const LEAST: usize = 3;
 
-    fn read(alloc: Alloc, bytes: &'a [u8]) -> Result<(Global, &'a [u8]), Fault> {
+    fn read(alloc: Alloc, bytes: &'a [u8]) -> Result<(Global<'a>, &'a [u8]), Fault> {
         global_at(alloc, bytes)
     }
 }

@@ -27,7 +27,7 @@ fn put_functions(entries: &mut [TableEntry], place: usize, functions: &[u32])
 }
 
 /// Writes the element segments in order, each from its place in `places` on.
-fn put_elements(entries: &mut [TableEntry], segments: &Elements, places: &[u32])
+fn put_elements(entries: &mut [TableEntry], segments: &Elements<'_>, places: &[u32])
     requires within { AllWithin (length entries.old) (element_segments segments.now) }
     requires placed { places.now ≡ places_of (element_segments segments.now) }
     ensures { map entry_of entries.new ≡ put_elements (element_segments segments.now) (map entry_of entries.old) }
@@ -44,7 +44,7 @@ fn put_elements(entries: &mut [TableEntry], segments: &Elements, places: &[u32])
 pub(crate) fn fresh_table(
     alloc: Global,
     table: &Table,
-    segments: &Elements,
+    segments: &Elements<'_>,
     places: &[u32],
 ) -> Result<Vec<TableEntry>, AllocError>
     requires within { AllWithin table.now.limits.min (element_segments segments.now) }

@@ -1,11 +1,9 @@
 -- The functions of element segments lie one after the other, and are all that there are.
-use Rattle.std.proofs.Common.{◌≡◌, ℕ, zero, suc, ◌+◌, ◌-◌, ◌≤◌, ◌<◌, List, [], ◌∷◌, ◌++◌, Option, Some, None, length, take, drop, refl, ap, sym, subst, ◌∙◌, arith, length-append, slice_get, get_or}
+use Rattle.std.proofs.Common.{◌≡◌, ℕ, zero, suc, ◌+◌, ◌-◌, ◌≤◌, ◌<◌, List, [], ◌∷◌, ◌++◌, Some, None, length, drop, refl, ap, sym, subst, ◌∙◌, arith, length-append, slice_get, get_or}
 use Rattle.std.specs.List.{slice_range}
 use Rattle.std.proofs.lemmas.List.{drop-append-le, length-drop}
 use Rattle.std.proofs.Math.ListN.{set}
 use Rattle.std.proofs.Math.Seq.{take-length, set-append_seam, get_or-append_seam}
-use Rattle.wsyntax.specs.declared.module.ConstExpr.{ConstExpr}
-use Rattle.wsyntax.specs.HeldElement.{HeldElement}
 use Rattle.wsyntax.specs.Elements.{element_in, elements_from, FillFrom, start_at, with_function}
 use Rattle.wsyntax.specs.declared.elements.Segment.{Segment}
 use Rattle.wsyntax.proofs.Ranges.{range_stays}

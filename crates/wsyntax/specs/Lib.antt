@@ -5,6 +5,7 @@ pub mod Elements
 pub mod Instructions
 pub mod Brackets
 pub mod Table
+pub mod Initials
 pub mod Modules
 pub mod Binary
 pub mod Validation

@@ -11,6 +11,7 @@ use Rattle.wsyntax.specs.declared.module.Module.{Module}
 use Rattle.wsyntax.specs.declared.module.Expression.{Expression}
 use Rattle.wsyntax.specs.declared.module.ConstExpr.{ConstExpr}
 use Rattle.wsyntax.specs.declared.module.ConstExpr.TheVariants as initial
+use Rattle.wsyntax.specs.Initials.{tokens_read}
 use Rattle.wsyntax.specs.declared.module.Table.{Table}
 use Rattle.wsyntax.specs.declared.module.Global.{Global}
 use Rattle.wsyntax.specs.declared.module.Data.{Data}
@@ -64,22 +65,23 @@ abbrev pub single_instruction : List Flat → Option Flat
 single_instruction (t ∷ flat.End ∷ []) = Some t
 single_instruction _ = None
 
--- what the expression of a first value or an offset holds: the tokens of the code, the list of targets, and what they stand for
-abbrev pub initial_held : ConstExpr → List Flat
-initial_held initial.Nothing = flat.End ∷ []
-initial_held (initial.I32Const n) = flat.I32Const n ∷ flat.End ∷ []
-initial_held (initial.I64Const n) = flat.I64Const n ∷ flat.End ∷ []
-initial_held (initial.F32Const bytes) = flat.F32Const bytes ∷ flat.End ∷ []
-initial_held (initial.F64Const bytes) = flat.F64Const bytes ∷ flat.End ∷ []
-initial_held (initial.GlobalGet x) = flat.GlobalGet x ∷ flat.End ∷ []
-initial_held (initial.Other e) = e.value.tokens.items
+-- the instruction of an expression of one constant, or of one global.get
+abbrev pub constant_instruction : ConstExpr → Option Flat
+constant_instruction (initial.I32Const n) = Some (flat.I32Const n)
+constant_instruction (initial.I64Const n) = Some (flat.I64Const n)
+constant_instruction (initial.F32Const bytes) = Some (flat.F32Const bytes)
+constant_instruction (initial.F64Const bytes) = Some (flat.F64Const bytes)
+constant_instruction (initial.GlobalGet x) = Some (flat.GlobalGet x)
+constant_instruction (initial.Other e) = None
 
-abbrev pub initial_targets : ConstExpr → List ℕ
-initial_targets (initial.Other e) = e.value.targets.items
-initial_targets _ = []
-
+-- the tokens of the expression of a first value or an offset
 abbrev pub initial_tokens : ConstExpr → List Token
-initial_tokens i = map (seen (initial_targets i)) (initial_held i)
+initial_tokens (initial.I32Const n) = seen [] (flat.I32Const n) ∷ End ∷ []
+initial_tokens (initial.I64Const n) = seen [] (flat.I64Const n) ∷ End ∷ []
+initial_tokens (initial.F32Const bytes) = seen [] (flat.F32Const bytes) ∷ End ∷ []
+initial_tokens (initial.F64Const bytes) = seen [] (flat.F64Const bytes) ∷ End ∷ []
+initial_tokens (initial.GlobalGet x) = seen [] (flat.GlobalGet x) ∷ End ∷ []
+initial_tokens (initial.Other e) = tokens_read e.bytes.now
 
 -- ---- 2.5 modules
 

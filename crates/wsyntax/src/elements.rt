@@ -12,23 +12,23 @@ use std::mem::size_of;
 #[derive(Clone, Copy, Debug)]
 pub struct Element<'a> {
     pub table: u32,
-    pub offset: &'a ConstExpr,
+    pub offset: &'a ConstExpr<'a>,
     pub functions: &'a [u32],
 }
 
 /// The table and the offset of one segment, and where its functions end in the list: they begin where those of the segment
 /// before it end.
-#[derive(Debug, Drop)]
-pub(crate) struct Segment {
+#[derive(Clone, Copy, Debug)]
+pub(crate) struct Segment<'a> {
     pub(crate) table: u32,
     pub(crate) end: u32,
-    pub(crate) offset: ConstExpr,
+    pub(crate) offset: ConstExpr<'a>,
 }
 
-const _: () = prove!(size_of::<Segment>() == 24);
+const _: () = prove!(size_of::<Segment<'static>>() == 32);
 
 /// Where the functions of the segment of that number begin.
-fn start_of(segments: &[Segment], number: usize) -> u32
+fn start_of(segments: &[Segment<'_>], number: usize) -> u32
     requires { number < length segments.now }
     ensures { result ≡ start_at 0 segments.now number }
 {
@@ -52,12 +52,12 @@ fn part(functions: &[u32], start: u32, end: u32) -> &[u32]
 /// Element segments, by their numbers: the functions of all of them in one list, and of each its part of the list. A
 /// list of its own would cost a short segment several times its bytes.
 #[derive(Debug, Drop)]
-pub struct Elements {
+pub struct Elements<'a> {
     functions: Vec<u32>,
-    segments: Vec<Segment>,
+    segments: Vec<Segment<'a>>,
 }
 
-impl Model for Elements {
+impl<'a> Model for Elements<'a> {
     ghost use Rattle.std.specs.Prelude.{List};
     ghost use Rattle.wsyntax.specs.HeldElement.{HeldElement};
     ghost use Rattle.wsyntax.specs.Elements.{held_elements, AreAll};
@@ -69,12 +69,12 @@ impl Model for Elements {
     ghost invariant = { AreAll };
 }
 
-impl Elements {
+impl<'a> Elements<'a> {
     ghost use Rattle.std.specs.Prelude.{[], ◌∷◌, ◌++◌, length, slice_get, option_map};
     ghost use Rattle.wsyntax.specs.Elements.{element_of, with_function};
 
     /// No segments, and no room.
-    pub fn new(alloc: Alloc) -> Elements
+    pub fn new(alloc: Alloc) -> Elements<'a>
         ensures { result ≡ [] }
     {
         Elements {
@@ -84,7 +84,7 @@ impl Elements {
     }
 
     /// No segments, and room for `count`, their functions apart.
-    pub fn with_capacity(alloc: Alloc, count: usize) -> Result<Elements, AllocError>
+    pub fn with_capacity(alloc: Alloc, count: usize) -> Result<Elements<'a>, AllocError>
         ensures { IfOk result (λ es. es ≡ []) }
     {
         Ok(Elements {
@@ -94,8 +94,8 @@ impl Elements {
     }
 
     /// Pushes a segment that has no functions yet.
-    pub fn push(&mut self, table: u32, offset: ConstExpr) -> Result<(), AllocError>
-        ensures { IfOk result (λ _. self.new ≡ self.old ++ (record { table = table; offset = offset; functions = [] }) ∷ []) }
+    pub fn push(&mut self, table: u32, offset: ConstExpr<'a>) -> Result<(), AllocError>
+        ensures { IfOk result (λ _. self.new ≡ self.old ++ (record { table = table; offset = offset.entry; functions = [] }) ∷ []) }
     {
         let end = place_in_list(self.functions.len())?;
         self.segments.push(Segment { table, end, offset })?;

@@ -13,6 +13,7 @@ mod instructions;
 mod module;
 mod opcode;
 mod operator_rows;
+mod other_expression;
 mod outcome;
 mod places;
 mod rows;
@@ -33,6 +34,7 @@ pub use module::{
 };
 pub use opcode::Opcode;
 pub use operator_rows::{Arity, OperatorRow};
+pub use other_expression::OtherExpression;
 pub use outcome::Outcome;
 pub use rows::row;
 pub use start_refusal::StartRefusal;

@@ -5,6 +5,7 @@ ghost use Rattle.wsyntax.specs.Brackets.{closes, lies_within};
 use crate::elements::Elements;
 use crate::func_types::FuncTypes;
 use crate::instructions::Token;
+use crate::other_expression::OtherExpression;
 use crate::types::{GlobalType, Limits, ValType};
 use std::alloc::Global as Alloc;
 use std::mem::size_of;
@@ -18,28 +19,26 @@ pub struct Expression {
     pub ghost within: { IsTrue (list_all (lies_within (length targets.items)) tokens.items) },
 }
 
-/// The expression of a first value (2.5.6) or of an offset (2.5.7, 2.5.8): in place where it is empty, one constant or one
-/// `global.get`, and in an allocation of its own where it is any other.
-#[derive(Debug, Drop)]
-pub enum ConstExpr {
-    Nothing,
+/// The expression of a first value (2.5.6) or of an offset (2.5.7, 2.5.8).
+#[derive(Clone, Copy, Debug)]
+pub enum ConstExpr<'a> {
     I32Const(i32),
     I64Const(i64),
     /// The bytes of the float, uninterpreted.
     F32Const([u8; 4]),
     F64Const([u8; 8]),
     GlobalGet(u32),
-    Other(Box<Expression>),
+    Other(OtherExpression<'a>),
 }
 
-const _: () = prove!(size_of::<ConstExpr>() == 16);
+const _: () = prove!(size_of::<ConstExpr<'static>>() == 24);
 
 impl Expression {
     ghost use Rattle.std.specs.Prelude.{◌≡◌};
     ghost use Rattle.wsyntax.specs.Modules.{single_instruction};
 
     /// The one instruction of the expression, where it is one and its end.
-    fn single_instruction(&self) -> Option<Token>
+    pub fn single_instruction(&self) -> Option<Token>
         ensures { result ≡ single_instruction self.now.tokens.items }
     {
         match self.tokens.as_slice() {
@@ -49,22 +48,21 @@ impl Expression {
     }
 }
 
-impl ConstExpr {
+impl<'a> ConstExpr<'a> {
     ghost use Rattle.std.specs.Prelude.{◌≡◌};
-    ghost use Rattle.wsyntax.specs.Modules.{single_instruction, initial_held};
+    ghost use Rattle.wsyntax.specs.Modules.{constant_instruction};
 
-    /// The one instruction of the expression, where it is one and its end.
-    pub fn single_instruction(&self) -> Option<Token>
-        ensures { result ≡ single_instruction (initial_held self.now) }
+    /// The instruction of an expression of one constant, or of one `global.get`.
+    pub fn constant_instruction(&self) -> Option<Token>
+        ensures { result ≡ constant_instruction self.now }
     {
         match self {
-            ConstExpr::Nothing => None,
             ConstExpr::I32Const(number) => Some(Token::I32Const(*number)),
             ConstExpr::I64Const(number) => Some(Token::I64Const(*number)),
             ConstExpr::F32Const(bytes) => Some(Token::F32Const(*bytes)),
             ConstExpr::F64Const(bytes) => Some(Token::F64Const(*bytes)),
             ConstExpr::GlobalGet(global) => Some(Token::GlobalGet(*global)),
-            ConstExpr::Other(expression) => expression.single_instruction(),
+            ConstExpr::Other(_) => None,
         }
     }
 }
@@ -76,17 +74,17 @@ pub struct Table {
 }
 
 /// A global (2.5.6) and the expression of its first value.
-#[derive(Debug, Drop)]
-pub struct Global {
+#[derive(Clone, Copy, Debug)]
+pub struct Global<'a> {
     pub content: GlobalType,
-    pub init: ConstExpr,
+    pub init: ConstExpr<'a>,
 }
 
 /// A data segment (2.5.8): the index of its memory, the expression of its offset, and its bytes, which lie in the input.
-#[derive(Debug, Drop)]
+#[derive(Clone, Copy, Debug)]
 pub struct Data<'a> {
     pub memory: u32,
-    pub offset: ConstExpr,
+    pub offset: ConstExpr<'a>,
     pub bytes: &'a [u8],
 }
 
@@ -148,10 +146,10 @@ pub struct Module<'a> {
     pub functions: Vec<u32>,
     pub tables: Vec<Table>,
     pub memories: Vec<Limits>,
-    pub globals: Vec<Global>,
+    pub globals: Vec<Global<'a>>,
     pub exports: Vec<Export<'a>>,
     pub start: Option<u32>,
-    pub elements: Elements,
+    pub elements: Elements<'a>,
     pub bodies: Vec<&'a [u8]>,
     pub data: Vec<Data<'a>>,
 }

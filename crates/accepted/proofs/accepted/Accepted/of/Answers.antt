@@ -38,6 +38,18 @@ of-requires-clause-elements c = c.requires.judged.rules 12
 pub of-requires-clause-segments : goal.of-requires-clause-segments
 of-requires-clause-segments c = c.requires.judged.rules 13
 
+-- ---- what the search for floats asks for
+
+-- rule 8 is kept
+pub has_floats-uses_floats-requires-clause-globals : goal.has_floats-uses_floats-requires-clause-globals
+has_floats-uses_floats-requires-clause-globals c = c.requires.judged.rules 8
+
+pub has_floats-uses_floats-requires-clause-elements : goal.has_floats-uses_floats-requires-clause-elements
+has_floats-uses_floats-requires-clause-elements c = c.requires.judged.rules 12
+
+pub has_floats-uses_floats-requires-clause-segments : goal.has_floats-uses_floats-requires-clause-segments
+has_floats-uses_floats-requires-clause-segments c = c.requires.judged.rules 13
+
 -- ---- what the holders know
 
 pub invariant_of-result-clause-judged : goal.invariant_of-result-clause-judged

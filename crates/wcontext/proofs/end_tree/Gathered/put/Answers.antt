@@ -1,4 +1,4 @@
-use Rattle.std.proofs.Common.{◌≡◌, ◌+◌, [], ◌∷◌, ◌++◌, length, arith, ap, subst, ◌∙◌, sym}
+use Rattle.std.proofs.Common.{◌≡◌, ◌+◌, [], ◌∷◌, ◌++◌, length, arith, subst, ◌∙◌, sym}
 use Rattle.wcontext.specs.Trie.{HasFronts}
 use Rattle.wcontext.proofs.Gathering.{put_long}
 use Rattle.wcontext.proofs.end_tree.Gathered.put.Goals as goal

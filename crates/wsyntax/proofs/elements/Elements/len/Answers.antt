@@ -1,4 +1,4 @@
-use Rattle.std.proofs.Common.{◌≡◌, sym, ap, ◌∙◌, length}
+use Rattle.std.proofs.Common.{sym, ap, ◌∙◌, length}
 use Rattle.wsyntax.proofs.Segments.{count_from}
 use Rattle.wsyntax.proofs.elements.Elements.len.Goals as goal
 

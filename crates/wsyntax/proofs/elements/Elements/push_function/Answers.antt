@@ -1,4 +1,4 @@
-use Rattle.std.proofs.Common.{rules, ◌≡◌, ◌<◌, ◌+◌, ◌-◌, sym, ap, ◌∙◌, subst, ◌++◌, ◌∷◌, [], length, List, arith, refl, ℕ}
+use Rattle.std.proofs.Common.{rules, ◌≡◌, ◌<◌, ◌+◌, ◌-◌, sym, ap, ◌∙◌, subst, ◌++◌, ◌∷◌, [], length, List, arith, ℕ}
 use Rattle.std.proofs.Math.ListN.{set, get_or}
 use Rattle.wsyntax.specs.HeldElement.{HeldElement}
 use Rattle.wsyntax.specs.Elements.{FillFrom, elements_from, with_function}
