@@ -86,13 +86,13 @@ fn differing(context: &Context, types: &FuncTypes) -> Option<((u32, u32), (u32, 
     None
 }
 
-/// The bytes of a body: all of them are enough for a tree of all long lists, and 900 for the lists of 601 types alone.
-static BODY: [u8; 4_000] = [0; 4_000];
+/// The bytes of a body: all of them are enough for a tree of all long lists, and 4,000 for the lists of 601 types alone.
+static BODY: [u8; 8_000] = [0; 8_000];
 
 #[test]
 fn fronts_of_long_lists_are_ends_where_comparing_says_so(rt: HostRuntime) -> Result<(), Fail> {
     let types = long_lists(rt.alloc())?;
-    for body in [&BODY[..0], &BODY[..900], &BODY[..]] {
+    for body in [&BODY[..0], &BODY[..4_000], &BODY[..]] {
         let mut module = Module::empty(rt.alloc());
         module.types = long_lists(rt.alloc())?;
         module.bodies.push(body)?;

@@ -14,9 +14,16 @@ pub(crate) const LONG: usize = 256;
 /// In the place of the start of a list that is not taken in.
 const NONE: u32 = u32::MAX;
 
-/// Lists are compared where the bodies can have so many types compared, at most, for each type of all long lists. That
-/// takes 8 to 27 ns for each type of all, the tree 35 to 115 for each type that it takes in.
-const COMPARED: usize = 256;
+/// Lists are compared where the bodies can have so many types compared, at most, for each type of all long lists, as one
+/// for each of their bytes. That takes up to 60 ns for each type of all, the tree 35 to 75 for each that it takes in.
+const COMPARED: usize = 1_024;
+
+/// Two lists of this many types fill the nearest cache of a processor: to compare longer ones takes up to three times as long
+/// a type, and to take them in takes less.
+const FAR: usize = 16_384;
+
+/// The same as `COMPARED`, of lists of at least `FAR` types.
+const COMPARED_FAR: usize = 256;
 
 /// The places of the first fronts of a function type's lists.
 #[derive(Clone, Copy, Debug)]
@@ -84,11 +91,17 @@ impl LongLists {
         long
     }
 
-    /// From how many types on a list is taken in, as those of which one may be compared for each byte of the bodies;
-    /// `None` where no list has as many.
+    /// From how many types on a list is taken in, where bodies of `size` bytes may have `compared` types compared for each
+    /// type of all; `None` where there is no byte.
+    fn least_by(self, compared: usize, size: usize) -> Option<usize> {
+        self.types.saturating_mul(compared).checked_div(size)
+    }
+
+    /// From how many types on a list is taken in; `None` where no list has as many.
     fn least_taken(self, bodies: &[&[u8]]) -> Option<usize> {
-        let compared = self.types.saturating_mul(COMPARED);
-        let least = compared.checked_div(size_of_all(bodies))?.max(LONG);
+        let size = size_of_all(bodies);
+        let far = self.least_by(COMPARED_FAR, size)?.max(FAR);
+        let least = self.least_by(COMPARED, size)?.min(far).max(LONG);
         if self.longest < least {
             return None;
         }
