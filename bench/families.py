@@ -193,6 +193,11 @@ def types_of(lengths, results=False):
     return make
 
 
+def bytes_for_the_tree(types, longest):
+    # So many bytes of bodies are just enough for the tree of ends to take in lists of that length.
+    return types * (1_024 if longest < 16_384 else 256) / longest
+
+
 def pairs_of_lists(shapes, asked, enough=True, far=False):
     """Pairs of lists of types at random: one that is given, and the same without its first type, which is taken; or, `far`, without
     as many of its first types as chance says, up to half of them.
@@ -201,7 +206,8 @@ def pairs_of_lists(shapes, asked, enough=True, far=False):
     random. It is just long enough for the tree of ends to take in the longest lists, or just too short.
     """
     def make(size, dead, chance):
-        needed = 256 / min(max(shapes), size // 5) * (1.05 if enough else 0.95)
+        longest = min(max(shapes), size // 5)
+        needed = bytes_for_the_tree(1.05 if enough else 0.95, longest)
         types, calls = [EMPTY], []
         for length, share in shapes.items():
             for _ in range(max(1, int(size / (1 + needed) * share / 2 / length))):
@@ -214,10 +220,28 @@ def pairs_of_lists(shapes, asked, enough=True, far=False):
     return of_code(make)
 
 
-def compared_lists(size, dead, chance):
-    # Blocks over two lists that are the same, of half of the bytes each, in code that is just too short for the tree of ends.
-    many = [chance.choice([I32, I64]) for _ in range(size // 2 - 1_100)]
-    return b'\x02\x01\x0B' * 165 + b'\x00', {'types': [EMPTY, function_type(many, many)]}
+def two_lists(share):
+    def make(size, dead, chance):
+        # Blocks over two lists that are the same, which have that share of the bytes, in code that is just too short for the tree.
+        many = [chance.choice([I32, I64]) for _ in range(int(size * share) // 2)]
+        types = [EMPTY, function_type(many, many)]
+        return b'\x02\x01\x0B' * int(bytes_for_the_tree(2 * len(many), len(many)) * 0.95 / 3) + b'\x00', {'types': types}
+    return of_code(make)
+
+
+def tables_of_lists(length):
+    """A branch table of labels of long lists, all the same at different places, which is just too short for the tree of ends: each
+    of its bytes has two of these lists compared."""
+    def make(size, dead, chance):
+        many = chance.choices([I32, I64, F32, F64], k=min(length, size // 5))
+        needed = bytes_for_the_tree(0.95, len(many))
+        count = max(1, int(size / (1 + needed) / len(many)))
+        labels = [unsigned(k) for k in range(min(count, 127))]
+        code = b''.join(b'\x02' + signed(k + 1) for k in range(len(labels))) + b'\x10\x01\x41\x00'
+        table = vector(chance.choices(labels, k=max(1, int(needed * count * len(many)) - 2 * len(code)))) + labels[0]
+        types = [EMPTY] + [function_type([], many)] * count
+        return code + b'\x0E' + table + b'\x0B' * len(labels) + b'\x00', {'types': types, 'others': [(1, b'\x00\x00\x0B')]}
+    return of_code(make)
 
 
 def one_list(size, chance):
@@ -435,10 +459,15 @@ FAMILIES = {
     'calls of long lists': (DEAD, long_list(True, lambda n: b'\x10\x01' * (n // 2))),
     'pairs of lists of 256 types': (DEAD, pairs_of_lists({256: 1.0}, 256)),
     'pairs of lists of 2,000 types': (DEAD, pairs_of_lists({2_000: 1.0}, 2_000)),
+    'pairs of lists of 8,000 types': (DEAD, pairs_of_lists({8_000: 1.0}, 8_000)),
+    'pairs of lists of 17,000 types': (DEAD, pairs_of_lists({17_000: 1.0}, 17_000)),
     'pairs of lists that lie far apart': (DEAD, pairs_of_lists({8_000: 1.0}, 8_000, far=True)),
     'short lists beside the longest': (DEAD, pairs_of_lists({300: 0.85, 1_000_000: 0.15}, 1_000_000)),
     'lists too short for the tree': (DEAD, pairs_of_lists({2_000: 0.9, 1_900: 0.1}, 1_900)),
-    'blocks of two lists': (DEAD, of_code(compared_lists)),
+    'branch tables of 2,000 types': (LIVE, tables_of_lists(2_000)),
+    'branch tables of 16,000 types': (LIVE, tables_of_lists(16_000)),
+    'branch tables of 100,000 types': (LIVE, tables_of_lists(100_000)),
+    'blocks of two lists': (DEAD, two_lists(0.99)),
     'blocks of long lists': (DEAD, long_list(True, lambda n: b'\x02\x01\x0B' * (n // 3))),
     'branches over long lists': (DEAD, long_list(True, branches_in_a_block)),
     'ends of long lists': (DEAD, of_lists(ends_of_lists)),
