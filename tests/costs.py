@@ -4,11 +4,11 @@
 A call of a module of n bytes, with F fuel and P pages, whose longest body has L tokens and whose longest list of types has V
 types, takes at most
 
-    n x 4 ns + P x 100 us + (F + 1) x (100 us + L x (20 ns + V x 8 ns)) + V x 200 ns
+    n x 4 ns + P x 100 us + (F + 1) x (100 us + L x (40 ns + V x 8 ns)) + V x 200 ns
 
 of a processor: its instance; the memory that it has written; its entries and turns of loops; its printed values. Judging the
-module comes before, once, and is measured apart and taken away. Each module is made for one term. The constants are some three
-times what a machine of 2.5 GHz takes, so that a busy machine passes too; what is measured is the processor's time.
+module comes before, once, and is measured apart and taken away. Each module is made for one term. The constants are some two
+to three times what machines of 2.5 GHz take, so that a busy one passes too; what is measured is the processor's time.
 """
 import argparse
 import os
@@ -33,7 +33,7 @@ class Case:
 
     def bound(self):
         """The seconds that a call may take."""
-        entries = (self.fuel + 1) * (100e-6 + self.tokens * (20e-9 + self.types * 8e-9))
+        entries = (self.fuel + 1) * (100e-6 + self.tokens * (40e-9 + self.types * 8e-9))
         return len(self.module) * 4e-9 + self.pages * 100e-6 + entries + self.types * 200e-9
 
 
