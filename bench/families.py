@@ -345,6 +345,12 @@ def over_a_run(token):
     return of_code(make)
 
 
+def over_nine(size, dead, chance):
+    # Operators over lists of nine types, each of which a call has given.
+    types = [EMPTY, function_type([], [I32] * 9)]
+    return (b'\x10\x01' + b'\x6A' * 8) * (size // 10) + b'\x00', {'types': types, 'others': [(1, b'\x00\x00\x0B')]}
+
+
 def branches_in_a_block(size):
     return b'\x02\x40\x00\x02\x01' + b'\x41\x00\x0D\x00' * (size // 4) + b'\x0B\x00\x0B'
 
@@ -429,6 +435,7 @@ FAMILIES = {
     'indirect calls at random': (ANYWHERE, of_code(indirect_calls)),
     'blocks of types at random': (DEAD, of_code(blocks_at_random)),
     'operators over a run': (LIVE, over_a_run(b'\x6A')),
+    'operators over nine types': (LIVE, of_code(over_nine)),
     'drops over a run': (LIVE, over_a_run(b'\x1A')),
     'exports of short names': (SECTIONS, exports(1)),
     'exports of long fronts': (SECTIONS, exports(56)),
@@ -452,6 +459,7 @@ FAMILIES = {
     'data segments': (SECTIONS, of_sections(data_segments)),
     'custom sections': (SECTIONS, custom_sections),
     'blocks of 255 types': (LIVE, short_lists(lambda n: b'\x02\x02\x0B' * (n // 3))),
+    'loops of 255 types, nested': (LIVE, short_lists(lambda n: b'\x03\x02' * (n // 3) + b'\x0B' * (n // 3))),
     'calls of 255 types': (LIVE, short_lists(lambda n: b'\x10\x02' * (n // 2))),
     'calls of 255 types, shifted': (LIVE, short_lists(lambda n: b'\x10\x03\x10\x04\x10\x01' * (n // 6))),
     'branch tables of 255 types': (LIVE, of_code(tables_of_short_lists)),
