@@ -220,13 +220,11 @@ def pairs_of_lists(shapes, asked, enough=True, far=False):
     return of_code(make)
 
 
-def two_lists(share):
-    def make(size, dead, chance):
-        # Blocks over two lists that are the same, which have that share of the bytes, in code that is just too short for the tree.
-        many = [chance.choice([I32, I64]) for _ in range(int(size * share) // 2)]
-        types = [EMPTY, function_type(many, many)]
-        return b'\x02\x01\x0B' * int(bytes_for_the_tree(2 * len(many), len(many)) * 0.95 / 3) + b'\x00', {'types': types}
-    return of_code(make)
+def two_lists(size, dead, chance):
+    # Blocks over two lists that are the same, which have nearly all bytes, in code that is just too short for the tree.
+    many = [chance.choice([I32, I64]) for _ in range(size * 99 // 200)]
+    types = [EMPTY, function_type(many, many)]
+    return b'\x02\x01\x0B' * int(bytes_for_the_tree(2 * len(many), len(many)) * 0.95 / 3) + b'\x00', {'types': types}
 
 
 def tables_of_lists(length):
@@ -475,7 +473,7 @@ FAMILIES = {
     'branch tables of 2,000 types': (LIVE, tables_of_lists(2_000)),
     'branch tables of 16,000 types': (LIVE, tables_of_lists(16_000)),
     'branch tables of 100,000 types': (LIVE, tables_of_lists(100_000)),
-    'blocks of two lists': (DEAD, two_lists(0.99)),
+    'blocks of two lists': (DEAD, of_code(two_lists)),
     'blocks of long lists': (DEAD, long_list(True, lambda n: b'\x02\x01\x0B' * (n // 3))),
     'branches over long lists': (DEAD, long_list(True, branches_in_a_block)),
     'ends of long lists': (DEAD, of_lists(ends_of_lists)),

@@ -7,8 +7,9 @@ types, takes at most
     n x 4 ns + P x 100 us + (F + 1) x (100 us + L x (40 ns + V x 8 ns)) + V x 200 ns
 
 of a processor: its instance; the memory that it has written; its entries and turns of loops; its printed values. Judging the
-module comes before, once, and is measured apart and taken away. Each module is made for one term. The constants are some two
-to three times what machines of 2.5 GHz take, so that a busy one passes too; what is measured is the processor's time.
+module comes before, once, and is measured apart and taken away. Each module is made for one term. The constants are twice
+what a busy machine of 2.5 GHz takes and more, and some six times what an idle one does: a token of a loop takes 6 to 16 ns. What
+is measured is the processor's time.
 """
 import argparse
 import os
