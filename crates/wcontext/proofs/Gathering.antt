@@ -10,14 +10,15 @@ use Rattle.wsyntax.specs.Validation.ModuleContext.{type_at}
 use Rattle.wcontext.specs.declared.lists.TypeList.TheVariants.{Nothing, One, Params, Results}
 use Rattle.wcontext.specs.declared.end_tree.Starts.{Starts}
 use Rattle.wcontext.specs.declared.end_tree.Gathered.{Gathered}
-use Rattle.wcontext.specs.declared.walk.Numbers.{Numbers}
+use Rattle.wcontext.specs.declared.nodes.Node.{Node}
 use Rattle.wcontext.specs.declared.trie.Reading.{Reading}
-use Rattle.wcontext.specs.declared.trie.Nodes.{Nodes}
+use Rattle.wcontext.specs.declared.trie.Trie.{Trie}
 use Rattle.wcontext.specs.Lists.{list_of, IsEnd}
-use Rattle.wcontext.specs.Trie.{text, HasFronts, IsUnread, AreNodesOf}
+use Rattle.wcontext.specs.Nodes.{text}
+use Rattle.wcontext.specs.Trie.{HasFronts, IsUnread, AreNodesOf}
 use Rattle.wcontext.specs.Walk.{AreNumbersOf}
 use Rattle.wcontext.specs.EndTree.{none, starts_at, start_in, AreEndsAt, HaveFronts, IsGatheredFrom, PutsList}
-use Rattle.wcontext.proofs.Tries.{text_front}
+use Rattle.wcontext.proofs.Links.{text_front}
 
 -- the fronts of a list, up to that many types
 fronts_to : List ValType → ℕ → List (List ValType)
@@ -116,9 +117,9 @@ gathered_next types old mid new t s kept before params results is more =
     )
 
 -- the numbers of the nodes become those of the fronts
-pub ends_read : (all : List (List ValType)) (lists : List Reading) (nodes : Nodes) (numbers : List Numbers) → All (IsUnread all) lists → AreNodesOf lists nodes → AreNumbersOf nodes.links.items numbers → AreEndsAt all nodes.fronts.items numbers
-ends_read all lists nodes numbers unread are given a b here there from to =
-    let fronts = nodes.fronts.items in
+pub ends_read : (all : List (List ValType)) (lists : List Reading) (trie : Trie) (numbered : List Node) → All (IsUnread all) lists → AreNodesOf lists trie → AreNumbersOf trie.nodes.nodes.items numbered → AreEndsAt all trie.fronts.items numbered
+ends_read all lists trie numbered unread are given a b here there from to =
+    let fronts = trie.fronts.items in
     let some = are all unread in
     let texts = some.0 in
     let p = some.2 a here.0 in

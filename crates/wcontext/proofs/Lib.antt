@@ -8,6 +8,8 @@ pub mod Exports
 pub mod Made
 pub mod Kept
 pub mod EndsOfLists
+pub mod Children
+pub mod Links
 pub mod Tries
 pub mod Walks
 pub mod Gathering

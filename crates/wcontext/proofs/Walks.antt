@@ -1,13 +1,31 @@
--- A walk that goes on by one node.
-use Rattle.std.proofs.Common.{◌≡◌, ◌≢◌, ℕ, ◌+◌, ◌<◌, ◌≤◌, List, [], ◌∷◌, ◌++◌, length, get_or, set, sym, ap, subst, ◌∙◌, arith, inl, inr, length-set}
+-- Nodes that are counted and numbered.
+use Rattle.std.proofs.Common.{◌≡◌, ◌≢◌, ℕ, ◌+◌, ◌<◌, ◌≤◌, List, length, drop, get_or, set, refl, sym, ap, subst, ◌∙◌, arith, inl, inr, length-set}
 use Rattle.std.proofs.lemmas.Bool.{cases_lt, cases_eq}
-use Rattle.std.proofs.lemmas.List.{get_or_append_left, get_or_push, get_or-set_same, get_or-set_other}
+use Rattle.std.proofs.lemmas.Bool.Decides.{nat_tests}
+use Rattle.std.proofs.lemmas.List.{get_or-set_same, get_or-set_other, drop-set-lt, at_drop_more, at_drop_all}
 use Rattle.wsyntax.specs.declared.ValType.{ValType}
-use Rattle.wcontext.specs.declared.walk.Numbers.{Numbers}
+use Rattle.wcontext.specs.declared.nodes.Node.{Node}
 use Rattle.wcontext.specs.Lists.{IsEnd}
-use Rattle.wcontext.specs.Trie.{text, IsLinked}
-use Rattle.wcontext.specs.Walk.{IsWalk, start_at, end_at}
-use Rattle.wcontext.proofs.Tries.{end_itself, end_through}
+use Rattle.wcontext.specs.Nodes.{text, above_at, below_at, IsLinked}
+use Rattle.wcontext.specs.Walk.{IsWalk, HaveLinksOf, count_at, IsCounted, AreCounted, IsCountedFrom}
+use Rattle.wcontext.proofs.Children.{above_kept, below_there, below_kept}
+use Rattle.wcontext.proofs.Links.{end_itself, end_through}
+
+-- ---- counting
+
+count_more : (nodes : List Node) (i q : ℕ) → i < length nodes → (above_at nodes i ≡ q → count_at (drop i nodes) q ≡ below_at nodes i + count_at (drop (i + 1) nodes) q) × (above_at nodes i ≢ q → count_at (drop i nodes) q ≡ count_at (drop (i + 1) nodes) q)
+count_more nodes i q within =
+    let step = at_drop_more (λ (l : List Node). count_at l q) nodes i record { above = 0; below = 0 } within in
+    (λ same. grind (arith, nat_tests), λ other. grind (arith, nat_tests))
+
+pub linked_alike : (texts : List (List ValType)) (old new : List Node) → HaveLinksOf old new → IsLinked texts old → IsLinked texts new
+linked_alike texts old new same linked = record {
+  size = same.size ∙ linked.size;
+  below = λ q above within. omega (arith, same.links q, linked.below q above within);
+  ends = λ q above within. rw (same.links q) (linked.ends q above within);
+}
+
+-- ---- numbering
 
 pub walk_more : (R : ℕ → ℕ → Type 0) (s e n u v m : ℕ → ℕ) (i f : ℕ) → IsWalk R s e n i → ((a : ℕ) → R a a) → ((a : ℕ) → R a f → R a i) → f < i → n f < v i → v i ≤ e f → u i ≡ n f → m i ≡ n f + 1 → m f ≡ v i
     → ((a : ℕ) → a < i → u a ≡ s a) → ((a : ℕ) → a < i → v a ≡ e a) → ((a : ℕ) → a < i → a ≢ f → m a ≡ n a) → IsWalk R u v m (i + 1)
@@ -72,30 +90,38 @@ walk_more R s e n u v m i f walk itself through before some within here next use
       ];
     }
 
--- the node whose link leads to f is numbered
-pub walk_next : (texts : List (List ValType)) (links next then : List ℕ) (ns ms : List Numbers) (node f start end : ℕ) → IsLinked texts links
-    → IsWalk (λ a b. IsEnd (text texts a) (text texts b)) (start_at ns) (end_at ns) (λ a. get_or next a 0) node
-    → length ns ≡ node → node < length next → 0 < node → node < length links → f ≡ get_or links node 0 → start ≡ get_or next f 0 → start < end → end ≤ end_at ns f
-    → ms ≡ ns ++ record { start = start; end = end } ∷ [] → then ≡ set (set next f end) node (start + 1)
-    → IsWalk (λ a b. IsEnd (text texts a) (text texts b)) (start_at ms) (end_at ms) (λ a. get_or then a 0) (node + 1)
-walk_next texts links next then ns ms node f start end linked walk count size some within is at one most more later =
-    let none : Numbers = record { start = 0; end = 0 } in
-    let new : Numbers = record { start = start; end = end } in
-    let inside : node < length texts = omega (arith, within, linked.size) in
-    let low : f < node = omega (arith, is, linked.below node some inside) in
-    let last : get_or ms node none ≡ new = ap (λ l. get_or l node none) more ∙ get_or_push ns new none node count in
-    let kept : (a : ℕ) → a < node → get_or ms a none ≡ get_or ns a none = λ a low. ap (λ l. get_or l a none) more ∙ get_or_append_left ns (new ∷ []) none a (omega (arith, low, count)) in
-    let length_set : length (set next f end) ≡ length next = length-set next f end in
-    let front : (a : ℕ) → a < node → get_or then a 0 ≡ get_or (set next f end) a 0 = λ a low. ap (λ (l : List ℕ). get_or l a 0) later ∙ get_or-set_other (set next f end) node a (start + 1) 0 (λ same. omega (arith, same, low)) in
-    walk_more (λ a b. IsEnd (text texts a) (text texts b)) (start_at ns) (end_at ns) (λ a. get_or next a 0) (start_at ms) (end_at ms) (λ a. get_or then a 0) node f walk
+-- node i, whose link leads to f, is numbered
+pub walk_next : (texts : List (List ValType)) (old nodes new : List Node) (i f : ℕ) (n m : Node) → IsLinked texts old → AreCounted old → length nodes ≡ length old → ((k : ℕ) → i ≤ k → get_or nodes k record { above = 0; below = 0 } ≡ get_or old k record { above = 0; below = 0 })
+    → IsWalk (λ a b. IsEnd (text texts a) (text texts b)) (above_at nodes) (λ a. below_at nodes a + count_at (drop i old) a) (below_at nodes) i
+    → 0 < i → i < length nodes → f ≡ above_at nodes i → f < i → n.above ≡ above_at nodes f → n.below ≡ below_at nodes f + below_at nodes i → m.above ≡ below_at nodes f → m.below ≡ below_at nodes f + 1 → new ≡ set (set nodes f n) i m
+    → IsWalk (λ a b. IsEnd (text texts a) (text texts b)) (above_at new) (λ a. below_at new a + count_at (drop (i + 1) old) a) (below_at new) (i + 1)
+walk_next texts old nodes new i f n m linked counted size kept walk some within is low above below start next put =
+    let mid = set nodes f n in
+    let inside : f < length nodes = omega arith in
+    let wide : i < length mid = omega (arith, length-set nodes f n) in
+    let there : i < length old = omega arith in
+    let late : i < length texts = omega (arith, linked.size) in
+    let link : above_at old i ≡ f = sym (ap (λ (x : Node). x.above) (kept i (omega arith))) ∙ sym is in
+    let whole : below_at old i ≡ below_at nodes i = sym (ap (λ (x : Node). x.below) (kept i (omega arith))) in
+    let start_new : above_at new i ≡ below_at nodes f = rw put (ap (λ (x : Node). x.above) (get_or-set_same mid i m record { above = 0; below = 0 } wide)) ∙ start in
+    let next_new : below_at new i ≡ below_at nodes f + 1 = rw put (below_there mid i m i wide refl) ∙ next in
+    let before : (a : ℕ) → a < i → below_at new a ≡ below_at mid a = λ a early. rw put (below_kept mid i m a (λ same. omega (arith, same, early))) in
+    let used : below_at new f ≡ below_at nodes f + below_at nodes i = before f low ∙ below_there nodes f n f inside refl ∙ below in
+    let others : (a : ℕ) → a < i → a ≢ f → below_at new a ≡ below_at nodes a = λ a early other. before a early ∙ below_kept nodes f n a other in
+    let all : below_at old i ≡ 1 + count_at (drop (i + 1) old) i = counted i there in
+    let at_f : count_at (drop i old) f ≡ below_at old i + count_at (drop (i + 1) old) f = (count_more old i f there).0 link in
+    walk_more (λ a b. IsEnd (text texts a) (text texts b)) (above_at nodes) (λ a. below_at nodes a + count_at (drop i old) a) (below_at nodes) (above_at new) (λ a. below_at new a + count_at (drop (i + 1) old) a) (below_at new) i f walk
     (λ a. end_itself (text texts a))
-    (λ a below. end_through _ _ _ below (subst (λ n. IsEnd (text texts n) (text texts node)) (sym is) (linked.ends node some inside)))
+    (λ a ends. end_through _ _ _ ends (subst (λ k. IsEnd (text texts k) (text texts i)) link (linked.ends i some late)))
     low
-    (omega (arith, at, one, ap (λ (m : Numbers). m.end) last))
-    (omega (arith, most, ap (λ (m : Numbers). m.end) last))
-    (ap (λ (m : Numbers). m.start) last ∙ at)
-    (ap (λ (l : List ℕ). get_or l node 0) later ∙ get_or-set_same (set next f end) node (start + 1) 0 (omega (arith, size, length_set)) ∙ ap (λ n. n + 1) at)
-    (front f low ∙ get_or-set_same next f end 0 (omega (arith, low, size)) ∙ sym (ap (λ (m : Numbers). m.end) last))
-    (λ a below. ap (λ (m : Numbers). m.start) (kept a below))
-    (λ a below. ap (λ (m : Numbers). m.end) (kept a below))
-    (λ a below other. front a below ∙ get_or-set_other next f a end 0 other)
+    (omega (arith, next_new))
+    (omega (arith, next_new, all, whole, at_f))
+    start_new
+    next_new
+    (omega (arith, used, next_new, all, whole))
+    (λ a early. rw put (ap (λ (x : Node). x.above) (get_or-set_other mid i a m record { above = 0; below = 0 } (λ same. omega (arith, same, early)))) ∙ above_kept nodes f n a inside above)
+    (λ a early. elim (cases_eq a f) [
+      | inl same ↦ omega (arith, ap (below_at new) same, ap (below_at nodes) same, used, whole, at_f, ap (count_at (drop i old)) same, ap (count_at (drop (i + 1) old)) same)
+      | inr other ↦ omega (arith, others a early other, (count_more old i a there).1 (λ e. other (sym e ∙ link)))
+    ])
+    others

@@ -8,9 +8,11 @@ use Rattle.wcontext.specs.declared.lists.TypeList.TheVariants.{Nothing, One, Par
 use Rattle.wcontext.specs.declared.end_tree.Starts.{Starts}
 use Rattle.wcontext.specs.declared.end_tree.Gathered.{Gathered}
 use Rattle.wcontext.specs.declared.end_tree.EndTree.{EndTree}
-use Rattle.wcontext.specs.declared.walk.Numbers.{Numbers}
+use Rattle.wcontext.specs.declared.end_tree.Numbers.{Numbers}
+use Rattle.wcontext.specs.declared.nodes.Node.{Node}
 use Rattle.wcontext.specs.Lists.{list_of, IsEnd}
-use Rattle.wcontext.specs.Trie.{text, HasFronts, IsUnread}
+use Rattle.wcontext.specs.Nodes.{text}
+use Rattle.wcontext.specs.Trie.{HasFronts, IsUnread}
 use Rattle.wcontext.specs.Walk.{start_at, end_at}
 
 -- the start that stands for none
@@ -49,21 +51,22 @@ abbrev pub IsGatheredFrom : List FuncType → Gathered → Type 0
 IsGatheredFrom types g = (all : List (List ValType)) × IsGathered all g × HaveFronts types g.starts.items all
 
 -- the front at a place was read, and its node has numbers
-abbrev pub HasNumbers : List ℕ → List Numbers → ℕ → Type 0
-HasNumbers fronts numbers place = (0 < get_or fronts place 0) × (get_or fronts place 0 < length numbers)
+abbrev pub HasNumbers : List ℕ → List Node → ℕ → Type 0
+HasNumbers fronts nodes place = (0 < get_or fronts place 0) × (get_or fronts place 0 < length nodes)
 
 -- a front whose number lies within those of another has that as an end
-abbrev pub AreEndsAt : List (List ValType) → List ℕ → List Numbers → Type 0
-AreEndsAt all fronts numbers = (a b : ℕ) → HasNumbers fronts numbers a → HasNumbers fronts numbers b
-    → start_at numbers (get_or fronts a 0) ≤ start_at numbers (get_or fronts b 0) → start_at numbers (get_or fronts b 0) < end_at numbers (get_or fronts a 0) → IsEnd (text all a) (text all b)
+abbrev pub AreEndsAt : List (List ValType) → List ℕ → List Node → Type 0
+AreEndsAt all fronts nodes = (a b : ℕ) → HasNumbers fronts nodes a → HasNumbers fronts nodes b
+    → start_at nodes (get_or fronts a 0) ≤ start_at nodes (get_or fronts b 0) → start_at nodes (get_or fronts b 0) < end_at nodes (get_or fronts a 0) → IsEnd (text all a) (text all b)
 
 -- the numbers are those of the fronts of the types' lists
 abbrev pub IsEndTree : List FuncType → EndTree → Type 0
-IsEndTree types t = (all : List (List ValType)) × AreEndsAt all t.fronts.items t.numbers.items × HaveFronts types t.starts.items all
+IsEndTree types t = (all : List (List ValType)) × AreEndsAt all t.fronts.items t.nodes.items × HaveFronts types t.starts.items all
 
 -- these are the numbers of the first `count` types of that list
 abbrev pub HoldsFront : EndTree → TypeList → ℕ → Numbers → Type 0
-HoldsFront t list count n = (place : ℕ) × HasNumbers t.fronts.items t.numbers.items place × (get_or t.numbers.items (get_or t.fronts.items place 0) record { start = 0; end = 0 } ≡ n)
+HoldsFront t list count n = (place : ℕ) × HasNumbers t.fronts.items t.nodes.items place
+    × (start_at t.nodes.items (get_or t.fronts.items place 0) ≡ n.start) × (end_at t.nodes.items (get_or t.fronts.items place 0) ≡ n.end)
     × ((types : List FuncType) (all : List (List ValType)) → HaveFronts types t.starts.items all → count ≤ length (list_of types list) → text all place ≡ take count (list_of types list))
 
 -- the one front is an end of the other, if both lists have as many types

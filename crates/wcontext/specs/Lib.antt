@@ -4,6 +4,7 @@ pub mod Constants
 pub mod Spaces
 pub mod Segments
 pub mod Counted
+pub mod Nodes
 pub mod Trie
 pub mod Walk
 pub mod EndTree

@@ -1,19 +1,19 @@
 -- The numbers that a walk gives the nodes.
-use Rattle.std.specs.Prelude.{◌≡◌, ℕ, ◌<◌, ◌≤◌, List, length, get_or}
+use Rattle.std.specs.Prelude.{◌≡◌, ℕ, ◌+◌, ◌<◌, ◌≤◌, ◌==◌, if◌then◌else◌, List, [], ◌∷◌, length, drop, get_or}
 use Rattle.wsyntax.specs.declared.ValType.{ValType}
-use Rattle.wcontext.specs.declared.walk.Numbers.{Numbers}
+use Rattle.wcontext.specs.declared.nodes.Node.{Node}
 use Rattle.wcontext.specs.Lists.{IsEnd}
-use Rattle.wcontext.specs.Trie.{text, IsLinked}
+use Rattle.wcontext.specs.Nodes.{text, above_at, below_at, IsLinked}
 
 -- the number of a node, and where those of the nodes below it end
-abbrev pub start_at : List Numbers → ℕ → ℕ
-start_at ns a = (get_or ns a record { start = 0; end = 0 }).start
+abbrev pub start_at : List Node → ℕ → ℕ
+start_at = above_at
 
-abbrev pub end_at : List Numbers → ℕ → ℕ
-end_at ns a = (get_or ns a record { start = 0; end = 0 }).end
+abbrev pub end_at : List Node → ℕ → ℕ
+end_at = below_at
 
 -- a text whose number lies within those of another has that as an end
-abbrev pub AreEnds : List (List ValType) → List Numbers → Type 0
+abbrev pub AreEnds : List (List ValType) → List Node → Type 0
 AreEnds texts ns = (a b : ℕ) → a < length ns → b < length ns → start_at ns a ≤ start_at ns b → start_at ns b < end_at ns a → IsEnd (text texts a) (text texts b)
 
 -- next has the first number of each node that no node below it has yet
@@ -23,5 +23,27 @@ pub record IsWalk (IsBelow : ℕ → ℕ → Type 0) (start end next : ℕ → �
   pub apart : (a b x : ℕ) → a < count → b < count → next a ≤ x → x < end a → next b ≤ x → x < end b → a ≡ b
   pub given : (a b : ℕ) → a < count → b < count → next b ≤ start a → start a < end b → ⊥
 
-abbrev pub AreNumbersOf : List ℕ → List Numbers → Type 0
-AreNumbersOf links ns = (texts : List (List ValType)) → IsLinked texts links → AreEnds texts ns
+-- the links are the same
+pub record HaveLinksOf (old new : List Node) : Type 0 where
+  pub size : length new ≡ length old
+  pub links : (q : ℕ) → above_at new q ≡ above_at old q
+
+-- how many nodes are in and below those whose links lead to q
+abbrev pub count_at : List Node → ℕ → ℕ
+count_at [] q = 0
+count_at (x ∷ xs) q = (if x.above == q then x.below else 0) + count_at xs q
+
+-- `below` of a node counts it and all below it
+abbrev pub IsCounted : List Node → ℕ → Type 0
+IsCounted nodes q = below_at nodes q ≡ 1 + count_at (drop (q + 1) nodes) q
+
+abbrev pub AreCounted : List Node → Type 0
+AreCounted nodes = (q : ℕ) → q < length nodes → IsCounted nodes q
+
+-- that is so of the nodes from i on; the others count themselves and what hangs below them from i on
+pub record IsCountedFrom (nodes : List Node) (i : ℕ) : Type 0 where
+  pub low : (q : ℕ) → q < i → below_at nodes q ≡ 1 + count_at (drop i nodes) q
+  pub high : (q : ℕ) → i ≤ q → q < length nodes → IsCounted nodes q
+
+abbrev pub AreNumbersOf : List Node → List Node → Type 0
+AreNumbersOf old new = (texts : List (List ValType)) → IsLinked texts old → AreEnds texts new

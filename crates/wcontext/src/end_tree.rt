@@ -3,8 +3,9 @@ ghost use Rattle.std.specs.Prelude.{◌≡◌, ◌<◌, true, IfSome};
 ghost use Rattle.wcontext.specs.EndTree.{PutsList, IsGatheredFrom, IsEndTree, HoldsFront, IsStart, TellsEnd};
 
 use crate::lists::TypeList;
+use crate::nodes::Node;
 use crate::trie::{Reading, Trie};
-use crate::walk::{Numbers, number};
+use crate::walk::number;
 use std::alloc::Global;
 use wsyntax::{FuncTypes, ValType};
 
@@ -14,12 +15,13 @@ pub(crate) const LONG: usize = 256;
 /// In the place of the start of a list that is not taken in.
 const NONE: u32 = u32::MAX;
 
-/// Lists are compared where the bodies can have so many types compared, at most, for each type of all long lists, as one
-/// for each of their bytes. That takes up to 60 ns for each type of all, the tree 35 to 75 for each that it takes in.
+/// Each byte of a body can have a list compared once. A list is too short to be taken in where the bodies can so have at
+/// most this many types compared for each type of all long lists. To compare so many takes up to 60 ns, and to take in a
+/// type 35 to 75.
 const COMPARED: usize = 1_024;
 
-/// Two lists of this many types fill the nearest cache of a processor: to compare longer ones takes up to three times as long
-/// a type, and to take them in takes less.
+/// Two lists of this many types fill the nearest cache of a processor. To compare longer ones takes longer a type, up to
+/// three times as long where both have 8 MB, and to take them in takes less.
 const FAR: usize = 16_384;
 
 /// The same as `COMPARED`, of lists of at least `FAR` types.
@@ -32,6 +34,13 @@ pub(crate) struct Starts {
     results: u32,
 }
 
+/// The numbers of a front and of those that it is an end of: from its own on, up to `end`.
+#[derive(Clone, Copy, Debug)]
+pub(crate) struct Numbers {
+    start: u32,
+    end: u32,
+}
+
 /// The fronts of long lists, each with the numbers of those that it is an end of.
 #[derive(Debug, Drop)]
 pub(crate) struct EndTree {
@@ -39,8 +48,8 @@ pub(crate) struct EndTree {
     starts: Vec<Starts>,
     /// The nodes of the fronts, by their places.
     fronts: Vec<u32>,
-    /// By the nodes.
-    numbers: Vec<Numbers>,
+    /// Numbered.
+    nodes: Vec<Node>,
 }
 
 /// The long lists of some function types that are taken in.
@@ -163,12 +172,13 @@ impl EndTree {
         let long = LongLists::of(types);
         let least = long.least_taken(bodies)?;
         let gathered = Gathered::of(alloc, types, least, long.count)?;
-        let nodes = Trie::read(alloc, gathered.lists, gathered.fronts as usize)?;
-        let numbers = number(alloc, &nodes.links)?;
+        let Trie { nodes, fronts } = Trie::read(alloc, gathered.lists, gathered.fronts as usize)?;
+        let mut nodes = nodes.nodes;
+        number(&mut nodes)?;
         Some(EndTree {
             starts: gathered.starts,
-            fronts: nodes.fronts,
-            numbers,
+            fronts,
+            nodes,
         })
     }
 
@@ -196,7 +206,11 @@ impl EndTree {
         if node == 0 {
             return None;
         }
-        self.numbers.get(node as usize).copied()
+        let numbered = self.nodes.get(node as usize)?;
+        Some(Numbers {
+            start: numbered.above,
+            end: numbered.below,
+        })
     }
 
     /// Whether the first `short_count` types of `short` are an end of the first `long_count` types of `long`, where

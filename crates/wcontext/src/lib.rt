@@ -11,6 +11,7 @@ mod imports;
 mod limits;
 mod lists;
 mod names;
+mod nodes;
 mod rules;
 mod segments;
 mod space_sizes;

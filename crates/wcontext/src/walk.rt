@@ -1,66 +1,68 @@
 //! A walk over the tree of links, which gives each node and all below it numbers side by side.
-ghost use Rattle.std.specs.Prelude.{◌<◌, ◌≤◌, IfSome};
-ghost use Rattle.wcontext.specs.Walk.{AreNumbersOf};
+ghost use Rattle.std.specs.Prelude.{length, IfSome};
+ghost use Rattle.wcontext.specs.Walk.{HaveLinksOf, IsCountedFrom, AreCounted, AreNumbersOf};
 
-use std::alloc::Global;
+use crate::nodes::Node;
 
-/// The numbers of a node and of all below it: from its own on, up to `end`.
-#[derive(Clone, Copy, Debug)]
-pub(crate) struct Numbers {
-    pub(crate) start: u32,
-    pub(crate) end: u32,
-}
-
-/// Where the `size` numbers from `start` on end, if there are any and all are below `limit`.
-#[inline]
-fn end_of(start: u32, size: u32, limit: u32) -> Option<u32>
-    ensures some { IfSome result (λ end. start < end) }
-    ensures below { IfSome result (λ end. end ≤ limit) }
+/// Puts into `below` of each node a one, for itself.
+fn count_themselves(nodes: &mut [Node])
+    ensures links { HaveLinksOf nodes.old nodes.new }
+    ensures counted { IsCountedFrom nodes.new (length nodes.new) }
 {
-    let end = start.checked_add(size)?;
-    if size == 0 || end > limit {
-        return None;
+    for i in 0..nodes.len() {
+        nodes[i].below = 1;
     }
-    Some(end)
 }
 
-/// Of each node how many it and all below it are.
-fn sizes(alloc: Global, links: &[u32]) -> Option<Vec<u32>> {
-    let mut sizes = Vec::with_capacity(alloc, links.len()).ok()?;
-    sizes.resize(links.len(), 1u32).ok()?;
-    for node in (1..links.len()).rev() {
-        let link = links[node] as usize;
-        if link < sizes.len() && node < sizes.len() {
-            sizes[link] = sizes[link].wrapping_add(sizes[node]);
-        }
-    }
-    Some(sizes)
-}
-
-/// The numbers of the nodes: those of a node lie within those of the node that its link leads to.
-pub(crate) fn number(alloc: Global, links: &[u32]) -> Option<Vec<Numbers>>
-    ensures { IfSome result (λ v. AreNumbersOf links.now v.items) }
+/// Puts into `below` of each node how many it and all below it are.
+fn count(nodes: &mut [Node]) -> Option<()>
+    ensures links { HaveLinksOf nodes.old nodes.new }
+    ensures counted { IfSome result (λ _. AreCounted nodes.new) }
 {
-    // Of each node that has numbers the first that none below it has yet, and of the others their sizes.
-    let mut next = sizes(alloc, links)?;
-    let mut numbers = Vec::with_capacity(alloc, links.len()).ok()?;
-    numbers
-        .push(Numbers {
-            start: 0,
-            end: *next.first()?,
-        })
-        .ok()?;
-    next[0] = 1;
-    for node in 1..links.len() {
-        let link = links[node] as usize;
-        if link >= node || node >= next.len() {
+    count_themselves(nodes);
+    let mut i = nodes.len();
+    while i > 1 {
+        i -= 1;
+        let Node { above, below } = nodes[i];
+        let link = above as usize;
+        if link >= i {
             return None;
         }
-        let start = next[link];
-        let end = end_of(start, next[node], numbers[link].end)?;
-        next[link] = end;
-        next[node] = start + 1;
-        numbers.push(Numbers { start, end }).ok()?;
+        nodes[link].below = nodes[link].below.checked_add(below)?;
     }
-    Some(numbers)
+    Some(())
+}
+
+/// Numbers nodes that are counted. `below` of a node that has its number is the next that is left for those below it.
+fn give_numbers(nodes: &mut [Node]) -> Option<()>
+    requires { AreCounted nodes.old }
+    ensures { IfSome result (λ _. AreNumbersOf nodes.old nodes.new) }
+{
+    if nodes.is_empty() {
+        return None;
+    }
+    nodes[0] = Node { above: 0, below: 1 };
+    for i in 1..nodes.len() {
+        let Node { above, below } = nodes[i];
+        let link = above as usize;
+        if link >= i {
+            return None;
+        }
+        let start = nodes[link].below;
+        nodes[link].below = start.checked_add(below)?;
+        nodes[i] = Node {
+            above: start,
+            below: start.checked_add(1)?,
+        };
+    }
+    Some(())
+}
+
+/// Numbers the nodes in place of their links: the numbers of a node lie within those of the node that its link leads to.
+pub(crate) fn number(nodes: &mut [Node]) -> Option<()>
+    ensures { IfSome result (λ _. AreNumbersOf nodes.old nodes.new) }
+{
+    count(nodes)?;
+    give_numbers(nodes)?;
+    Some(())
 }

@@ -1,4 +1,5 @@
-use Rattle.std.proofs.Common.{subst}
+use Rattle.std.proofs.Common.{◌≡◌, ◌++◌, length, take, drop, arith, subst, sym}
+use Rattle.std.proofs.lemmas.List.{take_at}
 use Rattle.wcontext.specs.Walk.{AreNumbersOf}
 use Rattle.wcontext.proofs.Gathering.{ends_read}
 use Rattle.wcontext.proofs.end_tree.EndTree.new.Goals as goal
@@ -7,7 +8,10 @@ pub returns : goal.returns
 returns c =
     let g = c.in_ok-gathered.ensures in
     let all = g.0 in
-    let nodes = c.in_ok-nodes.nodes in
-    let numbers = c.in_ok-numbers.numbers.items in
-    let given : AreNumbersOf nodes.links.items numbers = subst (λ l. AreNumbersOf l numbers) c.deref.ensures.value c.in_ok-numbers.ensures in
-    (all, ends_read all c.in_ok-gathered.gathered.lists.items nodes numbers g.1.unread c.in_ok-nodes.ensures given, g.2)
+    let trie = c.in_ok-nodes.field-0 in
+    let old = trie.nodes.nodes in
+    let numbered = c.number.new.nodes in
+    let size : length numbered ≡ old.len = grind arith in
+    let kept : take old.len (numbered ++ drop (length numbered) old.items) ≡ numbered = take_at numbered (drop (length numbered) old.items) old.len size in
+    let given : AreNumbersOf old.items numbered = subst (λ l. AreNumbersOf l numbered) c.deref_mut.ensures.value c.in_ok-number.ensures in
+    (all, ends_read all c.in_ok-gathered.gathered.lists.items trie _ g.1.unread c.in_ok-nodes.ensures (subst (AreNumbersOf old.items) (sym kept) given), g.2)

@@ -8,6 +8,5 @@ loop-k-preserved c =
     let within : k < length c.args.lists.now = grind arith in
     record {
       fronts = λ all texts column each read. c.in_ok-put_fronts.ensures.fronts all texts column (each k _ within) (before.fronts all texts column each read);
-      table = c.put_fronts.ensures.table ∙ before.table;
-      links = c.put_fronts.ensures.links ∙ before.links;
+      nodes = c.put_fronts.ensures.nodes ∙ before.nodes;
     }

@@ -5,6 +5,5 @@ use Rattle.wcontext.proofs.trie.Trie.end_block.Given as goal
 abbrev pub invariant-loop-k : goal.invariant-loop-k
 invariant-loop-k l = record {
   fronts : PutsBlock l.fn.self.fronts.items l.self.fronts.items l.lists l.base;
-  table : l.self.table ≡ l.fn.self.table;
-  links : l.self.links ≡ l.fn.self.links;
+  nodes : l.self.nodes ≡ l.fn.self.nodes;
 }

@@ -1,10 +1,8 @@
-use Rattle.std.proofs.Common.{◌≡◌, [], ◌∷◌, arith, replicate}
-use Rattle.wcontext.proofs.Tries.{new_trie, unread}
+use Rattle.std.proofs.Common.{◌≡◌, arith, replicate}
+use Rattle.wcontext.proofs.Tries.{unread}
 use Rattle.wcontext.proofs.trie.Trie.new.Goals as goal
 
 pub returns : goal.returns
 returns c =
-    let e : c.extend_from_slice.new.self.items ≡ 0 ∷ 0 ∷ 0 ∷ 0 ∷ [] = grind arith in
-    let f : c.push.new.self.items ≡ 0 ∷ [] = grind arith in
-    let g : c.resize.new.self.items ≡ replicate c.args.fronts 0 = grind arith in
-    (rw (e, f) new_trie, λ all x above. absurd (omega (arith, above, unread c.args.fronts c.resize.new.self.items x g)))
+    let none : c.resize.new.self.items ≡ replicate c.args.count 0 = grind arith in
+    (c.in_ok-new.ensures, λ all x above. absurd (omega (arith, above, unread c.args.count c.resize.new.self.items x none)))

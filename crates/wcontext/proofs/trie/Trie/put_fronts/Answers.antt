@@ -13,8 +13,7 @@ loop-i-preserved c =
     elim c.if-place-len.branch [
       | then-place-len w ↦ record {
         fronts = rw w.self-is (put_front c.args.self.now.fronts.items c.loop-i.self.fronts.items list c.args.base place i before.fronts at);
-        table = ap (λ s. s.table) w.self-is ∙ before.table;
-        links = ap (λ s. s.links) w.self-is ∙ before.links;
+        nodes = ap (λ s. s.nodes) w.self-is ∙ before.nodes;
       }
       | else-place-len w ↦ rw w.self-is before
     ]

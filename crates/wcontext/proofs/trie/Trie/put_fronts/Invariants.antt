@@ -5,6 +5,5 @@ use Rattle.wcontext.proofs.trie.Trie.put_fronts.Given as goal
 abbrev pub invariant-loop-i : goal.invariant-loop-i
 invariant-loop-i l = record {
   fronts : PutsFronts l.fn.self.fronts.items l.self.fronts.items l.list l.base;
-  table : l.self.table ≡ l.fn.self.table;
-  links : l.self.links ≡ l.fn.self.links;
+  nodes : l.self.nodes ≡ l.fn.self.nodes;
 }

@@ -10,10 +10,10 @@ loop-k-preserved c =
     let next = c.read_type.new.list in
     record {
       fronts = c.read_type.ensures.fronts ∙ c.loop-k.invariant.fronts;
-      read = next_read c.args.self.now c.loop-k.self c.read_type.new.self c.args.lists.now now c.args.base c.args.i c.args.first k _ next c.loop-k.invariant.read c.in_ok-read_type.ensures.read within;
+      read = next_read c.args.self.now.nodes c.loop-k.self.nodes c.read_type.new.self.nodes c.args.lists.now now c.args.base c.args.i k _ next c.loop-k.invariant.read c.in_ok-read_type.ensures.read within;
     }
 
 pub returns-clause-read : goal.returns-clause-read
 returns-clause-read c =
     let end : length c.loop-k.lists ≤ c.loop-k.k = grind arith in
-    all_read c.args.self.now c.loop-k.self c.args.lists.now c.loop-k.lists c.args.base c.args.i c.args.first c.loop-k.k c.loop-k.invariant.read end
+    all_read c.args.self.now.nodes c.loop-k.self.nodes c.args.lists.now c.loop-k.lists c.args.base c.args.i c.loop-k.k c.loop-k.invariant.read end

@@ -1,21 +1,22 @@
 use Rattle.std.proofs.Common.{◌≡◌, ◌<◌, ◌≤◌, ◌+◌, [], ◌++◌, length, get_or, arith, subst, sym, refl, append-nil}
-use Rattle.wcontext.specs.Trie.{IsTrie, IsInBlock}
+use Rattle.wcontext.specs.Nodes.{AreNodes}
+use Rattle.wcontext.specs.Trie.{IsInBlock}
 use Rattle.wcontext.proofs.Tries.{type_read, none_there}
 use Rattle.wcontext.proofs.trie.Trie.read_type.Goals as goal
 
 pub returns-then-branch-list-clause-read : goal.returns-then-branch-list-clause-read
-returns-then-branch-list-clause-read c all texts trie held =
+returns-then-branch-list-clause-read c all texts are held =
     let same : texts ≡ texts ++ [] = sym (append-nil texts) in
     let list = c.args.list.now in
     let past : length list.types.now ≤ c.args.base + c.args.i = grind arith in
-    ([], subst (λ z. IsTrie z c.args.self.now.table.items c.args.self.now.links.items c.args.first) same trie, subst (λ z. IsInBlock all z c.args.base (c.args.base + c.args.i + 1) list) same (none_there all texts list c.args.base c.args.i held past))
+    ([], subst (λ z. AreNodes z c.args.self.now.nodes) same are, subst (λ z. IsInBlock all z c.args.base (c.args.base + c.args.i + 1) list) same (none_there all texts list c.args.base c.args.i held past))
 
 pub returns-clause-read : goal.returns-clause-read
-returns-clause-read c all texts trie held =
+returns-clause-read c all texts are held =
     let list = c.args.list.now in
     let base = c.args.base in
     let i = c.args.i in
-    let child = c.in_ok-node.ensures.child texts trie held.reading.within in
+    let child = c.in_ok-node.ensures texts are held.reading.within in
     let within : base + i < length list.types.now = grind arith in
     let inside : i < 16 = grind arith in
     let t = c.in_ok-t.field-0.now in

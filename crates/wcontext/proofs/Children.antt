@@ -1,0 +1,82 @@
+-- The children of nodes, which lie below them one alone or in a fork.
+use Rattle.std.proofs.Common.{◌≡◌, ◌⊎◌, ℕ, ◌+◌, ◌-◌, ◌*◌, ◌<◌, ◌≤◌, List, [], ◌∷◌, ◌++◌, length, get_or, set, refl, sym, ap, subst, ◌∙◌, arith, inl, inr, length-set}
+use Rattle.std.proofs.lemmas.Bool.{cases_eq}
+use Rattle.std.proofs.lemmas.List.{get_or_append_left, get_or_at, get_or-set_same, get_or-set_other, length_push}
+use Rattle.wsyntax.specs.declared.ValType.{ValType}
+use Rattle.wsyntax.specs.declared.ValType.TheVariants.{I32, I64, F32, F64}
+use Rattle.wcontext.specs.Nodes.{type_number, above_at, below_at, IsOnly, IsForked, HasChild, HasChildIn, AreChildren, AreForksThere, PutsChild}
+use Rattle.wcontext.specs.declared.nodes.Node.{Node}
+use Rattle.wcontext.specs.declared.nodes.Fork.{Fork}
+use Rattle.wcontext.specs.declared.nodes.Nodes.{Nodes}
+
+pub number_below : (t : ValType) → type_number t < 4
+number_below I32 = omega arith
+number_below I64 = omega arith
+number_below F32 = omega arith
+number_below F64 = omega arith
+
+number_same : (s t : ValType) → type_number s ≡ type_number t → s ≡ t
+number_same I32 I32 e = refl
+number_same I64 I64 e = refl
+number_same F32 F32 e = refl
+number_same F64 F64 e = refl
+number_same _ _ e = absurd (omega arith)
+
+-- ---- a node of which `below` is written
+
+pub above_kept : (nodes : List Node) (p : ℕ) (n : Node) (q : ℕ) → p < length nodes → n.above ≡ above_at nodes p → above_at (set nodes p n) q ≡ above_at nodes q
+above_kept nodes p n q within same = let none : Node = record { above = 0; below = 0 } in elim (cases_eq q p) [
+  | inl is ↦ ap (above_at (set nodes p n)) is ∙ ap (λ (x : Node). x.above) (get_or-set_same nodes p n none within) ∙ same ∙ ap (above_at nodes) (sym is)
+  | inr other ↦ ap (λ (x : Node). x.above) (get_or-set_other nodes p q n none other)
+]
+
+pub below_there : (nodes : List Node) (p : ℕ) (n : Node) (q : ℕ) → p < length nodes → q ≡ p → below_at (set nodes p n) q ≡ n.below
+below_there nodes p n q within is = ap (below_at (set nodes p n)) is ∙ ap (λ (x : Node). x.below) (get_or-set_same nodes p n record { above = 0; below = 0 } within)
+
+pub below_kept : (nodes : List Node) (p : ℕ) (n : Node) (q : ℕ) → (q ≡ p → ⊥) → below_at (set nodes p n) q ≡ below_at nodes q
+below_kept nodes p n q other = ap (λ (x : Node). x.below) (get_or-set_other nodes p q n record { above = 0; below = 0 } other)
+
+-- ---- a fork
+
+-- the children of a node become those of a new fork
+pub fork_put : (old new : Nodes) (p : ℕ) (t : ValType) (d : ℕ) (n : Node) (children : List ℕ) → p < length old.nodes.items → n.above ≡ above_at old.nodes.items p → n.below ≡ 2147483648 + length old.forks.items
+    → AreChildren old p children → length children ≡ 4
+    → new.nodes.items ≡ set old.nodes.items p n → new.forks.items ≡ old.forks.items ++ record { children = set children (type_number t) d } ∷ [] → PutsChild old new p t d
+fork_put old new p t d n children within above below are four nodes forks =
+    let there : (q : ℕ) → q ≡ p → below_at new.nodes.items q ≡ n.below = λ q is. rw nodes (below_there old.nodes.items p n q within is) in
+    let kept : (q : ℕ) → (q ≡ p → ⊥) → below_at new.nodes.items q ≡ below_at old.nodes.items q = λ q other. rw nodes (below_kept old.nodes.items p n q other) in
+    let row = set children (type_number t) d in
+    let more : length new.forks.items ≡ length old.forks.items + 1 = ap length forks ∙ length_push old.forks.items (record { children = row }) in
+    let none : Fork = record { children = [] } in
+    record {
+      size = ap length nodes ∙ length-set old.nodes.items p n;
+      links = λ q. rw nodes (above_kept old.nodes.items p n q within above);
+      forks = λ were q. elim (cases_eq q p) [
+        | inl is ↦ omega (arith, there q is, below, more)
+        | inr other ↦ omega (arith, kept q other, were q, more)
+      ];
+      children = λ were q u e some has. elim (cases_eq q p) [
+        | inl is ↦ elim has [
+          | inl only ↦ absurd (omega (arith, only.only, there q is, below))
+          | inr forked ↦
+              let place : length old.forks.items ≡ below_at new.nodes.items q - 2147483648 = omega (arith, there q is, below) in
+              let at : get_or new.forks.items (below_at new.nodes.items q - 2147483648) none ≡ record { children = row } = rw forks (get_or_at old.forks.items (record { children = row }) [] none (below_at new.nodes.items q - 2147483648) place) in
+              let now : get_or row (type_number u) 0 ≡ e = ap (λ (f : Fork). get_or f.children (type_number u) 0) (sym at) ∙ forked.is in
+              elim (cases_eq (type_number u) (type_number t)) [
+                | inl same ↦ inr (is, number_same u t same, sym now ∙ ap (λ k. get_or row k 0) same ∙ get_or-set_same children (type_number t) d 0 (omega (arith, four, number_below t)))
+                | inr other ↦
+                    let was : get_or children (type_number u) 0 ≡ e = sym (get_or-set_other children (type_number t) (type_number u) d 0 other) ∙ now in
+                    inl (subst (λ z. HasChild old z u e) (sym is) (subst (HasChild old p u) was (are u (omega (arith, was, some)))))
+              ]
+        ]
+        | inr other ↦ elim has [
+          | inl only ↦ inl (inl (subst (λ b. IsOnly b u e) (kept q other) only))
+          | inr forked ↦
+              let b = below_at old.nodes.items q in
+              let from : 2147483648 ≤ b = omega (arith, forked.fork, kept q other) in
+              let inside : b - 2147483648 < length old.forks.items = omega (arith, were q, from) in
+              let at : get_or new.forks.items (below_at new.nodes.items q - 2147483648) none ≡ get_or old.forks.items (b - 2147483648) none = ap (λ k. get_or new.forks.items (k - 2147483648) none) (kept q other) ∙ rw forks (get_or_append_left old.forks.items (record { children = row } ∷ []) none (b - 2147483648) inside) in
+              inl (inr (record { fork = from; is = ap (λ (f : Fork). get_or f.children (type_number u) 0) (sym at) ∙ forked.is }))
+        ]
+      ];
+    }

@@ -1,0 +1,130 @@
+-- The links of nodes, and nodes that are made.
+use Rattle.std.proofs.Common.{◌≡◌, ◌⊎◌, ℕ, zero, suc, ◌+◌, ◌*◌, ◌<◌, ◌≤◌, List, [], ◌∷◌, ◌++◌, length, get_or, refl, sym, ap, subst, ◌∙◌, arith, inl, inr, length-append}
+use Rattle.std.proofs.lemmas.Bool.{cases_lt, cases_eq}
+use Rattle.std.proofs.lemmas.List.{get_or_append_left, get_or_at, get_or_push, get_or_past, append-nil, append_assoc, length_push}
+use Rattle.wsyntax.specs.declared.ValType.{ValType}
+use Rattle.wcontext.specs.Lists.{IsEnd}
+use Rattle.wcontext.specs.Nodes.{text, type_number, above_at, below_at, IsOnly, IsForked, HasChild, PutsChild, IsLinked, AreNodes, IsOnTheWay, IsNodeAfter}
+use Rattle.wcontext.specs.declared.nodes.Node.{Node}
+use Rattle.wcontext.specs.declared.nodes.Nodes.{Nodes}
+
+-- ---- ends
+
+pub end_nothing : (l : List ValType) → IsEnd [] l
+end_nothing l = (l, sym (append-nil l))
+
+pub end_itself : (l : List ValType) → IsEnd l l
+end_itself l = ([], refl)
+
+pub end_through : (a b c : List ValType) → IsEnd a b → IsEnd b c → IsEnd a c
+end_through a b c ab bc = (bc.0 ++ ab.0, bc.1 ∙ ap (λ z. bc.0 ++ z) ab.1 ∙ sym (append_assoc bc.0 ab.0 a))
+
+end_more : (a b : List ValType) (t : ValType) → IsEnd a b → IsEnd (a ++ t ∷ []) (b ++ t ∷ [])
+end_more a b t ab = (ab.0, ap (λ z. z ++ t ∷ []) ab.1 ∙ append_assoc ab.0 a (t ∷ []))
+
+-- ---- up the links
+
+pub next_above : (texts : List (List ValType)) (n : Nodes) (p q link : ℕ) → AreNodes texts n → IsOnTheWay texts p q → link ≡ above_at n.nodes.items q → link < q → IsOnTheWay texts p link
+next_above texts n p q link are above is low =
+    let ends = are.linked.ends q (omega arith) above.0 in
+    (omega (arith, low, above.0), rw is (end_through _ _ _ ends above.1))
+
+pub child_found : (texts : List (List ValType)) (n : Nodes) (p q d : ℕ) (t : ValType) → AreNodes texts n → IsOnTheWay texts p q → 0 < d → HasChild n q t d → (d < length texts) × IsEnd (text texts d) (text texts p ++ t ∷ [])
+child_found texts n p q d t are above some has =
+    let child = are.children q t d some has in
+    (child.1, rw child.2 (end_more _ _ t above.1))
+
+pub none_found : (texts : List (List ValType)) (n : Nodes) (p : ℕ) (t : ValType) → AreNodes texts n → (0 < length texts) × IsEnd (text texts 0) (text texts p ++ t ∷ [])
+none_found texts n p t are = (are.some, rw are.root (end_nothing _))
+
+-- ---- one node more
+
+pub text_front : (texts more : List (List ValType)) (q : ℕ) → q < length texts → text (texts ++ more) q ≡ text texts q
+text_front texts more q below = get_or_append_left texts more [] q below
+
+pub text_last : (texts : List (List ValType)) (x : List ValType) → text (texts ++ x ∷ []) (length texts) ≡ x
+text_last texts x = get_or_at texts x [] [] (length texts) refl
+
+linked_more : (texts : List (List ValType)) (nodes : List Node) (x : List ValType) (n : Node) → IsLinked texts nodes → n.above < length texts → IsEnd (text texts n.above) x → IsLinked (texts ++ x ∷ []) (nodes ++ n ∷ [])
+linked_more texts nodes x n linked below ends =
+    let none : Node = record { above = 0; below = 0 } in
+    let count : length (texts ++ x ∷ []) ≡ length texts + 1 = length_push texts x in
+    let kept : (q : ℕ) → q < length texts → above_at (nodes ++ n ∷ []) q ≡ above_at nodes q = λ q front. ap (λ (m : Node). m.above) (get_or_append_left nodes (n ∷ []) none q (omega (arith, front, linked.size))) in
+    let last : (q : ℕ) → length nodes ≡ q → above_at (nodes ++ n ∷ []) q ≡ n.above = λ q is. ap (λ (m : Node). m.above) (get_or_push nodes n none q is) in
+    record {
+      size = omega (arith, length_push nodes n, linked.size, count);
+      below = λ q above within. elim (cases_lt q (length texts)) [
+        | inl front ↦ omega (arith, linked.below q above front, kept q front)
+        | inr end ↦ let is : length nodes ≡ q = omega (arith, end, within, count, linked.size) in omega (arith, last q is, below, is, linked.size)
+      ];
+      ends = λ q above within. elim (cases_lt q (length texts)) [
+        | inl front ↦
+            let low = linked.below q above front in
+            rw (kept q front, text_front texts (x ∷ []) (above_at nodes q) (omega (arith, low, front)), text_front texts (x ∷ []) q front) (linked.ends q above front)
+        | inr end ↦
+            let is : length nodes ≡ q = omega (arith, end, within, count, linked.size) in
+            let same : length texts ≡ q = omega (arith, is, linked.size) in
+            rw (last q is, text_front texts (x ∷ []) n.above below, ← same, text_last texts x) ends
+      ];
+    }
+
+-- a node without a child is made
+pub nodes_more : (texts : List (List ValType)) (old new : Nodes) (x : List ValType) (n : Node) → AreNodes texts old → n.above < length texts → n.below ≡ 0 → IsEnd (text texts n.above) x
+    → new.nodes.items ≡ old.nodes.items ++ n ∷ [] → new.forks ≡ old.forks → AreNodes (texts ++ x ∷ []) new
+nodes_more texts old new x n are within childless ends nodes forks =
+    let none : Node = record { above = 0; below = 0 } in
+    let same : (q : ℕ) → below_at new.nodes.items q ≡ below_at old.nodes.items q = λ q. rw nodes (elim (cases_lt q (length old.nodes.items)) [
+      | inl front ↦ ap (λ (m : Node). m.below) (get_or_append_left old.nodes.items (n ∷ []) none q front)
+      | inr past ↦
+          let was : below_at old.nodes.items q ≡ 0 = ap (λ (m : Node). m.below) (get_or_past old.nodes.items q none past) in
+          elim (cases_eq (length old.nodes.items) q) [
+            | inl last ↦ ap (λ (m : Node). m.below) (get_or_push old.nodes.items n none q last) ∙ childless ∙ sym was
+            | inr other ↦ ap (λ (m : Node). m.below) (get_or_past (old.nodes.items ++ n ∷ []) q none (omega (arith, length_push old.nodes.items n, past, other))) ∙ sym was
+          ]
+    ]) in
+    record {
+      some = omega (arith, length_push texts x);
+      root = text_front texts (x ∷ []) 0 are.some ∙ are.root;
+      linked = rw nodes (linked_more texts old.nodes.items x n are.linked within ends);
+      forks = λ q. omega (arith, same q, are.forks q, ap (λ v. length v.items) forks);
+      children = λ p t d some has.
+          let was : HasChild old p t d = subst (λ b. IsOnly b t d ⊎ IsForked b old.forks.items t d) (same p) (subst (λ v. IsOnly (below_at new.nodes.items p) t d ⊎ IsForked (below_at new.nodes.items p) v.items t d) forks has) in
+          let child = are.children p t d some was in
+          (omega (arith, child.0, length_push texts x), omega (arith, child.1, length_push texts x), text_front texts (x ∷ []) d child.1 ∙ child.2 ∙ ap (λ z. z ++ t ∷ []) (sym (text_front texts (x ∷ []) p child.0)));
+    }
+
+-- a node is put below another, of which it has the text and one type more
+pub nodes_put : (texts : List (List ValType)) (old new : Nodes) (p : ℕ) (t : ValType) (d : ℕ) → AreNodes texts old → PutsChild old new p t d → p < length texts → d < length texts → text texts d ≡ text texts p ++ t ∷ [] → AreNodes texts new
+nodes_put texts old new p t d are puts parent child is = record {
+  some = are.some;
+  root = are.root;
+  linked = record {
+    size = puts.size ∙ are.linked.size;
+    below = λ q above within. omega (arith, puts.links q, are.linked.below q above within);
+    ends = λ q above within. rw (puts.links q) (are.linked.ends q above within);
+  };
+  forks = puts.forks are.forks;
+  children = λ q u e some has. elim (puts.children are.forks q u e some has) [
+    | inl old ↦ are.children q u e some old
+    | inr new ↦ (rw new.0 parent, rw new.2 child, rw (new.0, new.1, new.2) is)
+  ];
+}
+
+-- the node after p is made and put below p
+pub made_after : (old mid new : Nodes) (p d : ℕ) (t : ValType) (n : Node) (texts : List (List ValType)) → AreNodes texts old → p < length texts → (n.above < length texts) × IsEnd (text texts n.above) (text texts p ++ t ∷ []) → n.below ≡ 0
+    → d ≡ length old.nodes.items → mid.nodes.items ≡ old.nodes.items ++ n ∷ [] → mid.forks ≡ old.forks → PutsChild mid new p t d
+    → (more : List (List ValType)) × AreNodes (texts ++ more) new × (d < length (texts ++ more)) × (text (texts ++ more) d ≡ text texts p ++ t ∷ [])
+made_after old mid new p d t n texts are parent ends childless place nodes forks puts =
+    let x = text texts p ++ t ∷ [] in
+    let made = nodes_more texts old mid x n are ends.0 childless ends.1 nodes forks in
+    let at : d ≡ length texts = place ∙ are.linked.size in
+    let inside : d < length (texts ++ x ∷ []) = omega (arith, at, length_push texts x) in
+    let last : text (texts ++ x ∷ []) d ≡ x = ap (text (texts ++ x ∷ [])) at ∙ text_last texts x in
+    (x ∷ [], nodes_put (texts ++ x ∷ []) mid new p t d made puts (omega (arith, parent, length_push texts x)) inside (last ∙ ap (λ z. z ++ t ∷ []) (sym (text_front texts (x ∷ []) p parent))), inside, last)
+
+-- the node after p is there
+pub found_after : (n : Nodes) (p d : ℕ) (t : ValType) → 0 < d → HasChild n p t d → IsNodeAfter n n p t d
+found_after n p d t some has texts are parent =
+    let child = are.children p t d some has in
+    let same : texts ≡ texts ++ [] = sym (append-nil texts) in
+    ([], subst (λ z. AreNodes z n) same are, subst (λ z. d < length z) same child.1, subst (λ z. text z d ≡ text texts p ++ t ∷ []) same child.2)

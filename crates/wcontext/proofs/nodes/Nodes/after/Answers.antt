@@ -1,0 +1,15 @@
+use Rattle.std.proofs.Common.{◌≡◌, ◌∷◌, [], ◌++◌, length, arith, refl}
+use Rattle.wcontext.specs.declared.nodes.Node.{Node}
+use Rattle.wcontext.proofs.Links.{found_after, made_after}
+use Rattle.wcontext.proofs.nodes.Nodes.after.Goals as goal
+
+pub returns-then-child-gt0 : goal.returns-then-child-gt0
+returns-then-child-gt0 c = found_after c.args.self.now c.args.node c.child-child.result c.args.t c.if-child-gt0.true (c.child-child.ensures c.if-child-gt0.true)
+
+pub returns : goal.returns
+returns c texts are within =
+    let old = c.args.self.now in
+    let n : Node = record { above = c.longest_end-link.result; below = 0 } in
+    let made : c.in_ok-made.made ≡ length old.nodes.items = grind arith in
+    let nodes : c.push.new.self.items ≡ old.nodes.items ++ n ∷ [] = grind arith in
+    made_after old record { nodes = c.push.new.self; forks = old.forks } _ c.args.node c.in_ok-made.made c.args.t n texts are within (c.longest_end-link.ensures texts are within) refl made nodes refl c.in_ok-put_child.ensures

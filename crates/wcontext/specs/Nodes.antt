@@ -1,0 +1,83 @@
+-- The nodes of a trie: each has a text, the types that it stands for.
+use Rattle.std.specs.Prelude.{◌≡◌, ℕ, ◌+◌, ◌-◌, ◌*◌, ◌<◌, ◌≤◌, ◌⊎◌, List, [], ◌∷◌, ◌++◌, length, get_or}
+use Rattle.wsyntax.specs.declared.ValType.{ValType}
+use Rattle.wsyntax.specs.declared.ValType.TheVariants.{I32, I64, F32, F64}
+use Rattle.wcontext.specs.declared.nodes.Node.{Node}
+use Rattle.wcontext.specs.declared.nodes.Fork.{Fork}
+use Rattle.wcontext.specs.declared.nodes.Nodes.{Nodes}
+use Rattle.wcontext.specs.Lists.{IsEnd}
+
+abbrev pub type_number : ValType → ℕ
+type_number I32 = 0
+type_number I64 = 1
+type_number F32 = 2
+type_number F64 = 3
+
+-- the text of a node, or of a place
+abbrev pub text : List (List ValType) → ℕ → List ValType
+text texts q = get_or texts q []
+
+abbrev pub above_at : List Node → ℕ → ℕ
+above_at nodes q = (get_or nodes q record { above = 0; below = 0 }).above
+
+abbrev pub below_at : List Node → ℕ → ℕ
+below_at nodes q = (get_or nodes q record { above = 0; below = 0 }).below
+
+-- below a node lies one child alone, by that type
+pub record IsOnly (below : ℕ) (t : ValType) (d : ℕ) : Type 0 where
+  pub only : below < 2147483648
+  pub is : below ≡ 4 * d + type_number t
+
+-- below a node lies a fork, which has that child by that type
+pub record IsForked (below : ℕ) (forks : List Fork) (t : ValType) (d : ℕ) : Type 0 where
+  pub fork : 2147483648 ≤ below
+  pub is : get_or (get_or forks (below - 2147483648) record { children = [] }).children (type_number t) 0 ≡ d
+
+-- a node has that child by that type
+abbrev pub HasChildIn : List Node → List Fork → ℕ → ValType → ℕ → Type 0
+HasChildIn nodes forks p t d = IsOnly (below_at nodes p) t d ⊎ IsForked (below_at nodes p) forks t d
+
+abbrev pub HasChild : Nodes → ℕ → ValType → ℕ → Type 0
+HasChild n p t d = HasChildIn n.nodes.items n.forks.items p t d
+
+-- these are the node's children, by the numbers of their types
+abbrev pub AreChildren : Nodes → ℕ → List ℕ → Type 0
+AreChildren n p children = (t : ValType) → 0 < get_or children (type_number t) 0 → HasChild n p t (get_or children (type_number t) 0)
+
+-- the forks that lie below nodes are there
+abbrev pub AreForksThere : Nodes → Type 0
+AreForksThere n = (q : ℕ) → below_at n.nodes.items q < 2147483648 + length n.forks.items
+
+-- a node has got a child by a type, and no other node has
+pub record PutsChild (old new : Nodes) (p : ℕ) (t : ValType) (d : ℕ) : Type 0 where
+  pub size : length new.nodes.items ≡ length old.nodes.items
+  pub links : (q : ℕ) → above_at new.nodes.items q ≡ above_at old.nodes.items q
+  pub forks : AreForksThere old → AreForksThere new
+  pub children : AreForksThere old → (q : ℕ) (u : ValType) (e : ℕ) → 0 < e → HasChild new q u e → HasChild old q u e ⊎ ((q ≡ p) × (u ≡ t) × (e ≡ d))
+
+-- each link leads to an earlier node whose text is an end of the node's
+pub record IsLinked (texts : List (List ValType)) (nodes : List Node) : Type 0 where
+  pub size : length nodes ≡ length texts
+  pub below : (q : ℕ) → 0 < q → q < length texts → above_at nodes q < q
+  pub ends : (q : ℕ) → 0 < q → q < length texts → IsEnd (text texts (above_at nodes q)) (text texts q)
+
+-- the nodes have these texts: that of a child is its parent's and one type more
+pub record AreNodes (texts : List (List ValType)) (n : Nodes) : Type 0 where
+  pub some : 0 < length texts
+  pub root : text texts 0 ≡ []
+  pub linked : IsLinked texts n.nodes.items
+  pub forks : AreForksThere n
+  pub children : (p : ℕ) (t : ValType) (d : ℕ) → 0 < d → HasChild n p t d → (p < length texts) × (d < length texts) × (text texts d ≡ text texts p ++ t ∷ [])
+
+-- q lies on the way up the links from p
+abbrev pub IsOnTheWay : List (List ValType) → ℕ → ℕ → Type 0
+IsOnTheWay texts p q = (q < length texts) × IsEnd (text texts q) (text texts p)
+
+-- the text of l is an end of that of p and one type more
+abbrev pub FindsEnd : Nodes → ℕ → ValType → ℕ → Type 0
+FindsEnd n p t l = (texts : List (List ValType)) → AreNodes texts n → p < length texts → (l < length texts) × IsEnd (text texts l) (text texts p ++ t ∷ [])
+
+-- d has the text of p and one type more
+abbrev pub IsNodeAfter : Nodes → Nodes → ℕ → ValType → ℕ → Type 0
+IsNodeAfter old new p t d = (texts : List (List ValType)) → AreNodes texts old → p < length texts
+    → (more : List (List ValType)) × AreNodes (texts ++ more) new × (d < length (texts ++ more)) × (text (texts ++ more) d ≡ text texts p ++ t ∷ [])

@@ -1,0 +1,168 @@
+//! The nodes of a trie of lists of types, with the links of Aho and Corasick.
+ghost use Rattle.std.specs.Prelude.{◌≡◌, ◌<◌, [], ◌∷◌, IfSome};
+ghost use Rattle.wcontext.specs.Nodes.{type_number, HasChild, AreChildren, PutsChild, FindsEnd, AreNodes, IsNodeAfter};
+
+use std::alloc::Global;
+use wsyntax::ValType;
+
+/// How many value types there are.
+const TYPES: usize = 4;
+
+/// From here on what a node has below it is the place of a fork.
+const FORKS: u32 = 1 << 31;
+
+/// What is kept of a node. Its numbers take the place of its link and its children, so that a trie and the numbers of its
+/// nodes are never in memory at once.
+#[derive(Clone, Copy, Debug)]
+pub(crate) struct Node {
+    /// Its link: the node of the longest shorter front that is an end of its types. Once it is numbered, its own number.
+    pub(crate) above: u32,
+    /// Its only child, as four times the child and the number of its type, or `FORKS` and the place of a fork; 0 for none.
+    /// Once it is numbered, where the numbers of the nodes that hang below it end.
+    pub(crate) below: u32,
+}
+
+/// The children of a node that has several, by the numbers of their types; 0 for none.
+#[derive(Clone, Copy, Debug)]
+struct Fork {
+    children: [u32; TYPES],
+}
+
+/// Nodes, each of which stands for a list of types, and node 0 for no type. Nearly all have one child or none.
+#[derive(Drop)]
+pub(crate) struct Nodes {
+    pub(crate) nodes: Vec<Node>,
+    forks: Vec<Fork>,
+}
+
+#[inline]
+fn number(t: ValType) -> u32
+    ensures { result ≡ type_number t }
+{
+    match t {
+        ValType::I32 => 0,
+        ValType::I64 => 1,
+        ValType::F32 => 2,
+        ValType::F64 => 3,
+    }
+}
+
+impl Nodes {
+    /// Node 0, and room for that many nodes more, which are those of that many lists.
+    pub(crate) fn new(alloc: Global, more: usize, lists: usize) -> Option<Nodes>
+        ensures { IfSome result (AreNodes ([] ∷ [])) }
+    {
+        let mut nodes = Vec::with_capacity(alloc, more.checked_add(1)?).ok()?;
+        nodes.push(Node { above: 0, below: 0 }).ok()?;
+        let forks = Vec::with_capacity(alloc, lists).ok()?;
+        Some(Nodes { nodes, forks })
+    }
+
+    /// The child of a node by that type; 0 where it has none.
+    #[inline]
+    fn child(&self, node: u32, t: ValType) -> u32
+        ensures { 0 < result → HasChild self.now node t result }
+    {
+        let Some(parent) = self.nodes.get(node as usize) else {
+            return 0;
+        };
+        let below = parent.below;
+        if below < FORKS {
+            return if below % 4 == number(t) {
+                below / 4
+            } else {
+                0
+            };
+        }
+        match self.forks.get((below - FORKS) as usize) {
+            Some(fork) => fork.children[number(t) as usize],
+            None => 0,
+        }
+    }
+
+    /// The children of a node by the numbers of their types; 0 for none.
+    fn children(&self, node: u32) -> [u32; TYPES]
+        ensures { AreChildren self.now node result }
+    {
+        [
+            self.child(node, ValType::I32),
+            self.child(node, ValType::I64),
+            self.child(node, ValType::F32),
+            self.child(node, ValType::F64),
+        ]
+    }
+
+    /// The node of the longest list that ends the types of `node` and then `t`, and has fewer. It goes up the links until a
+    /// node has a child of that type.
+    #[inline]
+    fn longest_end(&self, node: u32, t: ValType) -> u32
+        ensures { FindsEnd self.now node t result }
+    {
+        let mut from = node;
+        while let Some(longer) = self.nodes.get(from as usize) {
+            let link = longer.above;
+            if link >= from {
+                return 0;
+            }
+            let child = self.child(link, t);
+            if child > 0 {
+                return child;
+            }
+            from = link;
+        }
+        0
+    }
+
+    /// Makes a node the only child of another by that type.
+    fn put_only(&mut self, node: u32, t: ValType, child: u32) -> Option<()>
+        ensures { IfSome result (λ _. PutsChild self.old self.new node t child) }
+    {
+        if child >= FORKS / 4 || node as usize >= self.nodes.len() {
+            return None;
+        }
+        self.nodes[node as usize].below = 4 * child + number(t);
+        Some(())
+    }
+
+    /// Makes a node the child of another by that type, and puts all of that one's children into a new fork.
+    fn put_fork(&mut self, node: u32, t: ValType, child: u32) -> Option<()>
+        ensures { IfSome result (λ _. PutsChild self.old self.new node t child) }
+    {
+        let mut children = self.children(node);
+        children[number(t) as usize] = child;
+        let place = FORKS.checked_add(u32::try_from(self.forks.len()).ok()?)?;
+        if node as usize >= self.nodes.len() {
+            return None;
+        }
+        self.forks.push(Fork { children }).ok()?;
+        self.nodes[node as usize].below = place;
+        Some(())
+    }
+
+    /// Makes a node the child of another by that type, by which it has none.
+    fn put_child(&mut self, node: u32, t: ValType, child: u32) -> Option<()>
+        ensures { IfSome result (λ _. PutsChild self.old self.new node t child) }
+    {
+        if self.nodes.get(node as usize)?.below == 0 {
+            self.put_only(node, t, child)
+        } else {
+            self.put_fork(node, t, child)
+        }
+    }
+
+    /// The node of the types of `node` and then `t`, which is made where there is none.
+    #[inline]
+    pub(crate) fn after(&mut self, node: u32, t: ValType) -> Option<u32>
+        ensures { IfSome result (λ d. IsNodeAfter self.old self.new node t d) }
+    {
+        let child = self.child(node, t);
+        if child > 0 {
+            return Some(child);
+        }
+        let link = self.longest_end(node, t);
+        let made = u32::try_from(self.nodes.len()).ok()?;
+        self.nodes.push(Node { above: link, below: 0 }).ok()?;
+        self.put_child(node, t, made)?;
+        Some(made)
+    }
+}
