@@ -1,10 +1,10 @@
 -- The children of nodes, which lie below them one alone or in a fork.
-use Rattle.std.proofs.Common.{◌≡◌, ◌⊎◌, ℕ, ◌+◌, ◌-◌, ◌*◌, ◌<◌, ◌≤◌, List, [], ◌∷◌, ◌++◌, length, get_or, set, refl, sym, ap, subst, ◌∙◌, arith, inl, inr, length-set}
+use Rattle.std.proofs.Common.{◌≡◌, ℕ, ◌+◌, ◌-◌, ◌<◌, ◌≤◌, List, [], ◌∷◌, ◌++◌, length, get_or, set, refl, sym, ap, subst, ◌∙◌, arith, inl, inr, length-set}
 use Rattle.std.proofs.lemmas.Bool.{cases_eq}
 use Rattle.std.proofs.lemmas.List.{get_or_append_left, get_or_at, get_or-set_same, get_or-set_other, length_push}
 use Rattle.wsyntax.specs.declared.ValType.{ValType}
 use Rattle.wsyntax.specs.declared.ValType.TheVariants.{I32, I64, F32, F64}
-use Rattle.wcontext.specs.Nodes.{type_number, above_at, below_at, IsOnly, IsForked, HasChild, HasChildIn, AreChildren, AreForksThere, PutsChild}
+use Rattle.wcontext.specs.Nodes.{type_number, above_at, below_at, IsOnly, HasChild, AreChildren, PutsChild}
 use Rattle.wcontext.specs.declared.nodes.Node.{Node}
 use Rattle.wcontext.specs.declared.nodes.Fork.{Fork}
 use Rattle.wcontext.specs.declared.nodes.Nodes.{Nodes}

@@ -1,10 +1,10 @@
 -- The links of nodes, and nodes that are made.
-use Rattle.std.proofs.Common.{◌≡◌, ◌⊎◌, ℕ, zero, suc, ◌+◌, ◌*◌, ◌<◌, ◌≤◌, List, [], ◌∷◌, ◌++◌, length, get_or, refl, sym, ap, subst, ◌∙◌, arith, inl, inr, length-append}
+use Rattle.std.proofs.Common.{◌≡◌, ◌⊎◌, ℕ, ◌+◌, ◌<◌, List, [], ◌∷◌, ◌++◌, length, refl, sym, ap, subst, ◌∙◌, arith, inl, inr}
 use Rattle.std.proofs.lemmas.Bool.{cases_lt, cases_eq}
 use Rattle.std.proofs.lemmas.List.{get_or_append_left, get_or_at, get_or_push, get_or_past, append-nil, append_assoc, length_push}
 use Rattle.wsyntax.specs.declared.ValType.{ValType}
 use Rattle.wcontext.specs.Lists.{IsEnd}
-use Rattle.wcontext.specs.Nodes.{text, type_number, above_at, below_at, IsOnly, IsForked, HasChild, PutsChild, IsLinked, AreNodes, IsOnTheWay, IsNodeAfter}
+use Rattle.wcontext.specs.Nodes.{text, above_at, below_at, IsOnly, IsForked, HasChild, PutsChild, IsLinked, AreNodes, IsOnTheWay, IsNodeAfter}
 use Rattle.wcontext.specs.declared.nodes.Node.{Node}
 use Rattle.wcontext.specs.declared.nodes.Nodes.{Nodes}
 

@@ -5,7 +5,7 @@ use Rattle.std.proofs.lemmas.Bool.{cases_lt, cases_eq}
 use Rattle.std.proofs.lemmas.List.{get_or-set_same, get_or-set_other, append-nil, append_assoc, get_or_past, get_or-replicate, length-replicate, take_more, take_all}
 use Rattle.std.proofs.lemmas.List.Elements.{AllWithin-more_set, AllWithin-upto, All-from_all_within, All-filter, All-weaker}
 use Rattle.wsyntax.specs.declared.ValType.{ValType}
-use Rattle.wcontext.specs.Nodes.{text, IsLinked, AreNodes}
+use Rattle.wcontext.specs.Nodes.{text, AreNodes}
 use Rattle.wcontext.specs.Trie.{AreTexts, AreRead, HasFronts, IsReading, IsInBlock, BeginsBlocks, ReadsType, ReadsSome, ReadsColumn, ReadsBlock, PutsFronts, PutsBlock, IsNew, ReadsTo, AreNodesOf}
 use Rattle.wcontext.specs.declared.trie.Reading.{Reading}
 use Rattle.wcontext.specs.declared.nodes.Nodes.{Nodes}
@@ -185,8 +185,3 @@ pub fewer_left : (lists left rest : List Reading) (trie : Trie) (base : ℕ) (p 
 fewer_left lists left rest trie base p before is all each =
     let some = before all each in
     (some.0, some.1, some.2, subst (All (IsReading all some.0 base)) (sym is) (All-filter p (IsReading all some.0 base) left some.3))
-
-pub last_read : (lists left : List Reading) (trie : Trie) (column : ℕ) → ReadsTo lists trie left column → AreNodesOf lists trie
-last_read lists left trie column before all each =
-    let some = before all each in
-    (some.0, some.1.linked, some.2)

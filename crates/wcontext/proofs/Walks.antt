@@ -2,12 +2,12 @@
 use Rattle.std.proofs.Common.{◌≡◌, ◌≢◌, ℕ, ◌+◌, ◌<◌, ◌≤◌, List, length, drop, get_or, set, refl, sym, ap, subst, ◌∙◌, arith, inl, inr, length-set}
 use Rattle.std.proofs.lemmas.Bool.{cases_lt, cases_eq}
 use Rattle.std.proofs.lemmas.Bool.Decides.{nat_tests}
-use Rattle.std.proofs.lemmas.List.{get_or-set_same, get_or-set_other, drop-set-lt, at_drop_more, at_drop_all}
+use Rattle.std.proofs.lemmas.List.{get_or-set_same, get_or-set_other, at_drop_more}
 use Rattle.wsyntax.specs.declared.ValType.{ValType}
 use Rattle.wcontext.specs.declared.nodes.Node.{Node}
 use Rattle.wcontext.specs.Lists.{IsEnd}
 use Rattle.wcontext.specs.Nodes.{text, above_at, below_at, IsLinked}
-use Rattle.wcontext.specs.Walk.{IsWalk, HaveLinksOf, count_at, IsCounted, AreCounted, IsCountedFrom}
+use Rattle.wcontext.specs.Walk.{IsWalk, HaveLinksOf, count_at, AreCounted}
 use Rattle.wcontext.proofs.Children.{above_kept, below_there, below_kept}
 use Rattle.wcontext.proofs.Links.{end_itself, end_through}
 

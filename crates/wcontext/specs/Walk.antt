@@ -1,5 +1,5 @@
 -- The numbers that a walk gives the nodes.
-use Rattle.std.specs.Prelude.{◌≡◌, ℕ, ◌+◌, ◌<◌, ◌≤◌, ◌==◌, if◌then◌else◌, List, [], ◌∷◌, length, drop, get_or}
+use Rattle.std.specs.Prelude.{◌≡◌, ℕ, ◌+◌, ◌<◌, ◌≤◌, ◌==◌, if◌then◌else◌, List, [], ◌∷◌, length, drop}
 use Rattle.wsyntax.specs.declared.ValType.{ValType}
 use Rattle.wcontext.specs.declared.nodes.Node.{Node}
 use Rattle.wcontext.specs.Lists.{IsEnd}

@@ -36,7 +36,7 @@ pub(crate) struct Starts {
 
 /// The numbers of a front and of those that it is an end of: from its own on, up to `end`.
 #[derive(Clone, Copy, Debug)]
-pub(crate) struct Numbers {
+struct Numbers {
     start: u32,
     end: u32,
 }

@@ -23,7 +23,7 @@ pub(crate) struct Node {
 }
 
 /// The children of a node that has several, by the numbers of their types; 0 for none.
-#[derive(Clone, Copy, Debug)]
+#[derive(Clone, Copy)]
 struct Fork {
     children: [u32; TYPES],
 }
@@ -68,11 +68,7 @@ impl Nodes {
         };
         let below = parent.below;
         if below < FORKS {
-            return if below % 4 == number(t) {
-                below / 4
-            } else {
-                0
-            };
+            return if below % 4 == number(t) { below / 4 } else { 0 };
         }
         match self.forks.get((below - FORKS) as usize) {
             Some(fork) => fork.children[number(t) as usize],
@@ -161,7 +157,12 @@ impl Nodes {
         }
         let link = self.longest_end(node, t);
         let made = u32::try_from(self.nodes.len()).ok()?;
-        self.nodes.push(Node { above: link, below: 0 }).ok()?;
+        self.nodes
+            .push(Node {
+                above: link,
+                below: 0,
+            })
+            .ok()?;
         self.put_child(node, t, made)?;
         Some(made)
     }

@@ -1,4 +1,4 @@
-use Rattle.std.proofs.Common.{◌≡◌, ℕ, ◌<◌, length}
+use Rattle.std.proofs.Common.{◌≡◌, ℕ, ◌<◌}
 use Rattle.wcontext.specs.Nodes.{below_at}
 use Rattle.wcontext.specs.Walk.{HaveLinksOf}
 use Rattle.wcontext.proofs.walk.count_themselves.Given as goal

@@ -1,4 +1,4 @@
-use Rattle.std.proofs.Common.{◌≡◌, ◌+◌, ◌<◌, length, get_or, set, arith, refl, ◌∙◌, length-set}
+use Rattle.std.proofs.Common.{◌≡◌, ◌+◌, ◌<◌, length, set, arith, refl, ◌∙◌, length-set}
 use Rattle.std.proofs.lemmas.List.{get_or-set_other}
 use Rattle.wcontext.specs.Nodes.{above_at, below_at}
 use Rattle.wcontext.specs.declared.nodes.Node.{Node}

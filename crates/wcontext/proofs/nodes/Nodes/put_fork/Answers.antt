@@ -1,4 +1,4 @@
-use Rattle.std.proofs.Common.{◌≡◌, ◌<◌, ◌++◌, ◌∷◌, [], ◌+◌, length, set, arith, refl, ap, rules}
+use Rattle.std.proofs.Common.{◌≡◌, ◌<◌, ◌++◌, ◌∷◌, [], ◌+◌, length, set, arith, refl, ap}
 use Rattle.std.proofs.lemmas.List.{get_or_read}
 use Rattle.wcontext.specs.Nodes.{type_number, above_at}
 use Rattle.wcontext.specs.declared.nodes.Node.{Node}
