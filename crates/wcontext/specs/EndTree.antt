@@ -44,7 +44,8 @@ pub record IsGathered (all : List (List ValType)) (g : Gathered) : Type 0 where
 
 -- a list was put after the others, from start on if it is long
 abbrev pub PutsList : Gathered → Gathered → List ValType → ℕ → Type 0
-PutsList old new types start = (all : List (List ValType)) → IsGathered all old → (more : List (List ValType)) × IsGathered (all ++ more) new × (start < none → HasFronts (all ++ more) types start)
+PutsList old new types start = (all : List (List ValType)) → IsGathered all old
+    → (more : List (List ValType)) × IsGathered (all ++ more) new × (start < none → HasFronts (all ++ more) types start)
 
 -- these are the long lists of the types
 abbrev pub IsGatheredFrom : List FuncType → Gathered → Type 0
@@ -57,7 +58,8 @@ HasNumbers fronts nodes place = (0 < get_or fronts place 0) × (get_or fronts pl
 -- a front whose number lies within those of another has that as an end
 abbrev pub AreEndsAt : List (List ValType) → List ℕ → List Node → Type 0
 AreEndsAt all fronts nodes = (a b : ℕ) → HasNumbers fronts nodes a → HasNumbers fronts nodes b
-    → start_at nodes (get_or fronts a 0) ≤ start_at nodes (get_or fronts b 0) → start_at nodes (get_or fronts b 0) < end_at nodes (get_or fronts a 0) → IsEnd (text all a) (text all b)
+    → start_at nodes (get_or fronts a 0) ≤ start_at nodes (get_or fronts b 0)
+    → start_at nodes (get_or fronts b 0) < end_at nodes (get_or fronts a 0) → IsEnd (text all a) (text all b)
 
 -- the numbers are those of the fronts of the types' lists
 abbrev pub IsEndTree : List FuncType → EndTree → Type 0
@@ -67,9 +69,11 @@ IsEndTree types t = (all : List (List ValType)) × AreEndsAt all t.fronts.items 
 abbrev pub HoldsFront : EndTree → TypeList → ℕ → Numbers → Type 0
 HoldsFront t list count n = (place : ℕ) × HasNumbers t.fronts.items t.nodes.items place
     × (start_at t.nodes.items (get_or t.fronts.items place 0) ≡ n.start) × (end_at t.nodes.items (get_or t.fronts.items place 0) ≡ n.end)
-    × ((types : List FuncType) (all : List (List ValType)) → HaveFronts types t.starts.items all → count ≤ length (list_of types list) → text all place ≡ take count (list_of types list))
+    × ((types : List FuncType) (all : List (List ValType)) → HaveFronts types t.starts.items all → count ≤ length (list_of types list)
+    → text all place ≡ take count (list_of types list))
 
 -- the one front is an end of the other, if both lists have as many types
 abbrev pub TellsEnd : EndTree → TypeList → ℕ → TypeList → ℕ → Type 0
-TellsEnd t short short_count long long_count = (types : List FuncType) → IsEndTree types t → short_count ≤ length (list_of types short) → long_count ≤ length (list_of types long)
+TellsEnd t short short_count long long_count = (types : List FuncType) → IsEndTree types t → short_count ≤ length (list_of types short)
+    → long_count ≤ length (list_of types long)
     → IsEnd (take short_count (list_of types short)) (take long_count (list_of types long))

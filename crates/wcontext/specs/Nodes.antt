@@ -53,7 +53,8 @@ pub record PutsChild (old new : Nodes) (p : ℕ) (t : ValType) (d : ℕ) : Type 
   pub size : length new.nodes.items ≡ length old.nodes.items
   pub links : (q : ℕ) → above_at new.nodes.items q ≡ above_at old.nodes.items q
   pub forks : AreForksThere old → AreForksThere new
-  pub children : AreForksThere old → (q : ℕ) (u : ValType) (e : ℕ) → 0 < e → HasChild new q u e → HasChild old q u e ⊎ ((q ≡ p) × (u ≡ t) × (e ≡ d))
+  pub children : AreForksThere old → (q : ℕ) (u : ValType) (e : ℕ) → 0 < e → HasChild new q u e
+      → HasChild old q u e ⊎ ((q ≡ p) × (u ≡ t) × (e ≡ d))
 
 -- each link leads to an earlier node whose text is an end of the node's
 pub record IsLinked (texts : List (List ValType)) (nodes : List Node) : Type 0 where
@@ -67,7 +68,8 @@ pub record AreNodes (texts : List (List ValType)) (n : Nodes) : Type 0 where
   pub root : text texts 0 ≡ []
   pub linked : IsLinked texts n.nodes.items
   pub forks : AreForksThere n
-  pub children : (p : ℕ) (t : ValType) (d : ℕ) → 0 < d → HasChild n p t d → (p < length texts) × (d < length texts) × (text texts d ≡ text texts p ++ t ∷ [])
+  pub children : (p : ℕ) (t : ValType) (d : ℕ) → 0 < d → HasChild n p t d
+      → (p < length texts) × (d < length texts) × (text texts d ≡ text texts p ++ t ∷ [])
 
 -- q lies on the way up the links from p
 abbrev pub IsOnTheWay : List (List ValType) → ℕ → ℕ → Type 0
@@ -75,9 +77,11 @@ IsOnTheWay texts p q = (q < length texts) × IsEnd (text texts q) (text texts p)
 
 -- the text of l is an end of that of p and one type more
 abbrev pub FindsEnd : Nodes → ℕ → ValType → ℕ → Type 0
-FindsEnd n p t l = (texts : List (List ValType)) → AreNodes texts n → p < length texts → (l < length texts) × IsEnd (text texts l) (text texts p ++ t ∷ [])
+FindsEnd n p t l = (texts : List (List ValType)) → AreNodes texts n → p < length texts
+    → (l < length texts) × IsEnd (text texts l) (text texts p ++ t ∷ [])
 
 -- d has the text of p and one type more
 abbrev pub IsNodeAfter : Nodes → Nodes → ℕ → ValType → ℕ → Type 0
 IsNodeAfter old new p t d = (texts : List (List ValType)) → AreNodes texts old → p < length texts
-    → (more : List (List ValType)) × AreNodes (texts ++ more) new × (d < length (texts ++ more)) × (text (texts ++ more) d ≡ text texts p ++ t ∷ [])
+    → (more : List (List ValType)) × AreNodes (texts ++ more) new × (d < length (texts ++ more))
+    × (text (texts ++ more) d ≡ text texts p ++ t ∷ [])

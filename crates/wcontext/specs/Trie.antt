@@ -9,7 +9,8 @@ use Rattle.wcontext.specs.Nodes.{text, IsLinked, AreNodes}
 
 -- each node that is not 0 has the text that is wanted at its place
 abbrev pub AreTexts : List (List ValType) → (ℕ → List ValType) → List ℕ → Type 0
-AreTexts texts wanted nodes = (x : ℕ) → 0 < get_or nodes x 0 → (get_or nodes x 0 < length texts) × (text texts (get_or nodes x 0) ≡ wanted x)
+AreTexts texts wanted nodes = (x : ℕ) → 0 < get_or nodes x 0
+    → (get_or nodes x 0 < length texts) × (text texts (get_or nodes x 0) ≡ wanted x)
 
 -- the fronts that were read have the texts of their places
 abbrev pub AreRead : List (List ValType) → List (List ValType) → List ℕ → Type 0
@@ -40,7 +41,8 @@ abbrev pub BeginsBlock : Reading → Reading → ℕ → Type 0
 BeginsBlock old new base = (all texts : List (List ValType)) → IsReading all texts base old → IsInBlock all texts base base new
 
 abbrev pub BeginsBlocks : List Reading → List Reading → ℕ → Type 0
-BeginsBlocks lists now base = (all texts : List (List ValType)) → All (IsReading all texts base) lists → All (IsInBlock all texts base base) now
+BeginsBlocks lists now base = (all texts : List (List ValType)) → All (IsReading all texts base) lists
+    → All (IsInBlock all texts base base) now
 
 -- node 0 alone, and no front that was read
 abbrev pub IsNew : Trie → Type 0
@@ -53,14 +55,16 @@ ReadsType old new list next base i = (all texts : List (List ValType)) → AreNo
 
 -- the same of the first k lists
 abbrev pub ReadsSome : Nodes → Nodes → List Reading → List Reading → ℕ → ℕ → ℕ → Type 0
-ReadsSome old new lists now base i k = (all texts : List (List ValType)) → AreNodes texts old → All (IsInBlock all texts base (base + i)) lists
-    → (more : List (List ValType)) × AreNodes (texts ++ more) new
-    × AllWithin (IsInBlock all (texts ++ more) base (base + i + 1)) now 0 k × AllWithin (IsInBlock all (texts ++ more) base (base + i)) now k (length now)
+ReadsSome old new lists now base i k = (all texts : List (List ValType)) → AreNodes texts old
+    → All (IsInBlock all texts base (base + i)) lists → (more : List (List ValType)) × AreNodes (texts ++ more) new
+    × AllWithin (IsInBlock all (texts ++ more) base (base + i + 1)) now 0 k
+    × AllWithin (IsInBlock all (texts ++ more) base (base + i)) now k (length now)
 
 -- the same of each list
 abbrev pub ReadsColumn : Nodes → Nodes → List Reading → List Reading → ℕ → ℕ → Type 0
-ReadsColumn old new lists now base i = (all texts : List (List ValType)) → AreNodes texts old → All (IsInBlock all texts base (base + i)) lists
-    → (more : List (List ValType)) × AreNodes (texts ++ more) new × All (IsInBlock all (texts ++ more) base (base + i + 1)) now
+ReadsColumn old new lists now base i = (all texts : List (List ValType)) → AreNodes texts old
+    → All (IsInBlock all texts base (base + i)) lists → (more : List (List ValType)) × AreNodes (texts ++ more) new
+    × All (IsInBlock all (texts ++ more) base (base + i + 1)) now
 
 -- the first i types of each list's block were read
 abbrev pub ReadsBlock : Nodes → Nodes → List Reading → List Reading → ℕ → ℕ → Type 0
@@ -69,10 +73,12 @@ ReadsBlock old new lists now base i = (all texts : List (List ValType)) → AreN
 
 -- the nodes of the block that begins at base were put to the fronts
 abbrev pub PutsFronts : List ℕ → List ℕ → Reading → ℕ → Type 0
-PutsFronts old new list base = (all texts : List (List ValType)) (column : ℕ) → IsInBlock all texts base column list → AreRead all texts old → AreRead all texts new
+PutsFronts old new list base = (all texts : List (List ValType)) (column : ℕ) → IsInBlock all texts base column list
+    → AreRead all texts old → AreRead all texts new
 
 abbrev pub PutsBlock : List ℕ → List ℕ → List Reading → ℕ → Type 0
-PutsBlock old new lists base = (all texts : List (List ValType)) (column : ℕ) → All (IsInBlock all texts base column) lists → AreRead all texts old → AreRead all texts new
+PutsBlock old new lists base = (all texts : List (List ValType)) (column : ℕ) → All (IsInBlock all texts base column) lists
+    → AreRead all texts old → AreRead all texts new
 
 -- none of its types was read
 pub record IsUnread (all : List (List ValType)) (r : Reading) : Type 0 where
@@ -82,8 +88,10 @@ pub record IsUnread (all : List (List ValType)) (r : Reading) : Type 0 where
 -- `column` types were read of the lists that are left, and all of the others
 abbrev pub ReadsTo : List Reading → Trie → List Reading → ℕ → Type 0
 ReadsTo lists trie left column = (all : List (List ValType)) → All (IsUnread all) lists
-    → (texts : List (List ValType)) × AreNodes texts trie.nodes × AreRead all texts trie.fronts.items × All (IsReading all texts column) left
+    → (texts : List (List ValType)) × AreNodes texts trie.nodes × AreRead all texts trie.fronts.items
+    × All (IsReading all texts column) left
 
 -- all fronts have nodes
 abbrev pub AreNodesOf : List Reading → Trie → Type 0
-AreNodesOf lists trie = (all : List (List ValType)) → All (IsUnread all) lists → (texts : List (List ValType)) × IsLinked texts trie.nodes.nodes.items × AreRead all texts trie.fronts.items
+AreNodesOf lists trie = (all : List (List ValType)) → All (IsUnread all) lists
+    → (texts : List (List ValType)) × IsLinked texts trie.nodes.nodes.items × AreRead all texts trie.fronts.items

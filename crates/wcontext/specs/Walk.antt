@@ -14,7 +14,8 @@ end_at = below_at
 
 -- a text whose number lies within those of another has that as an end
 abbrev pub AreEnds : List (List ValType) → List Node → Type 0
-AreEnds texts ns = (a b : ℕ) → a < length ns → b < length ns → start_at ns a ≤ start_at ns b → start_at ns b < end_at ns a → IsEnd (text texts a) (text texts b)
+AreEnds texts ns = (a b : ℕ) → a < length ns → b < length ns
+    → start_at ns a ≤ start_at ns b → start_at ns b < end_at ns a → IsEnd (text texts a) (text texts b)
 
 -- next has the first number of each node that no node below it has yet
 pub record IsWalk (IsBelow : ℕ → ℕ → Type 0) (start end next : ℕ → ℕ) (count : ℕ) : Type 0 where
