@@ -6,7 +6,7 @@ use Rattle.std.proofs.lemmas.List.{get_or-set_same, get_or-set_other, append-nil
 use Rattle.std.proofs.lemmas.List.Elements.{AllWithin-more_set, AllWithin-upto, All-from_all_within, All-filter, All-weaker}
 use Rattle.wsyntax.specs.declared.ValType.{ValType}
 use Rattle.wcontext.specs.Nodes.{text, AreNodes}
-use Rattle.wcontext.specs.Trie.{AreTexts, AreRead, HasFronts, IsReading, IsInBlock, BeginsBlocks, ReadsType, ReadsSome, ReadsColumn, ReadsBlock, PutsFronts, PutsBlock, IsNew, ReadsTo, AreNodesOf}
+use Rattle.wcontext.specs.Trie.{AreTexts, AreRead, HasFronts, IsReading, IsInBlock, BeginsBlocks, ReadsType, ReadsSome, ReadsColumn, ReadsBlock, PutsFronts, PutsBlock, IsNew, ReadsTo}
 use Rattle.wcontext.specs.declared.trie.Reading.{Reading}
 use Rattle.wcontext.specs.declared.nodes.Nodes.{Nodes}
 use Rattle.wcontext.specs.declared.trie.Trie.{Trie}
