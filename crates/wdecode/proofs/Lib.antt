@@ -17,5 +17,6 @@ pub mod ClosedTrees
 pub mod BranchTables
 pub mod OneLoop
 pub mod OneRead
+pub mod Ends
 pub mod Initials
 pub mod Segments
