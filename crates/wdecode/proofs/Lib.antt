@@ -18,5 +18,6 @@ pub mod BranchTables
 pub mod OneLoop
 pub mod OneRead
 pub mod Ends
+pub mod ConstantForms
 pub mod Initials
 pub mod Segments

@@ -70,7 +70,8 @@ fn single_at(token: Token, bytes: &[u8]) -> Option<(ConstExpr<'_>, &[u8])>
 
 /// The bytes after the expression that begins with `first`, which is seen by the targets, and goes on with `bytes`. No
 /// token is kept: no more than the open blocks, and the labels of one branch table.
-#[inline(never)]
+// A call would take the first token through memory, also where it stands alone.
+#[inline(always)]
 fn end_of<'a>(
     alloc: Global,
     targets: &mut Vec<u32>,

@@ -11,21 +11,30 @@ returns-in_err-first c =
 
 pub returns-in-Some : goal.returns-in-Some
 returns-in-Some c =
-    let begins = given c.args.bytes.now c.new-targets.result.items c.token_at.new.targets.items c.in_ok-first.first c.in_ok-first.rest.now c.in_ok-first.ensures.ok in
-    c.in-Some.ensures.single c.args.bytes.now c.token_at.new.targets.items begins
+    let f = c.in_ok-first in
+    let targets = c.token_at.new.targets.items in
+    let begins = given c.args.bytes.now c.new-targets.result.items targets f.first f.rest.now f.ensures.ok in
+    c.in-Some.ensures.single c.args.bytes.now targets begins
 
 pub returns-in_err-after-in-None : goal.returns-in_err-after-in-None
 returns-in_err-after-in-None c =
-    let p = err_from_is_err_and c.from_residual-in_err-after-in-None.result c.from_residual-in_err-after-in-None.ensures.1 in
-    let begins = given c.args.bytes.now c.new-targets.result.items c.token_at.new.targets.items c.in_ok-first.first c.in_ok-first.rest.now c.in_ok-first.ensures.ok in
-    rw (p.1, p.2) (none_of_all c.in_err-after-in-None.field-0.0 (expression.read c.args.bytes.now) (c.in_err-after-in-None.ensures c.args.bytes.now begins))
+    let r = c.from_residual-in_err-after-in-None in
+    let p = err_from_is_err_and r.result r.ensures.1 in
+    let f = c.in_ok-first in
+    let begins = given c.args.bytes.now c.new-targets.result.items c.token_at.new.targets.items f.first f.rest.now f.ensures.ok in
+    let e = c.in_err-after-in-None in
+    rw (p.1, p.2) (none_of_all e.field-0.0 (expression.read c.args.bytes.now) (e.ensures c.args.bytes.now begins))
 
 pub invariant_of-result : goal.invariant_of-result
 invariant_of-result c =
-    let begins = given c.args.bytes.now c.new-targets.result.items c.token_at.new.targets.items c.in_ok-first.first c.in_ok-first.rest.now c.in_ok-first.ensures.ok in
-    record { other = sym (c.in-None.ensures.form c.args.bytes.now c.token_at.new.targets.items begins) }
+    let f = c.in_ok-first in
+    let targets = c.token_at.new.targets.items in
+    let begins = given c.args.bytes.now c.new-targets.result.items targets f.first f.rest.now f.ensures.ok in
+    record { other = sym (c.in-None.ensures.form c.args.bytes.now targets begins) }
 
 pub returns : goal.returns
 returns c =
-    let begins = given c.args.bytes.now c.new-targets.result.items c.token_at.new.targets.items c.in_ok-first.first c.in_ok-first.rest.now c.in_ok-first.ensures.ok in
-    all_of (expression.read c.args.bytes.now) c.in_ok-after-in-None.after.now (c.in_ok-after-in-None.ensures c.args.bytes.now begins)
+    let f = c.in_ok-first in
+    let begins = given c.args.bytes.now c.new-targets.result.items c.token_at.new.targets.items f.first f.rest.now f.ensures.ok in
+    let after = c.in_ok-after-in-None in
+    all_of (expression.read c.args.bytes.now) after.after.now (after.ensures c.args.bytes.now begins)

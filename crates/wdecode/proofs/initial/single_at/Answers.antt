@@ -1,5 +1,6 @@
 use Rattle.wsyntax.specs.Modules.{seen}
-use Rattle.wdecode.proofs.Initials.{single_given, single_form, other_token, other_end}
+use Rattle.wdecode.proofs.ConstantForms.{single_form, other_token, other_end}
+use Rattle.wdecode.proofs.Initials.{single_given}
 use Rattle.wdecode.proofs.initial.single_at.Goals as goal
 
 pub returns-in_err-after-clause-form : goal.returns-in_err-after-clause-form
@@ -14,11 +15,16 @@ returns-in_err-initial-clause-form c = λ whole targets begins.
 
 pub returns-clause-form : goal.returns-clause-form
 returns-clause-form c = λ whole targets begins.
-    let a = c.in_ok-initial.ensures in
-    let read = single_given whole c.args.bytes.now c.in_ok-after.after.now targets c.args.token c.in_ok-initial.initial begins c.in_ok-after.ensures (a.form targets) (a.tokens targets) in
-    single_form whole c.in_ok-after.after.now targets c.args.token c.in_ok-initial.initial read (a.form targets) (a.tokens targets)
+    let x = c.in_ok-initial in
+    let t = seen targets c.args.token in
+    let form = x.ensures.form targets in
+    let tokens = x.ensures.tokens targets in
+    let rest = c.in_ok-after.after.now in
+    single_form whole rest t x.initial (single_given whole c.args.bytes.now rest t x.initial begins c.in_ok-after.ensures form tokens) form tokens
 
 pub returns-clause-single : goal.returns-clause-single
 returns-clause-single c = λ whole targets begins.
-    let a = c.in_ok-initial.ensures in
-    single_given whole c.args.bytes.now c.in_ok-after.after.now targets c.args.token c.in_ok-initial.initial begins c.in_ok-after.ensures (a.form targets) (a.tokens targets)
+    let x = c.in_ok-initial in
+    let t = seen targets c.args.token in
+    let rest = c.in_ok-after.after.now in
+    single_given whole c.args.bytes.now rest t x.initial begins c.in_ok-after.ensures (x.ensures.form targets) (x.ensures.tokens targets)
