@@ -20,7 +20,8 @@ returns-clause-form c = λ whole targets begins.
     let form = x.ensures.form targets in
     let tokens = x.ensures.tokens targets in
     let rest = c.in_ok-after.after.now in
-    single_form whole rest t x.initial (single_given whole c.args.bytes.now rest t x.initial begins c.in_ok-after.ensures form tokens) form tokens
+    let read = single_given whole c.args.bytes.now rest t x.initial begins c.in_ok-after.ensures form tokens in
+    single_form whole rest t x.initial read form tokens
 
 pub returns-clause-single : goal.returns-clause-single
 returns-clause-single c = λ whole targets begins.
