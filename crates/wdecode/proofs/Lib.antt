@@ -17,5 +17,7 @@ pub mod ClosedTrees
 pub mod BranchTables
 pub mod OneLoop
 pub mod OneRead
+pub mod Ends
+pub mod ConstantForms
 pub mod Initials
 pub mod Segments

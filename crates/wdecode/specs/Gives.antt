@@ -21,6 +21,15 @@ abbrev pub Gives : {X Y : Type 0} → (X → Y) → Result X Fault → Option Y 
 Gives view (Ok x) read = read ≡ Some (view x)
 Gives view (Err e) read = Fails e read
 
+-- the bytes after what is read
+abbrev pub rest_of : {A : Type 0} → Option (A × List ℕ) → Option (List ℕ)
+rest_of (Some x) = Some x.1
+rest_of None = None
+
+-- a token stands at the front of the bytes, and the rest after it
+abbrev pub Begins : List ℕ → Token → List ℕ → Type 0
+Begins bytes t rest = ◌≡◌ {A = Option (Token × List ℕ)} (token_at bytes) (Some (t, rest))
+
 -- The token that is given and the bytes after it are what is read after an opcode, whatever targets there are.
 abbrev pub GivesImmediates : Result (Held × Bor (List ℕ)) Fault → Opcode → List ℕ → Type 0
 GivesImmediates r opcode bytes =

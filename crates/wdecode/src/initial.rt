@@ -1,17 +1,18 @@
 //! The expressions of first values and offsets.
-ghost use Rattle.std.specs.Prelude.{◌≡◌, ℕ, List, [], ◌∷◌, Some, IfSome, is_some};
-ghost use Rattle.wdecode.specs.Gives.{Gives};
+ghost use Rattle.std.specs.Prelude.{◌≡◌, ◌≢◌, ℕ, List, [], ◌∷◌, Some, IfSome, MatchOption, is_some};
+ghost use Rattle.wdecode.specs.Gives.{Begins, Gives, rest_of};
 ghost use Rattle.wsyntax.specs.Instructions.{End};
-ghost use Rattle.wsyntax.specs.Initials.{is_const_or_get, has_constant_form};
-ghost use Rattle.wsyntax.specs.Modules.{seen, tokens_of, initial_tokens};
+ghost use Rattle.wsyntax.specs.Initials.{is_const_or_get, has_constant_form, tokens_read};
+ghost use Rattle.wsyntax.specs.Modules.{seen, initial_tokens};
 ghost use Rattle.wsyntax.specs.Binary.Nesting.{expression};
 
 use crate::fault::Fault;
 use crate::frequent::i32_const;
-use crate::instructions::{expression_at, token_at};
+use crate::instructions::{enter, token_at};
 use crate::op;
+use smallvec::SmallVec;
 use std::alloc::Global;
-use wsyntax::{ConstExpr, Expression, OtherExpression, Token};
+use wsyntax::{ConstExpr, OtherExpression, Token};
 
 /// The expression of that instruction and its end, where it is a constant or a `global.get`.
 fn alone<'a>(token: Token) -> Option<ConstExpr<'a>>
@@ -28,10 +29,10 @@ fn alone<'a>(token: Token) -> Option<ConstExpr<'a>>
     }
 }
 
-/// The bytes after `byte` at the front.
+/// The bytes after `byte`, where it stands at the front.
 #[inline(always)]
 fn after_byte(byte: u8, bytes: &[u8]) -> Option<&[u8]>
-    ensures { IfSome result (λ rest. bytes.now ≡ byte ∷ rest.now) }
+    ensures { MatchOption result ((rest : List ℕ) → bytes.now ≢ byte ∷ rest) (λ rest. bytes.now ≡ byte ∷ rest.now) }
 {
     match bytes {
         [first, rest @ ..] if *first == byte => Some(rest),
@@ -53,47 +54,61 @@ pub fn number_at(bytes: &[u8]) -> Option<(i32, &[u8])>
     }
 }
 
-/// One constant or one `global.get` and its end at the front, and the bytes after them; `None` says nothing.
-fn single_at(alloc: Global, bytes: &[u8]) -> Option<(ConstExpr<'_>, &[u8])>
-    ensures { IfSome result (λ x. expression.read bytes.now ≡ Some (initial_tokens x.0, x.1.now)) }
+/// The expression of that token and the end that stands at the front of `bytes`, and the bytes after it; `None` where no end
+/// stands there, or the token is neither a constant nor a `global.get`.
+#[inline(always)]
+fn single_at(token: Token, bytes: &[u8]) -> Option<(ConstExpr<'_>, &[u8])>
+    ensures form { (whole targets : List ℕ) → Begins whole (seen targets token) bytes.now
+        → is_some result ≡ has_constant_form (tokens_read whole) }
+    ensures single { (whole targets : List ℕ) → Begins whole (seen targets token) bytes.now
+        → IfSome result (λ x. expression.read whole ≡ Some (initial_tokens x.0, x.1.now)) }
 {
-    let mut targets = Vec::new(alloc);
-    let Ok((token, rest)) = token_at(&mut targets, bytes) else {
-        return None;
-    };
-    let after = after_byte(op::END, rest)?;
+    let after = after_byte(op::END, bytes)?;
     let initial = alone(token)?;
     Some((initial, after))
 }
 
-/// The expression, where it is one constant or one `global.get`.
-fn constant_of<'a>(expression: &Expression) -> Option<ConstExpr<'a>>
-    ensures form { is_some result ≡ has_constant_form (tokens_of expression.now) }
-    ensures tokens { IfSome result (λ x. initial_tokens x ≡ tokens_of expression.now) }
+/// The bytes after the expression that begins with `first`, which is seen by the targets, and goes on with `bytes`. No
+/// token is kept: no more than the open blocks, and the labels of one branch table.
+// A call would take the first token through memory, also where it stands alone.
+#[inline(always)]
+fn end_of<'a>(
+    alloc: Global,
+    targets: &mut Vec<u32>,
+    first: Token,
+    bytes: &'a [u8],
+) -> Result<&'a [u8], Fault>
+    ensures { (whole : List ℕ) → Begins whole (seen targets.old.items first) bytes.now
+        → Gives (λ x. x.now) result (rest_of (expression.read whole)) }
 {
-    let token = expression.single_instruction()?;
-    alone(token)
-}
-
-/// The expression at the front, whatever it is, and the bytes after it. Its tokens are let go again.
-fn whole_at(alloc: Global, bytes: &[u8]) -> Result<(ConstExpr<'_>, &[u8]), Fault>
-    ensures { Gives (λ x. (initial_tokens x.0, x.1.now)) result (expression.read bytes.now) }
-{
-    let (expression, rest) = expression_at(alloc, bytes)?;
-    match constant_of(&expression) {
-        Some(initial) => Ok((initial, rest)),
-        None => Ok((ConstExpr::Other(OtherExpression { bytes }), rest)),
+    let mut opened = SmallVec::new(alloc);
+    let mut token = first;
+    let mut rest = bytes;
+    'each: loop {
+        let closes = enter(&mut opened, token)?;
+        if closes {
+            return Ok(rest);
+        }
+        targets.clear();
+        let (next, after) = token_at(targets, rest)?;
+        token = next;
+        rest = after;
     }
 }
 
-/// An expression (5.4.6) at the front, up to and with the end that closes it, and the bytes after it. Where it is one
-/// constant or one `global.get` it takes no memory, and no other expression keeps any.
+/// An expression (5.4.6) at the front, up to and with the end that closes it, and the bytes after it. None keeps any memory,
+/// and one constant or one `global.get` takes none.
 pub fn initial_at(alloc: Global, bytes: &[u8]) -> Result<(ConstExpr<'_>, &[u8]), Fault>
     ensures { Gives (λ x. (initial_tokens x.0, x.1.now)) result (expression.read bytes.now) }
 {
-    match single_at(alloc, bytes) {
-        Some((initial, rest)) => Ok((initial, rest)),
-        None => whole_at(alloc, bytes),
+    let mut targets = Vec::new(alloc);
+    let (first, rest) = token_at(&mut targets, bytes)?;
+    match single_at(first, rest) {
+        Some((initial, after)) => Ok((initial, after)),
+        None => {
+            let after = end_of(alloc, &mut targets, first, rest)?;
+            Ok((ConstExpr::Other(OtherExpression { bytes }), after))
+        }
     }
 }
 
