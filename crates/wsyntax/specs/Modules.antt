@@ -60,11 +60,6 @@ seen targets (flat.Numeric f) = Do (Numeric (num_op f))
 abbrev pub tokens_of : Expression → List Token
 tokens_of e = map (seen e.targets.items) e.tokens.items
 
--- the one instruction of an expression, where it is one and its end
-abbrev pub single_instruction : List Flat → Option Flat
-single_instruction (t ∷ flat.End ∷ []) = Some t
-single_instruction _ = None
-
 -- the instruction of an expression of one constant, or of one global.get
 abbrev pub constant_instruction : ConstExpr → Option Flat
 constant_instruction (initial.I32Const n) = Some (flat.I32Const n)

@@ -33,21 +33,6 @@ pub enum ConstExpr<'a> {
 
 const _: () = prove!(size_of::<ConstExpr<'static>>() == 24);
 
-impl Expression {
-    ghost use Rattle.std.specs.Prelude.{◌≡◌};
-    ghost use Rattle.wsyntax.specs.Modules.{single_instruction};
-
-    /// The one instruction of the expression, where it is one and its end.
-    pub fn single_instruction(&self) -> Option<Token>
-        ensures { result ≡ single_instruction self.now.tokens.items }
-    {
-        match self.tokens.as_slice() {
-            [token, Token::End] => Some(*token),
-            _ => None,
-        }
-    }
-}
-
 impl<'a> ConstExpr<'a> {
     ghost use Rattle.std.specs.Prelude.{◌≡◌};
     ghost use Rattle.wsyntax.specs.Modules.{constant_instruction};
