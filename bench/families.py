@@ -457,6 +457,8 @@ FAMILIES = {
     'data segments': (SECTIONS, of_sections(data_segments)),
     'custom sections': (SECTIONS, custom_sections),
     'blocks of 255 types': (LIVE, short_lists(lambda n: b'\x02\x02\x0B' * (n // 3))),
+    'blocks of 255 types, left': (LIVE, short_lists(lambda n: b'\x02\x02\x00\x0B' * (n // 4))),
+    'ifs of 255 types': (LIVE, short_lists(lambda n: b'\x41\x00\x04\x02\x0B' * (n // 5))),
     'loops of 255 types, nested': (LIVE, short_lists(lambda n: b'\x03\x02' * (n // 3) + b'\x0B' * (n // 3))),
     'calls of 255 types': (LIVE, short_lists(lambda n: b'\x10\x02' * (n // 2))),
     'calls of 255 types, shifted': (LIVE, short_lists(lambda n: b'\x10\x03\x10\x04\x10\x01' * (n // 6))),
