@@ -7,6 +7,7 @@ use Rattle.wcontext.specs.declared.nodes.Fork.{Fork}
 use Rattle.wcontext.specs.declared.nodes.Nodes.{Nodes}
 use Rattle.wcontext.specs.Lists.{IsEnd}
 
+-- the number of a type, by which forks are ordered
 abbrev pub type_number : ValType → ℕ
 type_number I32 = 0
 type_number I64 = 1
@@ -17,9 +18,11 @@ type_number F64 = 3
 abbrev pub text : List (List ValType) → ℕ → List ValType
 text texts q = get_or texts q []
 
+-- what is kept above a node: its link, or its number
 abbrev pub above_at : List Node → ℕ → ℕ
 above_at nodes q = (get_or nodes q record { above = 0; below = 0 }).above
 
+-- what is kept below it: its children, or where the numbers below it end
 abbrev pub below_at : List Node → ℕ → ℕ
 below_at nodes q = (get_or nodes q record { above = 0; below = 0 }).below
 

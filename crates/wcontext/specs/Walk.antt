@@ -38,6 +38,7 @@ count_at (x ∷ xs) q = (if x.above == q then x.below else 0) + count_at xs q
 abbrev pub IsCounted : List Node → ℕ → Type 0
 IsCounted nodes q = below_at nodes q ≡ 1 + count_at (drop (q + 1) nodes) q
 
+-- that is so of each node
 abbrev pub AreCounted : List Node → Type 0
 AreCounted nodes = (q : ℕ) → q < length nodes → IsCounted nodes q
 
@@ -46,5 +47,6 @@ pub record IsCountedFrom (nodes : List Node) (i : ℕ) : Type 0 where
   pub low : (q : ℕ) → q < i → below_at nodes q ≡ 1 + count_at (drop i nodes) q
   pub high : (q : ℕ) → i ≤ q → q < length nodes → IsCounted nodes q
 
+-- the new nodes have numbers by the links of the old
 abbrev pub AreNumbersOf : List Node → List Node → Type 0
 AreNumbersOf old new = (texts : List (List ValType)) → IsLinked texts old → AreEnds texts new

@@ -15,9 +15,8 @@ pub(crate) const LONG: usize = 256;
 /// In the place of the start of a list that is not taken in.
 const NONE: u32 = u32::MAX;
 
-/// Each byte of a body can have a list compared once. A list is too short to be taken in where the bodies can so have at
-/// most this many types compared for each type of all long lists. To compare so many takes up to 60 ns, and to take in a
-/// type 35 to 75.
+/// Each byte of a body can have a list compared once. A list is not taken in where that comes to at most this many types for
+/// each type of all long lists. To compare so many takes up to 60 ns, and to take in a type some 35 to 75.
 const COMPARED: usize = 1_024;
 
 /// Two lists of this many types fill the nearest cache of a processor. To compare longer ones takes longer a type, up to
@@ -48,7 +47,7 @@ pub(crate) struct EndTree {
     starts: Vec<Starts>,
     /// The nodes of the fronts, by their places.
     fronts: Vec<u32>,
-    /// Numbered.
+    /// The nodes, numbered.
     nodes: Vec<Node>,
 }
 

@@ -32,6 +32,7 @@ struct Fork {
 #[derive(Drop)]
 pub(crate) struct Nodes {
     pub(crate) nodes: Vec<Node>,
+    /// At most one a list: where it parts from those before it.
     forks: Vec<Fork>,
 }
 
@@ -48,7 +49,7 @@ fn number(t: ValType) -> u32
 }
 
 impl Nodes {
-    /// Node 0, and room for that many nodes more, which are those of that many lists.
+    /// Node 0, and room for `more` nodes, made of `lists` lists.
     pub(crate) fn new(alloc: Global, more: usize, lists: usize) -> Option<Nodes>
         ensures { IfSome result (AreNodes ([] ∷ [])) }
     {
@@ -89,7 +90,7 @@ impl Nodes {
     }
 
     /// The node of the longest list that ends the types of `node` and then `t`, and has fewer. It goes up the links until a
-    /// node has a child of that type.
+    /// node has a child of that type: in all lists together that is at most two steps a type.
     #[inline]
     fn longest_end(&self, node: u32, t: ValType) -> u32
         ensures { FindsEnd self.now node t result }
@@ -146,7 +147,8 @@ impl Nodes {
         }
     }
 
-    /// The node of the types of `node` and then `t`, which is made where there is none.
+    /// The node of the types of `node` and then `t`, which is made where there is none. Nodes are made in the order of their
+    /// lengths, so that each shorter end has its node already.
     #[inline]
     pub(crate) fn after(&mut self, node: u32, t: ValType) -> Option<u32>
         ensures { IfSome result (λ d. IsNodeAfter self.old self.new node t d) }

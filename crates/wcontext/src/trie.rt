@@ -71,7 +71,7 @@ fn begin_block(lists: &mut [Reading<'_>], base: usize)
 }
 
 impl Trie {
-    /// That many fronts, of which none was read, of that many lists.
+    /// `count` fronts of `lists` lists, of which none was read.
     fn new(alloc: Global, count: usize, lists: usize) -> Option<Trie>
         ensures { IfSome result (λ t. IsNew t) }
     {

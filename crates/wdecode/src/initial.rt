@@ -68,9 +68,9 @@ fn single_at(token: Token, bytes: &[u8]) -> Option<(ConstExpr<'_>, &[u8])>
     Some((initial, after))
 }
 
-/// The bytes after the expression that begins with `first`, which is seen by the targets, and goes on with `bytes`. No
-/// token is kept: no more than the open blocks, and the labels of one branch table.
-// A call would take the first token through memory, also where it stands alone.
+/// The bytes after the expression whose first token is `first`, with its labels in `targets`, and whose others stand in
+/// `bytes`. Of these no more is kept than the open blocks, and the labels of one branch table.
+// PERF: a call would take the first token through memory, also where it stands alone.
 #[inline(always)]
 fn end_of<'a>(
     alloc: Global,
@@ -96,8 +96,8 @@ fn end_of<'a>(
     }
 }
 
-/// An expression (5.4.6) at the front, up to and with the end that closes it, and the bytes after it. None keeps any memory,
-/// and one constant or one `global.get` takes none.
+/// An expression (5.4.6) at the front, up to and with the end that closes it, and the bytes after it. No expression keeps
+/// memory, and one constant or one `global.get` takes none.
 pub fn initial_at(alloc: Global, bytes: &[u8]) -> Result<(ConstExpr<'_>, &[u8]), Fault>
     ensures { Gives (λ x. (initial_tokens x.0, x.1.now)) result (expression.read bytes.now) }
 {
