@@ -41,9 +41,9 @@ DEPTH = 3000
 ROOM = 32
 # In this many a call is run that enters few slots. The operands after its branch would take 240 more.
 ENTRY_ROOM = 128
-# What may be asked for at once and together, in lengths of the module, and beside: the worst are bodies of no bytes (26 and 49)
-# and expressions that are no constant (8 and 147), and, for runs, functions of two bytes, since each body has a record.
-LENGTHS = {'check': (48, 192), 'run': (128, 640)}
+# What may be asked for at once and together, in lengths of the module, and beside: the worst are bodies without functions (11
+# and 12) and exports of one name (3 and 16), and, for runs, functions of two bytes (29 and 118), since each body has a record.
+LENGTHS = {'check': (16, 32), 'run': (48, 192)}
 BESIDE = 512 << 10
 SIZE = 100_000
 # The names of exports in the tables.
