@@ -13,7 +13,17 @@ fn stepped(alloc: Global, count: usize, step: usize) -> Result<Vec<ValType>, All
     Ok(types)
 }
 
-/// Function types whose parameters are long lists: some are ends of others, two are equal, and one is too short for the tree.
+/// A list of 300 types, of which those at `places` are i64 and all others are i32.
+fn marked(alloc: Global, places: &[usize]) -> Result<Vec<ValType>, AllocError> {
+    let mut types = Vec::new(alloc);
+    for i in 0..300 {
+        types.push(if places.contains(&i) { I64 } else { I32 })?;
+    }
+    Ok(types)
+}
+
+/// Function types whose parameters are long lists: some are ends of others, two are equal, one is too short for the tree, and of
+/// two the fronts part and meet again.
 fn long_lists(alloc: Global) -> Result<FuncTypes, AllocError> {
     let mut types = FuncTypes::new(alloc);
     for (count, step) in [
@@ -26,6 +36,8 @@ fn long_lists(alloc: Global) -> Result<FuncTypes, AllocError> {
     ] {
         types.push(&stepped(alloc, count, step)?, &[])?;
     }
+    types.push(&marked(alloc, &[0, 10, 251])?, &[])?;
+    types.push(&marked(alloc, &[0, 34, 44])?, &[])?;
     Ok(types)
 }
 
@@ -72,8 +84,8 @@ const COUNTS: [u32; 6] = [254, 255, 256, 299, 300, 601];
 
 /// The first two fronts of which the context does not say what comparing says.
 fn differing(context: &Context, types: &FuncTypes) -> Option<((u32, u32), (u32, u32))> {
-    for y in 0..6 {
-        for z in 0..6 {
+    for y in 0..8 {
+        for z in 0..8 {
             for count in COUNTS {
                 for more in COUNTS {
                     if !says_as_comparing(context, types, (y, count), (z, more)) {
@@ -86,13 +98,13 @@ fn differing(context: &Context, types: &FuncTypes) -> Option<((u32, u32), (u32, 
     None
 }
 
-/// The bytes of a body: all of them are enough for a tree of all long lists, and 4,000 for the lists of 601 types alone.
-static BODY: [u8; 8_000] = [0; 8_000];
+/// The bytes of a body: all of them are enough for a tree of all long lists, and 5,000 for the lists of 601 types alone.
+static BODY: [u8; 10_000] = [0; 10_000];
 
 #[test]
 fn fronts_of_long_lists_are_ends_where_comparing_says_so(rt: HostRuntime) -> Result<(), Fail> {
     let types = long_lists(rt.alloc())?;
-    for body in [&BODY[..0], &BODY[..4_000], &BODY[..]] {
+    for body in [&BODY[..0], &BODY[..5_000], &BODY[..]] {
         let mut module = Module::empty(rt.alloc());
         module.types = long_lists(rt.alloc())?;
         module.bodies.push(body)?;

@@ -4,7 +4,7 @@ use Rattle.std.proofs.lemmas.Bool.{cases_lt, cases_eq}
 use Rattle.std.proofs.lemmas.List.{get_or_append_left, get_or_at, get_or_push, get_or_past, append-nil, append_assoc, length_push}
 use Rattle.wsyntax.specs.declared.ValType.{ValType}
 use Rattle.wcontext.specs.Lists.{IsEnd}
-use Rattle.wcontext.specs.Nodes.{text, above_at, below_at, IsOnly, IsForked, HasChild, PutsChild, IsLinked, AreNodes, IsOnTheWay, IsNodeAfter}
+use Rattle.wcontext.specs.Nodes.{text, above_at, below_at, IsOnly, IsForked, HasChild, HasNoOther, AreForksThere, PutsChild, KeepsChildren, IsLinked, AreNodes, IsOnTheWay, IsNodeAfter}
 use Rattle.wcontext.specs.declared.nodes.Node.{Node}
 use Rattle.wcontext.specs.declared.nodes.Nodes.{Nodes}
 
@@ -68,20 +68,22 @@ linked_more texts nodes x n linked below ends =
       ];
     }
 
--- a node without a child is made
+-- a node without a child is made, and what lies below the others stays
+same_below : (old new : List Node) (n : Node) → n.below ≡ 0 → new ≡ old ++ n ∷ [] → (q : ℕ) → below_at new q ≡ below_at old q
+same_below old new n childless nodes q = let none : Node = record { above = 0; below = 0 } in rw nodes (elim (cases_lt q (length old)) [
+  | inl front ↦ ap (λ (m : Node). m.below) (get_or_append_left old (n ∷ []) none q front)
+  | inr past ↦
+      let was : below_at old q ≡ 0 = ap (λ (m : Node). m.below) (get_or_past old q none past) in
+      elim (cases_eq (length old) q) [
+        | inl last ↦ ap (λ (m : Node). m.below) (get_or_push old n none q last) ∙ childless ∙ sym was
+        | inr other ↦ ap (λ (m : Node). m.below) (get_or_past (old ++ n ∷ []) q none (omega (arith, length_push old n, past, other))) ∙ sym was
+      ]
+])
+
 pub nodes_more : (texts : List (List ValType)) (old new : Nodes) (x : List ValType) (n : Node) → AreNodes texts old → n.above < length texts → n.below ≡ 0 → IsEnd (text texts n.above) x
     → new.nodes.items ≡ old.nodes.items ++ n ∷ [] → new.forks ≡ old.forks → AreNodes (texts ++ x ∷ []) new
 nodes_more texts old new x n are within childless ends nodes forks =
-    let none : Node = record { above = 0; below = 0 } in
-    let same : (q : ℕ) → below_at new.nodes.items q ≡ below_at old.nodes.items q = λ q. rw nodes (elim (cases_lt q (length old.nodes.items)) [
-      | inl front ↦ ap (λ (m : Node). m.below) (get_or_append_left old.nodes.items (n ∷ []) none q front)
-      | inr past ↦
-          let was : below_at old.nodes.items q ≡ 0 = ap (λ (m : Node). m.below) (get_or_past old.nodes.items q none past) in
-          elim (cases_eq (length old.nodes.items) q) [
-            | inl last ↦ ap (λ (m : Node). m.below) (get_or_push old.nodes.items n none q last) ∙ childless ∙ sym was
-            | inr other ↦ ap (λ (m : Node). m.below) (get_or_past (old.nodes.items ++ n ∷ []) q none (omega (arith, length_push old.nodes.items n, past, other))) ∙ sym was
-          ]
-    ]) in
+    let same : (q : ℕ) → below_at new.nodes.items q ≡ below_at old.nodes.items q = same_below old.nodes.items new.nodes.items n childless nodes in
     record {
       some = omega (arith, length_push texts x);
       root = text_front texts (x ∷ []) 0 are.some ∙ are.root;
@@ -128,3 +130,20 @@ found_after n p d t some has texts are parent =
     let child = are.children p t d some has in
     let same : texts ≡ texts ++ [] = sym (append-nil texts) in
     ([], subst (λ z. AreNodes z n) same are, subst (λ z. d < length z) same child.1, subst (λ z. text z d ≡ text texts p ++ t ∷ []) same child.2)
+
+-- where the node after p is made, as p has no child by that type, all others stay
+pub kept_after : (old mid new : Nodes) (p d : ℕ) (t : ValType) (n : Node) → HasNoOther old p t 0 → n.below ≡ 0 → mid.nodes.items ≡ old.nodes.items ++ n ∷ [] → mid.forks ≡ old.forks → PutsChild mid new p t d → KeepsChildren old new
+kept_after old mid new p d t n none childless nodes forks puts were q u e some has =
+    let same : (r : ℕ) → below_at old.nodes.items r ≡ below_at mid.nodes.items r = λ r. sym (same_below old.nodes.items mid.nodes.items n childless nodes r) in
+    let there : AreForksThere mid = λ r. omega (arith, same r, were r, ap (λ v. length v.items) forks) in
+    let made : HasChild mid q u e = subst (λ v. IsOnly (below_at mid.nodes.items q) u e ⊎ IsForked (below_at mid.nodes.items q) v.items u e) (sym forks) (subst (λ b. IsOnly b u e ⊎ IsForked b old.forks.items u e) (same q) has) in
+    elim (puts.kept there q u e some made) [
+      | inl new ↦ new
+      | inr put ↦ absurd (omega (arith, some, none e some (subst (λ z. HasChild old z t e) put.0 (subst (λ z. HasChild old q z e) put.1 has))))
+    ]
+
+pub kept_itself : (n : Nodes) → KeepsChildren n n
+kept_itself n there q u e some has = has
+
+pub link_made : (old mid new : Nodes) (p d : ℕ) (t : ValType) (n : Node) → mid.nodes.items ≡ old.nodes.items ++ n ∷ [] → d ≡ length old.nodes.items → PutsChild mid new p t d → above_at new.nodes.items d ≡ n.above
+link_made old mid new p d t n nodes is puts = puts.links d ∙ rw nodes (ap (λ (m : Node). m.above) (get_or_push old.nodes.items n (record { above = 0; below = 0 }) d (sym is)))

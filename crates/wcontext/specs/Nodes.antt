@@ -43,21 +43,36 @@ HasChildIn nodes forks p t d = IsOnly (below_at nodes p) t d ⊎ IsForked (below
 abbrev pub HasChild : Nodes → ℕ → ValType → ℕ → Type 0
 HasChild n p t d = HasChildIn n.nodes.items n.forks.items p t d
 
+-- a node has no child by that type but d, and none where d is 0
+abbrev pub HasNoOther : Nodes → ℕ → ValType → ℕ → Type 0
+HasNoOther n p t d = (e : ℕ) → 0 < e → HasChild n p t e → e ≡ d
+
 -- these are the node's children, by the numbers of their types
 abbrev pub AreChildren : Nodes → ℕ → List ℕ → Type 0
 AreChildren n p children = (t : ValType) → 0 < get_or children (type_number t) 0 → HasChild n p t (get_or children (type_number t) 0)
+
+-- and it has no others
+abbrev pub AreAllChildren : Nodes → ℕ → List ℕ → Type 0
+AreAllChildren n p children = (t : ValType) → HasNoOther n p t (get_or children (type_number t) 0)
 
 -- the forks that lie below nodes are there
 abbrev pub AreForksThere : Nodes → Type 0
 AreForksThere n = (q : ℕ) → below_at n.nodes.items q < 2147483648 + length n.forks.items
 
--- a node has got a child by a type, and no other node has
+-- a node has got a child by a type, in place of the one that it had by that type, and all else is as it was
 pub record PutsChild (old new : Nodes) (p : ℕ) (t : ValType) (d : ℕ) : Type 0 where
   pub size : length new.nodes.items ≡ length old.nodes.items
   pub links : (q : ℕ) → above_at new.nodes.items q ≡ above_at old.nodes.items q
   pub forks : AreForksThere old → AreForksThere new
   pub children : AreForksThere old → (q : ℕ) (u : ValType) (e : ℕ) → 0 < e → HasChild new q u e
       → HasChild old q u e ⊎ ((q ≡ p) × (u ≡ t) × (e ≡ d))
+  pub put : HasChild new p t d
+  pub kept : AreForksThere old → (q : ℕ) (u : ValType) (e : ℕ) → 0 < e → HasChild old q u e
+      → HasChild new q u e ⊎ ((q ≡ p) × (u ≡ t))
+
+-- each node still has the children that it had
+abbrev pub KeepsChildren : Nodes → Nodes → Type 0
+KeepsChildren old new = AreForksThere old → (q : ℕ) (u : ValType) (e : ℕ) → 0 < e → HasChild old q u e → HasChild new q u e
 
 -- each link leads to an earlier node whose text is an end of the node's
 pub record IsLinked (texts : List (List ValType)) (nodes : List Node) : Type 0 where
@@ -82,6 +97,18 @@ IsOnTheWay texts p q = (q < length texts) × IsEnd (text texts q) (text texts p)
 abbrev pub FindsEnd : Nodes → ℕ → ValType → ℕ → Type 0
 FindsEnd n p t l = (texts : List (List ValType)) → AreNodes texts n → p < length texts
     → (l < length texts) × IsEnd (text texts l) (text texts p ++ t ∷ [])
+
+-- going up the links from a node, l is the first child by that type that is met, or 0 where none is
+pub data IsFirstAbove (n : Nodes) (t : ValType) (l : ℕ) : ℕ → Type 0 where
+  Met : (q : ℕ) → above_at n.nodes.items q < q → 0 < l → HasChild n (above_at n.nodes.items q) t l → IsFirstAbove n t l q
+  Further : (q : ℕ) → above_at n.nodes.items q < q → HasNoOther n (above_at n.nodes.items q) t 0 → IsFirstAbove n t l (above_at n.nodes.items q) → IsFirstAbove n t l q
+  Top : (q : ℕ) → q ≤ above_at n.nodes.items q → l ≡ 0 → IsFirstAbove n t l q
+  Outside : (q : ℕ) → length n.nodes.items ≤ q → l ≡ 0 → IsFirstAbove n t l q
+
+-- d was the child of p by that type, or p had none and d is made, with a link to the first that is found above
+abbrev pub IsFoundOrMade : Nodes → Nodes → ℕ → ValType → ℕ → Type 0
+IsFoundOrMade old new p t d = ((0 < d) × HasChild old p t d)
+    ⊎ (HasNoOther old p t 0 × (d ≡ length old.nodes.items) × IsFirstAbove old t (above_at new.nodes.items d) p)
 
 -- d has the text of p and one type more
 abbrev pub IsNodeAfter : Nodes → Nodes → ℕ → ValType → ℕ → Type 0

@@ -1,6 +1,8 @@
 //! The nodes of a trie of lists of types, with the links of Aho and Corasick.
 ghost use Rattle.std.specs.Prelude.{◌≡◌, ◌<◌, [], ◌∷◌, IfSome};
-ghost use Rattle.wcontext.specs.Nodes.{type_number, HasChild, AreChildren, PutsChild, FindsEnd, AreNodes, IsNodeAfter};
+ghost use Rattle.wcontext.specs.Nodes.{type_number, below_at, HasChild, HasNoOther, AreChildren, AreAllChildren};
+ghost use Rattle.wcontext.specs.Nodes.{PutsChild, KeepsChildren, FindsEnd, IsFirstAbove, IsFoundOrMade};
+ghost use Rattle.wcontext.specs.Nodes.{AreNodes, IsNodeAfter};
 
 use std::alloc::Global;
 use wsyntax::ValType;
@@ -62,7 +64,8 @@ impl Nodes {
     /// The child of a node by that type; 0 where it has none.
     #[inline]
     fn child(&self, node: u32, t: ValType) -> u32
-        ensures { 0 < result → HasChild self.now node t result }
+        ensures found { 0 < result → HasChild self.now node t result }
+        ensures only { HasNoOther self.now node t result }
     {
         let Some(parent) = self.nodes.get(node as usize) else {
             return 0;
@@ -79,7 +82,8 @@ impl Nodes {
 
     /// The children of a node by the numbers of their types; 0 for none.
     fn children(&self, node: u32) -> [u32; TYPES]
-        ensures { AreChildren self.now node result }
+        ensures there { AreChildren self.now node result }
+        ensures all { AreAllChildren self.now node result }
     {
         [
             self.child(node, ValType::I32),
@@ -93,7 +97,8 @@ impl Nodes {
     /// node has a child of that type: in all lists together that is at most two steps a type.
     #[inline]
     fn longest_end(&self, node: u32, t: ValType) -> u32
-        ensures { FindsEnd self.now node t result }
+        ensures ends { FindsEnd self.now node t result }
+        ensures first { IsFirstAbove self.now t result node }
     {
         let mut from = node;
         while let Some(longer) = self.nodes.get(from as usize) {
@@ -110,8 +115,9 @@ impl Nodes {
         0
     }
 
-    /// Makes a node the only child of another by that type.
+    /// Makes a node the only child of another, which has none, by that type.
     fn put_only(&mut self, node: u32, t: ValType, child: u32) -> Option<()>
+        requires { below_at self.old.nodes.items node ≡ 0 }
         ensures { IfSome result (λ _. PutsChild self.old self.new node t child) }
     {
         if child >= FORKS / 4 || node as usize >= self.nodes.len() {
@@ -151,7 +157,10 @@ impl Nodes {
     /// lengths, so that each shorter end has its node already.
     #[inline]
     pub(crate) fn after(&mut self, node: u32, t: ValType) -> Option<u32>
-        ensures { IfSome result (λ d. IsNodeAfter self.old self.new node t d) }
+        ensures texts { IfSome result (λ d. IsNodeAfter self.old self.new node t d) }
+        ensures child { IfSome result (λ d. HasChild self.new node t d) }
+        ensures made { IfSome result (λ d. IsFoundOrMade self.old self.new node t d) }
+        ensures kept { IfSome result (λ _. KeepsChildren self.old self.new) }
     {
         let child = self.child(node, t);
         if child > 0 {
