@@ -1,3 +1,4 @@
+pub mod Entries
 pub mod SideTable
 pub mod Promise
 pub mod Bodies

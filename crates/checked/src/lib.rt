@@ -7,12 +7,14 @@
 
 mod body;
 mod branch;
+mod entry;
 mod floats;
 mod function_shape;
 mod table;
 
 pub use body::CheckedBody;
 pub use branch::Branch;
+pub use entry::entry_at;
 pub use floats::{is_float, runs_have_floats, token_has_floats};
 pub use function_shape::FunctionShape;
 pub use table::SideTable;

@@ -1,9 +1,10 @@
 // Bodies as the checker takes them, token by token.
 ghost use Rattle.std.specs.List.{list_all};
-ghost use Rattle.std.specs.Prelude.{◌<◌, [], IsTrue, length};
+ghost use Rattle.std.specs.Prelude.{◌≡◌, ◌<◌, [], IfOk, IsTrue, length};
+ghost use Rattle.wsyntax.specs.BranchTables.{FollowAll};
 ghost use Rattle.wsyntax.specs.Brackets.{closes, lies_within};
 
-use checked::Branch;
+use checked::{Branch, entry_at};
 use std::alloc::{AllocError, Global};
 use std::process::Abort;
 use std::test::Fail;
@@ -14,7 +15,9 @@ use wsyntax::Token::{
     Select, Unreachable,
 };
 use wsyntax::ValType::{F32, F64, I32, I64};
-use wsyntax::{BlockType, Body, Expression, LocalRun, Module, Operator, Token, ValType};
+use wsyntax::{
+    BlockType, Body, Destination, Expression, Label, LocalRun, Module, Operator, Token, ValType,
+};
 
 /// A module with functions whose types have these indices, and with no type yet.
 fn some_functions(alloc: Global, type_indices: &[u32]) -> Result<Module<'static>, AllocError> {
@@ -198,7 +201,33 @@ const BLOCK: Token = Block(BlockType::Empty);
 
 const I32_BLOCK: Token = Block(BlockType::Value(I32));
 
-const CHOICE: Token = If(BlockType::Value(I32));
+/// Where a branch goes on in a body that is not checked.
+const NOWHERE: Destination = Destination::Short {
+    arity: 0,
+    height: 0,
+    target: 0,
+};
+
+const INNERMOST: Label = Label {
+    index: 0,
+    destination: NOWHERE,
+};
+
+const BR: Token = Br(INNERMOST);
+
+const BR_IF: Token = BrIf(INNERMOST);
+
+const BR_OUTSIDE: Token = Br(Label {
+    index: 2,
+    destination: NOWHERE,
+});
+
+const CHOICE: Token = If {
+    block: BlockType::Value(I32),
+    target: 0,
+};
+
+const ELSE: Token = Else { target: 0 };
 
 const TABLE: Token = Token::BrTable { count: 1, first: 0 };
 
@@ -219,7 +248,7 @@ const PLAIN: [Case<'static>; 15] = [
         Some(2),
     ),
     // Code after a branch is checked, and takes what it likes.
-    (&[Br(0), ADD, Drop, End], &[], None),
+    (&[BR, ADD, Drop, End], &[], None),
     // What `select` gives of unknown operands is unknown.
     (&[Unreachable, Select, EQZ, Drop, End], &[], None),
     // An instruction gives its result type, also where it cannot be reached.
@@ -232,12 +261,12 @@ const PLAIN: [Case<'static>; 15] = [
     ),
     // `br_if` leaves the types of its label.
     (
-        &[I32_BLOCK, Unreachable, BrIf(0), LONG_EQZ, End, Drop, End],
+        &[I32_BLOCK, Unreachable, BR_IF, LONG_EQZ, End, Drop, End],
         &[],
         Some(3),
     ),
     // The labels are those of the open blocks and of the function.
-    (&[BLOCK, Br(2), End, End], &[], Some(1)),
+    (&[BLOCK, BR_OUTSIDE, End, End], &[], Some(1)),
     // Declared locals stand one after another.
     (&[LocalGet(2), LocalSet(1), End], &[], Some(1)),
     (&[LocalGet(3), Drop, End], &[], Some(0)),
@@ -278,7 +307,7 @@ fn branch_out(alloc: Global, depth: u32, operand: Token) -> Result<Vec<Token>, A
     for _ in 0..depth {
         tokens.push(BLOCK)?;
     }
-    tokens.extend_from_slice(&[operand, Br(depth)])?;
+    tokens.extend_from_slice(&[operand, Br(Label::unchecked(depth))])?;
     for _ in 0..depth {
         tokens.push(End)?;
     }
@@ -301,6 +330,16 @@ const SAME: BlockType = BlockType::Index(0);
 
 const WIDER: BlockType = BlockType::Index(3);
 
+const IF_SAME: Token = If {
+    block: SAME,
+    target: 0,
+};
+
+const IF_WIDER: Token = If {
+    block: WIDER,
+    target: 0,
+};
+
 /// A type that is not there.
 const MISSING: BlockType = BlockType::Index(4);
 
@@ -310,9 +349,9 @@ const AMONG: [Case<'static>; 11] = [
     (&[ONE, Loop(SAME), EQZ, End, Drop, End], &[], None),
     (&[Loop(SAME), End, Drop, End], &[], Some(0)),
     // A branch to a loop takes the parameters, not the results.
-    (&[ONE, Loop(WIDER), Br(0), End, Drop, End], &[], None),
+    (&[ONE, Loop(WIDER), BR, End, Drop, End], &[], None),
     (
-        &[ONE, Loop(WIDER), Drop, LONG_ZERO, Br(0), End, Drop, End],
+        &[ONE, Loop(WIDER), Drop, LONG_ZERO, BR, End, Drop, End],
         &[],
         Some(4),
     ),
@@ -324,16 +363,12 @@ const AMONG: [Case<'static>; 11] = [
     ),
     (&[Nop, Block(MISSING), End, End], &[], Some(1)),
     // Without `else` the parameters are the results, so they have to be of the same types.
-    (
-        &[I32Const(7), ONE, If(SAME), EQZ, End, Drop, End],
-        &[],
-        None,
-    ),
+    (&[I32Const(7), ONE, IF_SAME, EQZ, End, Drop, End], &[], None),
     (
         &[
             I32Const(7),
             ONE,
-            If(WIDER),
+            IF_WIDER,
             Drop,
             I64Const(1),
             End,
@@ -348,10 +383,10 @@ const AMONG: [Case<'static>; 11] = [
         &[
             I32Const(7),
             ONE,
-            If(WIDER),
+            IF_WIDER,
             Drop,
             I64Const(1),
-            Else,
+            ELSE,
             Drop,
             I64Const(2),
             End,
@@ -375,6 +410,11 @@ fn bodies_among_several_types(rt: HostRuntime) -> Result<(), Fail> {
 /// `[t*] -> [t*]`, of the modules with long lists.
 const LONG_SAME: BlockType = BlockType::Index(3);
 
+const IF_LONG_SAME: Token = If {
+    block: LONG_SAME,
+    target: 0,
+};
+
 /// Bodies in the module with long lists.
 const LONG_LISTS: [Case<'static>; 8] = [
     // A long list is taken whole, in a block and after a loop too.
@@ -384,7 +424,7 @@ const LONG_LISTS: [Case<'static>; 8] = [
             Block(LONG_SAME),
             Loop(LONG_SAME),
             ZERO,
-            BrIf(0),
+            BR_IF,
             End,
             End,
             Call(2),
@@ -427,11 +467,7 @@ const LONG_LISTS: [Case<'static>; 8] = [
     ),
     (&[Unreachable, Call(1), EQZ, End], &[], Some(2)),
     // An if of a long list to the same one may lack its else.
-    (
-        &[Call(1), ZERO, If(LONG_SAME), End, Call(2), End],
-        &[],
-        None,
-    ),
+    (&[Call(1), ZERO, IF_LONG_SAME, End, Call(2), End], &[], None),
 ];
 
 #[test]
@@ -539,6 +575,8 @@ fn long_lists_that_repeat(rt: HostRuntime) -> Result<(), Fail> {
 fn body_of(alloc: Global, tokens: &[Token]) -> Result<Body, AllocError>
     requires closed { IsTrue (closes [] tokens.now) }
     requires within { IsTrue (list_all (lies_within 0) tokens.now) }
+    ensures tokens { IfOk result (λ b. b.code.tokens.items ≡ tokens.now) }
+    ensures targets { IfOk result (λ b. b.code.targets.items ≡ []) }
 {
     let code = Expression {
         tokens: tokens.to_vec(alloc)?,
@@ -550,7 +588,7 @@ fn body_of(alloc: Global, tokens: &[Token]) -> Result<Body, AllocError>
     })
 }
 
-/// Of the side table of such a body of the module's first function: this entry, how many there are, and the height.
+/// Of the side table of such a body of the module's first function: this entry, the number of tokens, and the height.
 fn table_of(
     alloc: Global,
     module: &Module<'_>,
@@ -559,22 +597,26 @@ fn table_of(
 ) -> Option<(Branch, usize, usize)>
     requires closed { IsTrue (closes [] tokens.now) }
     requires within { IsTrue (list_all (lies_within 0) tokens.now) }
+    requires follow { FollowAll 0 tokens.now 0 }
 {
     let context = check_module(alloc, module).ok()?;
     context.function(0)?;
     let body = body_of(alloc, tokens).ok()?;
     let mut checker = Checker::new(alloc, &context);
     let checked = check_body(alloc, &mut checker, 0, body).ok()?;
-    let entries = checked.entries();
-    let entry = entries.get(place).copied()?;
-    Some((entry, entries.len(), checked.height()))
+    let tokens = checked.tokens();
+    if place >= tokens.len() {
+        return None;
+    }
+    let entry = entry_at(tokens, checked.long(), place);
+    Some((entry, tokens.len(), checked.height()))
 }
 
 /// A branch back to a loop, and the entries of the side table.
 #[test]
 fn loop_with_its_table(rt: HostRuntime) -> Result<(), Fail> {
     let module = one_function(rt.alloc())?;
-    let tokens = [Loop(BlockType::Empty), ZERO, BrIf(0), End, End];
+    let tokens = [Loop(BlockType::Empty), ZERO, BR_IF, End, End];
     let (entry, count, height) = table_of(rt.alloc(), &module, &tokens, 2).ok_or("a table")?;
     let back = Branch {
         target: 0,
@@ -590,7 +632,7 @@ fn loop_with_its_table(rt: HostRuntime) -> Result<(), Fail> {
 #[test]
 fn loop_with_parameter_and_its_table(rt: HostRuntime) -> Result<(), Fail> {
     let module = several_types(rt.alloc())?;
-    let tokens = [LONG_ZERO, ONE, Loop(SAME), Br(0), End, Drop, Drop, End];
+    let tokens = [LONG_ZERO, ONE, Loop(SAME), BR, End, Drop, Drop, End];
     let (entry, _, height) = table_of(rt.alloc(), &module, &tokens, 3).ok_or("a table")?;
     let back = Branch {
         target: 2,

@@ -202,7 +202,7 @@ fn frequent_passes<'a>(checker: &mut Checker<'_>, bytes: &'a [u8]) -> FirstToken
         op::CALL => step_read!(checker, call_at(rest)),
         op::DROP => step_bare!(checker, Token::Drop, rest),
         op::SELECT => step_bare!(checker, Token::Select, rest),
-        op::ELSE => step_bare!(checker, Token::Else, rest),
+        op::ELSE => step_bare!(checker, Token::Else { target: 0 }, rest),
         op::RETURN => step_bare!(checker, Token::Return, rest),
         op::UNREACHABLE => step_bare!(checker, Token::Unreachable, rest),
         op::NOP => step_bare!(checker, Token::Nop, rest),

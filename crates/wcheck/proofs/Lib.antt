@@ -22,3 +22,5 @@ pub mod Singles
 pub mod Above
 pub mod Taking
 pub mod Written
+pub mod Suiting
+pub mod Unchecked

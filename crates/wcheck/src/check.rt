@@ -1,15 +1,20 @@
-ghost use Rattle.std.specs.Prelude.{◌≡◌, ◌<◌, length, IfOk, IfErr};
+ghost use Rattle.std.specs.Prelude.{◌≡◌, ◌<◌, ◌^◌, length, IfOk, IfErr};
+ghost use Rattle.wsyntax.specs.BranchTables.{FollowAll};
+ghost use Rattle.wsyntax.specs.Modules.{body_shape};
+ghost use Rattle.side_table.specs.Written.{AllSuit, IsWritten};
 ghost use Rattle.checked.specs.Bodies.{IsTypedAs, FitsAs};
 ghost use Rattle.wcheck.specs.Refusals.{RefusedFor};
 
 use crate::body::{Outcome, pass_body};
 use crate::checker::Checker;
-use checked::CheckedBody;
-use side_table::{pass_is_algorithm, passed_bounded, passed_fits, passed_is_code};
+use checked::{CheckedBody, SideTable};
+use side_table::{
+    TableBuilder, pass_is_algorithm, passed_bounded, passed_fits, passed_is_code, written_fills,
+};
 use soundness::validation::{accepted_is_typed, refused_at_first_fault};
-use std::alloc::Global;
+use std::alloc::{AllocError, Global};
 use thiserror::Error;
-use wsyntax::Body;
+use wsyntax::{Body, Expression};
 
 /// Why a body is refused.
 #[derive(Clone, Copy, Debug, PartialEq, Eq, Error)]
@@ -23,17 +28,48 @@ pub enum CheckFault {
     Memory,
 }
 
+/// A body whose tokens hold where its branches go on, and the rest of its side table.
+#[derive(Drop)]
+struct WrittenBody {
+    body: Body,
+    table: SideTable,
+}
+
+/// Writes into the tokens of a body where they go on, as the pass over them wrote it down.
+fn written(alloc: Global, body: Body, builder: TableBuilder) -> Result<WrittenBody, AllocError>
+    requires suit { AllSuit body.code.tokens.items builder.notes.entries }
+    requires few { length body.code.tokens.items < 2 ^ 31 }
+    ensures same { IfOk result (λ w. body_shape w.body ≡ body_shape body) }
+    ensures written { IfOk result (λ w. IsWritten w.body.code.tokens.items builder.notes w.table) }
+{
+    let Body {
+        runs,
+        code: Expression {
+            mut tokens,
+            targets,
+        },
+    } = body;
+    let table = builder.write_into(alloc, &mut tokens)?;
+    let code = Expression { tokens, targets };
+    Ok(WrittenBody {
+        body: Body { runs, code },
+        table,
+    })
+}
+
 /// Checks the body of the function of that index, imported ones counted: it is taken exactly where it is typed, and
-/// else its first fault is named. Time and memory are linear in the tokens and the targets, and in the types of
-/// operands that the body itself puts. The checker may have checked other bodies of the module before, and may check more.
+/// else its first fault is named. The branch tables of the body follow one another in the list of targets. Time and memory are
+/// linear in the tokens and the targets, and in the types of operands that the body itself puts. The checker may have checked
+/// other bodies of the module before, and may check more.
 pub fn check_body(
     alloc: Global,
     checker: &mut Checker<'_>,
     func: u32,
     body: Body,
 ) -> Result<CheckedBody, CheckFault>
-    requires { func < length checker.old.outside.functions }
-    ensures kept { IfOk result (λ c. c.body ≡ body) }
+    requires func { func < length checker.old.outside.functions }
+    requires follow { FollowAll 0 body.code.tokens.items (length body.code.targets.items) }
+    ensures kept { IfOk result (λ c. body_shape c.body ≡ body_shape body) }
     ensures typed { IfOk result (λ c. IsTypedAs checker.old.outside func c.body) }
     ensures fits { IfOk result (λ c. FitsAs checker.old.outside func c) }
     ensures refused { IfErr result (λ fault. RefusedFor checker.old.outside func body fault) }
@@ -45,8 +81,17 @@ pub fn check_body(
     passed_is_code();
     passed_fits();
     passed_bounded();
+    written_fills();
     match pass_body(alloc, checker, func, &body) {
-        Ok(Outcome::Passes { table, has_floats }) => Ok(CheckedBody::new(body, table, has_floats)),
+        Ok(
+            Outcome::Passes {
+                builder,
+                has_floats,
+            },
+        ) => match written(alloc, body, builder) {
+            Ok(WrittenBody { body, table }) => Ok(CheckedBody::new(body, table, has_floats)),
+            Err(_) => Err(CheckFault::Memory),
+        },
         Ok(Outcome::Refused(at)) => Err(CheckFault::IllTyped { at }),
         Err(_) => Err(CheckFault::Memory),
     }

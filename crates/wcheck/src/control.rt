@@ -329,7 +329,7 @@ pub(crate) fn step_control(
             ),
             None => Ok(false),
         },
-        Token::If(block) => match block_signature(scope.context, block) {
+        Token::If { block, .. } => match block_signature(scope.context, block) {
             Some(ListPair { params, results }) => {
                 if control.operands.take_one(ValType::I32) {
                     open_frame(control, Opener::If, params, results)
@@ -339,7 +339,7 @@ pub(crate) fn step_control(
             }
             None => Ok(false),
         },
-        Token::Else => other_branch(control),
+        Token::Else { .. } => other_branch(control),
         Token::End => close_frame(control),
         _ => act(scope, targets, control, token),
     }

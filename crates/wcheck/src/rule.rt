@@ -146,15 +146,15 @@ pub(crate) fn rule_of_token(
             takes: TypeList::Nothing,
         }),
         Token::Nop => Some(OperandRule::Nothing),
-        Token::Br(l) => {
-            let takes = label_at(frame, outer, l)?;
+        Token::Br(label) => {
+            let takes = label_at(frame, outer, label.index)?;
             Some(OperandRule::Ends {
                 has_index: false,
                 takes,
             })
         }
-        Token::BrIf(l) => {
-            let takes = label_at(frame, outer, l)?;
+        Token::BrIf(label) => {
+            let takes = label_at(frame, outer, label.index)?;
             Some(OperandRule::Signature {
                 has_index: true,
                 takes,
@@ -255,6 +255,7 @@ pub(crate) fn rule_of_token(
         Token::F32Const(_) => Some(OperandRule::Push(ValType::F32)),
         Token::F64Const(_) => Some(OperandRule::Push(ValType::F64)),
         Token::Numeric(op) => Some(numeric_rule(op)),
-        Token::Block(_) | Token::Loop(_) | Token::If(_) | Token::Else | Token::End => None,
+        Token::Block(_) | Token::Loop(_) | Token::If { .. } | Token::Else { .. } | Token::End =>
+            None,
     }
 }

@@ -8,9 +8,10 @@ use Rattle.std.proofs.lemmas.List.{drop_all, drop_more, drop-drop, take-append-d
 use Rattle.wsyntax.specs.declared.instructions.Token.{Token as Held}
 use Rattle.wsyntax.specs.declared.instructions.Token.TheVariants as held
 use Rattle.wsyntax.specs.Brackets.{lies_within}
+use Rattle.wsyntax.specs.BranchTables.{Follows, FollowAll}
 use Rattle.wsyntax.specs.Modules.{seen}
 use Rattle.wdecode.proofs.Closed.{both}
-use Rattle.wdecode.specs.BranchTables.{table_targets, targets_of, Follows, FollowAll}
+use Rattle.wdecode.specs.BranchTables.{table_targets, targets_of}
 
 -- a token that is no branch table: it adds no targets, and none are seen
 pub record AddsNone (t : Held) : Type 0 where
@@ -25,8 +26,8 @@ table_or_none held.Unreachable = inr (record { stays = λ n. refl; same = λ n m
 table_or_none held.Nop = inr (record { stays = λ n. refl; same = λ n m e. e; nothing = λ targets. refl })
 table_or_none (held.Block t) = inr (record { stays = λ n. refl; same = λ n m e. e; nothing = λ targets. refl })
 table_or_none (held.Loop t) = inr (record { stays = λ n. refl; same = λ n m e. e; nothing = λ targets. refl })
-table_or_none (held.If t) = inr (record { stays = λ n. refl; same = λ n m e. e; nothing = λ targets. refl })
-table_or_none held.Else = inr (record { stays = λ n. refl; same = λ n m e. e; nothing = λ targets. refl })
+table_or_none (held.If t to) = inr (record { stays = λ n. refl; same = λ n m e. e; nothing = λ targets. refl })
+table_or_none (held.Else to) = inr (record { stays = λ n. refl; same = λ n m e. e; nothing = λ targets. refl })
 table_or_none held.End = inr (record { stays = λ n. refl; same = λ n m e. e; nothing = λ targets. refl })
 table_or_none (held.Br l) = inr (record { stays = λ n. refl; same = λ n m e. e; nothing = λ targets. refl })
 table_or_none (held.BrIf l) = inr (record { stays = λ n. refl; same = λ n m e. e; nothing = λ targets. refl })

@@ -5,13 +5,13 @@ use Rattle.std.proofs.Common.{◌≡◌, ℕ, suc, ◌+◌, ◌-◌, ◌≤◌, 
 use Rattle.std.proofs.lemmas.List.{map_push, append-nil, length-append}
 use Rattle.wsyntax.specs.declared.instructions.Token.{Token as Held}
 use Rattle.wsyntax.specs.Brackets.{closes, lies_within}
+use Rattle.wsyntax.specs.BranchTables.{Follows, FollowAll}
 use Rattle.wsyntax.specs.Instructions.{Token}
 use Rattle.wsyntax.specs.Modules.{seen}
 use Rattle.wsyntax.specs.Binary.Nesting.{token_at, nest, tokens_at, expression}
 use Rattle.wdecode.specs.Gives.{GivesToken, ReadsPlain}
 use Rattle.wdecode.proofs.Trees.{push, Tokens}
 use Rattle.wdecode.proofs.FlatLoop.{token_shorter, goes_on, comes_to_end}
-use Rattle.wdecode.specs.BranchTables.{Follows, FollowAll}
 use Rattle.wdecode.proofs.BranchTables.{follows_next, no_table}
 use Rattle.wdecode.proofs.Closed.{Leaves, leaves_next, leaves_none, within_next}
 

@@ -43,7 +43,7 @@ opens_loop b bytes rest t is read =
     (token_shorter (b ∷ bytes) (OpenLoop t) rest whole, λ _. whole)
 
 -- the beginning of a if is read after its opcode
-pub opens_if : (b : ℕ) (bytes rest : List ℕ) (t : BlockType) → b ≡ 0x04 → block_type.read bytes ≡ Some (t, rest) → ReadsBracket (b ∷ bytes) (held.If t) rest
+pub opens_if : (b : ℕ) (bytes rest : List ℕ) (t : BlockType) → b ≡ 0x04 → block_type.read bytes ≡ Some (t, rest) → ReadsBracket (b ∷ bytes) (held.If t 0) rest
 unfolding token_at
 opens_if b bytes rest t is read =
     let whole : token_at (b ∷ bytes) ≡ Some (OpenIf t, rest) = ap (λ (n : ℕ). token_at (n ∷ bytes)) is ∙ ap (seen_as OpenIf) read in

@@ -1,6 +1,7 @@
 ghost use Rattle.std.specs.Prelude.{◌≡◌, ◌≤◌, ◌<◌, ◌^◌, ℕ, List, length, nat_lt, Option, Some, None};
 ghost use Rattle.std.specs.Prelude.{IfOk, IsErrOf, if◌then◌else◌};
-ghost use Rattle.wdecode.specs.BranchTables.{targets_of, FollowAll};
+ghost use Rattle.wsyntax.specs.BranchTables.{FollowAll};
+ghost use Rattle.wdecode.specs.BranchTables.{targets_of};
 ghost use Rattle.wdecode.specs.Gives.{Gives};
 ghost use Rattle.wsyntax.specs.Modules.{BodyShape, body_shape, tokens_of};
 ghost use Rattle.wsyntax.specs.Binary.Production.{whole_at};

@@ -6,7 +6,7 @@ ghost use Rattle.wsyntax.specs.Table.{opcode_of};
 ghost use Rattle.wsyntax.specs.Binary.Types.{block_type};
 
 use crate::op;
-use wsyntax::{BlockType, Load, Opcode, Store, Token, ValType};
+use wsyntax::{BlockType, Label, Load, Opcode, Store, Token, ValType};
 
 /// The load whose opcode is `byte`.
 #[inline(always)]
@@ -122,7 +122,7 @@ pub fn br(bytes: &[u8]) -> Option<(Token, &[u8])>
     ensures { IfSome result (λ x. ReadsPlain (0x0C ∷ bytes.now) x.0 x.1.now) }
 {
     let (label, rest) = wnum::front_u32(bytes)?;
-    Some((Token::Br(label), rest))
+    Some((Token::Br(Label::unchecked(label)), rest))
 }
 
 /// The branch `br_if`, its opcode apart, and the bytes after it.
@@ -131,7 +131,7 @@ pub fn br_if(bytes: &[u8]) -> Option<(Token, &[u8])>
     ensures { IfSome result (λ x. ReadsPlain (0x0D ∷ bytes.now) x.0 x.1.now) }
 {
     let (label, rest) = wnum::front_u32(bytes)?;
-    Some((Token::BrIf(label), rest))
+    Some((Token::BrIf(Label::unchecked(label)), rest))
 }
 
 /// A call, its opcode apart, and the bytes after it.
@@ -187,7 +187,7 @@ pub fn block_start(byte: u8, bytes: &[u8]) -> Option<(Token, &[u8])>
     match byte {
         op::BLOCK => Some((Token::Block(block), rest)),
         op::LOOP => Some((Token::Loop(block), rest)),
-        op::IF => Some((Token::If(block), rest)),
+        op::IF => Some((Token::If { block, target: 0 }, rest)),
         _ => None,
     }
 }

@@ -1,7 +1,8 @@
 ghost use Rattle.std.specs.Prelude.{◌≡◌, ◌≢◌, ◌<◌, ℕ, Bool, List, ◌++◌, Option, Some, None, reverse, length};
 ghost use Rattle.std.specs.Prelude.{IfOk, IfErr, IsTrue, if◌then◌else◌};
 ghost use Rattle.wsyntax.specs.Brackets.{lies_within};
-ghost use Rattle.wdecode.specs.BranchTables.{targets_of, Follows, FollowAll};
+ghost use Rattle.wsyntax.specs.BranchTables.{Follows, FollowAll};
+ghost use Rattle.wdecode.specs.BranchTables.{targets_of};
 ghost use Rattle.wdecode.specs.Gives.{Gives, GivesImmediates, GivesToken, Fails};
 ghost use Rattle.wsyntax.specs.Instructions.{Do};
 ghost use Rattle.wsyntax.specs.Modules.{seen, tokens_of};
@@ -17,7 +18,7 @@ use crate::types::block_type_at;
 use crate::values::u32_at;
 use smallvec::SmallVec;
 use std::alloc::Global;
-use wsyntax::{Expression, Load, Opcode, Store, Token};
+use wsyntax::{Expression, Label, Load, Opcode, Store, Token};
 
 /// The byte 00.
 #[inline(always)]
@@ -137,7 +138,17 @@ fn f64_immediates(bytes: &[u8]) -> Result<(Token, &[u8]), Fault>
     Ok((Token::F64Const(value), rest))
 }
 
-/// An instruction that has one index or label.
+/// An instruction that has one label.
+macro_rules! with_label {
+    ($made:path, $bytes:expr) => {
+        match u32_at($bytes) {
+            Err(fault) => Err(fault),
+            Ok((index, rest)) => Ok(($made(Label::unchecked(index)), rest)),
+        }
+    };
+}
+
+/// An instruction that has one index.
 macro_rules! with_index {
     ($made:path, $bytes:expr) => {
         match u32_at($bytes) {
@@ -168,8 +179,8 @@ fn immediates_at(opcode: Opcode, bytes: &[u8]) -> Result<(Token, &[u8]), Fault>
         Opcode::Unreachable => Ok((Token::Unreachable, bytes)),
         Opcode::Nop => Ok((Token::Nop, bytes)),
         Opcode::Block | Opcode::Loop | Opcode::If => Err(Fault::Malformed),
-        Opcode::Br => with_index!(Token::Br, bytes),
-        Opcode::BrIf => with_index!(Token::BrIf, bytes),
+        Opcode::Br => with_label!(Token::Br, bytes),
+        Opcode::BrIf => with_label!(Token::BrIf, bytes),
         Opcode::BrTable => unreachable!(),
         Opcode::Return => Ok((Token::Return, bytes)),
         Opcode::Call => with_index!(Token::Call, bytes),
@@ -270,9 +281,13 @@ fn front_token<'a>(targets: &mut Vec<u32>, bytes: &'a [u8]) -> Result<(Token, &'
         }
         op::IF => {
             let (block_type, rest) = block_type_at(rest)?;
-            Ok((Token::If(block_type), rest))
+            let token = Token::If {
+                block: block_type,
+                target: 0,
+            };
+            Ok((token, rest))
         }
-        op::ELSE => Ok((Token::Else, rest)),
+        op::ELSE => Ok((Token::Else { target: 0 }, rest)),
         op::END => Ok((Token::End, rest)),
         _ => plain_at(targets, bytes),
     }
@@ -311,11 +326,11 @@ pub fn enter(opened: &mut SmallVec<bool, FEW>, token: Token) -> Result<bool, Fau
             opened.push(false)?;
             Ok(false)
         }
-        Token::If(_) => {
+        Token::If { .. } => {
             opened.push(true)?;
             Ok(false)
         }
-        Token::Else => match opened.pop() {
+        Token::Else { .. } => match opened.pop() {
             Some(true) => {
                 opened.push(false)?;
                 Ok(false)

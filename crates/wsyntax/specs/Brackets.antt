@@ -11,8 +11,8 @@ pub data Bracket : Type 0 where
 abbrev pub bracket : Token → Bracket
 bracket (flat.Block t) = Opening false
 bracket (flat.Loop t) = Opening false
-bracket (flat.If t) = Opening true
-bracket flat.Else = Parting
+bracket (flat.If t target) = Opening true
+bracket (flat.Else target) = Parting
 bracket flat.End = Closing
 bracket _ = Inner
 

@@ -4,6 +4,7 @@ pub mod HeldElement
 pub mod Elements
 pub mod Instructions
 pub mod Brackets
+pub mod BranchTables
 pub mod Table
 pub mod Initials
 pub mod Modules

@@ -4,6 +4,7 @@ use Rattle.wnum.specs.Arithmetic.{unsigned}
 use Rattle.wsyntax.specs.Types.{I32, I64, F32, F64, FuncType, Limits, GlobalType}
 use Rattle.wsyntax.specs.Instructions.{Token, Do, OpenBlock, OpenLoop, OpenIf, Else, End, Unreachable, Nop, Return, Br, BrIf, Call, CallIndirect, BrTable, Drop, Select, LocalGet, LocalSet, LocalTee, GlobalGet, GlobalSet, MemoryLoad, MemoryStore, MemorySize, MemoryGrow, Const, Numeric}
 use Rattle.wsyntax.specs.Table.{num_op, load_access, store_access, little_endian}
+use Rattle.wsyntax.specs.declared.instructions.Destination.TheVariants.{Short}
 use Rattle.wsyntax.specs.declared.instructions.Token.{Token as Flat}
 use Rattle.wsyntax.specs.declared.instructions.Token.TheVariants as flat
 use Rattle.wsyntax.specs.HeldElement.{HeldElement}
@@ -24,17 +25,17 @@ use Rattle.wsyntax.specs.declared.module.Body.{Body}
 
 -- ---- tokens
 
--- a token of the code stands for a token of a tree; a branch table's labels lie in the list of targets, its default after them
+-- a token of the code stands for a token of a tree, whatever the check has written into it; a branch table's labels lie in the list of targets, its default after them
 abbrev pub seen : List ℕ → Flat → Token
 seen targets flat.Unreachable = Do Unreachable
 seen targets flat.Nop = Do Nop
 seen targets (flat.Block t) = OpenBlock t
 seen targets (flat.Loop t) = OpenLoop t
-seen targets (flat.If t) = OpenIf t
-seen targets flat.Else = Else
+seen targets (flat.If t target) = OpenIf t
+seen targets (flat.Else target) = Else
 seen targets flat.End = End
-seen targets (flat.Br l) = Do (Br l)
-seen targets (flat.BrIf l) = Do (BrIf l)
+seen targets (flat.Br l) = Do (Br l.index)
+seen targets (flat.BrIf l) = Do (BrIf l.index)
 seen targets (flat.BrTable count first) = Do (BrTable (slice_range targets first (first + count)) (slice_index_or targets (first + count) 0))
 seen targets flat.Return = Do Return
 seen targets (flat.Call f) = Do (Call f)
@@ -55,6 +56,14 @@ seen targets (flat.I64Const n) = Do (Const I64 (unsigned 64 n))
 seen targets (flat.F32Const bytes) = Do (Const F32 (little_endian bytes))
 seen targets (flat.F64Const bytes) = Do (Const F64 (little_endian bytes))
 seen targets (flat.Numeric f) = Do (Numeric (num_op f))
+
+-- the token without what the check of its body writes into it
+abbrev pub unchecked : Flat → Flat
+unchecked (flat.If t target) = flat.If t 0
+unchecked (flat.Else target) = flat.Else 0
+unchecked (flat.Br l) = flat.Br (record { index = l.index; destination = Short 0 0 0 })
+unchecked (flat.BrIf l) = flat.BrIf (record { index = l.index; destination = Short 0 0 0 })
+unchecked t = t
 
 -- what an expression holds
 abbrev pub tokens_of : Expression → List Token

@@ -1,4 +1,5 @@
 use crate::types::ValType;
+use std::mem::size_of;
 
 /// What a block takes and leaves, as it is spelled (2.4.5; `Index`, of a type, is of Core 2.0).
 #[derive(Clone, Copy, Debug, PartialEq, Eq)]
@@ -174,19 +175,61 @@ pub enum Store {
     I64Store32,
 }
 
+/// Where a branch goes on, as the check of its body writes it into the token. It is no part of the instruction.
+#[derive(Clone, Copy, Debug, PartialEq, Eq)]
+pub enum Destination {
+    /// At the token of number `target`, with `arity` operands kept above `height` others.
+    Short { arity: u8, height: u16, target: u32 },
+    /// It is this one of the body's long branches.
+    Long(u32),
+}
+
+/// The label of a branch (2.4.5), and where the branch goes on.
+#[derive(Clone, Copy, Debug, PartialEq, Eq)]
+pub struct Label {
+    pub index: u32,
+    pub destination: Destination,
+}
+
+impl Label {
+    ghost use Rattle.std.specs.Prelude.{◌≡◌};
+
+    /// A label whose body is not checked yet.
+    #[inline(always)]
+    pub fn unchecked(index: u32) -> Self
+        ensures { result.index ≡ index }
+    {
+        Label {
+            index,
+            destination: Destination::Short {
+                arity: 0,
+                height: 0,
+                target: 0,
+            },
+        }
+    }
+}
+
 /// One flat instruction (2.4): an instruction without a body, with its immediates, or one of the words that open,
-/// part and close the others. 16 bytes.
+/// part and close the others. Where branches, an `if` and an `else` go on is written there once the body is checked.
 #[derive(Clone, Copy, Debug, PartialEq, Eq)]
 pub enum Token {
     Unreachable,
     Nop,
     Block(BlockType),
     Loop(BlockType),
-    If(BlockType),
-    Else,
+    /// `target` is where it goes on if its operand is zero.
+    If {
+        block: BlockType,
+        target: u32,
+    },
+    /// `target` is where the first part of its `if` goes on.
+    Else {
+        target: u32,
+    },
     End,
-    Br(u32),
-    BrIf(u32),
+    Br(Label),
+    BrIf(Label),
     /// `count` labels from place `first` of the list of targets on, and after them the default.
     BrTable {
         count: u32,
@@ -222,3 +265,5 @@ pub enum Token {
     F64Const([u8; 8]),
     Numeric(Operator),
 }
+
+const _: () = prove!(size_of::<Token>() == 16);

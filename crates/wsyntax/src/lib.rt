@@ -27,7 +27,7 @@ pub use bounds::{CALLS_LIMIT, LINE_LIMIT, LOCAL_LIMIT, MODULE_LIMIT, limits_are_
 pub use elements::{Element, Elements};
 pub use func_types::{FuncType, FuncTypes};
 pub use instruction_row::{Immediates, Row};
-pub use instructions::{BlockType, Load, Operator, Store, Token};
+pub use instructions::{BlockType, Destination, Label, Load, Operator, Store, Token};
 pub use module::{
     Body, ConstExpr, Data, Export, ExportKind, Expression, Global, Import, ImportKind, LocalRun,
     Module, Table,

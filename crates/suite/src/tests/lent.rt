@@ -7,7 +7,7 @@ use std::sync::Wait;
 use std::test::Fail;
 use std::thread::Threads;
 use verdict::{Accepted, judge};
-use wsyntax::{ExportKind, GlobalType, ImportKind, LocalRun, Token, ValType};
+use wsyntax::{Destination, ExportKind, GlobalType, ImportKind, Label, LocalRun, Token, ValType};
 
 // (module (import "m" "f" (func)) (import "m" "g" (global i64)) (memory 1) (export "a" (func 1))
 //   (func (param i32) (result i32) (local i64 i64)
@@ -86,20 +86,23 @@ fn lends_locals_and_tokens<R: Abort>(rt: &R, accepted: &Accepted<'_>) -> Result<
         content: ValType::I64,
     };
     assert_eq!(rt; body.locals(), [run].as_slice());
-    assert_eq!(rt; (body.tokens().len(), body.entries().len()), (10, 10));
-    assert_eq!(rt; body.tokens().get(4), Some(&Token::BrIf(0)));
+    assert_eq!(rt; (body.tokens().len(), body.long().len()), (10, 0));
     Ok(())
 }
 
 fn lends_the_place_of_a_branch<R: Abort>(rt: &R, accepted: &Accepted<'_>) -> Result<(), Fail> {
     let body = accepted.body(1).ok_or("no body")?;
     // on after the block's end, with one operand above the 5
-    let behind = Branch {
-        target: 8,
+    let destination = Destination::Short {
         arity: 1,
         height: 1,
+        target: 8,
     };
-    assert_eq!(rt; body.entries().get(4), Some(&behind));
+    let label = Label {
+        index: 0,
+        destination,
+    };
+    assert_eq!(rt; body.tokens().get(4), Some(&Token::BrIf(label)));
     assert!(rt; body.targets().is_empty() && body.cases().is_empty());
     assert_eq!(rt; body.height(), 3);
     Ok(())
@@ -128,8 +131,6 @@ fn lends_the_places_of_a_branch_table<R: Abort>(
 ) -> Result<(), Fail> {
     let body = accepted.body(2).ok_or("no body")?;
     // two cases and the default: back to the loop, after the block, and out of the body
-    let entry = body.entries().get(3).ok_or("no entry")?;
-    assert_eq!(rt; (entry.arity, entry.height), (2, 0));
     assert_eq!(rt; body.cases(), [to(1), to(6), to(7)].as_slice());
     Ok(())
 }

@@ -1,6 +1,5 @@
 use Rattle.std.proofs.Common.{Err, ap, sym, subst}
-use Rattle.wsyntax.specs.declared.Body.{Body}
-use Rattle.wsyntax.specs.Modules.{body_shape}
+use Rattle.wsyntax.specs.Modules.{BodyShape}
 use Rattle.wsyntax.specs.Binary.Shell.{SpellsBody, FewLocals}
 use Rattle.verdict.proofs.Bodies.{refusal_malformed, refusal_too_many}
 use Rattle.verdict.proofs.Checks.{typed_refusal, faulty_refusal, checked_from}
@@ -17,8 +16,8 @@ returns-in-Err-TooManyLocals-clause-verdict c =
 pub returns-in-Ok-check_body-clause-verdict : goal.returns-in-Ok-check_body-clause-verdict
 returns-in-Ok-check_body-clause-verdict c =
     let same = sym c.in-Ok-check_body.ensures.kept in
-    let spelled = subst (λ (b : Body). SpellsBody c.args.bytes.now (body_shape b)) same c.in-Ok.ensures.found.0 in
-    let few = subst (λ (b : Body). FewLocals (body_shape b)) same c.in-Ok.ensures.found.1 in (
+    let spelled = subst (λ (b : BodyShape). SpellsBody c.args.bytes.now b) same c.in-Ok.ensures.found.0 in
+    let few = subst (λ (b : BodyShape). FewLocals b) same c.in-Ok.ensures.found.1 in (
       typed_refusal c.grammar_is_read.ensures.body c.typed_is_accepted.ensures c.args.checker.now.outside c.args.func c.args.bytes.now c.in-Ok-check_body.checked.body spelled few c.in-Ok-check_body.ensures.typed,
       checked_from c.args.checker.now.outside c.args.func c.args.bytes.now c.in-Ok-check_body.checked spelled few c.in-Ok-check_body.ensures.typed c.in-Ok-check_body.ensures.fits,
     )

@@ -1,4 +1,4 @@
-use Rattle.std.proofs.Common.{◌≡◌, ◌∙◌, [], map, sym, arith}
+use Rattle.std.proofs.Common.{◌∙◌, [], map, sym, arith}
 use Rattle.wcheck.specs.LocalRuns.{run_of}
 use Rattle.wcheck.proofs.FirstLocals.{so_far_first, next_declared}
 use Rattle.wcheck.proofs.locals.write_declared.Goals as goal
