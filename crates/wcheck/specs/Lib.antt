@@ -10,3 +10,4 @@ pub mod Passing
 pub mod Outcomes
 pub mod Refusals
 pub mod LocalRuns
+pub mod Kept

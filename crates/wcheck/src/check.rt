@@ -3,6 +3,7 @@ ghost use Rattle.wsyntax.specs.BranchTables.{FollowAll};
 ghost use Rattle.wsyntax.specs.Modules.{body_shape};
 ghost use Rattle.side_table.specs.Written.{AllSuit, IsWritten};
 ghost use Rattle.checked.specs.Bodies.{IsTypedAs, FitsAs};
+ghost use Rattle.wcheck.specs.Kept.{KeepsBody};
 ghost use Rattle.wcheck.specs.Refusals.{RefusedFor};
 
 use crate::body::{Outcome, pass_body};
@@ -39,7 +40,7 @@ struct WrittenBody {
 fn written(alloc: Global, body: Body, builder: TableBuilder) -> Result<WrittenBody, AllocError>
     requires suit { AllSuit body.code.tokens.items builder.notes.entries }
     requires few { length body.code.tokens.items < 2 ^ 31 }
-    ensures same { IfOk result (λ w. body_shape w.body ≡ body_shape body) }
+    ensures unchecked { IfOk result (λ w. KeepsBody body w.body) }
     ensures written { IfOk result (λ w. IsWritten w.body.code.tokens.items builder.notes w.table) }
 {
     let Body {
@@ -58,9 +59,9 @@ fn written(alloc: Global, body: Body, builder: TableBuilder) -> Result<WrittenBo
 }
 
 /// Checks the body of the function of that index, imported ones counted: it is taken exactly where it is typed, and
-/// else its first fault is named. The branch tables of the body follow one another in the list of targets. Time and memory are
-/// linear in the tokens and the targets, and in the types of operands that the body itself puts. The checker may have checked
-/// other bodies of the module before, and may check more.
+/// else its first fault is named. Of a body that is taken nothing changes but where its tokens go on. The branch tables of the
+/// body follow one another in the list of targets. Time and memory are linear in the tokens and the targets, and in the types of
+/// operands that the body itself puts. The checker may have checked other bodies of the module before, and may check more.
 pub fn check_body(
     alloc: Global,
     checker: &mut Checker<'_>,
@@ -70,6 +71,7 @@ pub fn check_body(
     requires func { func < length checker.old.outside.functions }
     requires follow { FollowAll 0 body.code.tokens.items (length body.code.targets.items) }
     ensures kept { IfOk result (λ c. body_shape c.body ≡ body_shape body) }
+    ensures unchecked { IfOk result (λ c. KeepsBody body c.body) }
     ensures typed { IfOk result (λ c. IsTypedAs checker.old.outside func c.body) }
     ensures fits { IfOk result (λ c. FitsAs checker.old.outside func c) }
     ensures refused { IfErr result (λ fault. RefusedFor checker.old.outside func body fault) }
