@@ -4,7 +4,8 @@
 For each family and size, of that of its forms which costs most a byte: nanoseconds a byte of `gate check` with one worker (the
 best of three processes, its start and the reading included), how many times those of a hot loop's code and of the mean of the
 programs (--programs, else of generated code) of that size, the peak memory in lengths of the module, the form, and the verdict.
-A verdict that is not the form's ends the run. Last the families for `gate run`: microseconds a call.
+A verdict that is not the form's ends the run. Then, for what is accepted, what it costs to judge it for `gate run`, and last what
+calls of such modules cost, in microseconds. `--judging` measures what it costs to judge alone.
 
 With --table FILE.. nothing is measured: what runs of some sizes printed becomes the table of docs/SPEED.md, the worst first.
 """
@@ -19,7 +20,7 @@ import tempfile
 here = os.path.dirname(os.path.abspath(__file__))
 sys.path.insert(0, here)
 from encoding import function_type, sized, signed, unsigned, whole
-from families import FAMILIES, module_of
+from families import FAMILIES, KEPT, module_of
 from measuring import peak, processor_seconds
 from modules import module
 
@@ -106,6 +107,31 @@ def check(words, path):
             checked.family(name, int(size * 1e6), words.seed, words.all)
 
 
+def accepted_modules(size, seed):
+    # Ordinary code, and the families in their accepted forms, with their names.
+    for kind in ['many', 'large', 'one', 'tiny']:
+        yield f'generated: {kind}', module(kind, size, seed)
+    for name, (forms, _) in (KEPT | FAMILIES).items():
+        for form in forms:
+            if form.endswith('accepted'):
+                yield f'{name}, {form}', module_of(name, form, size, seed)
+
+
+def judging(words, path, calls_path):
+    # A call of no export: all of the module is judged and kept, and nothing is run.
+    write(calls_path, b'no-such\n')
+    print(f'{"to judge for run":48}{"MB":>6}{"ns/byte":>9}{"check":>7}{"memory":>8}')
+    for size in words.sizes:
+        for name, contents in accepted_modules(int(size * 1e6), words.seed):
+            write(path, contents)
+            kept = [words.gate, 'run', path, calls_path, '--workers', '1']
+            (seconds, out), (checked, verdict) = best_of(kept), best_of([words.gate, 'check', path, '--workers', '1'])
+            if not out.startswith('0 ') or verdict != 'accepted\n':
+                sys.exit(f'{name}: {out[:80]!r}, {verdict!r}')
+            length, times = len(contents), seconds / checked
+            print(f'{name:48}{length / 1e6:6.1f}{seconds / length * 1e9:9.1f}{times:7.1f}{peak(kept) / length:8.1f}', flush=True)
+
+
 def run_module(code, pages=0, locals_of=b'\x00', data=None, table=0):
     # One function `f`, with what is named.
     sections = {}
@@ -177,6 +203,7 @@ def main():
     parser.add_argument('sizes', nargs='*', type=float, help='megabytes; 1, 4 and 16 where none is given')
     parser.add_argument('--table', nargs='+', metavar='FILE', help='what runs printed becomes a table')
     parser.add_argument('--only', action='append', choices=FAMILIES, metavar='FAMILY', help='this family; may be said more than once')
+    parser.add_argument('--judging', action='store_true', help='only what it costs to judge for `gate run`')
     parser.add_argument('--all', action='store_true', help='a line for each form, the worst first')
     parser.add_argument('--seed', type=int, default=7)
     parser.add_argument('--programs', nargs='+', default=[], metavar='FILE', help='real programs, whose mean counts')
@@ -187,10 +214,13 @@ def main():
         parser.error('the program is missing')
     words.gate, words.sizes = os.path.abspath(words.gate), words.sizes or [1.0, 4.0, 16.0]
     with tempfile.TemporaryDirectory() as folder:
-        path = os.path.join(folder, 'module.wasm')
-        check(words, path)
+        path, calls_path = os.path.join(folder, 'module.wasm'), os.path.join(folder, 'calls')
+        if not words.judging:
+            check(words, path)
         if not words.only:
-            calls(words.gate, path, os.path.join(folder, 'calls'))
+            judging(words, path, calls_path)
+        if not words.only and not words.judging:
+            calls(words.gate, path, calls_path)
 
 
 if __name__ == '__main__':

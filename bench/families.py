@@ -487,16 +487,41 @@ FAMILIES = {
 }
 
 
+def branches_of_256_types(size, form, chance):
+    code = b'\x02\x01\x00' + b'\x0C\x00' * (size // 2) + b'\x0B' + b'\x1A' * 256
+    return whole(code, types=[EMPTY, function_type([], [I32] * 256)])
+
+
+def else_parts(size, dead, chance):
+    # Ifs that begin in the else of the one before.
+    return b'\x04\x40\x05\x00' * (size // 5) + b'\x0B' * (size // 5), {}
+
+
+def of_one(instruction):
+    return of_code(lambda size, dead, chance: (instruction * (size // len(instruction)), {}))
+
+
+# What costs little to check, and much to keep.
+KEPT = {
+    'functions that declare a local': (('accepted',), of_sections(bodies(b'\x01\x01\x7F\x0B'))),
+    'nops': (('accepted',), of_one(b'\x01')),
+    'open else parts': (('dead accepted',), of_code(else_parts)),
+    'branches': (('accepted',), of_one(b'\x0C\x00')),
+    'branches of 256 types': (('accepted',), branches_of_256_types),
+    'branch tables of no label': (('dead accepted',), of_one(b'\x0E\x00\x00')),
+}
+
+
 def module_of(name, form, size, seed):
-    forms, make = FAMILIES[name]
+    forms, make = (FAMILIES | KEPT)[name]
     assert form in forms, f'{name} has the forms {forms}'
     return make(size, form, random.Random(seed))
 
 
 if __name__ == '__main__':
-    every = '\n'.join(f'{name}: {", ".join(forms)}' for name, (forms, _) in FAMILIES.items())
+    every = '\n'.join(f'{name}: {", ".join(forms)}' for name, (forms, _) in (FAMILIES | KEPT).items())
     parser = argparse.ArgumentParser(description=__doc__, epilog=every, formatter_class=argparse.RawDescriptionHelpFormatter)
-    parser.add_argument('name', metavar='NAME', choices=FAMILIES, help='the family, one of those below')
+    parser.add_argument('name', metavar='NAME', choices=FAMILIES | KEPT, help='the family, one of those below')
     parser.add_argument('form', metavar='FORM', help='one of its forms')
     parser.add_argument('bytes', metavar='BYTES', type=int, help='about how many the module has')
     parser.add_argument('seed', metavar='SEED', type=int)

@@ -27,7 +27,7 @@ sys.path.insert(0, os.path.join(os.path.dirname(os.path.abspath(__file__)), '..'
 import counts
 import rows
 from encoding import EMPTY, function_type, unsigned, vector, whole
-from families import FAMILIES, module_of
+from families import FAMILIES, KEPT, module_of
 
 CHECKED = ['add', 'bodies 3 and 900 of 1,000 ill typed', 'memory, loads and division', 'call through the table', 'float constant']
 RAN = ['the sum passes the greatest i32', 'a store that no other call sees, and divisions', 'calls through a table',
@@ -185,7 +185,7 @@ def all_modules():
             yield name, rows.bytes_of(spelled), ''
     for name, module, verdict in counts.modules():
         yield name, module, verdict
-    for name, (forms, _) in FAMILIES.items():
+    for name, (forms, _) in (FAMILIES | KEPT).items():
         for form in forms:
             verdict = 'accepted' if form.endswith('accepted') else 'refused'
             yield f'{name}, {form}', module_of(name, form, SIZE, 7), verdict
