@@ -85,7 +85,7 @@ class Check:
 
     def family(self, name, size, seed, shows_all):
         rows = []
-        for form in FAMILIES[name][0]:
+        for form in (FAMILIES | KEPT)[name][0]:
             contents = module_of(name, form, size, seed)
             wanted = 'accepted' if form.endswith('accepted') else 'refused'
             rows.append((self.measured(f'{name}, {form}', contents, wanted), form, len(contents)))
@@ -107,12 +107,12 @@ def check(words, path):
             checked.family(name, int(size * 1e6), words.seed, words.all)
 
 
-def accepted_modules(size, seed):
+def accepted_modules(size, seed, only):
     # Ordinary code, and the families in their accepted forms, with their names.
     for kind in ['many', 'large', 'one', 'tiny']:
         yield f'generated: {kind}', module(kind, size, seed)
-    for name, (forms, _) in (KEPT | FAMILIES).items():
-        for form in forms:
+    for name in only or KEPT | FAMILIES:
+        for form in (KEPT | FAMILIES)[name][0]:
             if form.endswith('accepted'):
                 yield f'{name}, {form}', module_of(name, form, size, seed)
 
@@ -122,7 +122,7 @@ def judging(words, path, calls_path):
     write(calls_path, b'no-such\n')
     print(f'{"to judge for run":48}{"MB":>6}{"ns/byte":>9}{"check":>7}{"memory":>8}')
     for size in words.sizes:
-        for name, contents in accepted_modules(int(size * 1e6), words.seed):
+        for name, contents in accepted_modules(int(size * 1e6), words.seed, words.only):
             write(path, contents)
             kept = [words.gate, 'run', path, calls_path, '--workers', '1']
             (seconds, out), (checked, verdict) = best_of(kept), best_of([words.gate, 'check', path, '--workers', '1'])
@@ -202,8 +202,8 @@ def main():
     parser.add_argument('gate', nargs='?', help='the program')
     parser.add_argument('sizes', nargs='*', type=float, help='megabytes; 1, 4 and 16 where none is given')
     parser.add_argument('--table', nargs='+', metavar='FILE', help='what runs printed becomes a table')
-    parser.add_argument('--only', action='append', choices=FAMILIES, metavar='FAMILY', help='this family; may be said more than once')
-    parser.add_argument('--judging', action='store_true', help='only what it costs to judge for `gate run`')
+    parser.add_argument('--only', action='append', choices=FAMILIES | KEPT, metavar='FAMILY', help='this family; may be said again')
+    parser.add_argument('--judging', action='store_true', help='only what judging for `gate run` costs')
     parser.add_argument('--all', action='store_true', help='a line for each form, the worst first')
     parser.add_argument('--seed', type=int, default=7)
     parser.add_argument('--programs', nargs='+', default=[], metavar='FILE', help='real programs, whose mean counts')
@@ -217,8 +217,7 @@ def main():
         path, calls_path = os.path.join(folder, 'module.wasm'), os.path.join(folder, 'calls')
         if not words.judging:
             check(words, path)
-        if not words.only:
-            judging(words, path, calls_path)
+        judging(words, path, calls_path)
         if not words.only and not words.judging:
             calls(words.gate, path, calls_path)
 

@@ -324,6 +324,26 @@ def short_lists(code):
     return of_code(make)
 
 
+def ifs_of_lists(size, dead, chance):
+    # Ifs of types that take and give lists of i32 of other lengths, the last of which is their condition.
+    lengths = [chance.randrange(30, 256) for _ in range(40)] + [5, 6, 7, 8] * 5
+    types = [EMPTY] + [function_type([I32] * length, [I32] * length) for length in lengths]
+    pieces = [b'\x04' + signed(k) + b'\x0B' for k in range(1, len(types))]
+    return at_random(pieces, max(size - sum(map(len, types)), size // 4), chance) + b'\x00', {'types': types}
+
+
+def chains_of_lists(size, dead, chance):
+    # The same beside lists of 3,000 types, each of which begins inside the one before, in an order at random.
+    code, parts = ifs_of_lists(size * 28 // 100, dead, chance)
+    lists, count = [], max(2, min(64, size // 4_000))
+    while sum(map(len, lists)) < size * 72 // 100 - 3_000 * count // 2:
+        begins = list(itertools.accumulate([0] + [chance.randrange(50, 1_200) for _ in range(count - 1)]))
+        many = chance.choices([I32, I64], k=begins[-1] + 3_000)
+        lists += [many[begin:begin + 3_000] for begin in begins]
+    chance.shuffle(lists)
+    return code, {'types': parts['types'] + [function_type(*pair) for pair in zip(lists[::2], lists[1::2])]}
+
+
 def tables_of_short_lists(size, dead, chance):
     # Branch tables with labels of types of 255 results, all the same lists at different places.
     many = [chance.choice([I32, I64]) for _ in range(255)]
@@ -459,6 +479,8 @@ FAMILIES = {
     'blocks of 255 types': (LIVE, short_lists(lambda n: b'\x02\x02\x0B' * (n // 3))),
     'blocks of 255 types, left': (LIVE, short_lists(lambda n: b'\x02\x02\x00\x0B' * (n // 4))),
     'ifs of 255 types': (LIVE, short_lists(lambda n: b'\x41\x00\x04\x02\x0B' * (n // 5))),
+    'ifs of lists of i32': (DEAD, of_code(ifs_of_lists)),
+    'chains of lists': (DEAD, of_code(chains_of_lists)),
     'loops of 255 types, nested': (LIVE, short_lists(lambda n: b'\x03\x02' * (n // 3) + b'\x0B' * (n // 3))),
     'calls of 255 types': (LIVE, short_lists(lambda n: b'\x10\x02' * (n // 2))),
     'calls of 255 types, shifted': (LIVE, short_lists(lambda n: b'\x10\x03\x10\x04\x10\x01' * (n // 6))),
@@ -497,6 +519,13 @@ def else_parts(size, dead, chance):
     return b'\x04\x40\x05\x00' * (size // 5) + b'\x0B' * (size // 5), {}
 
 
+def small_after_large(size, chance):
+    # Functions of two bytes after one whose check frees much memory.
+    blocks = size // 56
+    body = b'\x00\x00' + b'\x02\x40' * blocks + b'\x0B' * (blocks + 1)
+    return {'others': [(0, body)] + [(0, b'\x00\x0B')] * ((size - len(body)) // 4)}
+
+
 def of_one(instruction):
     return of_code(lambda size, dead, chance: (instruction * (size // len(instruction)), {}))
 
@@ -504,6 +533,7 @@ def of_one(instruction):
 # What costs little to check, and much to keep.
 KEPT = {
     'functions that declare a local': (('accepted',), of_sections(bodies(b'\x01\x01\x7F\x0B'))),
+    'functions of two bytes after a large one': (('accepted',), of_sections(small_after_large)),
     'nops': (('accepted',), of_one(b'\x01')),
     'open else parts': (('dead accepted',), of_code(else_parts)),
     'branches': (('accepted',), of_one(b'\x0C\x00')),
