@@ -3,6 +3,7 @@ pub mod Outside
 pub mod Words
 pub mod Numbers
 pub mod SearchedNames
+pub mod Heads
 pub mod ExportNumbers
 pub mod PlainStarts
 pub mod Mentions
@@ -10,7 +11,8 @@ pub mod Floating
 pub mod FunctionShapes
 pub mod CheckedBodies
 pub mod Lendings
-pub mod NumberedTexts
+pub mod TypeTexts
+pub mod TextRuns
 pub mod Numbering
 pub mod Lists
 pub mod Steps

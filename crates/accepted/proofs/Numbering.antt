@@ -1,192 +1,159 @@
--- Types that are numbered in turn by their texts: two numbers are equal exactly where the types are.
-use Rattle.std.proofs.Common.{◌≡◌, ℕ, zero, suc, ◌+◌, ◌<◌, Bool, true, false, ◌&&◌, List, [], ◌∷◌, ◌++◌, length, map, get_or, Some, refl, sym, ap, ◌∙◌, arith, inl, inr, length-append, Vec, Global}
+-- Types that are numbered by their sorted texts: two numbers are equal exactly where the types are.
+use Rattle.std.proofs.Common.{◌≡◌, ℕ, ◌+◌, ◌<◌, ◌≤◌, true, List, [], ◌∷◌, ◌++◌, length, get_or, set, Some, sym, ap, subst, ◌∙◌, arith, inl, inr, length-append}
 use Rattle.std.specs.Prelude.{slice_get}
 use Rattle.std.specs.List.{All}
-use Rattle.std.proofs.lemmas.Option.{slice_get-get_or, slice_get_within, get_or_from_slice_get}
+use Rattle.std.specs.List.Sorted.{IsPermutation}
+use Rattle.std.proofs.lemmas.List.Elements.{All-push, Contains-push, Contains-append_left}
+use Rattle.std.proofs.lemmas.List.Sorted.{All-permutation, Contains-permutation, length_permutation}
 use Rattle.std.proofs.lemmas.Bool.{cases_lt}
-use Rattle.std.proofs.Math.ListN.{get_or-append}
-use Rattle.std.proofs.Math.Seq.{get_or-append_seam}
-use Rattle.wsyntax.specs.declared.ValType.{ValType}
-use Rattle.wsyntax.specs.declared.ValType.TheVariants.{I32, I64, F32, F64}
-use Rattle.wsyntax.specs.Types.{FuncType, same_type, same_types, same_func_type}
-use Rattle.accepted.specs.TypeIds.{code_of, key_of, number_at, Numbers, AreNumbered, AreTypeIds}
+use Rattle.std.proofs.lemmas.List.{get_or_default, length-set}
+use Rattle.std.proofs.lemmas.Option.{slice_get-get_or, slice_get_within, get_or_from_slice_get}
+use Rattle.wsyntax.specs.Types.{FuncType, same_func_type}
+use Rattle.accepted.specs.TypeIds.{IndexedText, IsTextIn, AreTexts, AreTogether, AreTypeIds, text_in, text_of}
+use Rattle.accepted.proofs.TypeTexts.{text_is, func_type_is, func_type_itself}
+use Rattle.accepted.proofs.TextRuns.{AreNumbered, GoesOn, numbered_step}
+
+-- ---- the texts
+
+pub texts_more : (types : List FuncType) (n : ℕ) (texts : List IndexedText) (t : FuncType) (x : IndexedText) → AreTexts types n texts → slice_get types n ≡ Some t → text_in x ≡ text_of t → x.2 ≡ n → AreTexts types (n + 1) (texts ++ x ∷ [])
+texts_more types n texts t x before is text index =
+    record {
+      count = omega (arith, length-append texts (x ∷ []), before.count);
+      each = All-push (IsTextIn types) texts x before.each (t, ap (slice_get types) index ∙ is, text);
+      all = λ y lt.
+          elim (cases_lt y n) [
+            | inl below ↦ let old = before.all y below in (old.0, Contains-append_left texts (x ∷ []) old.0 old.1, old.2)
+            | inr above ↦ (x, Contains-push texts x, omega arith)
+          ];
+    }
+
+pub texts_moved : (types : List FuncType) (n : ℕ) (texts moved : List IndexedText) → AreTexts types n texts → IsPermutation texts moved → AreTexts types n moved
+texts_moved types n texts moved before moves =
+    record {
+      count = length_permutation texts moved moves ∙ before.count;
+      each = All-permutation (IsTextIn types) texts moved moves before.each;
+      all = λ y lt. let old = before.all y lt in (old.0, Contains-permutation texts moved old.0 moves old.1, old.2);
+    }
+
+-- ---- their numbers
+
+-- the text and the index at a place
+abbrev pub key_at : List IndexedText → IndexedText → ℕ → ℕ × List ℕ
+key_at texts d q = text_in (get_or texts q d)
+
+abbrev pub index_at : List IndexedText → IndexedText → ℕ → ℕ
+index_at texts d q = (get_or texts q d).2
+
+-- what holds where the items before this place have their numbers
+pub record AreGiven (types : List FuncType) (texts : List IndexedText) (first place : ℕ) (numbers : List ℕ) : Type 0 where
+  pub count : length numbers ≡ length types
+  pub low : first ≤ place
+  pub begun : 0 < place → first < place
+  pub given : (d : IndexedText) → AreNumbered (key_at texts d) (index_at texts d) first place numbers
 
 some_is : {A : Type 0} (a c : A) → Some a ≡ Some c → a ≡ c
 some_is a c e = cc
 
--- ---- equal types
+index_within : (types : List FuncType) (texts : List IndexedText) (d : IndexedText) (q : ℕ) → AreTexts types (length types) texts → q < length texts → index_at texts d q < length types
+index_within types texts d q are lt = let said = are.each q d lt in slice_get_within types _ said.0 said.1
 
-both_true : (a b : Bool) → (a && b) ≡ true → (a ≡ true) × (b ≡ true)
-both_true true b e = (refl, e)
-both_true false b e = absurd cc
+pub index_in : (types : List FuncType) (texts : List IndexedText) (numbers : List ℕ) (d : IndexedText) (q : ℕ) → AreTexts types (length types) texts → length numbers ≡ length types → q < length texts → index_at texts d q < length numbers
+index_in types texts numbers d q are count lt = omega (arith, index_within types texts d q are lt)
 
-type_is : (s t : ValType) → same_type s t ≡ true → s ≡ t
-type_is I32 I32 e = refl
-type_is I32 I64 e = absurd cc
-type_is I32 F32 e = absurd cc
-type_is I32 F64 e = absurd cc
-type_is I64 I64 e = refl
-type_is I64 I32 e = absurd cc
-type_is I64 F32 e = absurd cc
-type_is I64 F64 e = absurd cc
-type_is F32 F32 e = refl
-type_is F32 I32 e = absurd cc
-type_is F32 I64 e = absurd cc
-type_is F32 F64 e = absurd cc
-type_is F64 F64 e = refl
-type_is F64 I32 e = absurd cc
-type_is F64 I64 e = absurd cc
-type_is F64 F32 e = absurd cc
+one_text : (types : List FuncType) (texts : List IndexedText) (d : IndexedText) (q r : ℕ) → AreTexts types (length types) texts → q < length texts → r < length texts → index_at texts d q ≡ index_at texts d r → key_at texts d q ≡ key_at texts d r
+one_text types texts d q r are lt lu same =
+    let one = are.each q d lt in
+    let other = are.each r d lu in
+    let type_is : one.0 ≡ other.0 = some_is one.0 other.0 (sym one.1 ∙ ap (slice_get types) same ∙ other.1) in
+    one.2 ∙ ap text_of type_is ∙ sym other.2
 
-type_itself : (t : ValType) → same_type t t ≡ true
-type_itself I32 = refl
-type_itself I64 = refl
-type_itself F32 = refl
-type_itself F64 = refl
-
-two : (t u : ValType) (ts us : List ValType) → t ≡ u → ts ≡ us → t ∷ ts ≡ u ∷ us
-two t u ts us a b = cc
-
-types_are : (ts us : List ValType) → same_types ts us ≡ true → ts ≡ us
-types_are [] [] e = refl
-types_are [] (u ∷ us) e = absurd cc
-types_are (t ∷ ts) [] e = absurd cc
-types_are (t ∷ ts) (u ∷ us) e =
-    let p = both_true (same_type t u) (same_types ts us) e in
-    two t u ts us (type_is t u p.0) (types_are ts us p.1)
-
-types_themselves : (ts : List ValType) → same_types ts ts ≡ true
-types_themselves [] = refl
-types_themselves (t ∷ ts) = rw (type_itself t) (types_themselves ts)
-
-one_type : (s t : FuncType) → s.params ≡ t.params → s.results ≡ t.results → s ≡ t
-one_type s t p r =
-    ap (λ (ps : List ValType). record s { params = ps }) p ∙ ap (λ (rs : List ValType). record t { results = rs }) r
-
-pub func_type_is : (s t : FuncType) → same_func_type s t ≡ true → s ≡ t
-func_type_is s t e =
-    let p = both_true (same_types s.params t.params) (same_types s.results t.results) e in
-    one_type s t (types_are s.params t.params p.0) (types_are s.results t.results p.1)
-
-func_type_itself : (t : FuncType) → same_func_type t t ≡ true
-func_type_itself t = rw (types_themselves t.params) (types_themselves t.results)
-
--- ---- equal texts
-
-back : ℕ → ValType
-back zero = I32
-back (suc zero) = I64
-back (suc (suc zero)) = F32
-back (suc (suc (suc n))) = F64
-
-back_is : (t : ValType) → back (code_of t) ≡ t
-unfolding back
-back_is I32 = refl
-back_is I64 = refl
-back_is F32 = refl
-back_is F64 = refl
-
-code_is : (s t : ValType) → code_of s ≡ code_of t → s ≡ t
-code_is s t e = sym (back_is s) ∙ ap back e ∙ back_is t
-
-never_between : (t : ValType) → code_of t ≡ 4 → ⊥
-never_between I32 e = omega arith
-never_between I64 e = omega arith
-never_between F32 e = omega arith
-never_between F64 e = omega arith
-
-head_is : (a b : ℕ) (xs ys : List ℕ) → a ∷ xs ≡ b ∷ ys → a ≡ b
-head_is a b xs ys e = cc
-
-tail_is : (a b : ℕ) (xs ys : List ℕ) → a ∷ xs ≡ b ∷ ys → xs ≡ ys
-tail_is a b xs ys e = cc
-
-codes_are : (ts us : List ValType) → map code_of ts ≡ map code_of us → ts ≡ us
-codes_are [] [] e = refl
-codes_are [] (u ∷ us) e = absurd cc
-codes_are (t ∷ ts) [] e = absurd cc
-codes_are (t ∷ ts) (u ∷ us) e = two t u ts us (code_is t u (head_is _ _ _ _ e)) (codes_are ts us (tail_is _ _ _ _ e))
-
-parts_are : (ps qs rs us : List ValType) → map code_of ps ++ 4 ∷ map code_of rs ≡ map code_of qs ++ 4 ∷ map code_of us → (ps ≡ qs) × (rs ≡ us)
-parts_are [] [] rs us e = (refl, codes_are rs us (tail_is _ _ _ _ e))
-parts_are [] (q ∷ qs) rs us e = absurd (never_between q (sym (head_is _ _ _ _ e)))
-parts_are (p ∷ ps) [] rs us e = absurd (never_between p (head_is _ _ _ _ e))
-parts_are (p ∷ ps) (q ∷ qs) rs us e =
-    let more = parts_are ps qs rs us (tail_is _ _ _ _ e) in
-    (two p q ps qs (code_is p q (head_is _ _ _ _ e)) more.0, more.1)
-
-key_is : (s t : FuncType) → key_of s ≡ key_of t → s ≡ t
-key_is s t e =
-    let p = parts_are s.params t.params s.results t.results e in
-    one_type s t p.0 p.1
-
--- ---- one number more
-
-last_is : (numbers : List ℕ) (k : ℕ) → slice_get (numbers ++ k ∷ []) (length numbers) ≡ Some k
-last_is numbers k =
-    let within : length numbers < length (numbers ++ k ∷ []) = omega (arith, length-append numbers (k ∷ [])) in
-    slice_get-get_or (numbers ++ k ∷ []) (length numbers) 0 within ∙ ap (λ (x : ℕ). Some x) (get_or-append_seam numbers k [] 0)
-
-front_is : (numbers : List ℕ) (k y : ℕ) → y < length numbers → slice_get (numbers ++ k ∷ []) y ≡ slice_get numbers y
-front_is numbers k y lt =
-    let within : y < length (numbers ++ k ∷ []) = omega (arith, length-append numbers (k ∷ [])) in
-    slice_get-get_or (numbers ++ k ∷ []) y 0 within ∙ ap (λ (x : ℕ). Some x) (get_or-append numbers (k ∷ []) 0 y lt) ∙ sym (slice_get-get_or numbers y 0 lt)
-
-pub numbered_more : (types : List FuncType) (n : ℕ) (old new : List (Vec ℕ Global × ℕ)) (numbers : List ℕ) (t : FuncType) (k : ℕ) → AreNumbered types n old numbers → slice_get types n ≡ Some t → Numbers old new (key_of t) n k → AreNumbered types (n + 1) new (numbers ++ k ∷ [])
-numbered_more types n old new numbers t k before is step =
-    record { count = omega (arith, length-append numbers (k ∷ []), before.count); known = known; said = said }
+-- one item more: f is at the start of the run, x at the place, and g where the run of x starts
+pub given_step : (types : List FuncType) (texts : List IndexedText) (first place next : ℕ) (numbers : List ℕ) (f x g y : IndexedText) → AreTexts types (length types) texts → AreTogether texts → place < length texts → f ≡ get_or texts first f → x ≡ get_or texts place x → g ≡ get_or texts next g → y ≡ get_or texts place y → GoesOn (text_in f ≡ text_in x) first place next → AreGiven types texts first place numbers → AreGiven types texts next (place + 1) (set numbers y.2 g.2)
+given_step types texts first place next numbers f x g y are together lt is_first is_here is_next is_there way before =
+    record { count = length-set numbers y.2 g.2 ∙ before.count; low = omega (arith, next_in); begun = λ above. omega (arith, next_in); given = given }
   where
-    known : (y : ℕ) (s : FuncType) → y < n + 1 → slice_get types y ≡ Some s → number_at new (key_of s) ≡ slice_get (numbers ++ k ∷ []) y
-    known y s lt there =
-        elim (cases_lt y n) [
-          | inl below ↦
-              let short : y < length numbers = omega (arith, before.count) in
-              let number = slice_get-get_or numbers y 0 short in
-              step.keeps (key_of s) (get_or numbers y 0) (before.known y s below there ∙ number) ∙ sym (front_is numbers k y short ∙ number)
-          | inr above ↦
-              let here : y ≡ length numbers = omega (arith, before.count) in
-              let one : s ≡ t = some_is s t (sym there ∙ ap (slice_get types) (here ∙ before.count) ∙ is) in
-              ap (λ (x : FuncType). number_at new (key_of x)) one ∙ step.has ∙ sym (ap (slice_get (numbers ++ k ∷ [])) here ∙ last_is numbers k)
-        ]
+    next_in : next ≤ place
+    next_in = elim way [ inl on ↦ omega (arith, before.low, on.1) | inr new ↦ omega (arith, new.1) ]
 
-    said : (key : List ℕ) (j : ℕ) → number_at new key ≡ Some j → (s : FuncType) × (slice_get types j ≡ Some s) × (key_of s ≡ key)
-    said key j e =
-        elim (step.only key j e) [
-          | inl known ↦ before.said key j known
-          | inr fresh ↦ (t, ap (slice_get types) fresh.1 ∙ is, sym fresh.0)
+    given : (d : IndexedText) → AreNumbered (key_at texts d) (index_at texts d) next (place + 1) (set numbers y.2 g.2)
+    given d =
+        let at_first : get_or texts first d ≡ f = get_or_default texts first d f (omega (arith, before.low)) ∙ sym is_first in
+        let at_place : get_or texts place d ≡ x = get_or_default texts place d x lt ∙ sym is_here in
+        let at_next : get_or texts next d ≡ g = get_or_default texts next d g (omega (arith, next_in)) ∙ sym is_next in
+        let at_there : get_or texts place d ≡ y = get_or_default texts place d y lt ∙ sym is_there in
+        let keys : GoesOn (key_at texts d first ≡ key_at texts d place) first place next =
+        elim way [
+          | inl on ↦ inl (ap text_in at_first ∙ on.0 ∙ sym (ap text_in at_place), on.1)
+          | inr new ↦ inr (λ e. new.0 (sym (ap text_in at_first) ∙ e ∙ ap text_in at_place), new.1)
         ]
+        in
+        let step : AreNumbered (key_at texts d) (index_at texts d) next (place + 1) (set numbers (index_at texts d place) (index_at texts d next)) =
+        numbered_step (key_at texts d) (index_at texts d) first place next numbers
+        (λ q le. index_in types texts numbers d q are before.count (omega arith))
+        (λ q r le lf e. one_text types texts d q r are (omega arith) (omega arith) e)
+        before.low before.begun
+        (λ q m le lf e. together q m place d le lf lt e)
+        keys (before.given d)
+        in
+        subst (λ (i : ℕ). AreNumbered (key_at texts d) (index_at texts d) next (place + 1) (set numbers i g.2)) (ap (λ (z : IndexedText). z.2) at_there)
+        (subst (λ (v : ℕ). AreNumbered (key_at texts d) (index_at texts d) next (place + 1) (set numbers (index_at texts d place) v)) (ap (λ (z : IndexedText). z.2) at_next) step)
+
+-- the index that is read at a place
+pub index_read : (types : List FuncType) (texts : List IndexedText) (numbers : List ℕ) (x : IndexedText) (q : ℕ) → AreTexts types (length types) texts → length numbers ≡ length types → q < length texts → x ≡ get_or texts q x → x.2 < length numbers
+index_read types texts numbers x q are count lt is =
+    subst (λ (z : IndexedText). z.2 < length numbers) (sym is) (index_in types texts numbers x q are count lt)
 
 -- ---- all numbers
 
-number_is : (types : List FuncType) (entries : List (Vec ℕ Global × ℕ)) (numbers : List ℕ) (y : ℕ) (t : FuncType) → AreNumbered types (length types) entries numbers → slice_get types y ≡ Some t → (n : ℕ) × (slice_get numbers y ≡ Some n) × (slice_get types n ≡ Some t)
-number_is types entries numbers y t all is =
-    let within : y < length types = slice_get_within types y t is in
-    let short : y < length numbers = omega (arith, all.count) in
-    let number = slice_get-get_or numbers y 0 short in
-    let said = all.said (key_of t) (get_or numbers y 0) (all.known y t within is ∙ number) in
-    (get_or numbers y 0, number, said.1 ∙ ap (λ (x : FuncType). Some x) (key_is said.0 t said.2))
+-- the type of that index has its text at a place
+pub record IsAt (types : List FuncType) (texts : List IndexedText) (d : IndexedText) (y : ℕ) (t : FuncType) : Type 0 where
+  pub place : ℕ
+  pub within : place < length texts
+  pub index : index_at texts d place ≡ y
+  pub key : key_at texts d place ≡ text_of t
 
-pub numbered_all : (types : List FuncType) (entries : List (Vec ℕ Global × ℕ)) (numbers : List ℕ) → AreNumbered types (length types) entries numbers → AreTypeIds types numbers
-numbered_all types entries numbers all = record { count = all.count; below = below; same = λ y z s t a b. (to y z s t a b, from y z s t a b) }
+place_of : (types : List FuncType) (texts : List IndexedText) (d : IndexedText) (y : ℕ) (t : FuncType) → AreTexts types (length types) texts → slice_get types y ≡ Some t → IsAt types texts d y t
+place_of types texts d y t are is =
+    let found = are.all y (slice_get_within types y t is) in
+    let k = found.1.0 in
+    let at : get_or texts k d ≡ found.0 = get_or_default texts k d found.0 found.1.1 ∙ found.1.2 in
+    let index : index_at texts d k ≡ y = ap (λ (x : IndexedText). x.2) at ∙ found.2 in
+    let said = are.each k d found.1.1 in
+    let one : said.0 ≡ t = some_is said.0 t (sym said.1 ∙ ap (slice_get types) index ∙ is) in
+    record { place = k; within = found.1.1; index = index; key = said.2 ∙ ap text_of one }
+
+pub given_all : (types : List FuncType) (texts : List IndexedText) (first : ℕ) (numbers : List ℕ) → AreTexts types (length types) texts → AreGiven types texts first (length texts) numbers → AreTypeIds types numbers
+given_all types texts first numbers are all = record { count = all.count; below = below; same = λ y z s t a b. (to y z s t a b, from y z s t a b) }
   where
+    some_text : (y : ℕ) (t : FuncType) → slice_get types y ≡ Some t → IndexedText
+    some_text y t is = (are.all y (slice_get_within types y t is)).0
+
     below : All (λ n. n < length types) numbers
-    below k d within =
-        let there : k < length types = omega (arith, all.count) in
-        let n = number_is types entries numbers k (get_or types k (record { params = []; results = [] })) all (slice_get-get_or types k (record { params = []; results = [] }) there) in
-        let is : get_or numbers k d ≡ n.0 = get_or_from_slice_get numbers k n.0 d n.1 in
-        let small : n.0 < length types = slice_get_within types n.0 _ n.2 in
+    below k e within =
+        let t = get_or types k (record { params = []; results = [] }) in
+        let is : slice_get types k ≡ Some t = slice_get-get_or types k (record { params = []; results = [] }) (omega (arith, all.count)) in
+        let d = some_text k t is in
+        let at = place_of types texts d k t are is in
+        let said = (all.given d).known at.place at.within in
+        let number : get_or numbers k e ≡ index_at texts d said.0 = get_or_from_slice_get numbers k _ e (ap (slice_get numbers) (sym at.index) ∙ said.3) in
+        let low = index_within types texts d said.0 are said.1 in
         omega arith
 
     to : (y z : ℕ) (s t : FuncType) → slice_get types y ≡ Some s → slice_get types z ≡ Some t → slice_get numbers y ≡ slice_get numbers z → same_func_type s t ≡ true
     to y z s t a b e =
-        let m = number_is types entries numbers y s all a in
-        let n = number_is types entries numbers z t all b in
-        let same : m.0 ≡ n.0 = some_is m.0 n.0 (sym m.1 ∙ e ∙ n.1) in
-        let one : s ≡ t = some_is s t (sym m.2 ∙ ap (slice_get types) same ∙ n.2) in
-        ap (λ (x : FuncType). same_func_type x t) one ∙ func_type_itself t
+        let d = some_text y s a in
+        let at = place_of types texts d y s are a in
+        let also = place_of types texts d z t are b in
+        let m = (all.given d).known at.place at.within in
+        let n = (all.given d).known also.place also.within in
+        let same : index_at texts d m.0 ≡ index_at texts d n.0 = some_is _ _ (sym m.3 ∙ ap (slice_get numbers) at.index ∙ e ∙ sym (ap (slice_get numbers) also.index) ∙ n.3) in
+        let keys : text_of s ≡ text_of t = sym at.key ∙ sym m.2 ∙ one_text types texts d m.0 n.0 are m.1 n.1 same ∙ n.2 ∙ also.key in
+        ap (λ (x : FuncType). same_func_type x t) (text_is s t keys) ∙ func_type_itself t
 
     from : (y z : ℕ) (s t : FuncType) → slice_get types y ≡ Some s → slice_get types z ≡ Some t → same_func_type s t ≡ true → slice_get numbers y ≡ slice_get numbers z
     from y z s t a b e =
-        sym (all.known y s (slice_get_within types y s a) a)
-        ∙ ap (λ (x : FuncType). number_at entries (key_of x)) (func_type_is s t e)
-        ∙ all.known z t (slice_get_within types z t b) b
+        let d = some_text y s a in
+        let at = place_of types texts d y s are a in
+        let also = place_of types texts d z t are b in
+        let keys : key_at texts d at.place ≡ key_at texts d also.place = at.key ∙ ap text_of (func_type_is s t e) ∙ sym also.key in
+        ap (slice_get numbers) (sym at.index) ∙ (all.given d).one at.place also.place at.within also.within keys ∙ ap (slice_get numbers) also.index

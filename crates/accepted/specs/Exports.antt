@@ -1,5 +1,5 @@
 -- The exports of a module, by their names.
-use Rattle.std.specs.Prelude.{ℕ, List, [], Option, Some, None, slice_get, Contains}
+use Rattle.std.specs.Prelude.{ℕ, zero, suc, ◌+◌, ◌*◌, ◌^◌, ◌<◌, List, [], ◌∷◌, Option, Some, None, slice_get, Contains, get_or}
 use Rattle.std.specs.Ordering.{nat_cmp}
 use Rattle.std.specs.Cmp.Lexicographic.{slice_cmp}
 use Rattle.std.specs.List.Sorted.{IsSortedByKey}
@@ -18,6 +18,16 @@ name_of (Some e) = e.name.now
 -- the name of the export of that number, empty where there is none
 abbrev pub name_at : List Export → ℕ → List ℕ
 name_at exports number = name_of (slice_get exports number)
+
+-- the first so many bytes of a name as digits in base 256, the first the highest, and zeros where it is shorter
+unfoldable pub head : ℕ → List ℕ → ℕ
+head zero name = 0
+head (suc n) [] = 0
+head (suc n) (b ∷ bs) = b * 256 ^ n + head n bs
+
+-- each is a byte
+abbrev pub AreBytes : List ℕ → Type 0
+AreBytes bs = (k : ℕ) → get_or bs k 0 < 256
 
 -- the numbers of exports stand in the order of their names, byte by byte
 abbrev pub AreAscending : List Export → List ℕ → Type 0

@@ -1,10 +1,7 @@
 -- Numbers of types, by which equal types are known.
-use Rattle.std.specs.Prelude.{◌≡◌, ◌↔◌, ◌⊎◌, ◌<◌, ℕ, IsTrue, List, ◌∷◌, ◌++◌, Option, Some, None, length, map, slice_get, All, Vec}
+use Rattle.std.specs.Prelude.{◌≡◌, ◌↔◌, ◌<◌, ◌≤◌, ◌+◌, ◌*◌, ℕ, IsTrue, List, [], ◌∷◌, ◌++◌, Option, Some, None, cond, nat_lt, length, map, slice_get, All, Vec}
 use Rattle.std.specs.declared.alloc.Global.{Global}
-use Rattle.std.specs.Cmp.Lexicographic.{slice_cmp}
-use Rattle.std.specs.Ordering.{nat_cmp}
-use Rattle.std.specs.BTreeMap.{is_at}
-use Rattle.std.specs.Map.{lookup}
+use Rattle.std.specs.List.{Contains, slice_index_or}
 use Rattle.wsyntax.specs.declared.ValType.{ValType}
 use Rattle.wsyntax.specs.declared.ValType.TheVariants.{I32, I64, F32, F64}
 use Rattle.wsyntax.specs.Types.{FuncType, same_func_type}
@@ -23,27 +20,45 @@ function_number numbers (Some y) = slice_get numbers y
 -- ---- how they are found
 
 abbrev pub code_of : ValType → ℕ
-code_of I32 = 0
-code_of I64 = 1
-code_of F32 = 2
-code_of F64 = 3
+code_of I32 = 1
+code_of I64 = 2
+code_of F32 = 3
+code_of F64 = 4
 
--- the parameters and the results in one text, with 4 between them
-abbrev pub key_of : FuncType → List ℕ
-key_of t = map code_of t.params ++ 4 ∷ map code_of t.results
+-- the codes as digits in base 8, the first the lowest, below those of n
+abbrev pub digits_below : ℕ → List ValType → ℕ
+digits_below n [] = n
+digits_below n (t ∷ ts) = 8 * digits_below n ts + code_of t
 
--- the number that the text has
-abbrev pub number_at : List (Vec ℕ Global × ℕ) → List ℕ → Option ℕ
-number_at entries key = lookup (is_at (λ k. slice_cmp nat_cmp key k.items)) entries
+-- the parameters and the results in one number, with 5 between them
+abbrev pub number_of : FuncType → ℕ
+number_of t = digits_below (8 * digits_below 0 t.results + 5) t.params
 
--- the text has the number n now, which is its old one, or the next; the others keep theirs
-pub record Numbers (old new : List (Vec ℕ Global × ℕ)) (key : List ℕ) (next n : ℕ) : Type 0 where
-  pub has : number_at new key ≡ Some n
-  pub keeps : (other : List ℕ) (k : ℕ) → number_at old other ≡ Some k → number_at new other ≡ Some k
-  pub only : (other : List ℕ) (k : ℕ) → number_at new other ≡ Some k → (number_at old other ≡ Some k) ⊎ ((other ≡ key) × (k ≡ next))
+-- the same in a list
+abbrev pub long_text_of : FuncType → List ℕ
+long_text_of t = map code_of t.params ++ 5 ∷ map code_of t.results
 
--- the first n types have these numbers, and each number is the index of a type with its text
-pub record AreNumbered (types : List FuncType) (n : ℕ) (entries : List (Vec ℕ Global × ℕ)) (numbers : List ℕ) : Type 0 where
-  pub count : length numbers ≡ n
-  pub known : (y : ℕ) (t : FuncType) → y < n → slice_get types y ≡ Some t → number_at entries (key_of t) ≡ slice_get numbers y
-  pub said : (key : List ℕ) (k : ℕ) → number_at entries key ≡ Some k → (t : FuncType) × (slice_get types k ≡ Some t) × (key_of t ≡ key)
+-- the text of a type: a number if it is short, and else its codes
+abbrev pub text_of : FuncType → ℕ × List ℕ
+text_of t = cond (nat_lt (length t.params + length t.results) 42) (number_of t, []) (0, long_text_of t)
+
+-- a text beside an index, and the text alone
+abbrev pub IndexedText : Type 0
+IndexedText = ℕ × Vec ℕ Global × ℕ
+
+abbrev pub text_in : IndexedText → ℕ × List ℕ
+text_in x = (x.0, x.1.items)
+
+-- the text is that of the type of the index
+abbrev pub IsTextIn : List FuncType → IndexedText → Type 0
+IsTextIn types x = (t : FuncType) × (slice_get types x.2 ≡ Some t) × (text_in x ≡ text_of t)
+
+-- the texts of the first n types, in any order
+pub record AreTexts (types : List FuncType) (n : ℕ) (texts : List IndexedText) : Type 0 where
+  pub count : length texts ≡ n
+  pub each : All (IsTextIn types) texts
+  pub all : (y : ℕ) → y < n → (x : IndexedText) × Contains texts x × (x.2 ≡ y)
+
+-- equal texts stand side by side
+abbrev pub AreTogether : List IndexedText → Type 0
+AreTogether texts = (low mid high : ℕ) (d : IndexedText) → low ≤ mid → mid ≤ high → high < length texts → text_in (slice_index_or texts low d) ≡ text_in (slice_index_or texts high d) → text_in (slice_index_or texts mid d) ≡ text_in (slice_index_or texts high d)

@@ -1,5 +1,5 @@
-use Rattle.accepted.specs.TypeIds.{AreNumbered}
+use Rattle.accepted.proofs.Numbering.{AreGiven}
 use Rattle.accepted.proofs.type_ids.type_ids.Given as goal
 
-abbrev pub invariant-loop-index : goal.invariant-loop-index
-invariant-loop-index l = AreNumbered l.types l.index l.first.entries l.numbers.items
+abbrev pub invariant-loop-place : goal.invariant-loop-place
+invariant-loop-place l = AreGiven l.types l.texts.items l.first l.place l.numbers.items
