@@ -1,5 +1,5 @@
 -- One list of operands, what of it lies above a height, and what below.
-use Rattle.std.proofs.Common.{◌≡◌, ◌≤◌, ◌<◌, ◌-◌, ◌+◌, ℕ, Bool, true, false, List, [], ◌∷◌, ◌++◌, map, drop, take, reverse, length, Option, Some, sym, ap, ◌∙◌, arith, length-append, length-drop}
+use Rattle.std.proofs.Common.{◌≡◌, ◌≤◌, ◌<◌, ◌-◌, ◌+◌, ℕ, Bool, true, false, List, [], ◌∷◌, ◌++◌, map, drop, take, reverse, length, Option, Some, refl, sym, ap, ◌∙◌, arith, length-append, length-drop}
 use Rattle.std.specs.Prelude.{min}
 use Rattle.std.proofs.lemmas.List.{append_assoc, reverse-append, reverse-reverse, length-reverse, length-map, length-take, take-append-drop, take-append-le, append-nil, drop-append-le, take-take, take_min}
 use Rattle.std.proofs.Math.Seq.{drop-append_seam, take-append_seam}
@@ -11,7 +11,7 @@ use Rattle.wsyntax.specs.declared.ValType.{ValType}
 use Rattle.wsyntax.specs.Types.{FuncType}
 use Rattle.wsyntax.specs.Validation.Algorithm as alg
 use Rattle.wsyntax.specs.Validation.Context.{Stack}
-use Rattle.wsyntax.specs.Validation.Algorithm.{Operands, Takes, Drops, when, on, apply, take_any, take_one, put, fresh, ends_with, is_used_up}
+use Rattle.wsyntax.specs.Validation.Algorithm.{Operands, Frame, Takes, Drops, when, on, apply, take_any, take_one, put, fresh, ends_with, is_used_up, may_lack_else}
 use Rattle.wcheck.specs.Heights.{Stacked, above_of, stacked, all_of, without, over}
 use Rattle.wcheck.specs.declared.entry.Entry.{Entry}
 use Rattle.wcheck.specs.Runs.{types_in, IsCounted, last_types, types_before}
@@ -271,3 +271,12 @@ known_end ts o e =
     let all : alg.take_all ts o ≡ Some record { known = []; is_dead = o.is_dead } =
     ap (λ z. alg.take_all ts record { known = z; is_dead = o.is_dead }) (e ∙ sym (append-nil (map Some ts))) ∙ taken_whole ts [] o.is_dead in
     ap is_used_up all
+
+lacking : (b r : Bool) → (b ≡ true → r ≡ true) → (elim b [ true ↦ r | false ↦ true ]) ≡ true
+lacking true r k = k refl
+lacking false r k = refl
+
+-- the frame gives what it has, which is what it began with where its else may still come
+pub known_else : (f : Frame) → f.operands.known ≡ map Some f.gives → (f.is_then ≡ true → f.operands.known ≡ map Some f.starts) → may_lack_else f ≡ true
+known_else f e k =
+    lacking f.is_then (ends_with f.gives (fresh f.starts)) (λ yes. known_end f.gives (fresh f.starts) (append-nil (map Some f.starts) ∙ sym (k yes) ∙ e))

@@ -2,7 +2,7 @@ ghost use Rattle.std.specs.Prelude.{◌≡◌, ◌≤◌, [], ◌∷◌, ◌++�
 ghost use Rattle.wcontext.specs.Lists.{list_of};
 ghost use Rattle.wsyntax.specs.Instructions.{Op, Do};
 ghost use Rattle.wsyntax.specs.Modules.{seen};
-ghost use Rattle.wsyntax.specs.Validation.Algorithm.{when, pass_on, step};
+ghost use Rattle.wsyntax.specs.Validation.Algorithm.{when, may_lack_else, pass_on, step};
 ghost use Rattle.wcheck.specs.Views.{scope_context, under_all};
 ghost use Rattle.wcheck.specs.Frames.{innermost_of, outside_of, inner_of, frames_of, IsTight};
 ghost use Rattle.wcheck.specs.Frames.{outer_frame_of, gone_back, opened, switched, closed};
@@ -174,7 +174,7 @@ fn leave_far(control: &mut Control) -> Result<bool, AllocError>
 fn close_in_place(control: &mut Control) -> Result<bool, AllocError>
     requires open { control.old.is_open ≡ true }
     requires known { control.old.operands.above.known ≡ map Some (innermost_of control.old).gives }
-    requires ended { control.old.top.is_if ≡ false }
+    requires ended { may_lack_else (innermost_of control.old) ≡ true }
     ensures tight { IsTight control.old → IsTight control.new }
     ensures types { control.new.operands.types ≡ control.old.operands.types }
     ensures frames { IfOk result (λ yes.
@@ -217,6 +217,17 @@ fn close_anew(control: &mut Control) -> Result<bool, AllocError>
     Ok(true)
 }
 
+/// Whether the innermost frame, whose operands are known to be its end types, may surely be closed without an `else`: it is no
+/// `if` whose `else` may still come, or the operands are known to be its start types too.
+#[inline(always)]
+#[tactic(auto, using(crate::proofs::Above::known_else))]
+fn may_lack_else(control: &Control) -> bool
+    requires { control.now.operands.above.known ≡ map Some (innermost_of control.now).gives }
+    ensures { result ≡ true → may_lack_else (innermost_of control.now) ≡ true }
+{
+    !control.top.is_if || control.operands.are_known(control.top.start_types)
+}
+
 /// Closes the innermost frame.
 #[inline(always)]
 pub(crate) fn close_frame(control: &mut Control) -> Result<bool, AllocError>
@@ -226,7 +237,7 @@ pub(crate) fn close_frame(control: &mut Control) -> Result<bool, AllocError>
     ensures frames { IfOk result (λ yes.
         closed (innermost_of control.old) (outside_of control.old) ≡ when yes (Some (frames_of control.new))) }
 {
-    if !control.top.is_if && control.operands.are_known(control.top.end_types) {
+    if control.operands.are_known(control.top.end_types) && may_lack_else(control) {
         close_in_place(control)
     } else {
         close_anew(control)
