@@ -8,13 +8,10 @@ use Rattle.wcontext.specs.declared.fault.ModuleFault.TheVariants as rules
 use Rattle.pieces.specs.TryAll.{AllPass}
 use Rattle.std.proofs.lemmas.Option.{slice_get-get_or, slice_get_cases}
 use Rattle.wsyntax.specs.Modules.{ModuleShape}
-use Rattle.wsyntax.specs.Binary.Production.{Agrees}
-use Rattle.wsyntax.specs.Binary.Sections.{body}
 use Rattle.wsyntax.specs.Binary.Shell.{Shell, module_limit}
 use Rattle.wsyntax.specs.Validation.Context.{Context}
-use Rattle.wsyntax.specs.Validation.Laws.{AcceptedIsTyped, RefusedAtFirstFault}
 use Rattle.wsyntax.specs.Validation.ModuleContext.{module_context, imported_functions, IndexedContext, indexed_context}
-use Rattle.wsyntax.specs.Validation.Rules.{NoneBroken, LeastBroken}
+use Rattle.wsyntax.specs.Validation.Rules.{LeastBroken}
 use Rattle.wsyntax.specs.Validation.Verdict.{IsModule, IsVerdict, Accepted, AcceptedBefore, FirstRefused}
 use Rattle.verdict.specs.declared.refusal.BodyRefusal.{BodyRefusal}
 use Rattle.verdict.specs.declared.refusal.Refusal.{Refusal}

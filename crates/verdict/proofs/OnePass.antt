@@ -1,6 +1,6 @@
 -- A body that passes in one loop is accepted.
 use Rattle.std.proofs.Common.{Bor, ◌≡◌, ℕ, zero, suc, ◌+◌, ◌-◌, get_or, take, drop, ◌<◌, ◌≤◌, Bool, true, false, List, [], ◌∷◌, ◌++◌, length, Option, Some, None, Result, Ok, Err, IfOk, refl, sym, ap, subst, ◌∙◌, arith}
-use Rattle.std.proofs.lemmas.List.{append-nil, nil_from_length, take_rest}
+use Rattle.std.proofs.lemmas.List.{append-nil, take_rest}
 use Rattle.wnum.specs.Reading.{◌>>=◌}
 use Rattle.wsyntax.specs.Instructions.{Token, Do, Drop, Select, Return, Unreachable, Nop, OpenBlock, OpenLoop, OpenIf, Else, End}
 use Rattle.wsyntax.specs.Types.{FuncType}
@@ -15,7 +15,7 @@ use Rattle.wsyntax.specs.Validation.Algorithm.{Accepted, Operands, Frame, on, wh
 use Rattle.wcheck.specs.Checking.{Checking, with_frames}
 use Rattle.wdecode.specs.Gives.{ReadsPlain, ReadsBracket}
 use Rattle.verdict.specs.Judged.{typing_refusal}
-use Rattle.verdict.specs.OnePass.{Takes, Passes, first_token, Reaches, PassesAs, Refuses, StopsAt}
+use Rattle.verdict.specs.OnePass.{Takes, Passes, first_token, Reaches, PassesAs}
 use Rattle.verdict.specs.declared.passing.FirstToken.{FirstToken}
 use Rattle.verdict.specs.WholeBodies.{refusal_read}
 use Rattle.verdict.specs.declared.body.Known.TheVariants.{Nothing}

@@ -1,5 +1,5 @@
 -- The groups of consecutive bodies that are judged in one go: all have the same size, but that the last may be shorter.
-use Rattle.std.specs.Prelude.{◌≡◌, ◌<◌, ◌≤◌, ◌+◌, ◌*◌, ◌-◌, ℕ, min, List, Option, Some, None, length, slice_get}
+use Rattle.std.specs.Prelude.{◌≡◌, ◌<◌, ◌≤◌, ◌+◌, ◌*◌, ◌-◌, ℕ, min, List, Some, None, length, slice_get}
 use Rattle.std.proofs.Common.{ap, ◌∙◌}
 use Rattle.std.proofs.Math.Nat.{le_antisymm, lt_of_not-le}
 use mathlib.Core.Logic.{dite}

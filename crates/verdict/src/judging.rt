@@ -15,7 +15,7 @@ use crate::refusal::Refusal;
 use crate::refused_body::RefusedBody;
 use accepted::Accepted;
 use checked::CheckedBody;
-use pieces::{JobFault, Plan, TryFault, Watch, try_all};
+use pieces::{JobFault, Plan, Quiet, Stage, TryFault, Watch, try_all};
 use soundness::validation::{accepted_is_typed, refused_at_first_fault};
 use std::alloc::{AllocError, Global};
 use std::sync::Wait;
@@ -93,6 +93,9 @@ fn judge_bodies<R: Threads + Wait + Sync, W: Watch + Sync>(
 {
     let count = bodies.len() as u32;
     let (size, plan) = groups_for(count, module_size, plan);
+    if plan.workers() == 1 {
+        return judge_bodies_alone(alloc, context, bodies, watch);
+    }
     let checkers = new_checkers(alloc, context, plan.workers())?;
     let imported = context.imported_functions() as u32;
     let job = KeptBodies {
@@ -110,11 +113,12 @@ fn judge_bodies<R: Threads + Wait + Sync, W: Watch + Sync>(
     }
 }
 
-/// Does the same on the calling thread, one body after the other.
-fn judge_bodies_alone(
+/// Does the same on the calling thread, one body after the other, so that the list of them is made but once.
+fn judge_bodies_alone<W: Watch>(
     alloc: Global,
     context: &Context,
     bodies: &[&[u8]],
+    watch: &W,
 ) -> Result<Vec<CheckedBody>, Refusal>
     requires each_has_type { context.now.imported + length bodies.now ≡ length context.now.context.functions }
     requires few { context.now.imported + length bodies.now < 2 ^ 32 }
@@ -129,6 +133,7 @@ fn judge_bodies_alone(
     let mut kept = Vec::with_capacity(alloc, bodies.len())?;
     for place in 0..bodies.len() as u32 {
         let func = imported + place;
+        watch.note(Stage::Body, place);
         match checked_body(alloc, &mut checker, func, bodies[place as usize]) {
             Ok(checked) => {
                 if kept.push(checked).is_err() {
@@ -184,6 +189,6 @@ pub fn judge_alone<'a>(alloc: Global, bytes: &'a [u8]) -> Result<Accepted<'a>, R
     ensures parts { IfOk result (IsAcceptedFrom bytes.now) }
 {
     let (module, context) = decode_and_check(alloc, bytes)?;
-    let bodies = judge_bodies_alone(alloc, &context, &module.bodies)?;
+    let bodies = judge_bodies_alone(alloc, &context, &module.bodies, &Quiet)?;
     Ok(Accepted::of(alloc, module, context, bodies)?)
 }

@@ -1,4 +1,4 @@
-use Rattle.std.proofs.Common.{◌<◌, length, arith}
+use Rattle.std.proofs.Common.{arith}
 use Rattle.std.proofs.lemmas.List.{length-map}
 use Rattle.verdict.specs.Parts.{bodies_of}
 use Rattle.verdict.proofs.Groups.{pass_more}

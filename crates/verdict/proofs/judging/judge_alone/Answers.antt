@@ -7,10 +7,10 @@ pub returns-in_err-module-clause-verdict : goal.returns-in_err-module-clause-ver
 returns-in_err-module-clause-verdict c = refused_so _ _ _ c.in_err-module.field-0.0 (let h = c.from_residual.ensures.1 in h) c.in_err-module.ensures
 
 pub judge_bodies_alone-requires-clause-each_has_type : goal.judge_bodies_alone-requires-clause-each_has_type
-judge_bodies_alone-requires-clause-each_has_type c = let m = c.in_ok-module in each_typed c.args.bytes.now m.module m.context c.deref.result.now m.ensures c.deref.ensures.value
+judge_bodies_alone-requires-clause-each_has_type c κs = let m = c.in_ok-module in each_typed c.args.bytes.now m.module m.context c.deref.result.now m.ensures c.deref.ensures.value
 
 pub judge_bodies_alone-requires-clause-few : goal.judge_bodies_alone-requires-clause-few
-judge_bodies_alone-requires-clause-few c = let m = c.in_ok-module in few_functions c.args.bytes.now m.module m.context c.deref.result.now m.ensures c.deref.ensures.value
+judge_bodies_alone-requires-clause-few c κs = let m = c.in_ok-module in few_functions c.args.bytes.now m.module m.context c.deref.result.now m.ensures c.deref.ensures.value
 
 pub returns-in_err-bodies-clause-verdict : goal.returns-in_err-bodies-clause-verdict
 returns-in_err-bodies-clause-verdict c =

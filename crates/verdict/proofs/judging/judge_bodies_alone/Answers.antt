@@ -6,7 +6,7 @@ use Rattle.verdict.proofs.Groups.{refusal_there, pass_more}
 use Rattle.verdict.proofs.judging.judge_bodies_alone.Goals as goal
 
 pub loop-place-preserved : goal.loop-place-preserved
-loop-place-preserved c =
+loop-place-preserved g c =
     let old = c.loop-place.invariant in
     let same = c.imported_functions-imported.ensures.count in
     let found = c.in-Ok.ensures.verdict in
@@ -19,7 +19,7 @@ loop-place-preserved c =
     }
 
 pub returns-in-Err-Refused-clause-verdict : goal.returns-in-Err-Refused-clause-verdict
-returns-in-Err-Refused-clause-verdict c =
+returns-in-Err-Refused-clause-verdict g c =
     let old = c.loop-place.invariant in
     let same = c.imported_functions-imported.ensures.count in
     let count = length-map c.args.bodies.now (λ b. b.now) in

@@ -4,7 +4,7 @@ use Rattle.verdict.specs.Judged.{PassBefore}
 use Rattle.verdict.proofs.judging.judge_bodies_alone.Given as goal
 
 abbrev pub invariant-loop-place : goal.invariant-loop-place
-invariant-loop-place l = record {
+invariant-loop-place g l = record {
   outside : l.checker.outside ≡ l.context.context;
   passed : PassBefore l.context.context l.context.imported (map (λ b. b.now) l.bodies) l.place;
   checked : AreChecked l.context.context l.context.imported (map (λ b. b.now) l.bodies) l.place l.kept.items;

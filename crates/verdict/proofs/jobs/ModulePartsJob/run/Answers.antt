@@ -1,4 +1,4 @@
-use Rattle.std.proofs.Common.{◌≢◌, ◌<◌, ◌-◌, ◌*◌, length, arith}
+use Rattle.std.proofs.Common.{◌≢◌, ◌-◌, ◌*◌, length, arith}
 use Rattle.std.proofs.Math.Nat.{min-le_left, min-le_right}
 use Rattle.verdict.specs.Parts.{bodies_of}
 use Rattle.verdict.proofs.Groups.{one_more}
