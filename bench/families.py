@@ -15,6 +15,7 @@ sys.path.insert(0, os.path.dirname(os.path.abspath(__file__)))
 from encoding import EMPTY, HEADER, function_type, section, signed, sized, unsigned, vector, whole
 
 I32, I64, F32, F64 = b'\x7F', b'\x7E', b'\x7D', b'\x7C'
+FOUR = bytes(b'\x7F\x7E\x7D\x7C'[k % 4] for k in range(256))
 WRONG = b'\x42\x00\x45'
 ANYWHERE = ('accepted', 'refused', 'dead accepted', 'dead refused')
 DEAD = ('dead accepted', 'dead refused')
@@ -332,16 +333,49 @@ def ifs_of_lists(size, dead, chance):
     return at_random(pieces, max(size - sum(map(len, types)), size // 4), chance) + b'\x00', {'types': types}
 
 
-def chains_of_lists(size, dead, chance):
-    # The same beside lists of 3,000 types, each of which begins inside the one before, in an order at random.
-    code, parts = ifs_of_lists(size * 28 // 100, dead, chance)
-    lists, count = [], max(2, min(64, size // 4_000))
-    while sum(map(len, lists)) < size * 72 // 100 - 3_000 * count // 2:
-        begins = list(itertools.accumulate([0] + [chance.randrange(50, 1_200) for _ in range(count - 1)]))
-        many = chance.choices([I32, I64], k=begins[-1] + 3_000)
-        lists += [many[begin:begin + 3_000] for begin in begins]
+def in_chains(size, length, gaps, chance):
+    # Types of about `size` bytes that take and give lists of that length, of four types, each of which begins inside the one
+    # before, in an order at random.
+    lists = []
+    while (len(lists) - 2) * length < size:
+        begins = list(itertools.accumulate([0] + [chance.randrange(*gaps) for _ in range(63)]))
+        many = chance.randbytes(begins[-1] + length).translate(FOUR)
+        lists += [many[begin:begin + length] for begin in begins]
+    lists = lists[:size // length // 2 * 2 + 2]
     chance.shuffle(lists)
-    return code, {'types': parts['types'] + [function_type(*pair) for pair in zip(lists[::2], lists[1::2])]}
+    return [b'\x60' + sized(taken) + sized(given) for taken, given in zip(lists[::2], lists[1::2])]
+
+
+def chains_of_lists(size, dead, chance):
+    # The same beside lists of 3,000 types in chains.
+    code, parts = ifs_of_lists(size * 28 // 100, dead, chance)
+    return code, {'types': parts['types'] + in_chains(size * 72 // 100 - 3_000, 3_000, (50, 1_200), chance)}
+
+
+def types_of_all(size, longest):
+    # How many bytes of types a module may have beside which lists of `longest` types are compared, and longer ones taken in.
+    return int((size - 600) / (1 + 1_024 / longest))
+
+
+def ifs_beside_chains(size, dead, chance):
+    # Ifs over lists of i32 that are just too short for the tree, so that each compares its list, beside chains of longer ones.
+    longest = min(16_200, size // 15)
+    lengths = [chance.randrange(longest * 9 // 10, longest) for _ in range(8)]
+    types = [EMPTY] + [function_type([I32] * length, [I32] * length) for length in lengths]
+    types += in_chains(types_of_all(size, longest) - 2 * sum(lengths), longest + longest // 80, (10, longest // 4), chance)
+    pieces = [b'\x04' + signed(k) + b'\x0B' for k in range(1, 9)]
+    return at_random(pieces, size - sum(map(len, types)) - 600, chance) + b'\x00', {'types': types}
+
+
+def tables_beside_chains(size, dead, chance):
+    # A branch table with labels of one such list at several places, of which each is compared, beside chains of longer ones.
+    longest = min(16_200, size // 15)
+    labels = max(2, min(127, size // 130_000))
+    types = [EMPTY] + [function_type([], chance.choices([I32, I64, F32, F64], k=longest))] * labels
+    types += in_chains(types_of_all(size, longest) - longest * labels, longest + longest // 80, (10, longest // 4), chance)
+    table = vector([b'%c' % chance.randrange(labels) for _ in range(size - sum(map(len, types)) - 5 * labels - 600)]) + b'\x00'
+    opens = b''.join(b'\x02' + signed(k) for k in range(1, labels + 1))
+    return opens + b'\x00\x0E' + table + b'\x0B' * labels + b'\x00', {'types': types}
 
 
 def tables_of_short_lists(size, dead, chance):
@@ -481,6 +515,8 @@ FAMILIES = {
     'ifs of 255 types': (LIVE, short_lists(lambda n: b'\x41\x00\x04\x02\x0B' * (n // 5))),
     'ifs of lists of i32': (DEAD, of_code(ifs_of_lists)),
     'chains of lists': (DEAD, of_code(chains_of_lists)),
+    'ifs of lists beside chains': (DEAD, of_code(ifs_beside_chains)),
+    'branch tables beside chains': (DEAD, of_code(tables_beside_chains)),
     'loops of 255 types, nested': (LIVE, short_lists(lambda n: b'\x03\x02' * (n // 3) + b'\x0B' * (n // 3))),
     'calls of 255 types': (LIVE, short_lists(lambda n: b'\x10\x02' * (n // 2))),
     'calls of 255 types, shifted': (LIVE, short_lists(lambda n: b'\x10\x03\x10\x04\x10\x01' * (n // 6))),

@@ -94,7 +94,7 @@ fn judge_bodies<R: Threads + Wait + Sync, W: Watch + Sync>(
     let count = bodies.len() as u32;
     let (size, plan) = groups_for(count, module_size, plan);
     if plan.workers() == 1 {
-        return judge_bodies_alone(alloc, context, bodies, watch);
+        return judge_bodies_alone(alloc, context, bodies, module_size, watch);
     }
     let checkers = new_checkers(alloc, context, plan.workers())?;
     let imported = context.imported_functions() as u32;
@@ -118,6 +118,7 @@ fn judge_bodies_alone<W: Watch>(
     alloc: Global,
     context: &Context,
     bodies: &[&[u8]],
+    module_size: usize,
     watch: &W,
 ) -> Result<Vec<CheckedBody>, Refusal>
     requires each_has_type { context.now.imported + length bodies.now ≡ length context.now.context.functions }
@@ -130,7 +131,8 @@ fn judge_bodies_alone<W: Watch>(
 {
     let imported = context.imported_functions() as u32;
     let mut checker = Checker::new(alloc, context);
-    let mut kept = Vec::with_capacity(alloc, bodies.len())?;
+    // A function that is accepted takes four bytes at least: its type's index, and a size, no locals and an end.
+    let mut kept = Vec::with_capacity(alloc, bodies.len().min(module_size / 4))?;
     for place in 0..bodies.len() as u32 {
         let func = imported + place;
         watch.note(Stage::Body, place);
@@ -189,6 +191,6 @@ pub fn judge_alone<'a>(alloc: Global, bytes: &'a [u8]) -> Result<Accepted<'a>, R
     ensures parts { IfOk result (IsAcceptedFrom bytes.now) }
 {
     let (module, context) = decode_and_check(alloc, bytes)?;
-    let bodies = judge_bodies_alone(alloc, &context, &module.bodies, &Quiet)?;
+    let bodies = judge_bodies_alone(alloc, &context, &module.bodies, bytes.len(), &Quiet)?;
     Ok(Accepted::of(alloc, module, context, bodies)?)
 }
