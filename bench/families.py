@@ -378,6 +378,44 @@ def tables_beside_chains(size, dead, chance):
     return opens + b'\x00\x0E' + table + b'\x0B' * labels + b'\x00', {'types': types}
 
 
+def that_turn(size, length, turns, fronts, chance):
+    # Types of about `size` bytes that take and give lists of that length, in an order at random. `turns` of the lists are parts of a
+    # word that repeats, each a type later, so that the link of each node of the tree leads to another list. The others begin with a
+    # front of another such word, and go on in the first, so that their links lead far. Near the end of each list one type is
+    # another: there all links are gone through one by one, as many as the list has types.
+    count = max(2, size // length // 2 * 2)
+    turns = min(turns, count)
+    words = [chance.randbytes(many).translate(FOUR) * (length // many + 3) for many in (turns, max(1, count - turns))]
+    lists = []
+    for k in range(count):
+        begin, front = (k, 0) if k < turns else (chance.randrange(turns), chance.randrange(*fronts))
+        many = bytearray(words[1][k - turns:k - turns + front] if front else b'') + words[0][begin:begin + length - front]
+        many[-3] = chance.choice([one for one in b'\x7F\x7E\x7D\x7C' if one != many[-3]])
+        lists.append(bytes(many))
+    chance.shuffle(lists)
+    return [b'\x60' + sized(taken) + sized(given) for taken, given in zip(lists[::2], lists[1::2])]
+
+
+def lists_that_turn(size, dead, chance):
+    # With the code of `ifs of lists of i32`, just as much as the tree asks for.
+    length = min(16_384, size // 60)
+    code, parts = ifs_of_lists(max(30_000, size * (65 if length == 16_384 else 250) // 1_000), dead, chance)
+    room = size - len(code) - sum(map(len, parts['types'])) - 200
+    return code, {'types': parts['types'] + that_turn(room, length, max(2, size // 65_000), (length // 160, length * 6 // 16), chance)}
+
+
+def ifs_beside_lists_that_turn(size, dead, chance):
+    # The ifs of `ifs of lists beside chains` beside lists that turn.
+    longest = min(16_200, size // 15)
+    lengths = [chance.randrange(longest * 97 // 100, longest) for _ in range(8)]
+    types = [EMPTY] + [function_type([I32] * length, [I32] * length) for length in lengths]
+    length = longest + longest // 80
+    room = types_of_all(size, longest) - 2 * sum(lengths) - length
+    types += that_turn(room, length, max(2, size // 65_000), (max(1, length // 160), length * 6 // 16), chance)
+    pieces = [b'\x04' + signed(k) + b'\x0B' for k in range(1, 9)]
+    return at_random(pieces, size - sum(map(len, types)) - 600, chance) + b'\x00', {'types': types}
+
+
 def tables_of_short_lists(size, dead, chance):
     # Branch tables with labels of types of 255 results, all the same lists at different places.
     many = [chance.choice([I32, I64]) for _ in range(255)]
@@ -517,6 +555,8 @@ FAMILIES = {
     'chains of lists': (DEAD, of_code(chains_of_lists)),
     'ifs of lists beside chains': (DEAD, of_code(ifs_beside_chains)),
     'branch tables beside chains': (DEAD, of_code(tables_beside_chains)),
+    'lists that turn': (DEAD, of_code(lists_that_turn)),
+    'ifs beside lists that turn': (DEAD, of_code(ifs_beside_lists_that_turn)),
     'loops of 255 types, nested': (LIVE, short_lists(lambda n: b'\x03\x02' * (n // 3) + b'\x0B' * (n // 3))),
     'calls of 255 types': (LIVE, short_lists(lambda n: b'\x10\x02' * (n // 2))),
     'calls of 255 types, shifted': (LIVE, short_lists(lambda n: b'\x10\x03\x10\x04\x10\x01' * (n // 6))),
