@@ -416,6 +416,21 @@ def ifs_beside_lists_that_turn(size, dead, chance):
     return at_random(pieces, size - sum(map(len, types)) - 600, chance) + b'\x00', {'types': types}
 
 
+def tables_beside_lists_that_turn(size, dead, chance):
+    # A branch table with labels of one list at many places, which no near cache holds and which is just compared, beside lists that
+    # turn. With one more byte it would be taken in too.
+    longest = min(16_200, size // 15)
+    labels = max(2, min(64, size // 260_000))
+    types = [b'\x60\x00' + sized(chance.randbytes(longest).translate(FOUR))] * labels
+    room = types_of_all(size - 2_000, longest) - sum(map(len, types))
+    length = room // (room // (longest + longest // 800 + 1))
+    types += that_turn(room, length, max(2, size // 65_000), (max(1, length // 160), length * 6 // 16), chance)
+    code = sum(len(one) - 7 for one in types) * 1_024 // (longest + 3) - 5 * labels - 300
+    table = vector([b'%c' % (k % labels) for k in range(code)]) + b'\x00'
+    opens = b''.join(b'\x02' + signed(k) for k in range(1, labels + 1))
+    return opens + b'\x00\x0E' + table + b'\x0B' * labels + b'\x00', {'types': [EMPTY] + types}
+
+
 def tables_of_short_lists(size, dead, chance):
     # Branch tables with labels of types of 255 results, all the same lists at different places.
     many = [chance.choice([I32, I64]) for _ in range(255)]
@@ -557,6 +572,7 @@ FAMILIES = {
     'branch tables beside chains': (DEAD, of_code(tables_beside_chains)),
     'lists that turn': (DEAD, of_code(lists_that_turn)),
     'ifs beside lists that turn': (DEAD, of_code(ifs_beside_lists_that_turn)),
+    'branch tables beside lists that turn': (DEAD, of_code(tables_beside_lists_that_turn)),
     'loops of 255 types, nested': (LIVE, short_lists(lambda n: b'\x03\x02' * (n // 3) + b'\x0B' * (n // 3))),
     'calls of 255 types': (LIVE, short_lists(lambda n: b'\x10\x02' * (n // 2))),
     'calls of 255 types, shifted': (LIVE, short_lists(lambda n: b'\x10\x03\x10\x04\x10\x01' * (n // 6))),
