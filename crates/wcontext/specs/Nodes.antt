@@ -18,7 +18,11 @@ type_number F64 = 3
 abbrev pub text : List (List ValType) → ℕ → List ValType
 text texts q = get_or texts q []
 
--- what is kept above a node: its link, or its number
+-- the link of a node
+abbrev pub link_at : List ℕ → ℕ → ℕ
+link_at links q = get_or links q 0
+
+-- what is kept above a node: its link or a node farther up the links, or its number
 abbrev pub above_at : List Node → ℕ → ℕ
 above_at nodes q = (get_or nodes q record { above = 0; below = 0 }).above
 
@@ -62,7 +66,10 @@ AreForksThere n = (q : ℕ) → below_at n.nodes.items q < 2147483648 + length n
 -- a node has got a child by a type, in place of the one that it had by that type, and all else is as it was
 pub record PutsChild (old new : Nodes) (p : ℕ) (t : ValType) (d : ℕ) : Type 0 where
   pub size : length new.nodes.items ≡ length old.nodes.items
-  pub links : (q : ℕ) → above_at new.nodes.items q ≡ above_at old.nodes.items q
+  pub aboves : (q : ℕ) → above_at new.nodes.items q ≡ above_at old.nodes.items q
+  pub links : new.links ≡ old.links
+  pub growing : new.growing ≡ old.growing
+  pub next : new.next ≡ old.next
   pub forks : AreForksThere old → AreForksThere new
   pub children : AreForksThere old → (q : ℕ) (u : ValType) (e : ℕ) → 0 < e → HasChild new q u e
       → HasChild old q u e ⊎ ((q ≡ p) × (u ≡ t) × (e ≡ d))
@@ -74,17 +81,22 @@ pub record PutsChild (old new : Nodes) (p : ℕ) (t : ValType) (d : ℕ) : Type 
 abbrev pub KeepsChildren : Nodes → Nodes → Type 0
 KeepsChildren old new = AreForksThere old → (q : ℕ) (u : ValType) (e : ℕ) → 0 < e → HasChild old q u e → HasChild new q u e
 
--- each link leads to an earlier node whose text is an end of the node's
-pub record IsLinked (texts : List (List ValType)) (nodes : List Node) : Type 0 where
-  pub size : length nodes ≡ length texts
-  pub below : (q : ℕ) → 0 < q → q < length texts → above_at nodes q < q
-  pub ends : (q : ℕ) → 0 < q → q < length texts → IsEnd (text texts (above_at nodes q)) (text texts q)
+-- each of `count` nodes leads to an earlier one whose text is an end of its own
+pub record LeadsUp (texts : List (List ValType)) (count : ℕ) (up : ℕ → ℕ) : Type 0 where
+  pub size : count ≡ length texts
+  pub below : (q : ℕ) → 0 < q → q < length texts → up q < q
+  pub ends : (q : ℕ) → 0 < q → q < length texts → IsEnd (text texts (up q)) (text texts q)
+
+-- what is kept above each node leads up
+abbrev pub IsLinked : List (List ValType) → List Node → Type 0
+IsLinked texts nodes = LeadsUp texts (length nodes) (above_at nodes)
 
 -- the nodes have these texts: that of a child is its parent's and one type more
 pub record AreNodes (texts : List (List ValType)) (n : Nodes) : Type 0 where
   pub some : 0 < length texts
   pub root : text texts 0 ≡ []
-  pub linked : IsLinked texts n.nodes.items
+  pub linked : LeadsUp texts (length n.links.items) (link_at n.links.items)
+  pub aboves : IsLinked texts n.nodes.items
   pub forks : AreForksThere n
   pub children : (p : ℕ) (t : ValType) (d : ℕ) → 0 < d → HasChild n p t d
       → (p < length texts) × (d < length texts) × (text texts d ≡ text texts p ++ t ∷ [])
@@ -100,15 +112,43 @@ FindsEnd n p t l = (texts : List (List ValType)) → AreNodes texts n → p < le
 
 -- going up the links from a node, l is the first child by that type that is met, or 0 where none is
 pub data IsFirstAbove (n : Nodes) (t : ValType) (l : ℕ) : ℕ → Type 0 where
-  Met : (q : ℕ) → above_at n.nodes.items q < q → 0 < l → HasChild n (above_at n.nodes.items q) t l → IsFirstAbove n t l q
-  Further : (q : ℕ) → above_at n.nodes.items q < q → HasNoOther n (above_at n.nodes.items q) t 0 → IsFirstAbove n t l (above_at n.nodes.items q) → IsFirstAbove n t l q
-  Top : (q : ℕ) → q ≤ above_at n.nodes.items q → l ≡ 0 → IsFirstAbove n t l q
-  Outside : (q : ℕ) → length n.nodes.items ≤ q → l ≡ 0 → IsFirstAbove n t l q
+  Met : (q : ℕ) → link_at n.links.items q < q → 0 < l → HasChild n (link_at n.links.items q) t l → IsFirstAbove n t l q
+  Further : (q : ℕ) → link_at n.links.items q < q → HasNoOther n (link_at n.links.items q) t 0 → IsFirstAbove n t l (link_at n.links.items q) → IsFirstAbove n t l q
+  Top : (q : ℕ) → q ≤ link_at n.links.items q → l ≡ 0 → IsFirstAbove n t l q
+  Outside : (q : ℕ) → length n.links.items ≤ q → l ≡ 0 → IsFirstAbove n t l q
+
+-- going up the links from a node to s, no node that is met before s has a child by that type
+pub data Passes (n : Nodes) (t : ValType) (s : ℕ) : ℕ → Type 0 where
+  Here : (q : ℕ) → link_at n.links.items q < q → link_at n.links.items q ≡ s → Passes n t s q
+  On : (q : ℕ) → link_at n.links.items q < q → HasNoOther n (link_at n.links.items q) t 0 → Passes n t s (link_at n.links.items q) → Passes n t s q
+
+-- above a node its link is kept, or a node up to which no child is missed by a type by which the node has none
+abbrev pub MissesNone : Nodes → ℕ → Type 0
+MissesNone n q = (above_at n.nodes.items q ≡ link_at n.links.items q)
+    ⊎ ((link_at n.links.items q < n.growing) × ((t : ValType) → HasNoOther n q t 0 → Passes n t (above_at n.nodes.items q) q))
+
+-- that is so of each node
+pub record MissNone (n : Nodes) : Type 0 where
+  pub some : 0 < length n.nodes.items
+  pub size : length n.links.items ≡ length n.nodes.items
+  pub order : n.growing ≤ n.next
+  pub last : n.next ≤ length n.nodes.items
+  pub forks : AreForksThere n
+  pub each : (q : ℕ) → MissesNone n q
+
+-- the nodes have the texts and the children that they had, and no child is missed on the way up
+pub record KeepsNodes (old new : Nodes) : Type 0 where
+  pub texts : (texts : List (List ValType)) → AreNodes texts old → AreNodes texts new
+  pub none : MissNone old → MissNone new
+  pub size : length new.nodes.items ≡ length old.nodes.items
+  pub links : new.links ≡ old.links
+  pub forks : new.forks ≡ old.forks
+  pub below : (q : ℕ) → below_at new.nodes.items q ≡ below_at old.nodes.items q
 
 -- d was the child of p by that type, or p had none and d is made, with a link to the first that is found above
 abbrev pub IsFoundOrMade : Nodes → Nodes → ℕ → ValType → ℕ → Type 0
 IsFoundOrMade old new p t d = ((0 < d) × HasChild old p t d)
-    ⊎ (HasNoOther old p t 0 × (d ≡ length old.nodes.items) × IsFirstAbove old t (above_at new.nodes.items d) p)
+    ⊎ (HasNoOther old p t 0 × (d ≡ length old.nodes.items) × IsFirstAbove old t (link_at new.links.items d) p)
 
 -- d has the text of p and one type more
 abbrev pub IsNodeAfter : Nodes → Nodes → ℕ → ValType → ℕ → Type 0

@@ -172,7 +172,7 @@ impl EndTree {
         let least = long.least_taken(bodies)?;
         let gathered = Gathered::of(alloc, types, least, long.count)?;
         let Trie { nodes, fronts } = Trie::read(alloc, gathered.lists, gathered.fronts as usize)?;
-        let mut nodes = nodes.nodes;
+        let mut nodes = nodes.linked();
         number(&mut nodes)?;
         Some(EndTree {
             starts: gathered.starts,

@@ -2,7 +2,7 @@
 ghost use Rattle.std.specs.Prelude.{◌≡◌, ◌<◌, [], ◌∷◌, IfSome};
 ghost use Rattle.wcontext.specs.Nodes.{type_number, below_at, HasChild, HasNoOther, AreChildren, AreAllChildren};
 ghost use Rattle.wcontext.specs.Nodes.{PutsChild, KeepsChildren, FindsEnd, IsFirstAbove, IsFoundOrMade};
-ghost use Rattle.wcontext.specs.Nodes.{AreNodes, IsNodeAfter};
+ghost use Rattle.wcontext.specs.Nodes.{AreNodes, IsNodeAfter, IsLinked, MissNone, KeepsNodes};
 
 use std::alloc::Global;
 use wsyntax::ValType;
@@ -17,7 +17,8 @@ const FORKS: u32 = 1 << 31;
 /// nodes are never in memory at once.
 #[derive(Clone, Copy, Debug)]
 pub(crate) struct Node {
-    /// Its link: the node of the longest shorter front that is an end of its types. Once it is numbered, its own number.
+    /// Its link, or a node farther up the links, up to which no node has a child by a type by which it has none itself. Once
+    /// it is numbered, its own number.
     pub(crate) above: u32,
     /// Its only child, as four times the child and the number of its type, or `FORKS` and the place of a fork; 0 for none.
     /// Once it is numbered, where the numbers of the nodes that hang below it end.
@@ -33,9 +34,15 @@ struct Fork {
 /// Nodes, each of which stands for a list of types, and node 0 for no type. Nearly all have one child or none.
 #[derive(Drop)]
 pub(crate) struct Nodes {
-    pub(crate) nodes: Vec<Node>,
+    nodes: Vec<Node>,
+    /// Their links: the node of the longest shorter front that is an end of a node's types.
+    links: Vec<u32>,
     /// At most one a list: where it parts from those before it.
     forks: Vec<Fork>,
+    /// From here on nodes may get children.
+    growing: u32,
+    /// From here on nodes may get children after the next call of `grow_next`.
+    next: u32,
 }
 
 #[inline]
@@ -50,15 +57,45 @@ fn number(t: ValType) -> u32
     }
 }
 
+/// Whether two nodes have one child alone, both by the same type, by what lies below them.
+#[inline]
+fn by_same_type(below: u32, other: u32) -> bool {
+    below >= TYPES as u32
+        && other >= TYPES as u32
+        && below < FORKS
+        && other < FORKS
+        && below % 4 == other % 4
+}
+
 impl Nodes {
     /// Node 0, and room for `more` nodes, made of `lists` lists.
     pub(crate) fn new(alloc: Global, more: usize, lists: usize) -> Option<Nodes>
-        ensures { IfSome result (AreNodes ([] ∷ [])) }
+        ensures texts { IfSome result (AreNodes ([] ∷ [])) }
+        ensures none { IfSome result (λ nodes. MissNone nodes) }
     {
-        let mut nodes = Vec::with_capacity(alloc, more.checked_add(1)?).ok()?;
+        let room = more.checked_add(1)?;
+        let mut nodes = Vec::with_capacity(alloc, room).ok()?;
         nodes.push(Node { above: 0, below: 0 }).ok()?;
+        let mut links = Vec::with_capacity(alloc, room).ok()?;
+        links.push(0).ok()?;
         let forks = Vec::with_capacity(alloc, lists).ok()?;
-        Some(Nodes { nodes, forks })
+        Some(Nodes {
+            nodes,
+            links,
+            forks,
+            growing: 0,
+            next: 0,
+        })
+    }
+
+    /// Lets the nodes that were made since the last call get children, and those before no more.
+    pub(crate) fn grow_next(&mut self) -> Option<()>
+        ensures { IfSome result (λ _. KeepsNodes self.old self.new) }
+    {
+        let end = u32::try_from(self.nodes.len()).ok()?;
+        self.growing = self.next;
+        self.next = end;
+        Some(())
     }
 
     /// The child of a node by that type; 0 where it has none.
@@ -94,25 +131,46 @@ impl Nodes {
     }
 
     /// The node of the longest list that ends the types of `node` and then `t`, and has fewer. It goes up the links until a
-    /// node has a child of that type: in all lists together that is at most two steps a type.
+    /// node has a child of that type: in all lists together that is at most two steps a type, and fewer where a node's only
+    /// child has the same type as that of the node above.
     #[inline]
     fn longest_end(&self, node: u32, t: ValType) -> u32
+        requires none { MissNone self.now }
         ensures ends { FindsEnd self.now node t result }
         ensures first { IsFirstAbove self.now t result node }
     {
+        let Some(link) = self.links.get(node as usize) else {
+            return 0;
+        };
         let mut from = node;
-        while let Some(longer) = self.nodes.get(from as usize) {
-            let link = longer.above;
-            if link >= from {
-                return 0;
-            }
-            let child = self.child(link, t);
+        let mut at = *link;
+        while at < from {
+            let child = self.child(at, t);
             if child > 0 {
                 return child;
             }
-            from = link;
+            let Some(passed) = self.nodes.get(at as usize) else {
+                return 0;
+            };
+            from = at;
+            at = passed.above;
         }
         0
+    }
+
+    /// Keeps above a node what is kept above its link, where both have one child alone, by the same type: a type by which the
+    /// one has no child leads nowhere from the other.
+    #[inline]
+    fn pass_link(&mut self, node: u32) -> Option<()>
+        ensures { IfSome result (λ _. KeepsNodes self.old self.new) }
+    {
+        let link = *self.links.get(node as usize)?;
+        let of = self.nodes.get(node as usize)?.below;
+        let Node { above, below } = *self.nodes.get(link as usize)?;
+        if above < link && link < node && link < self.growing && by_same_type(of, below) {
+            self.nodes[node as usize].above = above;
+        }
+        Some(())
     }
 
     /// Makes a node the only child of another, which has none, by that type.
@@ -154,20 +212,27 @@ impl Nodes {
     }
 
     /// The node of the types of `node` and then `t`, which is made where there is none. Nodes are made in the order of their
-    /// lengths, so that each shorter end has its node already.
+    /// lengths, so that each shorter end has its node already, and a node that may get children lies on no way up that was
+    /// passed. `None` where memory is refused, and for a node that gets no more children.
     #[inline]
     pub(crate) fn after(&mut self, node: u32, t: ValType) -> Option<u32>
+        requires none { MissNone self.old }
         ensures texts { IfSome result (λ d. IsNodeAfter self.old self.new node t d) }
         ensures child { IfSome result (λ d. HasChild self.new node t d) }
         ensures made { IfSome result (λ d. IsFoundOrMade self.old self.new node t d) }
         ensures kept { IfSome result (λ _. KeepsChildren self.old self.new) }
+        ensures none { IfSome result (λ _. MissNone self.new) }
     {
         let child = self.child(node, t);
         if child > 0 {
             return Some(child);
         }
+        if node < self.growing {
+            return None;
+        }
         let link = self.longest_end(node, t);
         let made = u32::try_from(self.nodes.len()).ok()?;
+        self.links.push(link).ok()?;
         self.nodes
             .push(Node {
                 above: link,
@@ -175,6 +240,18 @@ impl Nodes {
             })
             .ok()?;
         self.put_child(node, t, made)?;
+        self.pass_link(node)?;
         Some(made)
+    }
+
+    /// The nodes with their links above them.
+    pub(crate) fn linked(self) -> Vec<Node>
+        ensures { (texts : List (List ValType)) → AreNodes texts self → IsLinked texts result.items }
+    {
+        let mut nodes = self.nodes;
+        for i in 0..nodes.len().min(self.links.len()) {
+            nodes[i].above = self.links[i];
+        }
+        nodes
     }
 }

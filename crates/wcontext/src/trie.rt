@@ -2,6 +2,7 @@
 ghost use Rattle.std.specs.Prelude.{◌≡◌, ◌+◌, ◌<◌, ◌≤◌, length, IfSome};
 ghost use Rattle.wcontext.specs.Trie.{BeginsBlock, BeginsBlocks, ReadsType, ReadsColumn, ReadsBlock, PutsFronts, PutsBlock};
 ghost use Rattle.wcontext.specs.Trie.{IsNew, AreNodesOf};
+ghost use Rattle.wcontext.specs.Nodes.{MissNone};
 
 use crate::nodes::Nodes;
 use std::alloc::Global;
@@ -86,6 +87,8 @@ impl Trie {
     /// Reads the type at `i` of a list's block, which begins at `base`, if the list has one there.
     #[inline]
     fn read_type(&mut self, list: &mut Reading<'_>, base: usize, i: usize) -> Option<()>
+        requires none { MissNone self.old.nodes }
+        ensures none { IfSome result (λ _. MissNone self.new.nodes) }
         ensures read { IfSome result (λ _. ReadsType self.old.nodes self.new.nodes list.old list.new base i) }
         ensures fronts { self.new.fronts ≡ self.old.fronts }
     {
@@ -101,9 +104,12 @@ impl Trie {
 
     /// Reads the type at `i` of each list's block.
     fn read_column(&mut self, lists: &mut [Reading<'_>], base: usize, i: usize) -> Option<()>
+        requires none { MissNone self.old.nodes }
+        ensures none { IfSome result (λ _. MissNone self.new.nodes) }
         ensures read { IfSome result (λ _. ReadsColumn self.old.nodes self.new.nodes lists.old lists.new base i) }
         ensures fronts { self.new.fronts ≡ self.old.fronts }
     {
+        self.nodes.grow_next()?;
         for k in 0..lists.len() {
             self.read_type(&mut lists[k], base, i)?;
         }
@@ -112,6 +118,8 @@ impl Trie {
 
     /// Reads the blocks of the lists, which begin at `base`.
     fn read_block(&mut self, lists: &mut [Reading<'_>], base: usize) -> Option<()>
+        requires none { MissNone self.old.nodes }
+        ensures none { IfSome result (λ _. MissNone self.new.nodes) }
         ensures read { IfSome result (λ _. ReadsBlock self.old.nodes self.new.nodes lists.old lists.new base 16) }
         ensures fronts { self.new.fronts ≡ self.old.fronts }
     {
