@@ -48,8 +48,8 @@ all_four n p a b c d by_a by_b by_c by_d F64 = by_d
 -- the children of a node become those of a new fork
 pub fork_put : (old new : Nodes) (p : ℕ) (t : ValType) (d : ℕ) (n : Node) (children : List ℕ) → p < length old.nodes.items → n.above ≡ above_at old.nodes.items p → n.below ≡ 2147483648 + length old.forks.items
     → AreChildren old p children → AreAllChildren old p children → length children ≡ 4
-    → new.nodes.items ≡ set old.nodes.items p n → new.forks.items ≡ old.forks.items ++ record { children = set children (type_number t) d } ∷ [] → PutsChild old new p t d
-fork_put old new p t d n children within above below are all four nodes forks =
+    → new.links ≡ old.links → new.growing ≡ old.growing → new.next ≡ old.next → new.nodes.items ≡ set old.nodes.items p n → new.forks.items ≡ old.forks.items ++ record { children = set children (type_number t) d } ∷ [] → PutsChild old new p t d
+fork_put old new p t d n children within above below are all four links growing next nodes forks =
     let there : (q : ℕ) → q ≡ p → below_at new.nodes.items q ≡ n.below = λ q is. rw nodes (below_there old.nodes.items p n q within is) in
     let same_below : (q : ℕ) → (q ≡ p → ⊥) → below_at new.nodes.items q ≡ below_at old.nodes.items q = λ q other. rw nodes (below_kept old.nodes.items p n q other) in
     let row = set children (type_number t) d in
@@ -63,7 +63,10 @@ fork_put old new p t d n children within above below are all four nodes forks =
     ap (λ k. get_or new.forks.items (k - 2147483648) none) (same_below q other) ∙ rw forks (get_or_append_left old.forks.items (record { children = row } ∷ []) none (below_at old.nodes.items q - 2147483648) front) in
     record {
       size = ap length nodes ∙ length-set old.nodes.items p n;
-      links = λ q. rw nodes (above_kept old.nodes.items p n q within above);
+      aboves = λ q. rw nodes (above_kept old.nodes.items p n q within above);
+      links = links;
+      growing = growing;
+      next = next;
       forks = λ were q. elim (cases_eq q p) [
         | inl is ↦ omega (arith, there q is, below, more)
         | inr other ↦ omega (arith, same_below q other, were q, more)

@@ -14,7 +14,7 @@ use Rattle.wcontext.specs.declared.nodes.Node.{Node}
 use Rattle.wcontext.specs.declared.trie.Reading.{Reading}
 use Rattle.wcontext.specs.declared.trie.Trie.{Trie}
 use Rattle.wcontext.specs.Lists.{list_of, IsEnd}
-use Rattle.wcontext.specs.Nodes.{text}
+use Rattle.wcontext.specs.Nodes.{text, GivesLinks}
 use Rattle.wcontext.specs.Trie.{HasFronts, IsUnread, AreNodesOf}
 use Rattle.wcontext.specs.Walk.{AreNumbersOf}
 use Rattle.wcontext.specs.EndTree.{none, starts_at, start_in, AreEndsAt, HaveFronts, IsGatheredFrom, PutsList}
@@ -117,12 +117,12 @@ gathered_next types old mid new t s kept before params results is more =
     )
 
 -- the numbers of the nodes become those of the fronts
-pub ends_read : (all : List (List ValType)) (lists : List Reading) (trie : Trie) (numbered : List Node) → All (IsUnread all) lists → AreNodesOf lists trie → AreNumbersOf trie.nodes.nodes.items numbered → AreEndsAt all trie.fronts.items numbered
-ends_read all lists trie numbered unread are given a b here there from to =
+pub ends_read : (all : List (List ValType)) (lists : List Reading) (trie : Trie) (nodes numbered : List Node) → All (IsUnread all) lists → AreNodesOf lists trie → GivesLinks trie.nodes nodes → AreNumbersOf nodes numbered → AreEndsAt all trie.fronts.items numbered
+ends_read all lists trie nodes numbered unread are links given a b here there from to =
     let fronts = trie.fronts.items in
     let some = are all unread in
     let texts = some.0 in
     let p = some.2 a here.0 in
     let q = some.2 b there.0 in
     subst (λ l. IsEnd l (text all b)) p.1 (subst (λ l. IsEnd (text texts (get_or fronts a 0)) l) q.1
-    (given texts some.1 (get_or fronts a 0) (get_or fronts b 0) here.1 there.1 from to))
+    (given texts (links texts some.1) (get_or fronts a 0) (get_or fronts b 0) here.1 there.1 from to))

@@ -10,6 +10,7 @@ pub mod Kept
 pub mod EndsOfLists
 pub mod Children
 pub mod Links
+pub mod Passing
 pub mod Tries
 pub mod Walks
 pub mod Gathering

@@ -4,7 +4,7 @@ use Rattle.std.proofs.lemmas.Bool.{cases_lt, cases_eq}
 use Rattle.std.proofs.lemmas.List.{get_or_append_left, get_or_at, get_or_push, get_or_past, append-nil, append_assoc, length_push}
 use Rattle.wsyntax.specs.declared.ValType.{ValType}
 use Rattle.wcontext.specs.Lists.{IsEnd}
-use Rattle.wcontext.specs.Nodes.{text, above_at, below_at, IsOnly, IsForked, HasChild, HasNoOther, AreForksThere, PutsChild, KeepsChildren, IsLinked, AreNodes, IsOnTheWay, IsNodeAfter}
+use Rattle.wcontext.specs.Nodes.{text, link_at, above_at, below_at, IsOnly, IsForked, HasChild, HasNoOther, AreForksThere, PutsChild, KeepsChildren, LeadsUp, IsLinked, AreNodes, IsOnTheWay, IsNodeAfter}
 use Rattle.wcontext.specs.declared.nodes.Node.{Node}
 use Rattle.wcontext.specs.declared.nodes.Nodes.{Nodes}
 
@@ -24,9 +24,9 @@ end_more a b t ab = (ab.0, ap (λ z. z ++ t ∷ []) ab.1 ∙ append_assoc ab.0 a
 
 -- ---- up the links
 
-pub next_above : (texts : List (List ValType)) (n : Nodes) (p q link : ℕ) → AreNodes texts n → IsOnTheWay texts p q → link ≡ above_at n.nodes.items q → link < q → IsOnTheWay texts p link
-next_above texts n p q link are above is low =
-    let ends = are.linked.ends q (omega arith) above.0 in
+pub next_above : (texts : List (List ValType)) (count : ℕ) (up : ℕ → ℕ) (p q next : ℕ) → LeadsUp texts count up → IsOnTheWay texts p q → next ≡ up q → next < q → IsOnTheWay texts p next
+next_above texts count up p q next leads above is low =
+    let ends = leads.ends q (omega arith) above.0 in
     (omega (arith, low, above.0), rw is (end_through _ _ _ ends above.1))
 
 pub child_found : (texts : List (List ValType)) (n : Nodes) (p q d : ℕ) (t : ValType) → AreNodes texts n → IsOnTheWay texts p q → 0 < d → HasChild n q t d → (d < length texts) × IsEnd (text texts d) (text texts p ++ t ∷ [])
@@ -45,31 +45,41 @@ text_front texts more q below = get_or_append_left texts more [] q below
 pub text_last : (texts : List (List ValType)) (x : List ValType) → text (texts ++ x ∷ []) (length texts) ≡ x
 text_last texts x = get_or_at texts x [] [] (length texts) refl
 
-linked_more : (texts : List (List ValType)) (nodes : List Node) (x : List ValType) (n : Node) → IsLinked texts nodes → n.above < length texts → IsEnd (text texts n.above) x → IsLinked (texts ++ x ∷ []) (nodes ++ n ∷ [])
-linked_more texts nodes x n linked below ends =
-    let none : Node = record { above = 0; below = 0 } in
-    let count : length (texts ++ x ∷ []) ≡ length texts + 1 = length_push texts x in
-    let kept : (q : ℕ) → q < length texts → above_at (nodes ++ n ∷ []) q ≡ above_at nodes q = λ q front. ap (λ (m : Node). m.above) (get_or_append_left nodes (n ∷ []) none q (omega (arith, front, linked.size))) in
-    let last : (q : ℕ) → length nodes ≡ q → above_at (nodes ++ n ∷ []) q ≡ n.above = λ q is. ap (λ (m : Node). m.above) (get_or_push nodes n none q is) in
-    record {
-      size = omega (arith, length_push nodes n, linked.size, count);
-      below = λ q above within. elim (cases_lt q (length texts)) [
-        | inl front ↦ omega (arith, linked.below q above front, kept q front)
-        | inr end ↦ let is : length nodes ≡ q = omega (arith, end, within, count, linked.size) in omega (arith, last q is, below, is, linked.size)
+-- one more leads up
+leads_more : (texts : List (List ValType)) (count : ℕ) (up more : ℕ → ℕ) (x : List ValType) → LeadsUp texts count up → ((q : ℕ) → q < count → more q ≡ up q) → more count < length texts → IsEnd (text texts (more count)) x → LeadsUp (texts ++ x ∷ []) (count + 1) more
+leads_more texts count up more x leads kept within end =
+    let size : length (texts ++ x ∷ []) ≡ length texts + 1 = length_push texts x in record {
+      size = omega (arith, leads.size, size);
+      below = λ q above inside. elim (cases_lt q (length texts)) [
+        | inl front ↦ omega (arith, leads.below q above front, kept q (omega (arith, front, leads.size)))
+        | inr past ↦ let is : count ≡ q = omega (arith, past, inside, size, leads.size) in omega (arith, ap more is, within, is, leads.size)
       ];
-      ends = λ q above within. elim (cases_lt q (length texts)) [
+      ends = λ q above inside. elim (cases_lt q (length texts)) [
         | inl front ↦
-            let low = linked.below q above front in
-            rw (kept q front, text_front texts (x ∷ []) (above_at nodes q) (omega (arith, low, front)), text_front texts (x ∷ []) q front) (linked.ends q above front)
-        | inr end ↦
-            let is : length nodes ≡ q = omega (arith, end, within, count, linked.size) in
-            let same : length texts ≡ q = omega (arith, is, linked.size) in
-            rw (last q is, text_front texts (x ∷ []) n.above below, ← same, text_last texts x) ends
+            let low = leads.below q above front in
+            rw (kept q (omega (arith, front, leads.size)), text_front texts (x ∷ []) (up q) (omega (arith, low, front)), text_front texts (x ∷ []) q front) (leads.ends q above front)
+        | inr past ↦
+            let is : count ≡ q = omega (arith, past, inside, size, leads.size) in
+            let same : length texts ≡ q = omega (arith, is, leads.size) in
+            rw (← ap more is, text_front texts (x ∷ []) (more count) within, ← same, text_last texts x) end
       ];
     }
 
+linked_more : (texts : List (List ValType)) (nodes : List Node) (x : List ValType) (n : Node) → IsLinked texts nodes → n.above < length texts → IsEnd (text texts n.above) x → IsLinked (texts ++ x ∷ []) (nodes ++ n ∷ [])
+linked_more texts nodes x n linked below ends =
+    let none : Node = record { above = 0; below = 0 } in
+    let last : above_at (nodes ++ n ∷ []) (length nodes) ≡ n.above = ap (λ (m : Node). m.above) (get_or_push nodes n none (length nodes) refl) in
+    let kept : (q : ℕ) → q < length nodes → above_at (nodes ++ n ∷ []) q ≡ above_at nodes q = λ q front. ap (λ (m : Node). m.above) (get_or_append_left nodes (n ∷ []) none q front) in
+    rw (length_push nodes n) (leads_more texts (length nodes) (above_at nodes) (above_at (nodes ++ n ∷ [])) x linked kept (omega (arith, last, below)) (rw last ends))
+
+links_more : (texts : List (List ValType)) (links : List ℕ) (x : List ValType) (l : ℕ) → LeadsUp texts (length links) (link_at links) → l < length texts → IsEnd (text texts l) x → LeadsUp (texts ++ x ∷ []) (length (links ++ l ∷ [])) (link_at (links ++ l ∷ []))
+links_more texts links x l linked below ends =
+    let last : link_at (links ++ l ∷ []) (length links) ≡ l = get_or_push links l 0 (length links) refl in
+    let kept : (q : ℕ) → q < length links → link_at (links ++ l ∷ []) q ≡ link_at links q = λ q front. get_or_append_left links (l ∷ []) 0 q front in
+    rw (length_push links l) (leads_more texts (length links) (link_at links) (link_at (links ++ l ∷ [])) x linked kept (omega (arith, last, below)) (rw last ends))
+
 -- a node without a child is made, and what lies below the others stays
-same_below : (old new : List Node) (n : Node) → n.below ≡ 0 → new ≡ old ++ n ∷ [] → (q : ℕ) → below_at new q ≡ below_at old q
+pub same_below : (old new : List Node) (n : Node) → n.below ≡ 0 → new ≡ old ++ n ∷ [] → (q : ℕ) → below_at new q ≡ below_at old q
 same_below old new n childless nodes q = let none : Node = record { above = 0; below = 0 } in rw nodes (elim (cases_lt q (length old)) [
   | inl front ↦ ap (λ (m : Node). m.below) (get_or_append_left old (n ∷ []) none q front)
   | inr past ↦
@@ -80,17 +90,21 @@ same_below old new n childless nodes q = let none : Node = record { above = 0; b
       ]
 ])
 
+pub child_before : (old new : Nodes) (q : ℕ) (t : ValType) (e : ℕ) → below_at new.nodes.items q ≡ below_at old.nodes.items q → new.forks ≡ old.forks → HasChild new q t e → HasChild old q t e
+child_before old new q t e same forks has = subst (λ b. IsOnly b t e ⊎ IsForked b old.forks.items t e) same (subst (λ v. IsOnly (below_at new.nodes.items q) t e ⊎ IsForked (below_at new.nodes.items q) v.items t e) forks has)
+
 pub nodes_more : (texts : List (List ValType)) (old new : Nodes) (x : List ValType) (n : Node) → AreNodes texts old → n.above < length texts → n.below ≡ 0 → IsEnd (text texts n.above) x
-    → new.nodes.items ≡ old.nodes.items ++ n ∷ [] → new.forks ≡ old.forks → AreNodes (texts ++ x ∷ []) new
-nodes_more texts old new x n are within childless ends nodes forks =
+    → new.nodes.items ≡ old.nodes.items ++ n ∷ [] → new.links.items ≡ old.links.items ++ n.above ∷ [] → new.forks ≡ old.forks → AreNodes (texts ++ x ∷ []) new
+nodes_more texts old new x n are within childless ends nodes links forks =
     let same : (q : ℕ) → below_at new.nodes.items q ≡ below_at old.nodes.items q = same_below old.nodes.items new.nodes.items n childless nodes in
     record {
       some = omega (arith, length_push texts x);
       root = text_front texts (x ∷ []) 0 are.some ∙ are.root;
-      linked = rw nodes (linked_more texts old.nodes.items x n are.linked within ends);
+      linked = rw links (links_more texts old.links.items x n.above are.linked within ends);
+      aboves = rw nodes (linked_more texts old.nodes.items x n are.aboves within ends);
       forks = λ q. omega (arith, same q, are.forks q, ap (λ v. length v.items) forks);
       children = λ p t d some has.
-          let was : HasChild old p t d = subst (λ b. IsOnly b t d ⊎ IsForked b old.forks.items t d) (same p) (subst (λ v. IsOnly (below_at new.nodes.items p) t d ⊎ IsForked (below_at new.nodes.items p) v.items t d) forks has) in
+          let was : HasChild old p t d = child_before old new p t d (same p) forks has in
           let child = are.children p t d some was in
           (omega (arith, child.0, length_push texts x), omega (arith, child.1, length_push texts x), text_front texts (x ∷ []) d child.1 ∙ child.2 ∙ ap (λ z. z ++ t ∷ []) (sym (text_front texts (x ∷ []) p child.0)));
     }
@@ -100,10 +114,11 @@ pub nodes_put : (texts : List (List ValType)) (old new : Nodes) (p : ℕ) (t : V
 nodes_put texts old new p t d are puts parent child is = record {
   some = are.some;
   root = are.root;
-  linked = record {
-    size = puts.size ∙ are.linked.size;
-    below = λ q above within. omega (arith, puts.links q, are.linked.below q above within);
-    ends = λ q above within. rw (puts.links q) (are.linked.ends q above within);
+  linked = rw puts.links are.linked;
+  aboves = record {
+    size = puts.size ∙ are.aboves.size;
+    below = λ q above within. omega (arith, puts.aboves q, are.aboves.below q above within);
+    ends = λ q above within. rw (puts.aboves q) (are.aboves.ends q above within);
   };
   forks = puts.forks are.forks;
   children = λ q u e some has. elim (puts.children are.forks q u e some has) [
@@ -114,12 +129,12 @@ nodes_put texts old new p t d are puts parent child is = record {
 
 -- the node after p is made and put below p
 pub made_after : (old mid new : Nodes) (p d : ℕ) (t : ValType) (n : Node) (texts : List (List ValType)) → AreNodes texts old → p < length texts → (n.above < length texts) × IsEnd (text texts n.above) (text texts p ++ t ∷ []) → n.below ≡ 0
-    → d ≡ length old.nodes.items → mid.nodes.items ≡ old.nodes.items ++ n ∷ [] → mid.forks ≡ old.forks → PutsChild mid new p t d
+    → d ≡ length old.nodes.items → mid.nodes.items ≡ old.nodes.items ++ n ∷ [] → mid.links.items ≡ old.links.items ++ n.above ∷ [] → mid.forks ≡ old.forks → PutsChild mid new p t d
     → (more : List (List ValType)) × AreNodes (texts ++ more) new × (d < length (texts ++ more)) × (text (texts ++ more) d ≡ text texts p ++ t ∷ [])
-made_after old mid new p d t n texts are parent ends childless place nodes forks puts =
+made_after old mid new p d t n texts are parent ends childless place nodes links forks puts =
     let x = text texts p ++ t ∷ [] in
-    let made = nodes_more texts old mid x n are ends.0 childless ends.1 nodes forks in
-    let at : d ≡ length texts = place ∙ are.linked.size in
+    let made = nodes_more texts old mid x n are ends.0 childless ends.1 nodes links forks in
+    let at : d ≡ length texts = place ∙ are.aboves.size in
     let inside : d < length (texts ++ x ∷ []) = omega (arith, at, length_push texts x) in
     let last : text (texts ++ x ∷ []) d ≡ x = ap (text (texts ++ x ∷ [])) at ∙ text_last texts x in
     (x ∷ [], nodes_put (texts ++ x ∷ []) mid new p t d made puts (omega (arith, parent, length_push texts x)) inside (last ∙ ap (λ z. z ++ t ∷ []) (sym (text_front texts (x ∷ []) p parent))), inside, last)
@@ -145,5 +160,21 @@ kept_after old mid new p d t n none childless nodes forks puts were q u e some h
 pub kept_itself : (n : Nodes) → KeepsChildren n n
 kept_itself n there q u e some has = has
 
-pub link_made : (old mid new : Nodes) (p d : ℕ) (t : ValType) (n : Node) → mid.nodes.items ≡ old.nodes.items ++ n ∷ [] → d ≡ length old.nodes.items → PutsChild mid new p t d → above_at new.nodes.items d ≡ n.above
-link_made old mid new p d t n nodes is puts = puts.links d ∙ rw nodes (ap (λ (m : Node). m.above) (get_or_push old.nodes.items n (record { above = 0; below = 0 }) d (sym is)))
+pub link_made : (old mid new : Nodes) (p d : ℕ) (t : ValType) (l : ℕ) → mid.links.items ≡ old.links.items ++ l ∷ [] → d ≡ length old.links.items → PutsChild mid new p t d → link_at new.links.items d ≡ l
+link_made old mid new p d t l links is puts = rw (puts.links, links) (get_or_push old.links.items l 0 d (sym is))
+
+-- ---- nodes that are kept
+
+pub none_after : (old new : Nodes) (q : ℕ) (t : ValType) → below_at new.nodes.items q ≡ below_at old.nodes.items q → new.forks ≡ old.forks → HasNoOther old q t 0 → HasNoOther new q t 0
+none_after old new q t same forks none e some has = none e some (child_before old new q t e same forks has)
+
+-- the links, the forks and what lies below stay
+pub nodes_kept : (texts : List (List ValType)) (old new : Nodes) → new.links ≡ old.links → new.forks ≡ old.forks → ((q : ℕ) → below_at new.nodes.items q ≡ below_at old.nodes.items q) → IsLinked texts new.nodes.items → AreNodes texts old → AreNodes texts new
+nodes_kept texts old new links forks same aboves are = record {
+  some = are.some;
+  root = are.root;
+  linked = rw links are.linked;
+  aboves = aboves;
+  forks = λ q. omega (arith, same q, are.forks q, ap (λ v. length v.items) forks);
+  children = λ p t d some has. are.children p t d some (child_before old new p t d (same p) forks has);
+}

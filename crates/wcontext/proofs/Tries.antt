@@ -3,7 +3,7 @@ use Rattle.std.proofs.Common.{◌≡◌, ◌≢◌, ℕ, ◌+◌, ◌<◌, ◌�
 use Rattle.std.specs.List.{All, AllWithin, filter}
 use Rattle.std.proofs.lemmas.Bool.{cases_lt, cases_eq}
 use Rattle.std.proofs.lemmas.List.{get_or-set_same, get_or-set_other, append-nil, append_assoc, get_or_past, get_or-replicate, length-replicate, take_more, take_all}
-use Rattle.std.proofs.lemmas.List.Elements.{AllWithin-more_set, AllWithin-upto, All-from_all_within, All-filter, All-weaker}
+use Rattle.std.proofs.lemmas.List.Elements.{AllWithin-more_set, AllWithin-upto, AllWithin-none, AllWithin-from_all, All-from_all_within, All-filter, All-weaker}
 use Rattle.wsyntax.specs.declared.ValType.{ValType}
 use Rattle.wcontext.specs.Nodes.{text, AreNodes}
 use Rattle.wcontext.specs.Trie.{AreTexts, AreRead, HasFronts, IsReading, IsInBlock, BeginsBlocks, ReadsType, ReadsSome, ReadsColumn, ReadsBlock, PutsFronts, PutsBlock, IsNew, ReadsTo}
@@ -127,6 +127,13 @@ all_read old new lists now base i k before end all texts are each =
     let some = before all texts are each in
     (some.0, some.1, All-from_all_within (IsInBlock all (texts ++ some.0) base (base + i + 1)) now (AllWithin-upto (IsInBlock all (texts ++ some.0) base (base + i + 1)) now 0 k (length now) end some.2))
 
+-- the nodes keep their texts before the first list is read
+pub none_of_column : (old new : Nodes) (lists : List Reading) (base i : ℕ) → ((texts : List (List ValType)) → AreNodes texts old → AreNodes texts new) → ReadsSome old new lists lists base i 0
+none_of_column old new lists base i kept all texts are each =
+    let P : List (List ValType) → Type 0 = λ z. AreNodes z new × AllWithin (IsInBlock all z base (base + i + 1)) lists 0 0 × AllWithin (IsInBlock all z base (base + i)) lists 0 (length lists) in
+    let q : P (texts ++ []) = subst P (sym (append-nil texts)) (kept texts are, AllWithin-none (IsInBlock all texts base (base + i + 1)) lists 0, AllWithin-from_all (IsInBlock all texts base (base + i)) lists each) in
+    ([], q.0, q.1, q.2)
+
 -- ---- a block
 
 pub column_read : (old mid new : Nodes) (lists left rest : List Reading) (base i : ℕ) → ReadsBlock old mid lists left base i → ReadsColumn mid new left rest base i → ReadsBlock old new lists rest base (i + 1)
@@ -160,7 +167,7 @@ pub none_read : (lists : List Reading) (trie : Trie) → IsNew trie → ReadsTo 
 none_read lists trie new all each = (
   ([] ∷ []),
   new.0,
-  new.1 all,
+  new.2 all,
   λ k d within.
       let unread = each k d within in
       record { fronts = unread.fronts; within = omega (arith, unread.node); is = rw unread.node refl },

@@ -101,6 +101,10 @@ pub record AreNodes (texts : List (List ValType)) (n : Nodes) : Type 0 where
   pub children : (p : ℕ) (t : ValType) (d : ℕ) → 0 < d → HasChild n p t d
       → (p < length texts) × (d < length texts) × (text texts d ≡ text texts p ++ t ∷ [])
 
+-- the links of the nodes are above these
+abbrev pub GivesLinks : Nodes → List Node → Type 0
+GivesLinks n nodes = (texts : List (List ValType)) → AreNodes texts n → IsLinked texts nodes
+
 -- q lies on the way up the links from p
 abbrev pub IsOnTheWay : List (List ValType) → ℕ → ℕ → Type 0
 IsOnTheWay texts p q = (q < length texts) × IsEnd (text texts q) (text texts p)
@@ -140,7 +144,6 @@ pub record MissNone (n : Nodes) : Type 0 where
 pub record KeepsNodes (old new : Nodes) : Type 0 where
   pub texts : (texts : List (List ValType)) → AreNodes texts old → AreNodes texts new
   pub none : MissNone old → MissNone new
-  pub size : length new.nodes.items ≡ length old.nodes.items
   pub links : new.links ≡ old.links
   pub forks : new.forks ≡ old.forks
   pub below : (q : ℕ) → below_at new.nodes.items q ≡ below_at old.nodes.items q

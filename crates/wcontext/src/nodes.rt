@@ -1,8 +1,8 @@
 //! The nodes of a trie of lists of types, with the links of Aho and Corasick.
-ghost use Rattle.std.specs.Prelude.{◌≡◌, ◌<◌, [], ◌∷◌, IfSome};
+ghost use Rattle.std.specs.Prelude.{◌≡◌, ◌<◌, ◌≤◌, ◌^◌, ◌%◌, [], ◌∷◌, true, IfSome};
 ghost use Rattle.wcontext.specs.Nodes.{type_number, below_at, HasChild, HasNoOther, AreChildren, AreAllChildren};
 ghost use Rattle.wcontext.specs.Nodes.{PutsChild, KeepsChildren, FindsEnd, IsFirstAbove, IsFoundOrMade};
-ghost use Rattle.wcontext.specs.Nodes.{AreNodes, IsNodeAfter, IsLinked, MissNone, KeepsNodes};
+ghost use Rattle.wcontext.specs.Nodes.{AreNodes, IsNodeAfter, GivesLinks, MissNone, KeepsNodes};
 
 use std::alloc::Global;
 use wsyntax::ValType;
@@ -59,7 +59,9 @@ fn number(t: ValType) -> u32
 
 /// Whether two nodes have one child alone, both by the same type, by what lies below them.
 #[inline]
-fn by_same_type(below: u32, other: u32) -> bool {
+fn by_same_type(below: u32, other: u32) -> bool
+    ensures { result ≡ true → (4 ≤ below) × (below < 2 ^ 31) × (other < 2 ^ 31) × (below % 4 ≡ other % 4) }
+{
     below >= TYPES as u32
         && other >= TYPES as u32
         && below < FORKS
@@ -246,7 +248,7 @@ impl Nodes {
 
     /// The nodes with their links above them.
     pub(crate) fn linked(self) -> Vec<Node>
-        ensures { (texts : List (List ValType)) → AreNodes texts self → IsLinked texts result.items }
+        ensures { GivesLinks self result.items }
     {
         let mut nodes = self.nodes;
         for i in 0..nodes.len().min(self.links.len()) {

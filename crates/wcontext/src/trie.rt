@@ -1,5 +1,5 @@
 //! The fronts of long lists of types, which are read into a trie.
-ghost use Rattle.std.specs.Prelude.{◌≡◌, ◌+◌, ◌<◌, ◌≤◌, length, IfSome};
+ghost use Rattle.std.specs.Prelude.{◌≡◌, ◌+◌, ◌<◌, ◌≤◌, length, replicate, IfSome};
 ghost use Rattle.wcontext.specs.Trie.{BeginsBlock, BeginsBlocks, ReadsType, ReadsColumn, ReadsBlock, PutsFronts, PutsBlock};
 ghost use Rattle.wcontext.specs.Trie.{IsNew, AreNodesOf};
 ghost use Rattle.wcontext.specs.Nodes.{MissNone};
@@ -71,16 +71,23 @@ fn begin_block(lists: &mut [Reading<'_>], base: usize)
     }
 }
 
+/// `count` fronts, of which none was read.
+fn unread_fronts(alloc: Global, count: usize) -> Option<Vec<u32>>
+    ensures { IfSome result (λ fronts. fronts.items ≡ replicate count 0) }
+{
+    let mut fronts = Vec::with_capacity(alloc, count).ok()?;
+    fronts.resize(count, 0).ok()?;
+    Some(fronts)
+}
+
 impl Trie {
     /// `count` fronts of `lists` lists, of which none was read.
     fn new(alloc: Global, count: usize, lists: usize) -> Option<Trie>
         ensures { IfSome result (λ t. IsNew t) }
     {
-        let mut fronts = Vec::with_capacity(alloc, count).ok()?;
-        fronts.resize(count, 0).ok()?;
         Some(Trie {
+            fronts: unread_fronts(alloc, count)?,
             nodes: Nodes::new(alloc, count, lists)?,
-            fronts,
         })
     }
 

@@ -1,6 +1,13 @@
-use Rattle.std.proofs.Common.{◌<◌, ◌≤◌, length, arith, ◌∙◌}
-use Rattle.wcontext.proofs.Tries.{next_read, all_read}
+use Rattle.std.proofs.Common.{◌<◌, ◌≤◌, length, arith, refl, ◌∙◌}
+use Rattle.wcontext.proofs.Tries.{none_of_column, next_read, all_read}
 use Rattle.wcontext.proofs.trie.Trie.read_column.Goals as goal
+
+pub loop-k-init : goal.loop-k-init
+loop-k-init c = record {
+  none = c.in_ok-grow_next.ensures.none c.requires.none;
+  fronts = refl;
+  read = none_of_column c.args.self.now.nodes c.grow_next.new.self c.args.lists.now c.args.base c.args.i c.in_ok-grow_next.ensures.texts;
+}
 
 pub loop-k-preserved : goal.loop-k-preserved
 loop-k-preserved c =
@@ -9,6 +16,7 @@ loop-k-preserved c =
     let within : k < length now = grind arith in
     let next = c.read_type.new.list in
     record {
+      none = c.in_ok-read_type.ensures.none;
       fronts = c.read_type.ensures.fronts ∙ c.loop-k.invariant.fronts;
       read = next_read c.args.self.now.nodes c.loop-k.self.nodes c.read_type.new.self.nodes c.args.lists.now now c.args.base c.args.i k _ next c.loop-k.invariant.read c.in_ok-read_type.ensures.read within;
     }
