@@ -16,15 +16,9 @@ pub(crate) const LONG: usize = 256;
 const NONE: u32 = u32::MAX;
 
 /// Each byte of a body can have a list compared once. A list is not taken in where that comes to at most this many types for
-/// each type of all long lists. To compare so many takes up to 60 ns, and to take in a type some 35 to 75.
-const COMPARED: usize = 1_024;
-
-/// Two lists of this many types fill the nearest cache of a processor. To compare longer ones takes longer a type, up to
-/// three times as long where both have 8 MB, and to take them in takes less.
-const FAR: usize = 16_384;
-
-/// The same as `COMPARED`, of lists of at least `FAR` types.
-const COMPARED_FAR: usize = 256;
+/// each type of all long lists. To compare so many takes up to 8 ns, 20 where the lists have megabytes, and to take in a type
+/// up to 110.
+const COMPARED: usize = 128;
 
 /// The places of the first fronts of a function type's lists.
 #[derive(Clone, Copy, Debug)]
@@ -99,17 +93,10 @@ impl LongLists {
         long
     }
 
-    /// From how many types on a list is taken in, where bodies of `size` bytes may have `compared` types compared for each
-    /// type of all; `None` where there is no byte.
-    fn least_by(self, compared: usize, size: usize) -> Option<usize> {
-        self.types.saturating_mul(compared).checked_div(size)
-    }
-
-    /// From how many types on a list is taken in; `None` where no list has as many.
+    /// From how many types on a list is taken in; `None` where no list has as many, or no body a byte.
     fn least_taken(self, bodies: &[&[u8]]) -> Option<usize> {
-        let size = size_of_all(bodies);
-        let far = self.least_by(COMPARED_FAR, size)?.max(FAR);
-        let least = self.least_by(COMPARED, size)?.min(far).max(LONG);
+        let compared = self.types.saturating_mul(COMPARED);
+        let least = compared.checked_div(size_of_all(bodies))?.max(LONG);
         if self.longest < least {
             return None;
         }
