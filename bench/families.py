@@ -17,6 +17,8 @@ from encoding import EMPTY, HEADER, function_type, section, signed, sized, unsig
 I32, I64, F32, F64 = b'\x7F', b'\x7E', b'\x7D', b'\x7C'
 FOUR = bytes(b'\x7F\x7E\x7D\x7C'[k % 4] for k in range(256))
 WRONG = b'\x42\x00\x45'
+# How many types may be compared for each of all long lists before they are taken into a tree (`crates/wcontext`).
+COMPARED = 128
 ANYWHERE = ('accepted', 'refused', 'dead accepted', 'dead refused')
 DEAD = ('dead accepted', 'dead refused')
 LIVE = ('accepted', 'refused')
@@ -196,7 +198,7 @@ def types_of(lengths, results=False):
 
 def bytes_for_the_tree(types, longest):
     # So many bytes of bodies are just enough for the tree of ends to take in lists of that length.
-    return types * (1_024 if longest < 16_384 else 256) / longest
+    return types * COMPARED / longest
 
 
 def pairs_of_lists(shapes, asked, enough=True, far=False):
@@ -336,46 +338,62 @@ def ifs_of_lists(size, dead, chance):
 def in_chains(size, length, gaps, chance):
     # Types of about `size` bytes that take and give lists of that length, of four types, each of which begins inside the one
     # before, in an order at random.
-    lists = []
-    while (len(lists) - 2) * length < size:
+    lists, count = [], max(2, size // (length + 4) // 2 * 2)
+    while len(lists) < count:
         begins = list(itertools.accumulate([0] + [chance.randrange(*gaps) for _ in range(63)]))
         many = chance.randbytes(begins[-1] + length).translate(FOUR)
         lists += [many[begin:begin + length] for begin in begins]
-    lists = lists[:size // length // 2 * 2 + 2]
+    lists = lists[:count]
     chance.shuffle(lists)
     return [b'\x60' + sized(taken) + sized(given) for taken, given in zip(lists[::2], lists[1::2])]
 
 
 def chains_of_lists(size, dead, chance):
-    # The same beside lists of 3,000 types in chains.
-    code, parts = ifs_of_lists(size * 28 // 100, dead, chance)
-    return code, {'types': parts['types'] + in_chains(size * 72 // 100 - 3_000, 3_000, (50, 1_200), chance)}
+    # The same, just as much as the tree asks for, beside lists of 3,000 types in chains.
+    code, parts = ifs_of_lists(max(60_000, size * 7 // 100), dead, chance)
+    room = size - len(code) - sum(map(len, parts['types'])) - 3_000
+    return code, {'types': parts['types'] + in_chains(room, 3_000, (50, 1_200), chance)}
 
 
 def types_of_all(size, longest):
     # How many bytes of types a module may have beside which lists of `longest` types are compared, and longer ones taken in.
-    return int((size - 600) / (1 + 1_024 / longest))
+    return int((size - 600) / (1 + COMPARED / longest))
+
+
+def bytes_to_compare(types, longest):
+    # So many bytes of bodies have lists of `longest` types compared, and those taken in that are longer by an 80th.
+    return int(bytes_for_the_tree(types, longest) * 160 / 161) - 10
+
+
+def types_in(encoded):
+    # How many types these function types of long lists have.
+    return sum(len(one) - 7 for one in encoded)
+
+
+def beside_chains(size, longest, others, chance):
+    # Function types of long lists, and chains of lists that are a little longer.
+    length = max(longest + longest // 80, 16_400)
+    return others + in_chains(types_of_all(size, longest) - sum(map(len, others)), length, (10, length // 4), chance)
 
 
 def ifs_beside_chains(size, dead, chance):
     # Ifs over lists of i32 that are just too short for the tree, so that each compares its list, beside chains of longer ones.
-    longest = min(16_200, size // 15)
-    lengths = [chance.randrange(longest * 9 // 10, longest) for _ in range(8)]
-    types = [EMPTY] + [function_type([I32] * length, [I32] * length) for length in lengths]
-    types += in_chains(types_of_all(size, longest) - 2 * sum(lengths), longest + longest // 80, (10, longest // 4), chance)
+    longest = min(16_390, size // 15)
+    lengths = [chance.randrange(longest * 98 // 100, longest) for _ in range(8)]
+    types = beside_chains(size, longest, [function_type([I32] * length, [I32] * length) for length in lengths], chance)
     pieces = [b'\x04' + signed(k) + b'\x0B' for k in range(1, 9)]
-    return at_random(pieces, size - sum(map(len, types)) - 600, chance) + b'\x00', {'types': types}
+    return at_random(pieces, bytes_to_compare(types_in(types), longest), chance) + b'\x00', {'types': [EMPTY] + types}
 
 
 def tables_beside_chains(size, dead, chance):
     # A branch table with labels of one such list at several places, of which each is compared, beside chains of longer ones.
-    longest = min(16_200, size // 15)
+    longest = min(16_390, size // 15)
     labels = max(2, min(127, size // 130_000))
-    types = [EMPTY] + [function_type([], chance.choices([I32, I64, F32, F64], k=longest))] * labels
-    types += in_chains(types_of_all(size, longest) - longest * labels, longest + longest // 80, (10, longest // 4), chance)
-    table = vector([b'%c' % chance.randrange(labels) for _ in range(size - sum(map(len, types)) - 5 * labels - 600)]) + b'\x00'
+    types = beside_chains(size, longest, [function_type([], chance.choices([I32, I64, F32, F64], k=longest))] * labels, chance)
+    code = bytes_to_compare(types_in(types), longest) - 5 * labels
+    table = vector([b'%c' % chance.randrange(labels) for _ in range(code)]) + b'\x00'
     opens = b''.join(b'\x02' + signed(k) for k in range(1, labels + 1))
-    return opens + b'\x00\x0E' + table + b'\x0B' * labels + b'\x00', {'types': types}
+    return opens + b'\x00\x0E' + table + b'\x0B' * labels + b'\x00', {'types': [EMPTY] + types}
 
 
 def that_turn(size, length, turns, fronts, chance):
@@ -399,33 +417,34 @@ def that_turn(size, length, turns, fronts, chance):
 def lists_that_turn(size, dead, chance):
     # With the code of `ifs of lists of i32`, just as much as the tree asks for.
     length = min(16_384, size // 60)
-    code, parts = ifs_of_lists(max(30_000, size * (65 if length == 16_384 else 250) // 1_000), dead, chance)
+    code, parts = ifs_of_lists(max(30_000, size * 2 // 100), dead, chance)
     room = size - len(code) - sum(map(len, parts['types'])) - 200
     return code, {'types': parts['types'] + that_turn(room, length, max(2, size // 65_000), (length // 160, length * 6 // 16), chance)}
 
 
+def beside_lists_that_turn(size, longest, others, chance):
+    # Function types of long lists, and lists that turn and are a little longer.
+    length = max(longest + longest // 80, 16_400)
+    room = types_of_all(size, longest) - sum(map(len, others)) - 7 * size // length
+    return others + that_turn(room, length, max(2, size // 65_000), (length // 160, length * 6 // 16), chance)
+
+
 def ifs_beside_lists_that_turn(size, dead, chance):
     # The ifs of `ifs of lists beside chains` beside lists that turn.
-    longest = min(16_200, size // 15)
-    lengths = [chance.randrange(longest * 97 // 100, longest) for _ in range(8)]
-    types = [EMPTY] + [function_type([I32] * length, [I32] * length) for length in lengths]
-    length = longest + longest // 80
-    room = types_of_all(size, longest) - 2 * sum(lengths) - length
-    types += that_turn(room, length, max(2, size // 65_000), (max(1, length // 160), length * 6 // 16), chance)
+    longest = min(16_390, size // 15)
+    lengths = [chance.randrange(longest * 98 // 100, longest) for _ in range(8)]
+    types = beside_lists_that_turn(size, longest, [function_type([I32] * length, [I32] * length) for length in lengths], chance)
     pieces = [b'\x04' + signed(k) + b'\x0B' for k in range(1, 9)]
-    return at_random(pieces, size - sum(map(len, types)) - 600, chance) + b'\x00', {'types': types}
+    return at_random(pieces, bytes_to_compare(types_in(types), longest), chance) + b'\x00', {'types': [EMPTY] + types}
 
 
 def tables_beside_lists_that_turn(size, dead, chance):
     # A branch table with labels of one list at many places, which no near cache holds and which is just compared, beside lists that
     # turn. With one more byte it would be taken in too.
-    longest = min(16_200, size // 15)
+    longest = min(16_390, size // 15)
     labels = max(2, min(64, size // 260_000))
-    types = [b'\x60\x00' + sized(chance.randbytes(longest).translate(FOUR))] * labels
-    room = types_of_all(size - 2_000, longest) - sum(map(len, types))
-    length = room // (room // (longest + longest // 800 + 1))
-    types += that_turn(room, length, max(2, size // 65_000), (max(1, length // 160), length * 6 // 16), chance)
-    code = sum(len(one) - 7 for one in types) * 1_024 // (longest + 3) - 5 * labels - 300
+    types = beside_lists_that_turn(size, longest, [function_type([], chance.choices([I32, I64, F32, F64], k=longest))] * labels, chance)
+    code = bytes_to_compare(types_in(types), longest) - 5 * labels
     table = vector([b'%c' % (k % labels) for k in range(code)]) + b'\x00'
     opens = b''.join(b'\x02' + signed(k) for k in range(1, labels + 1))
     return opens + b'\x00\x0E' + table + b'\x0B' * labels + b'\x00', {'types': [EMPTY] + types}
