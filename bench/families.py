@@ -335,6 +335,15 @@ def ifs_of_lists(size, dead, chance):
     return at_random(pieces, max(size - sum(map(len, types)), size // 4), chance) + b'\x00', {'types': types}
 
 
+def ifs_of_many_lists(size, dead, chance):
+    # The same of so many types that no near cache holds their lists.
+    count = size // 2_000
+    lengths = [chance.randrange(200, 256) for _ in range(count)]
+    types = [EMPTY] + [function_type([I32] * length, [I32] * length) for length in lengths]
+    pieces = [b'\x04' + signed(k) + b'\x0B' for k in range(min(64, count), count + 1)]
+    return at_random(pieces, size - sum(map(len, types)), chance) + b'\x00', {'types': types}
+
+
 def in_chains(size, length, gaps, chance):
     # Types of about `size` bytes that take and give lists of that length, of four types, each of which begins inside the one
     # before, in an order at random.
@@ -372,13 +381,13 @@ def types_in(encoded):
 
 def beside_chains(size, longest, others, chance):
     # Function types of long lists, and chains of lists that are a little longer.
-    length = max(longest + longest // 80, 16_400)
+    length = longest + longest // 80
     return others + in_chains(types_of_all(size, longest) - sum(map(len, others)), length, (10, length // 4), chance)
 
 
 def ifs_beside_chains(size, dead, chance):
     # Ifs over lists of i32 that are just too short for the tree, so that each compares its list, beside chains of longer ones.
-    longest = min(16_390, size // 15)
+    longest = min(4_940, size // 15)
     lengths = [chance.randrange(longest * 98 // 100, longest) for _ in range(8)]
     types = beside_chains(size, longest, [function_type([I32] * length, [I32] * length) for length in lengths], chance)
     pieces = [b'\x04' + signed(k) + b'\x0B' for k in range(1, 9)]
@@ -387,7 +396,7 @@ def ifs_beside_chains(size, dead, chance):
 
 def tables_beside_chains(size, dead, chance):
     # A branch table with labels of one such list at several places, of which each is compared, beside chains of longer ones.
-    longest = min(16_390, size // 15)
+    longest = min(4_940, size // 15)
     labels = max(2, min(127, size // 130_000))
     types = beside_chains(size, longest, [function_type([], chance.choices([I32, I64, F32, F64], k=longest))] * labels, chance)
     code = bytes_to_compare(types_in(types), longest) - 5 * labels
@@ -416,22 +425,22 @@ def that_turn(size, length, turns, fronts, chance):
 
 def lists_that_turn(size, dead, chance):
     # With the code of `ifs of lists of i32`, just as much as the tree asks for.
-    length = min(16_384, size // 60)
+    length = 8_000
     code, parts = ifs_of_lists(max(30_000, size * 2 // 100), dead, chance)
     room = size - len(code) - sum(map(len, parts['types'])) - 200
-    return code, {'types': parts['types'] + that_turn(room, length, max(2, size // 65_000), (length // 160, length * 6 // 16), chance)}
+    return code, {'types': parts['types'] + that_turn(room, length, max(2, size // 65_000), (length // 80, length * 3 // 4), chance)}
 
 
 def beside_lists_that_turn(size, longest, others, chance):
     # Function types of long lists, and lists that turn and are a little longer.
-    length = max(longest + longest // 80, 16_400)
+    length = longest + longest // 80
     room = types_of_all(size, longest) - sum(map(len, others)) - 7 * size // length
-    return others + that_turn(room, length, max(2, size // 65_000), (length // 160, length * 6 // 16), chance)
+    return others + that_turn(room, length, max(2, size // 65_000), (length // 50, length * 3 // 4), chance)
 
 
 def ifs_beside_lists_that_turn(size, dead, chance):
     # The ifs of `ifs of lists beside chains` beside lists that turn.
-    longest = min(16_390, size // 15)
+    longest = min(4_940, size // 15)
     lengths = [chance.randrange(longest * 98 // 100, longest) for _ in range(8)]
     types = beside_lists_that_turn(size, longest, [function_type([I32] * length, [I32] * length) for length in lengths], chance)
     pieces = [b'\x04' + signed(k) + b'\x0B' for k in range(1, 9)]
@@ -439,10 +448,10 @@ def ifs_beside_lists_that_turn(size, dead, chance):
 
 
 def tables_beside_lists_that_turn(size, dead, chance):
-    # A branch table with labels of one list at many places, which no near cache holds and which is just compared, beside lists that
-    # turn. With one more byte it would be taken in too.
-    longest = min(16_390, size // 15)
-    labels = max(2, min(64, size // 260_000))
+    # A branch table with labels of one list at many places, which is just compared, beside lists that turn. With a few more bytes it
+    # would be taken in too.
+    longest = min(4_940, size // 15)
+    labels = max(2, min(24, size // 260_000))
     types = beside_lists_that_turn(size, longest, [function_type([], chance.choices([I32, I64, F32, F64], k=longest))] * labels, chance)
     code = bytes_to_compare(types_in(types), longest) - 5 * labels
     table = vector([b'%c' % (k % labels) for k in range(code)]) + b'\x00'
@@ -586,6 +595,7 @@ FAMILIES = {
     'blocks of 255 types, left': (LIVE, short_lists(lambda n: b'\x02\x02\x00\x0B' * (n // 4))),
     'ifs of 255 types': (LIVE, short_lists(lambda n: b'\x41\x00\x04\x02\x0B' * (n // 5))),
     'ifs of lists of i32': (DEAD, of_code(ifs_of_lists)),
+    'ifs of many lists of i32': (DEAD, of_code(ifs_of_many_lists)),
     'chains of lists': (DEAD, of_code(chains_of_lists)),
     'ifs of lists beside chains': (DEAD, of_code(ifs_beside_chains)),
     'branch tables beside chains': (DEAD, of_code(tables_beside_chains)),
