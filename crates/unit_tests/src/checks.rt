@@ -104,8 +104,8 @@ fn in_turn(
 }
 
 /// A module with the types `[] -> []`, `[] -> [t*]` and four `[u*] -> []`, and functions of these types. All lists are i32 and
-/// i64 in turn, so long that it is looked for how they repeat: t* are 5,000 of which the first is an f32; u* are the last 3,000
-/// of them, these with an f64 among them, 5,000 that begin with an i32, and the last 4,999.
+/// i64 in turn: t* are 5,000 of which the first is an f32; u* are the last 3,000 of them, these with an f64 among them, 5,000
+/// that begin with an i32, and the last 4,999.
 fn lists_in_turn(alloc: Global) -> Result<Module<'static>, AllocError> {
     let mut module = some_functions(alloc, &[0, 1, 2, 3, 4, 5])?;
     module.types.push(&[], &[])?;
