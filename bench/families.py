@@ -382,7 +382,7 @@ def types_in(encoded):
 def beside_chains(size, longest, others, chance):
     # Function types of long lists, and chains of lists that are a little longer.
     length = longest + longest // 80
-    return others + in_chains(types_of_all(size, longest) - sum(map(len, others)), length, (10, length // 4), chance)
+    return others + in_chains(types_of_all(size, longest) - sum(map(len, others)), length, (10, max(11, length // 4)), chance)
 
 
 def ifs_beside_chains(size, dead, chance):
