@@ -1,18 +1,19 @@
 #!/usr/bin/env python3
 """Holds what a call takes to the formula of docs/SECURITY.md, on modules that are made to cost as much as its terms allow.
 
-A call of a module of n bytes, with F fuel and P pages, whose longest body has L tokens and whose longest list of types has V
-types, takes at most
+A call of a module of n bytes, with F fuel and P pages, whose longest body has L tokens, whose functions have at most D locals, and
+whose longest list of types has V types, takes at most
 
-    n x 4 ns + P x 100 us + (F + 1) x (100 us + L x (40 ns + V x 8 ns)) + V x 200 ns
+    n x 10 ns + P x 100 us + (F + 1) x (100 us + D x 15 ns + L x (500 ns + V x 8 ns)) + V x 200 ns
 
-of a processor: its instance; the memory that it has written; its entries and turns of loops; its printed values. Judging the
-module comes before, once, and is measured apart and taken away. Each module is made for one term. The constants are twice
-what a busy machine of 2.5 GHz takes and more, and some six times what an idle one does: a token of a loop takes 6 to 16 ns. What
-is measured is the processor's time.
+of a processor: its instance; the memory that it has written; its entries and turns of loops; its printed values. Each worker takes
+1 ms more, once. Judging the module comes before, once, and is measured apart and taken away. Each module is made for one term. The
+constants are twice what a busy machine of 2.5 GHz takes and more: a token of a loop takes 6 to 16 ns, a load that waits for the one
+before 120 to 215 ns, a local of a new frame some 6 ns. What is measured is the processor's time.
 """
 import argparse
 import os
+import random
 import sys
 import tempfile
 
@@ -28,14 +29,14 @@ I32 = b'\x7F'
 class Case:
     """A module with the limits of its calls, and what the formula asks of it."""
 
-    def __init__(self, name, module, fuel=0, pages=0, tokens=1, types=0, calls=20, end='values'):
+    def __init__(self, name, module, fuel=0, pages=0, tokens=1, types=0, locals_count=0, calls=20, end='values'):
         self.name, self.module, self.fuel, self.pages = name, module, fuel, pages
-        self.tokens, self.types, self.calls, self.end = tokens, types, calls, end
+        self.tokens, self.types, self.locals_count, self.calls, self.end = tokens, types, locals_count, calls, end
 
     def bound(self):
         """The seconds that a call may take."""
-        entries = (self.fuel + 1) * (100e-6 + self.tokens * (40e-9 + self.types * 8e-9))
-        return len(self.module) * 4e-9 + self.pages * 100e-6 + entries + self.types * 200e-9
+        entries = (self.fuel + 1) * (100e-6 + self.locals_count * 15e-9 + self.tokens * (500e-9 + self.types * 8e-9))
+        return 1e-3 / self.calls + len(self.module) * 10e-9 + self.pages * 100e-6 + entries + self.types * 200e-9
 
 
 def shifting_branches(count, values):
@@ -58,6 +59,11 @@ def entered(locals_count):
     return whole(b'\x03\x40\x10\x01\x0C\x00\x0B', others=[(0, declared + b'\x0B')])
 
 
+def deep(locals_count):
+    """A function with so many locals that calls itself until the fuel is gone: each frame is new memory."""
+    return whole(b'\x10\x00', b'\x01' + unsigned(locals_count) + I32)
+
+
 def not_taken(count, values):
     """Calls with `values` results each, in an `if` that is not taken: the entry makes room for all of them."""
     types = [EMPTY, function_type([], [I32] * values)]
@@ -72,6 +78,26 @@ def turns(tokens):
 def seldom_turns(tokens):
     """The same with branch tables, each of which jumps to the next."""
     return whole(b'\x03\x40' + b'\x02\x40\x41\x00\x0E\x00\x00\x0B' * (tokens // 4) + b'\x0C\x00\x0B')
+
+
+def by_globals(tables, cases, globals_count):
+    """A loop of branch tables, each by a global at random: where the next token lies is said by a case that no cache holds."""
+    chance = random.Random(5)
+    begin = b'\x0E' + unsigned(cases) + b'\x00' * (cases + 1) + b'\x0B'
+    body = b''.join(b'\x02\x40\x23' + unsigned(chance.randrange(globals_count)) + begin for _ in range(tables))
+    values = vector([I32 + b'\x00\x41' + signed(chance.randrange(64)) + b'\x0B' for _ in range(globals_count)])
+    return whole(b'\x03\x40' + body + b'\x0C\x00\x0B', sections={6: values})
+
+
+def chased(pages, step, loads):
+    """A loop of loads, each from the address that the one before gave: of all that are `step` bytes apart, in an order at random."""
+    count = (pages << 16) // step
+    order = list(range(count))
+    random.Random(7).shuffle(order)
+    places = sorted((at * step, then * step) for at, then in zip(order, order[1:] + order[:1]))
+    data = vector([b'\x00\x41' + signed(at) + b'\x0B' + sized(then.to_bytes(4, 'little')) for at, then in places])
+    turn = b'\x20\x00' + b'\x28\x02\x00' * loads + b'\x21\x00\x0C\x00'
+    return whole(b'\x03\x40' + turn + b'\x0B', b'\x01\x01\x7F', sections={5: b'\x01\x00' + unsigned(pages), 11: data})
 
 
 def filled(globals_count, entries, data):
@@ -107,9 +133,12 @@ CASES = [
     Case('branches over a long list', shifting_branches(400, 100_000), fuel=2, tokens=2_000, types=100_000, calls=1),
     Case('calls with long results', returned_lists(400, 100_000), fuel=401, tokens=100_003, types=100_000, calls=1),
     Case('room for an if that is not taken', not_taken(10_000, 1_000), fuel=1, tokens=10_005, types=1_000, calls=1),
-    Case('entries of 100,000 locals', entered(100_000), fuel=1_000, tokens=4, calls=1, end='exhausted'),
+    Case('entries of 100,000 locals', entered(100_000), fuel=1_000, tokens=4, locals_count=100_000, calls=1, end='exhausted'),
+    Case('frames of 100,000 locals', deep(100_000), fuel=60, tokens=2, locals_count=100_000, calls=5, end='exhausted'),
     Case('turns of a loop', turns(1_000_000), fuel=100, tokens=1_000_003, calls=1, end='exhausted'),
     Case('branch tables', seldom_turns(1_000_000), fuel=100, tokens=1_000_003, calls=1, end='exhausted'),
+    Case('branch tables by globals', by_globals(10_000, 257, 300_000), fuel=50, tokens=40_004, calls=1, end='exhausted'),
+    Case('loads that wait for one another', chased(1024, 1024, 100_000), fuel=20, pages=1024, tokens=100_005, calls=1, end='exhausted'),
     Case('globals, entries and data', filled(200_000, 65_536, 200_000), fuel=1, pages=16),
     Case('data in 256 pages', scattered(250_000, 256), fuel=1, pages=256),
     Case('16 pages of data', whole(b'', sections={5: b'\x01\x00\x10', 11: b'\x01\x00\x41\x00\x0B' + sized(b'\x01' * 1_000_000)}),
