@@ -1,15 +1,16 @@
 #!/usr/bin/env python3
 """Holds what a call takes to the formula of docs/SECURITY.md, on modules that are made to cost as much as its terms allow.
 
-A call of a module of n bytes, with F fuel and P pages, whose longest body has L tokens, whose functions have at most D locals, and
-whose longest list of types has V types, takes at most
+A call of a module of n bytes and a table of E entries, with F fuel and P pages, whose longest body has L tokens, whose functions
+have at most D locals, and whose longest list of types has V types, takes at most
 
-    n x 10 ns + P x 100 us + (F + 1) x (100 us + D x 15 ns + L x (500 ns + V x 8 ns)) + V x 200 ns
+    (n + E) x 10 ns + P x 100 us + (F + 1) x (100 us + D x 15 ns + L x (500 ns + V x 8 ns)) + V x 200 ns
 
 of a processor: its instance; the memory that it has written; its entries and turns of loops; its printed values. Each worker takes
-1 ms more, once. Judging the module comes before, once, and is measured apart and taken away. Each module is made for one term. The
-constants are twice what a busy machine of 2.5 GHz takes and more: a token of a loop takes 6 to 16 ns, a load that waits for the one
-before 120 to 215 ns, a local of a new frame some 6 ns. What is measured is the processor's time.
+1 ms more, once, and each byte of the text of calls 150 ns. Judging the module comes before, once, and is measured apart and taken
+away. Each module is made for one term. The constants are twice what a busy machine of 2.5 GHz takes and more: a token of a loop
+takes 6 to 16 ns, a load that waits for the one before 120 to 250 ns, a local of a new frame 6 to 8 ns. What is measured is the
+processor's time.
 """
 import argparse
 import os
@@ -23,20 +24,22 @@ from encoding import EMPTY, function_type, signed, sized, unsigned, vector, whol
 from measuring import processor_seconds
 
 TURNS = 3
+LINE = b'f\n'
 I32 = b'\x7F'
 
 
 class Case:
     """A module with the limits of its calls, and what the formula asks of it."""
 
-    def __init__(self, name, module, fuel=0, pages=0, tokens=1, types=0, locals_count=0, calls=20, end='values'):
-        self.name, self.module, self.fuel, self.pages = name, module, fuel, pages
+    def __init__(self, name, module, fuel=0, pages=0, table=0, tokens=1, types=0, locals_count=0, calls=20, end='values'):
+        self.name, self.module, self.fuel, self.pages, self.table = name, module, fuel, pages, table
         self.tokens, self.types, self.locals_count, self.calls, self.end = tokens, types, locals_count, calls, end
 
     def bound(self):
         """The seconds that a call may take."""
         entries = (self.fuel + 1) * (100e-6 + self.locals_count * 15e-9 + self.tokens * (500e-9 + self.types * 8e-9))
-        return 1e-3 / self.calls + len(self.module) * 10e-9 + self.pages * 100e-6 + entries + self.types * 200e-9
+        instance = (len(self.module) + self.table) * 10e-9 + self.pages * 100e-6
+        return 1e-3 / self.calls + len(LINE) * 150e-9 + instance + entries + self.types * 200e-9
 
 
 def shifting_branches(count, values):
@@ -139,7 +142,8 @@ CASES = [
     Case('branch tables', seldom_turns(1_000_000), fuel=100, tokens=1_000_003, calls=1, end='exhausted'),
     Case('branch tables by globals', by_globals(10_000, 257, 300_000), fuel=50, tokens=40_004, calls=1, end='exhausted'),
     Case('loads that wait for one another', chased(1024, 1024, 100_000), fuel=20, pages=1024, tokens=100_005, calls=1, end='exhausted'),
-    Case('globals, entries and data', filled(200_000, 65_536, 200_000), fuel=1, pages=16),
+    Case('globals, entries and data', filled(200_000, 65_536, 200_000), fuel=1, pages=16, table=65_536),
+    Case('a table of 65,536 entries', whole(b'', sections={4: b'\x01\x70\x00' + unsigned(65_536)}), fuel=1, table=65_536, calls=2),
     Case('data in 256 pages', scattered(250_000, 256), fuel=1, pages=256),
     Case('16 pages of data', whole(b'', sections={5: b'\x01\x00\x10', 11: b'\x01\x00\x41\x00\x0B' + sized(b'\x01' * 1_000_000)}),
          fuel=1, pages=16, calls=200),
@@ -163,7 +167,7 @@ def least(words, wanted):
 def measured(gate, folder, case):
     """The seconds of a call, without those of judging the module."""
     module, none, calls = (os.path.join(folder, name) for name in ('module.wasm', 'none', 'calls'))
-    for path, contents in ((module, case.module), (none, b''), (calls, b'f\n' * case.calls)):
+    for path, contents in ((module, case.module), (none, b''), (calls, LINE * case.calls)):
         with open(path, 'wb') as file:
             file.write(contents)
     words = ['--workers', '1', '--fuel', str(case.fuel), '--pages', str(case.pages)]
