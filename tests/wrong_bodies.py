@@ -5,9 +5,9 @@ A wrong body is an edit of one function, in a crate's must-fail/ or, where that 
 tests/wrong_bodies, in a folder of the crate's name. `rt must-fail` tries those of must-fail/ one by one, and each costs a
 check of its crate, with all that the crate stands on. Here those of a crate that turn different functions stand together in
 one copy of it, a round: functions know one another by their contracts alone, so that a wrong body shows in its own function
-and nowhere else. One check has to name each of these functions among what is not proved, where `rt must-fail` takes any
-refusal. What a round does not name, and what turns no single function, is tried alone. The last check of a crate is that of
-its own text, over what the others kept, which has to be proved.
+and nowhere else. One check has to name each of these functions among what is not proved, and in other files none but what calls
+one of them; `rt must-fail` takes any refusal. What a round does not name, and what turns no single function, is tried alone. Where
+one check goes by what another kept, the last check of a crate is that of its own text, which has to be proved.
 
 With --all those of tests/wrong_bodies are tried too; without it is only seen that each can be applied.
 
@@ -31,6 +31,10 @@ root = os.path.realpath(os.path.join(os.path.dirname(os.path.abspath(__file__)),
 
 # A check needs up to this many kilobytes.
 MEMORY_OF_A_CHECK = 3_000_000
+
+# What a check says of a function, and what it may say of one that no wrong body turns.
+OF_FUNCTION = re.compile(r'fn (\S+): (.*)')
+EXCUSED = re.compile(r'proved|assumed|(no proof|not proved): it calls ')
 
 HEADER = re.compile(r'^([ \t]*)(?:pub(?:\([a-z]+\))? )?(?:const |extern "C" )?fn (\w+)', re.M)
 
@@ -155,15 +159,28 @@ def names(line, function, lines):
     return bool(in_proof) and place[3].startswith('error')
 
 
-def not_named(kit, crate, bodies, kept):
+def not_named(said, crate, bodies):
     """Of the bodies of a round those whose functions the check does not all name."""
-    said = kit.checked(crate, texts_of(bodies, crate.folder), ['--jobs', '1'], kept).stdout.split('\n')
     missing = []
     for body in bodies:
         spans = [(it, lines_in(it, bodies, crate.folder)) for it in body.functions]
         if not all(any(names(line, it, lines) for line in said) for it, lines in spans):
             missing.append(body)
     return missing
+
+
+def named_beside(said, crate, bodies):
+    """The functions that the check does not prove, but those in the files that the bodies turn, and what calls one of these."""
+    files = {it.file for body in bodies for it in body.changes}
+    modules = tuple(f"{crate.name}::{it[len('src/'): -len('.rt')].replace('/', '::')}::" for it in files)
+    lines = [found for found in map(OF_FUNCTION.fullmatch, said) if found]
+    return [found[1] for found in lines if not EXCUSED.match(found[2]) and not found[1].startswith(modules)]
+
+
+def try_round(kit, crate, bodies, kept):
+    """Tries the bodies of a round at once; answers those whose functions are not all named, and what else the check does not prove."""
+    said = kit.checked(crate, texts_of(bodies, crate.folder), ['--jobs', '1'], kept).stdout.split('\n')
+    return not_named(said, crate, bodies), named_beside(said, crate, bodies)
 
 
 def unreadable(kit, crate, edits):
@@ -182,15 +199,18 @@ def try_crate(kit, crate, edits):
     with tempfile.TemporaryDirectory() as kept:
         alone = [it for it in readable if not it.functions]
         for bodies in rounds:
-            alone += not_named(kit, crate, bodies, kept)
+            missing, beside = try_round(kit, crate, bodies, kept)
+            alone += missing
+            lines += [f'{crate.name}: {it} is not proved beside wrong bodies of others' for it in beside]
+            failed += len(beside)
         for body in alone:
-            refused, said = kit.must_fail(crate, body.path, ['--jobs', '1'], kept)
+            tried, said = kit.must_fail(crate, body.path, ['--jobs', '1'], kept)
             lines.append(said)
-            failed += not refused
-        if kit.checked(crate, {}, ['--jobs', '1'], kept).returncode != 0:
+            failed += tried != kit.REFUSED
+        if len(rounds) + len(alone) > 1 and kit.checked(crate, {}, ['--jobs', '1'], kept).returncode != 0:
             lines.append(f'{crate.name}: its own text is not proved over what these checks kept')
             failed += 1
-    lines.append(f'{crate.name}: {len(edits) - failed} of {len(edits)} wrong bodies refused, {len(edits) - failed - len(alone)} of them in their '
+    lines.append(f'{crate.name}: {len(edits) - failed} of {len(edits)} wrong bodies refused, {len(readable) - len(alone)} of them in their '
                  f'functions in {len(rounds)} rounds, {len(alone)} alone ({time.monotonic() - started:.0f} s)')
     return lines, failed
 
