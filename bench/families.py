@@ -467,7 +467,8 @@ def tables_of_short_lists(size, dead, chance):
     code, tables = b''.join(b'\x02' + signed(k + 1) for k in range(count)) + b'\x10\x01\x41\x00', b''
     while not tables or len(code) + len(tables) < size - 300 * count:
         tables += b'\x0E' + vector(chance.choices(labels, k=min(100_000, size // 16))) + b'\x00'
-    return code + tables + b'\x0B' * count + b'\x00', {'types': [EMPTY] + [function_type([], many)] * count, 'others': [(1, b'\x00\x00\x0B')]}
+    types = [EMPTY] + [function_type([], many)] * count
+    return code + tables + b'\x0B' * count + b'\x00', {'types': types, 'others': [(1, b'\x00\x00\x0B')]}
 
 
 def over_a_run(token):

@@ -142,7 +142,8 @@ def texts_of(bodies, folder):
 
 def lines_in(function, bodies, folder):
     """The lines of a function in the text with these bodies."""
-    moved = lambda at: at + sum(len(it.new) - (it.end - it.first) for body in bodies for it in body.changes if it.file == function.file and it.end <= at)
+    changes = [it for body in bodies for it in body.changes if it.file == function.file]
+    moved = lambda at: at + sum(len(it.new) - (it.end - it.first) for it in changes if it.end <= at)
     text = texts_of(bodies, folder)[function.file]
     return text.count('\n', 0, moved(function.first)) + 1, text.count('\n', 0, moved(function.end)) + 1
 
