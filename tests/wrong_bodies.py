@@ -171,11 +171,14 @@ def not_named(said, crate, bodies):
 
 
 def named_beside(said, crate, bodies):
-    """The functions that the check does not prove, but those in the files that the bodies turn, and what calls one of these."""
+    """The functions that the check does not prove, but those in the files that the bodies turn, and what calls one of these.
+
+    A method goes by the file of its type there, so that the names of what is turned are left out too."""
     files = {it.file for body in bodies for it in body.changes}
     modules = tuple(f"{crate.name}::{it[len('src/'): -len('.rt')].replace('/', '::')}::" for it in files)
-    lines = [found for found in map(OF_FUNCTION.fullmatch, said) if found]
-    return [found[1] for found in lines if not EXCUSED.match(found[2]) and not found[1].startswith(modules)]
+    turned = {it.name for body in bodies for it in body.functions}
+    lines = [found for found in map(OF_FUNCTION.fullmatch, said) if found and not EXCUSED.match(found[2])]
+    return [found[1] for found in lines if not found[1].startswith(modules) and found[1].rpartition('::')[2] not in turned]
 
 
 def try_round(kit, crate, bodies, kept):
