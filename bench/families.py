@@ -385,13 +385,15 @@ def beside_chains(size, longest, others, chance):
     return others + in_chains(types_of_all(size, longest) - sum(map(len, others)), length, (10, max(11, length // 4)), chance)
 
 
-def ifs_beside_chains(size, dead, chance):
-    # Ifs over lists of i32 that are just too short for the tree, so that each compares its list, beside chains of longer ones.
-    longest = min(4_940, size // 15)
-    lengths = [chance.randrange(longest * 98 // 100, longest) for _ in range(8)]
-    types = beside_chains(size, longest, [function_type([I32] * length, [I32] * length) for length in lengths], chance)
-    pieces = [b'\x04' + signed(k) + b'\x0B' for k in range(1, 9)]
-    return at_random(pieces, bytes_to_compare(types_in(types), longest), chance) + b'\x00', {'types': [EMPTY] + types}
+def ifs_beside(most, beside):
+    """Ifs over lists of i32 of at most `most` types, just too short for the tree, so that each compares its list; and longer lists."""
+    def make(size, dead, chance):
+        longest = min(most, size // 15)
+        lengths = [chance.randrange(longest * 98 // 100, longest) for _ in range(8)]
+        types = beside(size, longest, [function_type([I32] * length, [I32] * length) for length in lengths], chance)
+        pieces = [b'\x04' + signed(k) + b'\x0B' for k in range(1, 9)]
+        return at_random(pieces, bytes_to_compare(types_in(types), longest), chance) + b'\x00', {'types': [EMPTY] + types}
+    return of_code(make)
 
 
 def tables_beside_chains(size, dead, chance):
@@ -438,15 +440,6 @@ def beside_lists_that_turn(size, longest, others, chance):
     return others + that_turn(room, length, max(2, size // 65_000), (length // 50, length * 3 // 4), chance)
 
 
-def ifs_beside_lists_that_turn(size, dead, chance):
-    # The ifs of `ifs of lists beside chains` beside lists that turn.
-    longest = min(4_940, size // 15)
-    lengths = [chance.randrange(longest * 98 // 100, longest) for _ in range(8)]
-    types = beside_lists_that_turn(size, longest, [function_type([I32] * length, [I32] * length) for length in lengths], chance)
-    pieces = [b'\x04' + signed(k) + b'\x0B' for k in range(1, 9)]
-    return at_random(pieces, bytes_to_compare(types_in(types), longest), chance) + b'\x00', {'types': [EMPTY] + types}
-
-
 def tables_beside_lists_that_turn(size, dead, chance):
     # A branch table with labels of one list at many places, which is just compared, beside lists that turn. With a few more bytes it
     # would be taken in too.
@@ -457,6 +450,30 @@ def tables_beside_lists_that_turn(size, dead, chance):
     table = vector([b'%c' % (k % labels) for k in range(code)]) + b'\x00'
     opens = b''.join(b'\x02' + signed(k) for k in range(1, labels + 1))
     return opens + b'\x00\x0E' + table + b'\x0B' * labels + b'\x00', {'types': [EMPTY] + types}
+
+
+def that_go_on(size, length, most, chance):
+    # Types of about `size` bytes that take and give lists of that length, in an order at random. Each list is a front at random, of
+    # at most `most` types, and then the beginning of any list before it, so that the links of its nodes lead far.
+    lists, count = [chance.randbytes(length).translate(FOUR)], max(2, size // (length + 4) // 2 * 2)
+    while len(lists) < count:
+        front = chance.randrange(length // 100, most)
+        lists.append(chance.randbytes(front).translate(FOUR) + chance.choice(lists)[:length - front])
+    chance.shuffle(lists)
+    return [b'\x60' + sized(taken) + sized(given) for taken, given in zip(lists[::2], lists[1::2])]
+
+
+def lists_that_go_on(size, dead, chance):
+    # With the code of `ifs of lists of i32`, just as much as the tree asks for.
+    code, parts = ifs_of_lists(12_000 + size * 62 // 1_000, dead, chance)
+    room = size - len(code) - sum(map(len, parts['types'])) - 2_000
+    return code, {'types': parts['types'] + that_go_on(room, 2_000, 1_900, chance)}
+
+
+def beside_lists_that_go_on(size, longest, others, chance):
+    # Function types of long lists, and lists that go on as others begin and are a little longer.
+    length = longest + longest // 80
+    return others + that_go_on(types_of_all(size, longest) - sum(map(len, others)), length, max(1, length * 3 // 5), chance)
 
 
 def tables_of_short_lists(size, dead, chance):
@@ -598,11 +615,13 @@ FAMILIES = {
     'ifs of lists of i32': (DEAD, of_code(ifs_of_lists)),
     'ifs of many lists of i32': (DEAD, of_code(ifs_of_many_lists)),
     'chains of lists': (DEAD, of_code(chains_of_lists)),
-    'ifs of lists beside chains': (DEAD, of_code(ifs_beside_chains)),
+    'ifs of lists beside chains': (DEAD, ifs_beside(4_940, beside_chains)),
     'branch tables beside chains': (DEAD, of_code(tables_beside_chains)),
     'lists that turn': (DEAD, of_code(lists_that_turn)),
-    'ifs beside lists that turn': (DEAD, of_code(ifs_beside_lists_that_turn)),
+    'ifs beside lists that turn': (DEAD, ifs_beside(4_940, beside_lists_that_turn)),
     'branch tables beside lists that turn': (DEAD, of_code(tables_beside_lists_that_turn)),
+    'lists that go on as others begin': (DEAD, of_code(lists_that_go_on)),
+    'ifs beside lists that go on': (DEAD, ifs_beside(3_000, beside_lists_that_go_on)),
     'loops of 255 types, nested': (LIVE, short_lists(lambda n: b'\x03\x02' * (n // 3) + b'\x0B' * (n // 3))),
     'calls of 255 types': (LIVE, short_lists(lambda n: b'\x10\x02' * (n // 2))),
     'calls of 255 types, shifted': (LIVE, short_lists(lambda n: b'\x10\x03\x10\x04\x10\x01' * (n // 6))),
