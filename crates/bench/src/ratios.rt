@@ -52,7 +52,7 @@ fn plain<R: Wait>(rt: &R, alloc: Global, job: &Empty) -> Result<Vec<u32>, AllocE
     Ok(outs)
 }
 
-// The least time of a plain loop, in nanoseconds.
+/// The least time of a plain loop, in nanoseconds.
 fn plain_time<R: Wait + Clock>(rt: &R, alloc: Global) -> Result<u128> {
     let mut least = u128::MAX;
     for _ in 0..ROUNDS {
@@ -66,7 +66,7 @@ fn plain_time<R: Wait + Clock>(rt: &R, alloc: Global) -> Result<u128> {
     Ok(least)
 }
 
-// The least time of `try_all`, in nanoseconds.
+/// The least time of `try_all`, in nanoseconds.
 fn pieces_time<R: Threads + Wait + Sync + Clock>(
     rt: &R,
     alloc: Global,
@@ -85,7 +85,7 @@ fn pieces_time<R: Threads + Wait + Sync + Clock>(
     Ok(least)
 }
 
-// One line a plan.
+/// One line a plan.
 pub fn print_ratios<R: Threads + Wait + Sync + Clock + Print>(rt: &R, alloc: Global) -> Result<()> {
     let base = plain_time(rt, alloc)?.max(1);
     for workers in [1, 2, 4] {

@@ -1,4 +1,4 @@
-// The commands, their words and their options.
+//! The commands, their words and their options.
 use clap::{Arg, Command, value_parser};
 use std::alloc::{AllocError, Global};
 use std::ops::Range;
@@ -76,7 +76,7 @@ pub fn gate_command<'a>(alloc: Global) -> Result<Command<'a>, AllocError> {
         .subcommand(run_command(alloc)?)
 }
 
-// `gate check`.
+/// `gate check`.
 fn check_command<'a>(alloc: Global) -> Result<Command<'a>, AllocError> {
     let words = vec![in alloc;
         module_word(alloc),
@@ -89,7 +89,7 @@ fn check_command<'a>(alloc: Global) -> Result<Command<'a>, AllocError> {
         .args(words)
 }
 
-// `gate run`.
+/// `gate run`.
 fn run_command<'a>(alloc: Global) -> Result<Command<'a>, AllocError> {
     let words = vec![in alloc;
         module_word(alloc),
@@ -145,7 +145,7 @@ fn pages_option<'a>(alloc: Global) -> Arg<'a> {
     number_option(alloc, "pages", help, 0..1_025, PAGES_DEFAULT)
 }
 
-// An option that takes a number within the range.
+/// An option that takes a number within the range.
 fn number_option<'a>(
     alloc: Global,
     name: &'a str,

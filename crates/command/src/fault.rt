@@ -1,4 +1,4 @@
-// Why the words ask for nothing that can be done.
+//! Why the words ask for nothing that can be done.
 ghost use Rattle.command.specs.Mistakes.{IsToldBy};
 
 use std::alloc::Global;

@@ -1,4 +1,4 @@
-// What the matched words give.
+//! What the matched words give.
 ghost use Rattle.std.specs.Prelude.{IfSome, map};
 ghost use Rattle.command.specs.Options.{SaysLimits, SaysPlan};
 ghost use Rattle.command.specs.Requests.{IsRequestOf};
@@ -40,7 +40,7 @@ pub fn run_of<'a>(words: &'a [&'a str], matches: &ArgMatches<'a>) -> Option<Requ
     })
 }
 
-// How many threads, and how much each takes at once.
+/// How many threads, and how much each takes at once.
 fn plan_of(words: &[&str]) -> Option<Plan>
     ensures { IfSome result (λ p. SaysPlan (map (λ w. w.now) words.now) p.workers p.piece) }
 {
@@ -49,7 +49,7 @@ fn plan_of(words: &[&str]) -> Option<Plan>
     Plan::new(workers, piece)
 }
 
-// The limits of each call.
+/// The limits of each call.
 fn settings_of(words: &[&str]) -> Option<Settings>
     ensures { IfSome result (λ s. SaysLimits (map (λ w. w.now) words.now) s.fuel s.frames s.pages) }
 {

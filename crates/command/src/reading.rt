@@ -1,4 +1,4 @@
-// Reading of the words.
+//! Reading of the words.
 ghost use Rattle.std.specs.Prelude.{IfOk, IsTrue, map};
 ghost use Rattle.command.specs.Requests.{AsksHelp, AsksVersion, IsRequestOf};
 
@@ -23,7 +23,7 @@ pub fn read_words<'a>(alloc: Global, words: &'a [&'a str]) -> Result<Request<'a>
     }
 }
 
-// What the matched words ask for.
+/// What the matched words ask for.
 fn request_of<'a>(
     alloc: Global,
     words: &'a [&'a str],
@@ -40,7 +40,7 @@ fn request_of<'a>(
     }
 }
 
-// Whether a word asks for help: `help` as the first one, or an option.
+/// Whether a word asks for help: `help` as the first one, or an option.
 fn asks_help(words: &[&str]) -> bool
     ensures { IsTrue result → AsksHelp (map (λ w. w.now) words.now) }
 {
@@ -50,7 +50,7 @@ fn asks_help(words: &[&str]) -> bool
         || contains_front(options, "-h")
 }
 
-// Whether the first word asks for the version.
+/// Whether the first word asks for the version.
 fn asks_version(words: &[&str]) -> bool
     ensures { IsTrue result → AsksVersion (map (λ w. w.now) words.now) }
 {
@@ -58,7 +58,7 @@ fn asks_version(words: &[&str]) -> bool
     first == "--version" || begins_with(first, "-V")
 }
 
-// A text that is asked for, or a mistake in the words.
+/// A text that is asked for, or a mistake in the words.
 fn answer_of<'a>(alloc: Global, words: &[&str], error: &Error) -> Result<Request<'a>, WordsFault>
     ensures { IfOk result (IsRequestOf (map (λ w. w.now) words.now)) }
 {

@@ -1,4 +1,4 @@
-// What the words say of numbers.
+//! What the words say of numbers.
 ghost use Rattle.std.specs.Prelude.{◌≡◌, ◌⊎◌, [], ◌++◌, IfSome, MatchOption, Some, codes, map, option_map};
 ghost use Rattle.command.specs.Options.{IsDecimal, LacksOption, SaysNumber, SaysText, option_words};
 
@@ -21,7 +21,7 @@ pub fn option_words<'a>(words: &'a [&'a str]) -> &'a [&'a str]
     words
 }
 
-// The text that the words say of an option. `None` where the word that begins with it gives none.
+/// The text that the words say of an option. `None` where the word that begins with it gives none.
 fn said_text<'a>(words: &'a [&'a str], name: &str, default: &'a str) -> Option<&'a str>
     ensures { IfSome result (λ text. SaysText (map (λ w. w.now) words.now) (codes "--" ++ name.now) default.now text.now) }
 {
@@ -33,7 +33,7 @@ fn said_text<'a>(words: &'a [&'a str], name: &str, default: &'a str) -> Option<&
     Some(default)
 }
 
-// The text that a word gives, by what follows the option in it: what stands after `=`, or the next word.
+/// The text that a word gives, by what follows the option in it: what stands after `=`, or the next word.
 fn text_of<'a>(rest: &'a str, next: Option<&'a str>) -> Option<&'a str>
     ensures { IfSome result (λ text. (rest.now ≡ codes "=" ++ text.now)
         ⊎ ((rest.now ≡ []) × (option_map (λ w. w.now) next.entry ≡ Some text.now))) }
@@ -45,7 +45,7 @@ fn text_of<'a>(rest: &'a str, next: Option<&'a str>) -> Option<&'a str>
     }
 }
 
-// What follows the option in the word, where it begins with it.
+/// What follows the option in the word, where it begins with it.
 fn after_option<'a>(word: &'a str, name: &str) -> Option<&'a str>
     ensures { MatchOption result (LacksOption (codes "--" ++ name.now) word.now)
         (λ rest. word.now ≡ (codes "--" ++ name.now) ++ rest.now) }
@@ -53,7 +53,7 @@ fn after_option<'a>(word: &'a str, name: &str) -> Option<&'a str>
     word.strip_prefix("--")?.strip_prefix(name)
 }
 
-// The number that a text is, where it fits 32 bits.
+/// The number that a text is, where it fits 32 bits.
 fn number_of(text: &str) -> Option<u32>
     ensures { IfSome result (λ n. IsDecimal n text.now) }
 {

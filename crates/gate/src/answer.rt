@@ -1,4 +1,4 @@
-// Running calls of one module.
+//! Running calls of one module.
 ghost use Rattle.wstore.specs.CallLimits.{limits_of};
 ghost use Rattle.gate.specs.Reads.{ReadsInOrder};
 ghost use Rattle.gate.specs.Runs.{RunsOn};

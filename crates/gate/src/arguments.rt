@@ -1,4 +1,4 @@
-// The program over its process.
+//! The program over its process.
 use crate::disk::Disk;
 use crate::fault::{Fault, end};
 use crate::program::run;
@@ -27,7 +27,7 @@ pub fn run_process<R: Env + Files + AllocGlobal + Threads + Wait + Sync, O: Writ
     run(rt, rt.alloc(), texts.as_slice(), &mut Disk { rt }, out, err)
 }
 
-// The words after the program's name.
+/// The words after the program's name.
 fn words_of<R: Env + AllocGlobal>(rt: &R) -> Result<Vec<String>, WordsFault> {
     match env::args(rt) {
         Ok(args) => args

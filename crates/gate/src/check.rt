@@ -1,4 +1,4 @@
-// Judging one file.
+//! Judging one file.
 ghost use Rattle.std.specs.Prelude.{List, [], ◌∷◌};
 ghost use Rattle.gate.specs.Sources.{ReadsPaths};
 ghost use Rattle.gate.specs.Checks.{Checks};

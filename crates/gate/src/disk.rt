@@ -1,4 +1,4 @@
-// Files as a source.
+//! Files as a source.
 ghost use Rattle.std.specs.Prelude.{◌≡◌, ◌≤◌, IfOk, IfSome, take, vec_len};
 
 use crate::source::{ReadFault, Source};
@@ -22,7 +22,7 @@ impl<R: Files> Source for Disk<'_, R> {
     }
 }
 
-// Only out of memory is told apart.
+/// Only out of memory is told apart.
 fn fault_of(error: io::Error) -> ReadFault {
     match error.kind() {
         ErrorKind::OutOfMemory => ReadFault::Memory,

@@ -1,4 +1,4 @@
-// Why the program gives no answer.
+//! Why the program gives no answer.
 ghost use Rattle.std.specs.Prelude.{◌≡◌};
 ghost use Rattle.gate.specs.Endings.{fault_status};
 

@@ -1,4 +1,4 @@
-// How the program is done with an answer.
+//! How the program is done with an answer.
 ghost use Rattle.std.specs.Io.KnownBytes.{Keeps};
 ghost use Rattle.gate.specs.Endings.{EndsAs};
 

@@ -1,4 +1,4 @@
-// The program over any source and writers.
+//! The program over any source and writers.
 ghost use Rattle.std.specs.Prelude.{◌≡◌, ◌⊎◌, map};
 ghost use Rattle.std.specs.Io.KnownBytes.{Keeps};
 ghost use Rattle.gate.specs.Endings.{answer_status, IsStatus};
@@ -49,7 +49,7 @@ pub fn run<R: Threads + Wait + Sync, S: Source, O: Write, E: Write>(
     }
 }
 
-// Does what is asked for, and flushes.
+/// Does what is asked for, and flushes.
 fn obey<'a, R: Threads + Wait + Sync, S: Source, O: Write>(
     rt: &R,
     alloc: Global,
@@ -72,7 +72,7 @@ fn obey<'a, R: Threads + Wait + Sync, S: Source, O: Write>(
     }
 }
 
-// Writes a text and flushes it.
+/// Writes a text and flushes it.
 fn show<'a, O: Write>(text: &[u8], out: &mut O) -> Result<Status, Fault<'a>>
     ensures { Shows text.now (O.contents out.old) (O.contents out.new) result }
 {
@@ -82,7 +82,7 @@ fn show<'a, O: Write>(text: &[u8], out: &mut O) -> Result<Status, Fault<'a>>
     Ok(Status::Good)
 }
 
-// The status of an answer.
+/// The status of an answer.
 fn number(status: Status) -> u8
     ensures { result ≡ answer_status status }
 {

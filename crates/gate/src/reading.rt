@@ -1,4 +1,4 @@
-// Reading of a source.
+//! Reading of a source.
 ghost use Rattle.std.specs.Prelude.{◌≡◌, ◌+◌, ◌<◌, ◌^◌, ℕ, List, [], ◌∷◌, IfOk, IfErr};
 ghost use Rattle.gate.specs.Sources.{ReadsPaths};
 ghost use Rattle.gate.specs.Reads.{IsRead, IsWant};

@@ -1,4 +1,4 @@
-// The program over a source and writers in memory.
+//! The program over a source and writers in memory.
 mod answers;
 
 use crate::program::run;
@@ -10,7 +10,7 @@ use std::sync::Wait;
 use std::test::Fail;
 use std::thread::Threads;
 
-// A module as `x.wasm` and calls as `x.calls`; or out of memory at each read.
+/// A module as `x.wasm` and calls as `x.calls`; or out of memory at each read.
 #[derive(Clone, Copy)]
 struct Held<'a> {
     module: &'a [u8],
@@ -43,7 +43,7 @@ impl Source for Held<'_> {
     }
 }
 
-// Takes `at_once` bytes a write, `room` in all, and then fails. Its flush may fail too.
+/// Takes `at_once` bytes a write, `room` in all, and then fails. Its flush may fail too.
 #[derive(Drop)]
 struct Screen {
     shown: Vec<u8>,
@@ -89,7 +89,7 @@ impl Write for Screen {
 
 const HEADER: [u8; 8] = [0x00, 0x61, 0x73, 0x6D, 0x01, 0x00, 0x00, 0x00];
 
-// The status of words over a source that has the header as its module, and no calls.
+/// The status of words over a source that has the header as its module, and no calls.
 fn status_of<R: Threads + Wait + Sync>(
     rt: &R,
     alloc: Global,
@@ -267,7 +267,7 @@ fn a_write_or_flush_that_fails(rt: HostRuntime) -> Result<(), Fail> {
     Ok(())
 }
 
-// An answer of each kind is written whole before its flush fails.
+/// An answer of each kind is written whole before its flush fails.
 #[test]
 fn a_flush_that_fails_after_an_answer(rt: HostRuntime) {
     let check: &[&str] = &["check", "x.wasm"];

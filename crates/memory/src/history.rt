@@ -1,5 +1,5 @@
-// The steps of which a pool's history is made, and what a ticket knows of it. These are for the proofs: no value
-// of them is made.
+//! The steps of which a pool's history is made, and what a ticket knows of it. These are for the proofs: no value
+//! of them is made.
 
 use std::collections::LinkedList;
 

@@ -40,7 +40,7 @@ impl Model for LinearMemory {
     ghost invariant = { λ m. IsBuffered m.bytes.items m.marks.items m.length m.most m.pages };
 }
 
-// Whether a memory may have `count` pages: no more than its declared maximum `most`, than 65,536, and than the setting `pages`.
+/// Whether a memory may have `count` pages: no more than its declared maximum `most`, than 65,536, and than the setting `pages`.
 fn allows(most: Option<u32>, pages: u32, count: u64) -> bool
     ensures { result ≡ may_have (zeros 0 most pages) count }
 {

@@ -49,7 +49,7 @@ impl Lesson<CleanMem, TicketView> for Lends {
     ghost fact = { Finds };
 }
 
-// The newest ticket makes the next.
+/// The newest ticket makes the next.
 struct Issue;
 
 impl Split<TicketView> for Issue {
@@ -96,7 +96,7 @@ impl Pool {
         Ok((pool, tickets))
     }
 
-    // As many tickets as there are to be, in the order of their numbers. The newest one makes the next.
+    /// As many tickets as there are to be, in the order of their numbers. The newest one makes the next.
     fn issue(
         &self,
         first: Pass<CleanMem, TicketView>,
@@ -137,7 +137,7 @@ impl Pool {
         unreachable!()
     }
 
-    // An empty memory for a pool that was found empty, unless others have filled it.
+    /// An empty memory for a pool that was found empty, unless others have filled it.
     fn add_empty<R: Wait>(&self, rt: &R, ticket: &mut Ticket)
         requires ticket { IsTicketOf self.now ticket.old }
         requires found { Held 0 (Finds (view_of ticket.old)) }
@@ -170,7 +170,7 @@ impl Pool {
         unreachable!()
     }
 
-    // Drops the first memory of a pool that was found full, unless others have emptied it.
+    /// Drops the first memory of a pool that was found full, unless others have emptied it.
     fn drop_first<R: Wait>(&self, rt: &R, ticket: &mut Ticket)
         requires ticket { IsTicketOf self.now ticket.old }
         requires found { Held (capacity_of self.now) (Finds (view_of ticket.old)) }

@@ -1,4 +1,4 @@
-// The bag of pieces, and the rule of its deque.
+//! The bag of pieces, and the rule of its deque.
 ghost use Rattle.crossbeam_deque.specs.Handles.{stealer_flavor};
 ghost use Rattle.std.specs.Prelude.{◌≡◌, ◌<◌};
 
@@ -24,7 +24,7 @@ impl Protocol<Task, BagView> for InOrder {
     ghost guest = { bag_view 0 0 0 false [] };
 }
 
-// The next task is taken. A share that may take one never finds the deque empty.
+/// The next task is taken. A share that may take one never finds the deque empty.
 struct Takes;
 
 impl Outcome<Task, BagView> for Takes {
@@ -91,7 +91,7 @@ impl Bag {
         }
     }
 
-    // The next task, for a share that has an end mark to take.
+    /// The next task, for a share that has an end mark to take.
     fn next<R: Wait>(&self, rt: &R, access: &mut Access) -> Task
         requires access { IsAccessTo (deque_of self.now) access.old }
         requires part { (0 < (bag_view_of access.old).parts) × (0 < (bag_view_of access.old).owed) }

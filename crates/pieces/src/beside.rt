@@ -1,4 +1,4 @@
-// Calls side by side, whose threads are all started by the calling one.
+//! Calls side by side, whose threads are all started by the calling one.
 ghost use Rattle.std.specs.Prelude.{◌≡◌, All};
 ghost use Rattle.std.specs.Fork.{AcceptsAt, ChangesAt};
 ghost use Rattle.pieces.specs.SideBySide.{EachBecomes};
@@ -6,9 +6,9 @@ ghost use denote.Param.Send.{IsSync, IsSend};
 
 use std::thread::{Threads, join_mut};
 
-// Calls f at each item: at one alone on the calling thread, and at each of several in a thread of its own where one can
-// be made. The calling thread starts them all and then waits, since a system may put a new thread where the one runs that
-// made it: if that one went on to work, the new one would begin when it has ended.
+/// Calls f at each item: at one alone on the calling thread, and at each of several in a thread of its own where one can
+/// be made. The calling thread starts them all and then waits, since a system may put a new thread where the one runs that
+/// made it: if that one went on to work, the new one would begin when it has ended.
 pub(crate) fn each_beside<R: Threads + Sync, T: Send, F: Fn(usize, &mut T) + Sync>(
     rt: &R,
     f: &F,
@@ -31,7 +31,7 @@ fn at_one<T, F: Fn(usize, &mut T)>(f: &F, it: &mut T)
     f(0, it);
 }
 
-// Calls f at each item in a thread of its own where one can be made, and on this one where none can.
+/// Calls f at each item in a thread of its own where one can be made, and on this one where none can.
 #[cycle(beside)]
 fn all_beside<R: Threads + Sync, T: Send, F: Fn(usize, &mut T) + Sync>(rt: &R, f: &F, s: &mut [T])
     requires { All (AcceptsAt F.Fn f.now 0) s.old }
@@ -45,7 +45,7 @@ fn all_beside<R: Threads + Sync, T: Send, F: Fn(usize, &mut T) + Sync>(rt: &R, f
     last_beside(rt, f, others, &mut last[0]);
 }
 
-// A separate function from `all_beside`, so that what the closures require is what this function is given.
+/// A separate function from `all_beside`, so that what the closures require is what this function is given.
 #[cycle(beside)]
 fn last_beside<R: Threads + Sync, T: Send, F: Fn(usize, &mut T) + Sync>(
     rt: &R,

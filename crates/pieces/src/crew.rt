@@ -1,4 +1,4 @@
-// All workers, each on a thread of its own where one can be started.
+//! All workers, each on a thread of its own where one can be started.
 ghost use Rattle.std.specs.Prelude.{◌≡◌, ◌<◌, ◌≤◌, ℕ, All, length, slice_index_or};
 ghost use Rattle.pieces.specs.Crew.{IsReady, IsDone};
 
@@ -11,8 +11,8 @@ use crate::work::work;
 use std::sync::Wait;
 use std::thread::Threads;
 
-// Runs one worker. One that finds no memory for an answer lowers the mark to 0, so that the others pass
-// over what is left.
+/// Runs one worker. One that finds no memory for an answer lowers the mark to 0, so that the others pass
+/// over what is left.
 fn run_member<R: Wait, J: Job>(
     rt: &R,
     job: &J,
@@ -36,7 +36,7 @@ fn run_member<R: Wait, J: Job>(
     }
 }
 
-// A worker whose thread cannot be started runs on the calling thread, once the later ones are started.
+/// A worker whose thread cannot be started runs on the calling thread, once the later ones are started.
 fn run_each<R: Threads + Wait + Sync, J: Job + Sync>(
     rt: &R,
     job: &J,
@@ -59,7 +59,7 @@ fn run_each<R: Threads + Wait + Sync, J: Job + Sync>(
     each_beside(rt, &one, crew);
 }
 
-// Runs all workers, and gives them back.
+/// Runs all workers, and gives them back.
 pub(crate) fn run_crew<R: Threads + Wait + Sync, J: Job + Sync>(
     rt: &R,
     job: &J,

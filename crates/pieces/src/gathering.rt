@@ -1,4 +1,4 @@
-// What all workers answer together.
+//! What all workers answer together.
 ghost use Rattle.std.specs.Prelude.{◌≡◌, ◌≤◌, ℕ, false, IfOk, OnOk, All, vec_len, IsPermutation};
 ghost use Rattle.pieces.specs.Counting.{total};
 ghost use Rattle.pieces.specs.Gathered.{is_at, Rises, Gathers};
@@ -20,7 +20,7 @@ use std::thread::Threads;
 /// one another.
 const FEW_ANSWERS: u32 = 256;
 
-// The workers, each with its share, its local, and room for `room` answers.
+/// The workers, each with its share, its local, and room for `room` answers.
 fn new_crew<L: Drop, O: Drop, F: Drop>(
     alloc: Global,
     mut shares: Vec<Share>,
@@ -48,7 +48,7 @@ fn new_crew<L: Drop, O: Drop, F: Drop>(
     Ok(crew)
 }
 
-// The shares and the answers of workers that are done, or `Err` where one was short of memory.
+/// The shares and the answers of workers that are done, or `Err` where one was short of memory.
 fn split_crew<L: Drop, O: Drop, F: Drop>(
     alloc: Global,
     crew: Vec<Member<L, O, F>>,
@@ -76,7 +76,7 @@ fn split_crew<L: Drop, O: Drop, F: Drop>(
     Ok((shares, answers))
 }
 
-// The answers in rising order of index.
+/// The answers in rising order of index.
 fn sorted<O: Drop, F: Drop>(
     mut answers: Vec<(u32, Result<O, JobFault<F>>)>,
 ) -> Result<Vec<(u32, Result<O, JobFault<F>>)>, AllocError>

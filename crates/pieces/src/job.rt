@@ -1,4 +1,4 @@
-// What workers run at each index, and what a proof knows of it.
+//! What workers run at each index, and what a proof knows of it.
 ghost use Rattle.std.specs.Prelude.{◌≡◌, ◌<◌, ℕ, MatchResult};
 ghost use Rattle.pieces.specs.Faults.{AllowsFault};
 

@@ -1,4 +1,4 @@
-// The low mark, and the rule of its word.
+//! The low mark, and the rule of its word.
 ghost use Rattle.std.specs.Prelude.{◌≡◌};
 ghost use Rattle.std.specs.Arc.{arc_value};
 

@@ -1,4 +1,4 @@
-// A worker with what it works with.
+//! A worker with what it works with.
 
 use crate::job::JobFault;
 use crate::share::Share;

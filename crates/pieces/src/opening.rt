@@ -1,4 +1,4 @@
-// A bag with all pieces, a mark that nothing has lowered, and the shares of the workers.
+//! A bag with all pieces, a mark that nothing has lowered, and the shares of the workers.
 ghost use Rattle.std.specs.Prelude.{◌≡◌, ◌+◌, ◌-◌, ◌<◌, ◌≤◌, [], false, IfOk, OnOk, vec_len};
 ghost use Rattle.crossbeam_deque.specs.Handles.{worker_deque, worker_flavor, worker_capacity, worker_index, worker_view, SameWorker};
 ghost use Rattle.std.specs.Arc.{arc_value};
@@ -34,7 +34,7 @@ impl Outcome<Task, BagView> for AddsEnd {
     ghost then = { AddsEnd };
 }
 
-// A new share gets one part of the right to know the whole, and one end mark to take.
+/// A new share gets one part of the right to know the whole, and one end mark to take.
 struct OnePart;
 
 impl Split<BagView> for OnePart {
@@ -53,7 +53,7 @@ impl Split<MarkView> for OnePart {
     ghost right = { given_mark_view };
 }
 
-// A push never fails, since the deque began with room for every piece and every end mark.
+/// A push never fails, since the deque began with room for every piece and every end mark.
 fn add_piece(owner: &mut BagOwner, number: u64)
     requires room { worker_index owner.old < worker_capacity owner.old }
     requires view { worker_view owner.old ≡ bag_view 64 0 number false [] }
@@ -78,7 +78,7 @@ fn add_end(owner: &mut BagOwner, count: u64, ends: u64)
     }
 }
 
-// All pieces, in order.
+/// All pieces, in order.
 fn add_pieces(owner: &mut BagOwner, count: u64)
     requires room { (worker_index owner.old ≡ 0) × (count ≤ worker_capacity owner.old) }
     requires view { worker_view owner.old ≡ bag_view 64 0 0 false [] }
@@ -90,7 +90,7 @@ fn add_pieces(owner: &mut BagOwner, count: u64)
     }
 }
 
-// As many end marks as there are workers.
+/// As many end marks as there are workers.
 fn add_ends(owner: &mut BagOwner, count: u64, workers: u64)
     requires room { worker_index owner.old + workers ≤ worker_capacity owner.old }
     requires view { worker_view owner.old ≡ bag_view 64 0 count false [] }
@@ -102,7 +102,7 @@ fn add_ends(owner: &mut BagOwner, count: u64, workers: u64)
     }
 }
 
-// The shares that steal, of all workers but the first.
+/// The shares that steal, of all workers but the first.
 fn add_shares(
     owner: &mut BagOwner,
     table: &Register,
@@ -135,7 +135,7 @@ fn add_shares(
     Ok(())
 }
 
-// All shares, the first one in front.
+/// All shares, the first one in front.
 fn put_first(
     owner: BagOwner,
     table: Arc<Register, Global>,

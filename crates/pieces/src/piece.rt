@@ -1,4 +1,4 @@
-// Some consecutive indices.
+//! Some consecutive indices.
 ghost use Rattle.std.specs.Prelude.{◌≡◌, ◌<◌};
 ghost use Rattle.pieces.specs.Cuts.{pieces, first_of, end_of};
 
@@ -9,7 +9,7 @@ pub struct Piece {
     pub end: u32,
 }
 
-// The piece of this number, where the indices below n are cut into pieces of this size.
+/// The piece of this number, where the indices below n are cut into pieces of this size.
 pub(crate) fn piece_at(n: u32, size: u32, number: u64) -> Piece
     requires size { 0 < size }
     requires number { number < pieces n size }

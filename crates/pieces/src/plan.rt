@@ -1,4 +1,4 @@
-// How many workers there are, and how the indices are cut.
+//! How many workers there are, and how the indices are cut.
 ghost use Rattle.std.specs.Prelude.{◌≡◌, ◌≤◌, IfNone, IfSome};
 ghost use Rattle.std.specs.Int.{div_ceil};
 ghost use Rattle.pieces.specs.Cuts.{InRange, pieces};
@@ -79,7 +79,7 @@ impl Plan {
         }
     }
 
-    // The same plan with no more workers than the indices below n have pieces, and one at least.
+    /// The same plan with no more workers than the indices below n have pieces, and one at least.
     pub(crate) fn narrowed(&self, n: u32) -> Plan
         ensures workers { result.workers ≤ self.now.workers }
         ensures piece { result.piece ≡ self.now.piece }
@@ -91,7 +91,7 @@ impl Plan {
         }
     }
 
-    // How many pieces the indices below n make.
+    /// How many pieces the indices below n make.
     pub(crate) fn pieces(&self, n: u32) -> u64
         ensures { result ≡ pieces n self.now.piece }
     {

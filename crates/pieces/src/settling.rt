@@ -1,4 +1,4 @@
-// What all the shares of one bag and one mark did.
+//! What all the shares of one bag and one mark did.
 ghost use Rattle.std.specs.Prelude.{◌≡◌, ◌<◌, ℕ, [], map};
 ghost use Rattle.crossbeam_deque.specs.Handles.{worker_deque, worker_view};
 ghost use Rattle.pieces.specs.Shares.{IsWhole, EachShare, IsIn, IsOn, IsStealing, count_of};
@@ -14,7 +14,7 @@ use crossbeam_deque::protocol::{Join, Lesson};
 use std::marker::Model;
 use std::snapshot::Snapshot;
 
-// Two passes, or two seats, as one.
+/// Two passes, or two seats, as one.
 struct Joined;
 
 impl Join<BagView> for Joined {
@@ -35,7 +35,7 @@ impl Join<MarkView> for Joined {
     ghost spent = { mark_view 0 [] [] [] };
 }
 
-// What is told to one that has all parts.
+/// What is told to one that has all parts.
 struct Whole;
 
 impl Lesson<Task, BagView> for Whole {
@@ -67,7 +67,7 @@ impl Model for Settled {
     ghost view = { λ s. map log_of s.shares.value.items };
 }
 
-// Takes the passes and the seats of the other shares into the first one's.
+/// Takes the passes and the seats of the other shares into the first one's.
 fn absorb_others(
     owner: &mut BagOwner,
     table: &Register,

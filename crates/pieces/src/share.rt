@@ -1,4 +1,4 @@
-// What one worker has of a bag and a mark.
+//! What one worker has of a bag and a mark.
 
 use crate::bag::InOrder;
 use crate::mark::Register;

@@ -1,4 +1,4 @@
-// What lies in the deque.
+//! What lies in the deque.
 
 /// The number of a piece, or an end mark. Behind the pieces lies one end mark for each share.
 #[derive(Clone, Copy, Drop)]

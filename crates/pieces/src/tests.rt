@@ -1,4 +1,4 @@
-// What no clause says: the worked rows, that the work is really shared, and how often a job is run.
+//! What no clause says: the worked rows, that the work is really shared, and how often a job is run.
 ghost use Rattle.std.specs.Prelude.{◌≡◌, IfOk, vec_len};
 ghost use Rattle.pieces.specs.Shares.{EachShare};
 ghost use Rattle.pieces.specs.Bags.{IsShareOf};

@@ -1,4 +1,4 @@
-// The loop of one thread, by many.
+//! The loop of one thread, by many.
 ghost use Rattle.std.specs.Prelude.{◌≡◌, ◌≤◌, All, MatchResult, vec_len};
 ghost use Rattle.pieces.specs.TryAll.{AllPass, StopsAt, Results, StopsIn};
 
@@ -47,7 +47,7 @@ pub fn try_all<R: Threads + Wait + Sync, J: Job + Sync>(
     results(alloc, answers)
 }
 
-// The results of the answers up to the first that is none.
+/// The results of the answers up to the first that is none.
 fn results<O: Drop, F: Drop>(
     alloc: Global,
     answers: Vec<(u32, Result<O, JobFault<F>>)>,

@@ -1,4 +1,4 @@
-// What a share knows of the deque and of the mark. These are for the proofs: no value of them is made.
+//! What a share knows of the deque and of the mark. These are for the proofs: no value of them is made.
 
 use crate::history::MarkCall;
 use std::collections::LinkedList;

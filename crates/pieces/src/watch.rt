@@ -1,4 +1,4 @@
-// Who looks on while jobs run.
+//! Who looks on while jobs run.
 
 /// What a job is about to run.
 #[derive(Clone, Copy, Debug, PartialEq, Eq, Drop)]

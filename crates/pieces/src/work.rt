@@ -1,4 +1,4 @@
-// What one worker does.
+//! What one worker does.
 ghost use Rattle.std.specs.Prelude.{◌≡◌, ◌<◌, ◌≤◌, ℕ, List, [], true, OnOk, All};
 ghost use Rattle.pieces.specs.Shares.{IsFresh, KeepsBag, SameKind, taken, own_calls, bag_parts, mark_parts};
 ghost use Rattle.pieces.specs.Bags.{IsShareOf, HasSeatAt};
@@ -13,8 +13,8 @@ use crate::share::Share;
 use std::alloc::AllocError;
 use std::sync::Wait;
 
-// Runs one index, or passes it over where the mark is smaller. A refusal, or running out of memory, lowers the
-// mark before its answer is kept.
+/// Runs one index, or passes it over where the mark is smaller. A refusal, or running out of memory, lowers the
+/// mark before its answer is kept.
 fn run_index<R: Wait, J: Job>(
     rt: &R,
     job: &J,
@@ -48,7 +48,7 @@ fn run_index<R: Wait, J: Job>(
     Ok(())
 }
 
-// Runs the indices of one piece, but for those above the mark.
+/// Runs the indices of one piece, but for those above the mark.
 fn run_piece<R: Wait, J: Job>(
     rt: &R,
     job: &J,
@@ -79,7 +79,7 @@ fn run_piece<R: Wait, J: Job>(
     Ok(())
 }
 
-// Takes pieces until none is left. Where an answer finds no memory it stops at once.
+/// Takes pieces until none is left. Where an answer finds no memory it stops at once.
 pub(crate) fn work<R: Wait, J: Job>(
     rt: &R,
     job: &J,

@@ -1,4 +1,4 @@
-// All ways to judge a module.
+//! All ways to judge a module.
 use anyhow::{Result, ensure};
 use batch::{Plan, Quiet, Status, report_verdict};
 use std::alloc::Global;

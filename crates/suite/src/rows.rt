@@ -1,4 +1,4 @@
-// The rows of a table of verdicts.
+//! The rows of a table of verdicts.
 use crate::judges::verdict_line;
 use crate::spelled::read_bytes;
 use anyhow::{Context, Result, anyhow, bail, ensure};

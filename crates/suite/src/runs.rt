@@ -1,4 +1,4 @@
-// The rows of a table of runs.
+//! The rows of a table of runs.
 use crate::rows::read_status;
 use crate::spelled::{read_bytes, read_text};
 use anyhow::{Context, Result, anyhow, bail, ensure};
@@ -59,7 +59,7 @@ fn read_run<R: AllocGlobal>(rt: &R, row: &Row<'_>) -> Result<Run> {
     })
 }
 
-// What an option sets.
+/// What an option sets.
 #[derive(Clone, Copy)]
 enum Limit {
     Fuel,
@@ -76,7 +76,7 @@ fn read_limit(option: &str) -> Result<Limit> {
     }
 }
 
-// The settings of the options `--fuel N`, `--frames N` and `--pages N`, each with the program's own where it is missing.
+/// The settings of the options `--fuel N`, `--frames N` and `--pages N`, each with the program's own where it is missing.
 fn read_settings(options: &str) -> Result<Settings> {
     let (mut fuel, mut frames, mut pages) = (1_000_000, 1_024, 256);
     let mut limit = None;

@@ -1,4 +1,4 @@
-// Bytes and texts as the tables spell them.
+//! Bytes and texts as the tables spell them.
 use anyhow::{Result, anyhow};
 use std::alloc::{AllocError, Global};
 
@@ -14,7 +14,7 @@ pub fn read_bytes(alloc: Global, text: &str) -> Result<Vec<u8>> {
     Ok(bytes)
 }
 
-// `NN*K`: K times the bytes NN.
+/// `NN*K`: K times the bytes NN.
 fn add_run(bytes: &mut Vec<u8>, alloc: Global, run: &str) -> Result<()> {
     let (part, times) = run.split_once('*').ok_or_else(|| anyhow!("no number"))?;
     let part = hex::decode(alloc, part)?;

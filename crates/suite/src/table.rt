@@ -1,4 +1,4 @@
-// The rows of a table, one after the other.
+//! The rows of a table, one after the other.
 use crate::rows::judge_row;
 use crate::runs::run_row;
 use anyhow::{Result, ensure};
@@ -43,7 +43,7 @@ pub fn run_table<R: Files + Print + AllocGlobal + Threads + Wait + Sync>(
     Ok(())
 }
 
-// How many rows a last line `# N rows` says.
+/// How many rows a last line `# N rows` says.
 fn read_count(line: &str) -> Option<u64> {
     let count = line.strip_prefix("# ")?.strip_suffix(" rows")?;
     count.parse::<u64>().ok()

@@ -15,7 +15,7 @@ pub struct Call<'a> {
     pub args: Args,
 }
 
-// The call that a line without its newline says.
+/// The call that a line without its newline says.
 pub(crate) fn read_call(alloc: Global, line: &[u8]) -> Result<Option<Call<'_>>, AllocError>
     requires { All (λ b. b ≢ 0x0A) line.now }
     ensures { IfOk result (λ call. IsReading IsCall call_text line.now (option_map call_of call)) }

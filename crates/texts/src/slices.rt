@@ -6,7 +6,7 @@ use crate::split::split_before;
 use std::alloc::{AllocError, Global};
 use wsyntax::LINE_LIMIT;
 
-// Where the first line ends that has its newline after the first `size` bytes of the text.
+/// Where the first line ends that has its newline after the first `size` bytes of the text.
 fn line_end(text: &[u8], size: usize) -> Option<usize>
     ensures { MatchOption result (All (λ b. b ≢ 0x0A) (drop size text.now))
         (λ end. (end ≤ length text.now) × EndsLine size (take end text.now)) }

@@ -1,4 +1,4 @@
-// The counts of the last line.
+//! The counts of the last line.
 ghost use Rattle.std.specs.Prelude.{◌≡◌, ◌+◌, ◌<◌, ◌^◌, ◌++◌, OnOk, string_bytes};
 ghost use Rattle.wsyntax.specs.Texts.Report.{plus, tally_of, none};
 ghost use Rattle.texts.specs.Ends.{end_of};
@@ -8,7 +8,7 @@ use crate::line::Line;
 use std::alloc::AllocError;
 use wsyntax::Outcome;
 
-// How many calls ended in each way, and the fuel that they cost together.
+/// How many calls ended in each way, and the fuel that they cost together.
 #[derive(Clone, Copy)]
 pub(crate) struct Total {
     calls: usize,
@@ -21,7 +21,7 @@ pub(crate) struct Total {
 }
 
 impl Total {
-    // Of no calls.
+    /// Of no calls.
     pub(crate) fn new() -> Total
         ensures calls { result.calls ≡ 0 }
         ensures tally { tally result ≡ none }
@@ -38,7 +38,7 @@ impl Total {
         }
     }
 
-    // Counts a call.
+    /// Counts a call.
     pub(crate) fn count(&mut self, line: &Line)
         requires room { self.old.calls + 1 < 2 ^ 64 }
         requires within { IsWithin self.old }
@@ -63,7 +63,7 @@ impl Total {
         }
     }
 
-    // Counts the calls of another total too.
+    /// Counts the calls of another total too.
     pub(crate) fn add(&mut self, other: &Total)
         requires room { self.old.calls + other.now.calls < 2 ^ 64 }
         requires within { IsWithin self.old × IsWithin other.now }
@@ -80,7 +80,7 @@ impl Total {
         self.fuel += other.fuel;
     }
 
-    // The last line.
+    /// The last line.
     pub(crate) fn push_line(&self, text: &mut String) -> Result<(), AllocError>
         ensures { OnOk result (string_bytes text.new ≡ string_bytes text.old ++ total_text self.now.calls (tally self.now)) }
     {

@@ -1,4 +1,4 @@
-// The words of a line, each after what is written already.
+//! The words of a line, each after what is written already.
 ghost use Rattle.std.specs.Prelude.{◌≡◌, ◌++◌, codes, OnOk, string_bytes};
 ghost use Rattle.wsyntax.specs.Texts.Words.{value_text};
 ghost use Rattle.wsyntax.specs.Texts.Report.{trap_text, spaced_values, outcome_text, refusal_text, end_text};
@@ -11,7 +11,7 @@ use std::alloc::AllocError;
 use wnum::NumTrap;
 use wsyntax::{Outcome, StartRefusal, Trap, Value};
 
-// How a call ended.
+/// How a call ended.
 pub(crate) fn push_end(text: &mut String, line: &Line) -> Result<(), AllocError>
     ensures { OnOk result (string_bytes text.new ≡ string_bytes text.old ++ end_text (end_of line.now)) }
 {
@@ -31,7 +31,7 @@ pub(crate) fn push_end(text: &mut String, line: &Line) -> Result<(), AllocError>
     }
 }
 
-// How a run ended.
+/// How a run ended.
 fn push_outcome(text: &mut String, outcome: &Outcome) -> Result<(), AllocError>
     ensures { OnOk result (string_bytes text.new ≡ string_bytes text.old ++ outcome_text (outcome_of outcome.now)) }
 {
@@ -49,7 +49,7 @@ fn push_outcome(text: &mut String, outcome: &Outcome) -> Result<(), AllocError>
     }
 }
 
-// Values joined by commas, with a space in front of the first.
+/// Values joined by commas, with a space in front of the first.
 fn push_values(text: &mut String, values: &[Value]) -> Result<(), AllocError>
     ensures { OnOk result (string_bytes text.new ≡ string_bytes text.old ++ spaced_values values.now) }
 {
@@ -60,7 +60,7 @@ fn push_values(text: &mut String, values: &[Value]) -> Result<(), AllocError>
     Ok(())
 }
 
-// A value.
+/// A value.
 fn push_value(text: &mut String, value: Value) -> Result<(), AllocError>
     ensures { OnOk result (string_bytes text.new ≡ string_bytes text.old ++ value_text value) }
 {
@@ -70,7 +70,7 @@ fn push_value(text: &mut String, value: Value) -> Result<(), AllocError>
     }
 }
 
-// The name of a trap.
+/// The name of a trap.
 fn trap_name(trap: Trap) -> &'static str
     ensures { result.now ≡ trap_text trap }
 {
@@ -85,7 +85,7 @@ fn trap_name(trap: Trap) -> &'static str
     }
 }
 
-// Why no instance is made.
+/// Why no instance is made.
 fn push_refusal(text: &mut String, refusal: StartRefusal) -> Result<(), AllocError>
     ensures { OnOk result (string_bytes text.new ≡ string_bytes text.old ++ refusal_text (refusal_of refusal)) }
 {

@@ -1,4 +1,4 @@
-// Reports and texts of calls, word by word.
+//! Reports and texts of calls, word by word.
 ghost use Rattle.std.specs.Prelude.{◌+◌, ◌<◌, ◌^◌, length};
 
 use std::alloc::{AllocError, Global};
@@ -355,7 +355,7 @@ fn a_text_is_cut_behind_newlines(rt: HostRuntime) -> Result<(), Fail> {
     Ok(())
 }
 
-// The number of calls that the slices of `size` bytes have together.
+/// The number of calls that the slices of `size` bytes have together.
 fn count_in_slices(alloc: Global, text: &[u8], size: usize) -> Result<Option<usize>, CallsFault> {
     let mut read = Vec::new(alloc);
     for slice in &cut_lines(alloc, text, size)? {

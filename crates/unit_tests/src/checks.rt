@@ -1,4 +1,4 @@
-// Bodies as the checker takes them, token by token.
+//! Bodies as the checker takes them, token by token.
 ghost use Rattle.std.specs.List.{list_all};
 ghost use Rattle.std.specs.Prelude.{◌≡◌, ◌<◌, [], IfOk, IsTrue, length};
 ghost use Rattle.wsyntax.specs.BranchTables.{FollowAll};

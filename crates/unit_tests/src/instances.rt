@@ -1,5 +1,5 @@
-// What no clause says: that memory is had, and that modules in bytes give what the standard says. The values that are
-// expected are the standard's.
+//! What no clause says: that memory is had, and that modules in bytes give what the standard says. The values that are
+//! expected are the standard's.
 use memory::CleanMem;
 use pieces::{Plan, Quiet};
 use std::alloc::Global;
@@ -11,8 +11,8 @@ use verdict::{Accepted, judge};
 use wstore::{Entry, Instance, NotStarted, Settings, StartFault, accepted_is_judged, instantiate};
 use wsyntax::{StartRefusal, ValType, Value};
 
-// (module (memory 1 2) (table 3 4 funcref) (global (mut i32) (i32.const -2)) (global (mut i64) (i64.const -3))
-//   (func) (elem (i32.const 1) 0) (data (i32.const 65534) "\2a\07"))
+/// (module (memory 1 2) (table 3 4 funcref) (global (mut i32) (i32.const -2)) (global (mut i64) (i64.const -3))
+///   (func) (elem (i32.const 1) 0) (data (i32.const 65534) "\2a\07"))
 static WHOLE: [u8; 71] = [
     0x00, 0x61, 0x73, 0x6D, 0x01, 0x00, 0x00, 0x00, 0x01, 0x04, 0x01, 0x60, 0x00, 0x00, 0x03, 0x02,
     0x01, 0x00, 0x04, 0x05, 0x01, 0x70, 0x01, 0x03, 0x04, 0x05, 0x04, 0x01, 0x01, 0x01, 0x02, 0x06,
@@ -21,33 +21,33 @@ static WHOLE: [u8; 71] = [
     0xFE, 0xFF, 0x03, 0x0B, 0x02, 0x2A, 0x07,
 ];
 
-// (module)
+/// (module)
 static EMPTY: [u8; 8] = [0x00, 0x61, 0x73, 0x6D, 0x01, 0x00, 0x00, 0x00];
 
-// (module (import "m" "f" (func)))
+/// (module (import "m" "f" (func)))
 static IMPORTS: [u8; 23] = [
     0x00, 0x61, 0x73, 0x6D, 0x01, 0x00, 0x00, 0x00, 0x01, 0x04, 0x01, 0x60, 0x00, 0x00, 0x02, 0x07,
     0x01, 0x01, 0x6D, 0x01, 0x66, 0x00, 0x00,
 ];
 
-// (module (global f32 (f32.const 0)))
+/// (module (global f32 (f32.const 0)))
 static FLOATS: [u8; 19] = [
     0x00, 0x61, 0x73, 0x6D, 0x01, 0x00, 0x00, 0x00, 0x06, 0x09, 0x01, 0x7D, 0x00, 0x43, 0x00, 0x00,
     0x00, 0x00, 0x0B,
 ];
 
-// (module (table 65537 funcref))
+/// (module (table 65537 funcref))
 static LARGE_TABLE: [u8; 16] = [
     0x00, 0x61, 0x73, 0x6D, 0x01, 0x00, 0x00, 0x00, 0x04, 0x06, 0x01, 0x70, 0x00, 0x81, 0x80, 0x04,
 ];
 
-// (module (memory 2))
+/// (module (memory 2))
 static TWO_PAGES: [u8; 13] = [
     0x00, 0x61, 0x73, 0x6D, 0x01, 0x00, 0x00, 0x00, 0x05, 0x03, 0x01, 0x00, 0x02,
 ];
 
-// (module (memory 1) (table 2 funcref) (func) (elem (i32.const 0) 0 0) (elem (i32.const 1) 0 0)
-//   (data (i32.const 65536) "a"))
+/// (module (memory 1) (table 2 funcref) (func) (elem (i32.const 0) 0 0) (elem (i32.const 1) 0 0)
+///   (data (i32.const 65536) "a"))
 static ELEMENT_OUTSIDE: [u8; 63] = [
     0x00, 0x61, 0x73, 0x6D, 0x01, 0x00, 0x00, 0x00, 0x01, 0x04, 0x01, 0x60, 0x00, 0x00, 0x03, 0x02,
     0x01, 0x00, 0x04, 0x04, 0x01, 0x70, 0x00, 0x02, 0x05, 0x03, 0x01, 0x00, 0x01, 0x09, 0x0F, 0x02,
@@ -55,8 +55,8 @@ static ELEMENT_OUTSIDE: [u8; 63] = [
     0x01, 0x02, 0x00, 0x0B, 0x0B, 0x09, 0x01, 0x00, 0x41, 0x80, 0x80, 0x04, 0x0B, 0x01, 0x61,
 ];
 
-// (module (memory 1) (table 2 funcref) (func) (elem (i32.const 0) 0 0)
-//   (data (i32.const 65536) "") (data (i32.const 65535) "a") (data (i32.const -1) "a"))
+/// (module (memory 1) (table 2 funcref) (func) (elem (i32.const 0) 0 0)
+///   (data (i32.const 65536) "") (data (i32.const 65535) "a") (data (i32.const -1) "a"))
 static DATA_OUTSIDE: [u8; 69] = [
     0x00, 0x61, 0x73, 0x6D, 0x01, 0x00, 0x00, 0x00, 0x01, 0x04, 0x01, 0x60, 0x00, 0x00, 0x03, 0x02,
     0x01, 0x00, 0x04, 0x04, 0x01, 0x70, 0x00, 0x02, 0x05, 0x03, 0x01, 0x00, 0x01, 0x09, 0x08, 0x01,
@@ -74,7 +74,7 @@ pub(crate) fn accepted<R: Threads + Wait + Abort + Sync>(
     judge(rt, alloc, bytes, plan, &Quiet).expect(rt, "accepted")
 }
 
-// An instance in the memory that is lent, of up to `pages` pages.
+/// An instance in the memory that is lent, of up to `pages` pages.
 pub(crate) fn start<'a>(
     alloc: Global,
     accepted: &'a Accepted<'a>,
@@ -191,7 +191,7 @@ fn an_instance_holds_what_is_written(rt: HostRuntime) -> Result<(), Fail> {
     expect_written(&rt, rt.alloc(), &accepted)
 }
 
-// Writes into both pages, and closes.
+/// Writes into both pages, and closes.
 fn soiled<R: Abort>(rt: &R, alloc: Global, accepted: &Accepted<'_>) -> Result<CleanMem, Fail> {
     let mut instance = start_whole(alloc, accepted)?;
     assert_eq!(rt; instance.grow(1)?, Some(1));

@@ -1,4 +1,4 @@
-// What no clause says: that calls come to an end, with the outcomes of small programs and the fuel that they spend.
+//! What no clause says: that calls come to an end, with the outcomes of small programs and the fuel that they spend.
 ghost use Rattle.std.specs.Prelude.{◌≡◌};
 
 use memory::CleanMem;
@@ -13,19 +13,19 @@ use wmachine::{Fuel, Outcome, fits, invoke};
 use wstore::{Instance, Settings, instantiate};
 use wsyntax::{Trap, Value};
 
-// (module
-//   (func (param i32 i32) (result i32) local.get 0 local.get 1 i32.add)
-//   (func unreachable))
+/// (module
+///   (func (param i32 i32) (result i32) local.get 0 local.get 1 i32.add)
+///   (func unreachable))
 static SMALL: [u8; 40] = [
     0x00, 0x61, 0x73, 0x6D, 0x01, 0x00, 0x00, 0x00, 0x01, 0x0A, 0x02, 0x60, 0x02, 0x7F, 0x7F, 0x01,
     0x7F, 0x60, 0x00, 0x00, 0x03, 0x03, 0x02, 0x00, 0x01, 0x0A, 0x0D, 0x02, 0x07, 0x00, 0x20, 0x00,
     0x20, 0x01, 0x6A, 0x0B, 0x03, 0x00, 0x00, 0x0B,
 ];
 
-// (module (func (export "f") (param i32) (result i32) (local i32)
-//   (loop (local.set 1 (i32.add (local.get 1) (local.get 0)))
-//     (br_if 0 (local.tee 0 (i32.sub (local.get 0) (i32.const 1)))))
-//   local.get 1))
+/// (module (func (export "f") (param i32) (result i32) (local i32)
+///   (loop (local.set 1 (i32.add (local.get 1) (local.get 0)))
+///     (br_if 0 (local.tee 0 (i32.sub (local.get 0) (i32.const 1)))))
+///   local.get 1))
 static SUM: [u8; 56] = [
     0x00, 0x61, 0x73, 0x6D, 0x01, 0x00, 0x00, 0x00, 0x01, 0x06, 0x01, 0x60, 0x01, 0x7F, 0x01, 0x7F,
     0x03, 0x02, 0x01, 0x00, 0x07, 0x05, 0x01, 0x01, 0x66, 0x00, 0x00, 0x0A, 0x1B, 0x01, 0x19, 0x01,
@@ -52,7 +52,7 @@ fn instance<'a, R: Abort>(rt: &R, alloc: Global, accepted: &'a Accepted<'a>) -> 
     }
 }
 
-// How a call on a fresh instance ends, the fuel that it spends and the instructions that it dispatches.
+/// How a call on a fresh instance ends, the fuel that it spends and the instructions that it dispatches.
 fn call_on<R: Abort>(
     rt: &R,
     alloc: Global,
@@ -84,7 +84,7 @@ fn call<R: Threads + Wait + Abort + Sync>(
     call_on(rt, alloc, &accepted, function, args, limit, frames)
 }
 
-// Calls an instance that has failed.
+/// Calls an instance that has failed.
 fn call_failed<R: Abort>(rt: &R, alloc: Global, accepted: &Accepted<'_>) {
     let mut instance = instance(rt, alloc, accepted);
     let mut fuel = Fuel::new(10).expect(rt, "fuel");

@@ -1,5 +1,5 @@
-// What no clause says: that two tickets of one pool reach the same memories, and that memory is had. The values that
-// are read are the standard's: the lowest byte stands first.
+//! What no clause says: that two tickets of one pool reach the same memories, and that memory is had. The values that
+//! are read are the standard's: the lowest byte stands first.
 
 ghost use Rattle.std.specs.Prelude.{◌≤◌};
 ghost use Rattle.memory.specs.Pools.{IsTicketOf};
@@ -9,7 +9,7 @@ use std::process::Abort;
 use std::sync::Wait;
 use std::test::*;
 
-// A memory of `min` pages, which may grow to three.
+/// A memory of `min` pages, which may grow to three.
 fn new_memory(clean: CleanMem, min: u32) -> Result<LinearMemory, Fail>
     requires { min ≤ 3 }
 {
@@ -19,7 +19,7 @@ fn new_memory(clean: CleanMem, min: u32) -> Result<LinearMemory, Fail>
     Ok(memory)
 }
 
-// A memory of 1,024 pages.
+/// A memory of 1,024 pages.
 fn large_memory(clean: CleanMem) -> Result<LinearMemory, Fail> {
     let memory = LinearMemory::allocate(clean, 1_024, None, 1_024)
         .ok()

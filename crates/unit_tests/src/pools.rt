@@ -1,5 +1,5 @@
-// What no clause says: that memory is had for an instance in a memory that another ticket of its pool gave. One thread
-// holds all tickets, so what is lent is one answer.
+//! What no clause says: that memory is had for an instance in a memory that another ticket of its pool gave. One thread
+//! holds all tickets, so what is lent is one answer.
 ghost use Rattle.memory.specs.Pools.{IsTicketOf};
 
 use crate::instances::{accepted, start};
@@ -10,7 +10,7 @@ use std::sync::Wait;
 use std::test::*;
 use verdict::Accepted;
 
-// (module (memory 1 3))
+/// (module (memory 1 3))
 static ONE_TO_THREE_PAGES: [u8; 14] = [
     0x00, 0x61, 0x73, 0x6D, 0x01, 0x00, 0x00, 0x00, 0x05, 0x04, 0x01, 0x01, 0x01, 0x03,
 ];

@@ -1,5 +1,5 @@
-// Readers of the instructions that bodies are mostly made of. Where one answers None, it saw another instruction or no
-// well-formed one: that says nothing, and the caller goes on with `token_at`, which decides.
+//! Readers of the instructions that bodies are mostly made of. Where one answers None, it saw another instruction or no
+//! well-formed one: that says nothing, and the caller goes on with `token_at`, which decides.
 ghost use Rattle.std.specs.Prelude.{◌≡◌, ◌∷◌, Some, IfSome};
 ghost use Rattle.wdecode.specs.Gives.{ReadsPlain, ReadsBracket};
 ghost use Rattle.wsyntax.specs.Table.{opcode_of};

@@ -1,5 +1,5 @@
-// What an option's number may look like, and writes that fail within an answer. What the answers are, the tables of the crate
-// `suite` say, which go through the built program.
+//! What an option's number may look like, and writes that fail within an answer. What the answers are, the tables of the crate
+//! `suite` say, which go through the built program.
 use super::{Held, Screen, status_of};
 use crate::program::run;
 use std::alloc::Global;
@@ -7,21 +7,21 @@ use std::sync::Wait;
 use std::test::Fail;
 use std::thread::Threads;
 
-// `f` branches back to its loop for ever.
+/// `f` branches back to its loop for ever.
 const LOOPS: [u8; 36] = [
     0x00, 0x61, 0x73, 0x6D, 0x01, 0x00, 0x00, 0x00, 0x01, 0x04, 0x01, 0x60, 0x00, 0x00, 0x03, 0x02,
     0x01, 0x00, 0x07, 0x05, 0x01, 0x01, 0x66, 0x00, 0x00, 0x0A, 0x09, 0x01, 0x07, 0x00, 0x03, 0x40,
     0x0C, 0x00, 0x0B, 0x0B,
 ];
 
-// The reports of one call of it, with fuel 5 and without fuel.
+/// The reports of one call of it, with fuel 5 and without fuel.
 const FIVE: &str =
     "0 out-of-fuel fuel 5\ntotal 1 values 0 traps 0 exhausted 1 refused 0 no-memory 0 fuel 5\n";
 
 const NONE: &str =
     "0 out-of-fuel fuel 0\ntotal 1 values 0 traps 0 exhausted 1 refused 0 no-memory 0 fuel 0\n";
 
-// The status, and what both outputs got, of one call of `f` with these options.
+/// The status, and what both outputs got, of one call of `f` with these options.
 fn looped<'a, R: Threads + Wait + Sync>(
     rt: &R,
     alloc: Global,

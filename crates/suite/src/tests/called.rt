@@ -1,4 +1,4 @@
-// A call from the bytes of a module to the values: judged, looked up, fitted, instantiated and invoked.
+//! A call from the bytes of a module to the values: judged, looked up, fitted, instantiated and invoked.
 ghost use Rattle.std.specs.Prelude.{◌≡◌};
 
 use batch::{Plan, Quiet, Settings};
@@ -13,7 +13,7 @@ use wmachine::{Fuel, Outcome, fits, invoke};
 use wstore::{Instance, instantiate};
 use wsyntax::{ExportKind, ValType, Value};
 
-// (module (func (export "f") (param i32 i64) (result i64 i32) local.get 1 local.get 0))
+/// (module (func (export "f") (param i32 i64) (result i64 i32) local.get 1 local.get 0))
 const SWAP: &[u8] = b"\0asm\x01\0\0\0\
     \x01\x08\x01\x60\x02\x7f\x7e\x02\x7e\x7f\
     \x03\x02\x01\0\
@@ -42,7 +42,7 @@ fn type_of(value: &Value) -> ValType {
     }
 }
 
-// The values of a call of the export with these arguments, which the fuel just pays for.
+/// The values of a call of the export with these arguments, which the fuel just pays for.
 fn swapped<R: Abort>(
     rt: &R,
     alloc: Global,

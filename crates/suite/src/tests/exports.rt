@@ -1,11 +1,11 @@
-// The exports of an accepted module, looked up by their names.
+//! The exports of an accepted module, looked up by their names.
 use batch::{Plan, Quiet};
 use std::process::Abort;
 use std::test::Fail;
 use verdict::{Accepted, judge};
 use wsyntax::ExportKind;
 
-// (module (func (export "run")) (func (export "ru")) (memory (export "") (export "z") 1))
+/// (module (func (export "run")) (func (export "ru")) (memory (export "") (export "z") 1))
 static MODULE: [u8; 54] = [
     0x00, 0x61, 0x73, 0x6D, 0x01, 0x00, 0x00, 0x00, 0x01, 0x04, 0x01, 0x60, 0x00, 0x00, 0x03, 0x03,
     0x02, 0x00, 0x00, 0x05, 0x03, 0x01, 0x00, 0x01, 0x07, 0x13, 0x04, 0x03, 0x72, 0x75, 0x6E, 0x00,

@@ -1,4 +1,4 @@
-// What an accepted module lends: its parts, its context and its checked bodies.
+//! What an accepted module lends: its parts, its context and its checked bodies.
 use batch::{Plan, Quiet};
 use checked::Branch;
 use std::alloc::Global;
@@ -9,10 +9,10 @@ use std::thread::Threads;
 use verdict::{Accepted, judge};
 use wsyntax::{Destination, ExportKind, GlobalType, ImportKind, Label, LocalRun, Token, ValType};
 
-// (module (import "m" "f" (func)) (import "m" "g" (global i64)) (memory 1) (export "a" (func 1))
-//   (func (param i32) (result i32) (local i64 i64)
-//     i32.const 5 (block (result i32) local.get 0 local.get 0 br_if 0 i32.const 7 i32.add) i32.add)
-//   (func (param i32) (block (loop local.get 0 br_table 0 1 2))))
+/// (module (import "m" "f" (func)) (import "m" "g" (global i64)) (memory 1) (export "a" (func 1))
+///   (func (param i32) (result i32) (local i64 i64)
+///     i32.const 5 (block (result i32) local.get 0 local.get 0 br_if 0 i32.const 7 i32.add) i32.add)
+///   (func (param i32) (block (loop local.get 0 br_table 0 1 2))))
 static MODULE: [u8; 95] = [
     0x00, 0x61, 0x73, 0x6D, 0x01, 0x00, 0x00, 0x00, 0x01, 0x0D, 0x03, 0x60, 0x00, 0x00, 0x60, 0x01,
     0x7F, 0x01, 0x7F, 0x60, 0x01, 0x7F, 0x00, 0x02, 0x0E, 0x02, 0x01, 0x6D, 0x01, 0x66, 0x00, 0x00,
@@ -192,7 +192,7 @@ fn lends_the_bodies<R: Abort>(rt: &R, accepted: &Accepted<'_>) -> Result<(), Fai
     Ok(())
 }
 
-// One function holds the module: each that does is long to prove.
+/// One function holds the module: each that does is long to prove.
 #[test]
 fn an_accepted_module_lends_its_parts(rt: HostRuntime) -> Result<(), Fail> {
     let accepted = accepted(&rt, rt.alloc());

@@ -1,5 +1,5 @@
-// Two bodies and two calls are at work at once. Where one worker does both, or a loop without workers, none sees the
-// other come while it is there itself.
+//! Two bodies and two calls are at work at once. Where one worker does both, or a loop without workers, none sees the
+//! other come while it is there itself.
 use batch::{Call, Plan, Quiet, Settings, Status, Watch, answer, read_calls, run_batch};
 use pieces::Stage;
 use std::alloc::Global;
@@ -11,16 +11,16 @@ use std::thread;
 use std::thread::Threads;
 use verdict::{Accepted, BodyRefusal, Refusal, examine, judge};
 
-// (module (func (export "f")) (func))
+/// (module (func (export "f")) (func))
 const ACCEPTED: &[u8] = b"\0asm\x01\0\0\0\
     \x01\x04\x01\x60\0\0\
     \x03\x03\x02\0\0\
     \x07\x05\x01\x01f\0\0\
     \x0a\x07\x02\x02\0\x0b\x02\0\x0b";
 
-// (module (memory 1)
-//   (func (export "a") (param i32) (result i32) local.get 0 i32.load)
-//   (func (export "b") (param i32) (result i32) local.get 0 i32.load offset=4294967295))
+/// (module (memory 1)
+///   (func (export "a") (param i32) (result i32) local.get 0 i32.load)
+///   (func (export "b") (param i32) (result i32) local.get 0 i32.load offset=4294967295))
 const LOADS: &[u8] = b"\0asm\x01\0\0\0\
     \x01\x06\x01\x60\x01\x7f\x01\x7f\
     \x03\x03\x02\0\0\
@@ -28,7 +28,7 @@ const LOADS: &[u8] = b"\0asm\x01\0\0\0\
     \x07\x09\x02\x01a\0\0\x01b\0\x01\
     \x0a\x15\x02\x07\0\x20\0\x28\x02\0\x0b\x0b\0\x20\0\x28\x02\xff\xff\xff\xff\x0f\x0b";
 
-// (module (func (export "f")) (func drop))
+/// (module (func (export "f")) (func drop))
 const REFUSED: &[u8] = b"\0asm\x01\0\0\0\
     \x01\x04\x01\x60\0\0\
     \x03\x03\x02\0\0\
@@ -98,7 +98,7 @@ impl Pair {
         }
     }
 
-    // Each came before the other had given up, so both were inside at once.
+    /// Each came before the other had given up, so both were inside at once.
     fn has_met(&self) -> bool {
         self.first.saw.load(Ordering::SeqCst) && self.second.saw.load(Ordering::SeqCst)
     }
@@ -131,7 +131,7 @@ impl Watch for Meeting {
     fn lent(&self, _call: u32, _bytes: usize) {}
 }
 
-// The judge that keeps the bodies.
+/// The judge that keeps the bodies.
 fn judged_bodies_meet<R: Threads + Wait + Abort + Sync>(
     rt: &R,
     alloc: Global,
@@ -153,7 +153,7 @@ fn judged_bodies_meet<R: Threads + Wait + Abort + Sync>(
     panic!(rt; "no two bodies were judged at once")
 }
 
-// The judge that keeps nothing.
+/// The judge that keeps nothing.
 fn examined_bodies_meet<R: Threads + Wait + Abort + Sync>(
     rt: &R,
     alloc: Global,
@@ -183,7 +183,7 @@ fn two_bodies_are_examined_at_once(rt: HostRuntime) -> Result<(), Fail> {
     examined_bodies_meet(&rt, rt.alloc(), REFUSED, REFUSAL)
 }
 
-// Answers two calls of two bodies, and looks whether the text is the one of two calls that run alone.
+/// Answers two calls of two bodies, and looks whether the text is the one of two calls that run alone.
 fn meeting_of_answer<R: Threads + Wait + Abort + Sync>(
     rt: &R,
     alloc: Global,
@@ -228,7 +228,7 @@ fn two_bodies_and_two_calls_of_an_answer_meet(rt: HostRuntime) -> Result<(), Fai
     panic!(rt; "bodies met: {bodies_met}, calls met: {calls_met}")
 }
 
-// Few calls are shared among the workers, whatever the piece.
+/// Few calls are shared among the workers, whatever the piece.
 #[test]
 fn two_calls_of_one_piece_are_run_at_once(rt: HostRuntime) -> Result<(), Fail> {
     for _ in 0..TRIES {
@@ -239,7 +239,7 @@ fn two_calls_of_one_piece_are_run_at_once(rt: HostRuntime) -> Result<(), Fail> {
     panic!(rt; "no two calls were run at once")
 }
 
-// Runs a batch on two workers.
+/// Runs a batch on two workers.
 fn meeting_of_batch<R: Threads + Wait + Abort + Sync>(
     rt: &R,
     alloc: Global,

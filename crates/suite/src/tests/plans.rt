@@ -1,33 +1,33 @@
-// One or two bodies of a thousand are ill typed: the first is named, whoever judges, however long it is, and however the
-// work is cut.
+//! One or two bodies of a thousand are ill typed: the first is named, whoever judges, however long it is, and however the
+//! work is cut.
 use crate::judges::verdict_line;
 use batch::{Plan, Quiet, Status};
 use std::alloc::{AllocError, Global};
 use std::test::Fail;
 use verdict::{BodyRefusal, Refusal, examine};
 
-// The header, the type [] -> [], and the head of a section of 1,000 functions.
+/// The header, the type [] -> [], and the head of a section of 1,000 functions.
 const FRONT: [u8; 19] = [
     0x00, 0x61, 0x73, 0x6D, 0x01, 0x00, 0x00, 0x00, 0x01, 0x04, 0x01, 0x60, 0x00, 0x00, 0x03, 0xEA,
     0x07, 0xE8, 0x07,
 ];
 
-// The head of a section of 1,000 bodies, of which 998 are empty.
+/// The head of a section of 1,000 bodies, of which 998 are empty.
 const BODIES: [u8; 5] = [0x0A, 0xBC, 0x17, 0xE8, 0x07];
 
-// The same where the last one that is not empty has 104 bytes and the other one is short.
+/// The same where the last one that is not empty has 104 bytes and the other one is short.
 const LONG_AND_SHORT: [u8; 5] = [0x0A, 0xA0, 0x18, 0xE8, 0x07];
 
-// The same where only the long one is not empty.
+/// The same where only the long one is not empty.
 const LONG_ALONE: [u8; 5] = [0x0A, 0x9F, 0x18, 0xE8, 0x07];
 
-// No local, and the last `end`.
+/// No local, and the last `end`.
 const EMPTY: [u8; 3] = [0x02, 0x00, 0x0B];
 
-// The same with a `drop` of an operand that is not there.
+/// The same with a `drop` of an operand that is not there.
 const ILL_TYPED: [u8; 4] = [0x03, 0x00, 0x1A, 0x0B];
 
-// No local, a hundred times `nop`, and then the same.
+/// No local, a hundred times `nop`, and then the same.
 fn long_and_ill_typed(alloc: Global) -> Result<Vec<u8>, AllocError> {
     let mut body = [0x67, 0x00].as_slice().to_vec(alloc)?;
     body.extend_from_slice(&[0x01; 100])?;
@@ -35,7 +35,7 @@ fn long_and_ill_typed(alloc: Global) -> Result<Vec<u8>, AllocError> {
     Ok(body)
 }
 
-// A thousand bodies after that head, all empty but these two.
+/// A thousand bodies after that head, all empty but these two.
 fn thousand_bodies(
     alloc: Global,
     head: &[u8],
@@ -79,7 +79,7 @@ fn the_first_of_two_is_named(rt: HostRuntime) -> Result<(), Fail> {
     Ok(())
 }
 
-// A body much longer than the others is named only where none before it is refused.
+/// A body much longer than the others is named only where none before it is refused.
 #[test]
 fn a_long_body_is_named_behind_no_other(rt: HostRuntime) -> Result<(), Fail> {
     let late = long_and_ill_typed(rt.alloc())?;
@@ -97,7 +97,7 @@ fn a_long_body_is_named_behind_no_other(rt: HostRuntime) -> Result<(), Fail> {
     Ok(())
 }
 
-// The line is that of both judges.
+/// The line is that of both judges.
 #[test]
 fn the_line_names_the_first_of_two(rt: HostRuntime) -> Result<(), Fail> {
     let bytes = thousand_bodies(rt.alloc(), &BODIES, &ILL_TYPED, &ILL_TYPED)?;

@@ -1,4 +1,4 @@
-// What a watch is told: each index of each stage once, and how much memory a call was lent.
+//! What a watch is told: each index of each stage once, and how much memory a call was lent.
 use batch::{Line, Plan, Quiet, Settings, Status, Watch, answer, read_calls, run_batch};
 use pieces::Stage;
 use std::alloc::{AllocError, Global};
@@ -11,7 +11,7 @@ use verdict::{examine, judge};
 use wmachine::Outcome;
 use wsyntax::Value;
 
-// A hundred empty functions of type [] -> [], the first of which is exported as "f".
+/// A hundred empty functions of type [] -> [], the first of which is exported as "f".
 fn hundred_bodies(alloc: Global) -> Result<Vec<u8>, AllocError> {
     let mut bytes = b"\0asm\x01\0\0\0\x01\x04\x01\x60\0\0\x03\x65\x64".to_vec(alloc)?;
     bytes.extend_from_slice(&[0; 100])?;
@@ -30,7 +30,7 @@ fn hundred_calls(alloc: Global) -> Result<Vec<u8>, AllocError> {
     Ok(calls)
 }
 
-// How often each of a hundred indices was told, and how often another one.
+/// How often each of a hundred indices was told, and how often another one.
 #[derive(Drop)]
 struct Tally {
     times: Vec<AtomicU64>,
@@ -63,7 +63,7 @@ impl Tally {
     }
 }
 
-// Counts what it is told.
+/// Counts what it is told.
 #[derive(Drop)]
 struct Counting {
     bodies: Tally,
@@ -90,7 +90,7 @@ impl Watch for Counting {
     fn lent(&self, _call: u32, _bytes: usize) {}
 }
 
-// The judge that keeps the bodies tells each once, and so does the one that keeps nothing.
+/// The judge that keeps the bodies tells each once, and so does the one that keeps nothing.
 fn judges_tell_each_once<R: Threads + Wait + Abort + Sync>(
     rt: &R,
     alloc: Global,
@@ -105,7 +105,7 @@ fn judges_tell_each_once<R: Threads + Wait + Abort + Sync>(
     Ok(())
 }
 
-// An answer tells each body and each call once.
+/// An answer tells each body and each call once.
 fn answer_tells_each_once<R: Threads + Wait + Abort + Sync>(
     rt: &R,
     alloc: Global,
@@ -136,9 +136,9 @@ fn each_index_is_told_once(rt: HostRuntime) -> Result<(), Fail> {
     Ok(())
 }
 
-// (module (memory 1)
-//   (func (export "s") (i32.store (i32.const 0) (i32.const 7)))
-//   (func (export "l") (result i32) (i32.load (i32.const 0))))
+/// (module (memory 1)
+///   (func (export "s") (i32.store (i32.const 0) (i32.const 7)))
+///   (func (export "l") (result i32) (i32.load (i32.const 0))))
 const STORES: &[u8] = b"\0asm\x01\0\0\0\
     \x01\x08\x02\x60\0\0\x60\0\x01\x7f\
     \x03\x03\x02\0\x01\
@@ -146,10 +146,10 @@ const STORES: &[u8] = b"\0asm\x01\0\0\0\
     \x07\x09\x02\x01s\0\0\x01l\0\x01\
     \x0a\x13\x02\x09\0\x41\0\x41\x07\x36\x02\0\x0b\x07\0\x41\0\x28\x02\0\x0b";
 
-// A number of bytes that no call is lent.
+/// A number of bytes that no call is lent.
 const UNTOLD: u64 = u64::MAX;
 
-// The bytes that the calls 0 and 1 were lent.
+/// The bytes that the calls 0 and 1 were lent.
 #[derive(Drop)]
 struct Lending {
     first: AtomicU64,
@@ -164,7 +164,7 @@ impl Lending {
         }
     }
 
-    // Nothing for the first, and the whole page of the first for the second.
+    /// Nothing for the first, and the whole page of the first for the second.
     fn is_lent_on(&self) -> bool {
         self.first.load(Ordering::SeqCst) == 0
             && (65_536..UNTOLD).contains(&self.second.load(Ordering::SeqCst))
@@ -208,7 +208,7 @@ fn a_worker_lends_on_the_memory_of_a_call(rt: HostRuntime) -> Result<(), Fail> {
     Ok(())
 }
 
-// The line of a call that ended in these values for a unit of fuel.
+/// The line of a call that ended in these values for a unit of fuel.
 fn gave(line: &Line, wanted: &[Value]) -> bool {
     match line {
         Line::Ran {
