@@ -11,6 +11,7 @@ use Rattle.wsyntax.specs.Modules.{ModuleShape}
 abbrev pub IsExported : ModuleShape → List ℕ → ExportKind → ℕ → Type 0
 IsExported m name kind index = Contains m.exports (record { item_name = name; kind = kind; index = index })
 
+-- the name of an export, empty where there is none
 abbrev pub name_of : Option Export → List ℕ
 name_of None = []
 name_of (Some e) = e.name.now

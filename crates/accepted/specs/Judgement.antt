@@ -10,7 +10,7 @@ use Rattle.checked.specs.declared.body.CheckedBody.{CheckedBody}
 use Rattle.checked.specs.Bodies.{IsTypedAs, FitsAs}
 use Rattle.checked.specs.Promise.{IsCodeOf}
 
--- ---- one body
+-- One body.
 
 -- 3.4.1 the checked body is that of function f: the bytes spell it, it declares few locals, its tokens are those of a tree, it is typed as the body of f, and its side table fits
 pub record IsCheckedFrom (C : Context) (f : ℕ) (bytes : List ℕ) (checked : CheckedBody) : Type 0 where
@@ -26,7 +26,7 @@ abbrev pub IsCheckedAt : Context → ℕ → List (List ℕ) → ℕ → Checked
 IsCheckedAt C imported bodies place checked =
     (bytes : List ℕ) × (slice_get bodies place ≡ Some bytes) × IsCheckedFrom C (imported + place) bytes checked
 
--- ---- all bodies
+-- All bodies.
 
 -- of each of the n bodies the checked one
 pub record AreChecked (C : Context) (imported : ℕ) (bodies : List (List ℕ)) (n : ℕ) (all : List CheckedBody) : Type 0 where
@@ -37,7 +37,7 @@ pub record AreChecked (C : Context) (imported : ℕ) (bodies : List (List ℕ)) 
 abbrev pub shapes_of : List CheckedBody → List BodyShape
 shapes_of all = map (λ c. body_shape c.body) all
 
--- ---- the module
+-- The module.
 
 -- no rule is broken, the context is that of the module, it has a body for each function, and these are the checked ones
 pub record IsJudged (m : ModuleShape) (x : IndexedContext) (all : List CheckedBody) : Type 0 where

@@ -14,9 +14,11 @@ use Rattle.wsyntax.specs.Execution.Start.{element_segment, data_segment}
 abbrev pub IsOffset : ConstExpr → Type 0
 IsOffset e = (globals : List GlobalType) × ConstantOf globals I32 (initial_tokens e)
 
+-- 4.5.4 the element segments with their places
 abbrev pub element_segments : List HeldElement → List Segment
 element_segments all = map element_segment (map element_shape all)
 
+-- 4.5.4 the data segments with their places
 abbrev pub data_segments : List Data → List Segment
 data_segments all = map data_segment (map data_shape all)
 
@@ -24,6 +26,7 @@ data_segments all = map data_segment (map data_shape all)
 abbrev pub element_place : HeldElement → ℕ
 element_place e = (element_segment (element_shape e)).place
 
+-- 4.5.4 the address of the first byte of a data segment
 abbrev pub data_place : Data → ℕ
 data_place d = (data_segment (data_shape d)).place
 

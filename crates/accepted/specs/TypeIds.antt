@@ -17,8 +17,9 @@ abbrev pub function_number : List ℕ → Option ℕ → Option ℕ
 function_number numbers None = None
 function_number numbers (Some y) = slice_get numbers y
 
--- ---- how they are found
+-- How they are found.
 
+-- the code of a value type, from 1 on
 abbrev pub code_of : ValType → ℕ
 code_of I32 = 1
 code_of I64 = 2
@@ -42,10 +43,11 @@ long_text_of t = map code_of t.params ++ 5 ∷ map code_of t.results
 abbrev pub text_of : FuncType → ℕ × List ℕ
 text_of t = cond (nat_lt (length t.params + length t.results) 42) (number_of t, []) (0, long_text_of t)
 
--- a text beside an index, and the text alone
+-- a text beside an index
 abbrev pub IndexedText : Type 0
 IndexedText = ℕ × Vec ℕ Global × ℕ
 
+-- the text alone
 abbrev pub text_in : IndexedText → ℕ × List ℕ
 text_in x = (x.0, x.1.items)
 

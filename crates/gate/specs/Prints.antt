@@ -27,7 +27,7 @@ Shows text old new (Ok status) = (status ≡ Good) × Appends old new text
 Shows text old new (Err fault.Write) = AppendsFront old new text
 Shows text old new (Err _) = ⊥
 
--- ---- by the request
+-- By the request.
 
 -- what is done for a request, over what paths hold
 abbrev pub AnswersRequest : Request → (List ℕ → Option (List ℕ)) → Option (List ℕ) → Option (List ℕ) → Result Status Fault → Type 0
@@ -47,7 +47,7 @@ AnswersWords words holds asked asked' old new status =
     ((request : Request) × (r : Result Status Fault) × IsRequestOf words request × AnswersRequest request holds old new r × AsksFor request asked asked' r × (status ≡ result_status r))
     ⊎ (((status ≡ 64) ⊎ (status ≡ 70)) × ReadsPaths asked asked' [] × Keeps old new)
 
--- ---- by the status
+-- By the status.
 
 -- the verdict line of the module is written whose path stands among the words; it alone was asked for
 pub record PrintsVerdict (words : List (List ℕ)) (holds : List ℕ → Option (List ℕ)) (asked asked' : Option (List (List ℕ))) (old new : Option (List ℕ)) (v : Verdict) : Type 0 where

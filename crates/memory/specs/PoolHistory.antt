@@ -7,17 +7,20 @@ use Rattle.memory.specs.declared.history.PoolStep.TheVariants.{Gave, Lent}
 use Rattle.memory.specs.declared.history.PoolEntry.{PoolEntry}
 use Rattle.memory.specs.declared.history.TicketView.{TicketView}
 
+-- a step of the ticket with this number
 abbrev pub entry : ℕ → PoolStep → PoolEntry
 entry ticket step = record { ticket = ticket; step = step }
 
+-- what the ticket with this number knows
 abbrev pub ticket_view : ℕ → Bool → List PoolEntry → List PoolStep → TicketView
 ticket_view ticket newest seen made = record { ticket = ticket; newest = newest; seen = seen; made = made }
 
--- what a pool that keeps these memories, the first in front, keeps after a step, and after several
+-- what a pool that keeps these memories, the first in front, keeps after a step
 abbrev pub after_step : List ℕ → PoolStep → List ℕ
 after_step kept (Gave n) = kept ++ n ∷ []
 after_step kept (Lent n) = drop 1 kept
 
+-- what the pool keeps after these steps
 abbrev pub after : List ℕ → List PoolEntry → List ℕ
 after kept [] = kept
 after kept (e ∷ es) = after (after_step kept e.step) es
@@ -32,11 +35,12 @@ abbrev pub IsLegal : List ℕ → List PoolEntry → Type 0
 IsLegal kept [] = Unit {0}
 IsLegal kept (e ∷ es) = CanMake kept e.step × IsLegal (after_step kept e.step) es
 
--- the steps that one ticket made, in order
+-- the step, where the ticket made it
 abbrev pub if_same : Bool → PoolStep → List PoolStep
 if_same true step = step ∷ []
 if_same false step = []
 
+-- the steps that one ticket made, in order
 abbrev pub made_by : ℕ → List PoolEntry → List PoolStep
 made_by ticket [] = []
 made_by ticket (e ∷ es) = if_same (nat_eq e.ticket ticket) e.step ++ made_by ticket es

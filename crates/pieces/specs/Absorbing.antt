@@ -9,6 +9,7 @@ use Rattle.pieces.specs.Counting.{total, times}
 use Rattle.pieces.specs.History.{EachBegins}
 use Rattle.pieces.specs.Shares.{bag_view_of, taken, own_calls, seen, bag_parts, mark_parts, EachShare}
 
+-- whether one of these shares has met an end mark
 abbrev pub any_view_met : List Share → Bool
 any_view_met [] = false
 any_view_met (s ∷ ss) = (bag_view_of s.access).met || any_view_met ss

@@ -13,9 +13,11 @@ use Rattle.pieces.specs.Shares.{DequeId, IsIn, IsOn, IsCrew}
 abbrev pub deque_of : Bag → DequeId
 deque_of b = stealer_deque b.stealer
 
+-- how many pieces a bag has
 abbrev pub count_in : Bag → ℕ
 count_in b = pieces b.n b.size
 
+-- which table the mark's word lies in
 abbrev pub word_id : Mark → TableId
 word_id m = (arc_value m.table).shared.table_id
 
@@ -23,6 +25,7 @@ word_id m = (arc_value m.table).shared.table_id
 abbrev pub IsShareOf : Bag → Share → Type 0
 IsShareOf b s = IsIn (deque_of b) (count_in b) s
 
+-- the share is one of this mark
 abbrev pub HasSeatAt : Mark → Share → Type 0
 HasSeatAt m s = IsOn (word_id m) s
 

@@ -13,5 +13,6 @@ pieces n size = (n + size - 1) / size
 abbrev pub first_of : ℕ → ℕ → ℕ
 first_of size number = number * size
 
+-- where the piece of this number ends, which the indices below n cut short
 abbrev pub end_of : ℕ → ℕ → ℕ → ℕ
 end_of n size number = min (number * size + size) n

@@ -7,6 +7,7 @@ use Rattle.pieces.specs.declared.task.Task.TheVariants.{Numbered, End}
 use Rattle.pieces.specs.declared.views.BagView.{BagView}
 use Rattle.pieces.specs.Counting.{total, times, once_below}
 
+-- what a share knows of the deque, of these parts
 abbrev pub bag_view : ℕ → ℕ → ℕ → Bool → List ℕ → BagView
 bag_view parts owed made met taken = record { parts = parts; owed = owed; made = made; met = met; taken = taken }
 
@@ -37,10 +38,11 @@ pub record IsInOrder (items : List Task) (views : List BagView) : Type 0 where
   pub once : (x : ℕ) → total (λ v. times x v.taken) views ≡ once_below next x
   pub fits : (port : ℕ) (v : BagView) → get_elem? views port ≡ some v → FitsDeque next left v
 
--- what a push of a piece, and of an end mark, tells
+-- what a push of a piece tells
 abbrev pub Adds : BagView → List Task → BagView → Type 0
 Adds v xs w = w ≡ bag_view v.parts v.owed (v.made + 1) v.met v.taken
 
+-- what a push of an end mark tells
 abbrev pub AddsEnd : BagView → List Task → BagView → Type 0
 AddsEnd v xs w = w ≡ bag_view v.parts (v.owed + 1) v.made v.met v.taken
 
@@ -50,10 +52,11 @@ Took v [] w = Unit {0}
 Took v (Numbered x ∷ xs) w = (w ≡ bag_view v.parts v.owed v.made v.met (v.taken ++ x ∷ [])) × (x < v.made)
 Took v (End ∷ xs) w = w ≡ bag_view v.parts (v.owed - 1) v.made true v.taken
 
--- what the owner keeps, and what a new share has: one part, and one end mark to take
+-- what the owner keeps where it gives a part and an end mark
 abbrev pub kept_bag_view : BagView → BagView
 kept_bag_view v = bag_view (v.parts - 1) (v.owed - 1) v.made v.met v.taken
 
+-- what a new share has: one part, and one end mark to take
 abbrev pub given_bag_view : BagView → BagView
 given_bag_view v = bag_view 1 1 v.made false []
 

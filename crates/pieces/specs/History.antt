@@ -40,6 +40,7 @@ abbrev pub is_lowered : ℕ → MarkCall → ℕ
 is_lowered m (Lowered i) = if i == m then 1 else 0
 is_lowered m (Found r) = 0
 
+-- 1 where the call found the index, else 0
 abbrev pub is_found : ℕ → MarkCall → ℕ
 is_found m (Lowered i) = 0
 is_found m (Found None) = 0

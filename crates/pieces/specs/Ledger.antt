@@ -14,6 +14,7 @@ pub record Log : Type 0 where
   pub did : List MarkCall
   pub saw : List MarkCall
 
+-- what this share did
 abbrev pub log_of : Share → Log
 log_of s = record { took = taken s; met = s.met; did = own_calls s; saw = seen s }
 
@@ -27,14 +28,16 @@ abbrev pub calls : List Log → List MarkCall
 calls [] = []
 calls (l ∷ ls) = l.did ++ calls ls
 
+-- whether one of these shares has met the end of the bag
 abbrev pub any_met : List Log → Bool
 any_met [] = false
 any_met (l ∷ ls) = l.met || any_met ls
 
--- some share lowered the index, and some read found it
+-- some share lowered the index
 abbrev pub WasLowered : ℕ → List Log → Type 0
 WasLowered i logs = 0 < total (is_lowered i) (calls logs)
 
+-- some read found the index
 abbrev pub WasFound : ℕ → List Log → Type 0
 WasFound i logs = 0 < total (is_found i) (calls logs)
 

@@ -8,17 +8,20 @@ use Rattle.pieces.specs.declared.views.MarkView.{MarkView}
 use Rattle.pieces.specs.Counting.{total}
 use Rattle.pieces.specs.History.{register, IsLegal, EachBegins}
 
+-- what a share knows of the mark, of these parts
 abbrev pub mark_view : ℕ → List MarkCall → List (List MarkCall) → List MarkCall → MarkView
 mark_view parts seen others made = record { parts = parts; seen = seen; others = others; made = made }
 
--- the register in the table's word, which is 2^64 - 1 where nothing was lowered, and what a read of the word gives
+-- the register in the table's word, which is 2^64 - 1 where nothing was lowered
 abbrev pub word_of : Option ℕ → ℕ
 word_of None = 18446744073709551615
 word_of (Some i) = i
 
+-- what a read of the word gives
 abbrev pub reading : ℕ → Option ℕ
 reading n = if nat_lt n 4294967296 then Some n else None
 
+-- an index that was lowered is below 2^32
 abbrev pub IsSmall : Option ℕ → Type 0
 IsSmall None = Unit {0}
 IsSmall (Some i) = i < 4294967296
@@ -39,10 +42,11 @@ pub record IsKept (words : List ℕ) (views : List MarkView) : Type 0 where
   pub each : (h : MarkCall → ℕ) → total h log ≡ total (λ v. total h v.made) views
   pub fits : (seat : ℕ) (v : MarkView) → get_elem? views seat ≡ some v → FitsHistory log v
 
--- what the first share keeps, and what a new one has
+-- what the first share keeps where it gives a part
 abbrev pub kept_mark_view : MarkView → MarkView
 kept_mark_view v = mark_view (v.parts - 1) v.seen v.others v.made
 
+-- what a new seat has: one part
 abbrev pub given_mark_view : MarkView → MarkView
 given_mark_view v = mark_view 1 [] [] []
 

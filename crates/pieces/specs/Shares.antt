@@ -22,10 +22,12 @@ use Rattle.pieces.specs.MarkRule.{mark_view}
 abbrev pub DequeId : Type 0
 DequeId = RowsId × Global
 
+-- what this access knows of the deque
 abbrev pub bag_view_of : Access → BagView
 bag_view_of (Pops w a) = worker_view w
 bag_view_of (Steals p) = view p
 
+-- what this share knows of the mark
 abbrev pub mark_view_of : Share → MarkView
 mark_view_of s = s.seat.me.0
 
@@ -33,17 +35,19 @@ mark_view_of s = s.seat.me.0
 abbrev pub taken : Share → List ℕ
 taken s = (bag_view_of s.access).taken
 
--- its calls on the mark, in order, and how far it has seen the history of all calls
+-- its calls on the mark, in order
 abbrev pub own_calls : Share → List MarkCall
 own_calls s = s.seat.me.0.made
 
+-- how far the share has seen the history of all calls
 abbrev pub seen : Share → List MarkCall
 seen s = s.seat.me.0.seen
 
--- its parts of the right to know the whole
+-- its parts of the right to know the bag's whole history
 abbrev pub bag_parts : Share → ℕ
 bag_parts s = (bag_view_of s.access).parts
 
+-- its parts of the right to know the mark's whole history
 abbrev pub mark_parts : Share → ℕ
 mark_parts s = s.seat.me.0.parts
 
@@ -66,11 +70,12 @@ pub record IsOn (table : TableId) (s : Share) : Type 0 where
   pub free : s.seat.me.1 ≡ []
   pub part : 0 < s.seat.me.0.parts
 
--- the first share, which keeps the mark's word, and the others
+-- the access is the first share's, which keeps the mark's word
 abbrev pub IsFirst : TableId → Access → Type 0
 IsFirst table (Pops w a) = ((arc_value a).shared.table_id ≡ table) × (table.words ≡ 1)
 IsFirst table (Steals p) = ⊥
 
+-- the access steals
 abbrev pub IsStealing : Access → Type 0
 IsStealing (Pops w a) = ⊥
 IsStealing (Steals p) = Unit {0}
@@ -82,12 +87,13 @@ SameKind (Pops w a) (Steals p) = ⊥
 SameKind (Steals p) (Pops w a) = ⊥
 SameKind (Steals p) (Steals p') = Unit {0}
 
--- what a call on the bag leaves as it was, and what a call on the mark does
+-- what a call on the bag leaves as it was
 pub record KeepsMark (old new : Share) : Type 0 where
   pub seat : new.seat ≡ old.seat
   pub parts : bag_parts new ≡ bag_parts old
   pub kind : SameKind old.access new.access
 
+-- what a call on the mark leaves as it was
 pub record KeepsBag (old new : Share) : Type 0 where
   pub access : new.access ≡ old.access
   pub met : new.met ≡ old.met
@@ -97,11 +103,12 @@ abbrev pub EachShare : (Share → Type 0) → List Share → Type 0
 EachShare P [] = Unit {0}
 EachShare P (s ∷ ss) = P s × EachShare P ss
 
+-- the first share keeps the mark's word, and the others steal
 abbrev pub IsLed : TableId → List Share → Type 0
 IsLed table [] = ⊥
 IsLed table (s ∷ ss) = IsFirst table s.access × EachShare (λ t. IsStealing t.access) ss
 
--- all the shares of one `open`
+-- these are all the shares of one `open`, of this deque and this mark
 pub record IsCrew (deque : DequeId) (count : ℕ) (mark : TableId) (shares : List Share) : Type 0 where
   pub led : IsLed mark shares
   pub each_in : EachShare (IsIn deque count) shares
@@ -109,6 +116,7 @@ pub record IsCrew (deque : DequeId) (count : ℕ) (mark : TableId) (shares : Lis
   pub bag_parts_are : total bag_parts shares ≡ 64
   pub mark_parts_are : total mark_parts shares ≡ 64
 
+-- these are all the shares of one `open`
 abbrev pub IsWhole : List Share → Type 0
 IsWhole shares = (deque : DequeId) × (count : ℕ) × (mark : TableId) × IsCrew deque count mark shares
 
@@ -132,5 +140,6 @@ pub record IsNew (deque : DequeId) (count : ℕ) (mark : TableId) (s : Share) : 
   pub me : s.seat.me ≡ (mark_view 1 [] [] [], [])
   pub met : s.met ≡ false
 
+-- a call of the owner keeps which deque it is
 abbrev pub SameDeque : Worker Task Global BagView InOrder → Worker Task Global BagView InOrder → Type 0
 SameDeque old new = (worker_deque new ≡ worker_deque old) × (worker_flavor new ≡ worker_flavor old)

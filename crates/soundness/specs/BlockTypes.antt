@@ -10,7 +10,7 @@ use Rattle.wsyntax.specs.Validation.Context.{Context, leave}
 use Rattle.wsyntax.specs.Validation.Algorithm.{Verdict, Accepted, Refused, alg}
 use Rattle.soundness.specs.Bodies.{bare, zero32, zero64, eqz32, eqz64}
 
--- ---- six function types, and the block types that are their indices
+-- Six function types, and the block types that are their indices.
 
 -- [i32 i64] -> [i64 i32]
 abbrev pub turning : FuncType
@@ -36,21 +36,27 @@ giving_one = record { params = []; results = I32 ∷ [] }
 abbrev pub taking_one : FuncType
 taking_one = record { params = I32 ∷ []; results = [] }
 
+-- a block type: the type of index 0
 abbrev pub turns : BlockType
 turns = Index 0
 
+-- a block type: the type of index 1
 abbrev pub keeps : BlockType
 keeps = Index 1
 
+-- a block type: the type of index 2
 abbrev pub gives : BlockType
 gives = Index 2
 
+-- a block type: the type of index 3
 abbrev pub changes : BlockType
 changes = Index 3
 
+-- a block type: the type of index 4
 abbrev pub gives_one : BlockType
 gives_one = Index 4
 
+-- a block type: the type of index 5
 abbrev pub takes_one : BlockType
 takes_one = Index 5
 
@@ -74,14 +80,17 @@ verdict ts = alg several [] ts
 abbrev pub verdict_of_two : List Token → Verdict
 verdict_of_two ts = alg several (leave giving) ts
 
--- ---- tokens
+-- Tokens.
 
+-- the token `drop`
 abbrev pub drop : Token
 drop = Do Drop
 
+-- the token `br l`
 abbrev pub br : ℕ → Token
 br l = Do (Br l)
 
+-- the token `br_if l`
 abbrev pub br_if : ℕ → Token
 br_if l = Do (BrIf l)
 
@@ -109,7 +118,7 @@ after_64_32 = End ∷ eqz32 ∷ drop ∷ eqz64 ∷ drop ∷ End ∷ []
 abbrev pub turned : List Token
 turned = take_64_32 (zero64 ∷ zero32 ∷ after_64_32)
 
--- ---- blocks, loops, ifs and labels
+-- Blocks, loops, ifs and labels.
 
 -- 3.2.2 and 3.3.8 of Core 2.0, `block`: it takes its parameters from the operands outside, begins with them, and gives its results
 pub record IndexedBlocks : Type 0 where

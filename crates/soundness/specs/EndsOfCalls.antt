@@ -21,17 +21,19 @@ exporter = record starter {
       record { item_name = codes "sum"; kind = Global; index = 0 } ∷ [];
 }
 
--- its bodies, and others with a float in the first
+-- its bodies
 abbrev pub whole : List BodyShape
 whole = body_of adds_five ∷ body_of gives_global ∷ []
 
+-- the same bodies, but a float in the first
 abbrev pub floating : List BodyShape
 floating = body_of (Plain (Const F32 0) (Plain Drop Stop)) ∷ body_of gives_global ∷ []
 
--- a call of this name with these arguments ends so, where memory was there, and where it was wanting
+-- a call of this name with these arguments ends so, where memory is had
 abbrev pub Ending : List BodyShape → List ℕ → List Value → CallEnd → Type 0
 Ending bodies name args end = EndOf exporter bodies (fuel 10) ⊥ (calling name args) end
 
+-- a call of this name with these arguments ends so, where memory is refused
 abbrev pub ShortEnding : List BodyShape → List ℕ → List Value → CallEnd → Type 0
 ShortEnding bodies name args end = EndOf exporter bodies (fuel 10) (Unit {0}) (calling name args) end
 

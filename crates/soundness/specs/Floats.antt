@@ -17,10 +17,11 @@ of_type params results = record empty_module { types = (record { params = params
 abbrev pub of_global : ValType → Token → ModuleShape
 of_global t first = record empty_module { globals = (record { content = record { content = t; mutable = false }; init = first ∷ End ∷ [] }) ∷ [] }
 
--- of one element segment, and of one data segment, at this offset
+-- of one element segment at this offset
 abbrev pub of_element : Token → ModuleShape
 of_element offset = record empty_module { elements = (record { table = 0; offset = offset ∷ End ∷ []; functions = [] }) ∷ [] }
 
+-- of one data segment at this offset
 abbrev pub of_data : Token → ModuleShape
 of_data offset = record empty_module { segments = (record { memory = 0; offset = offset ∷ End ∷ []; bytes = [] }) ∷ [] }
 

@@ -18,7 +18,7 @@ use Rattle.wsyntax.specs.Execution.Laws.{CallTyped}
 use Rattle.wsyntax.specs.Execution.Start.{has_floats, layout_of, start_refusal, InstanceOf, fresh_store}
 use Rattle.wsyntax.specs.Texts.Answer.{Limits, Started, EndsOn}
 
--- ---- what was judged
+-- What was judged.
 
 -- the body that stands at that place is typed: its tokens are those of a tree, which is typed under the context of its function
 pub record TypedAt (m : ModuleShape) (place : ℕ) (b : BodyShape) : Type 0 where
@@ -38,7 +38,7 @@ pub record Runnable (m : ModuleShape) (bodies : List BodyShape) : Type 0 where
   pub no_imports : m.imports ≡ []
   pub no_floats : has_floats m bodies ≡ false
 
--- ---- instances
+-- Instances.
 
 -- it has one run-time module, which is typed
 pub record OneInstance : Type 0 where
@@ -63,14 +63,14 @@ pub record StartsTyped : Type 0 where
   pub layout : (m : ModuleShape) (bodies : List BodyShape) (pages : ℕ) → Judged m bodies → SegmentsAreBytes m → start_refusal pages m bodies ≡ None → LayoutTyped (module_context m) pages (layout_of m)
   pub store : (m : ModuleShape) (bodies : List BodyShape) (pages : ℕ) → Judged m bodies → SegmentsAreBytes m → start_refusal pages m bodies ≡ None → StoreTyped (module_context m) (fresh_store pages m)
 
--- ---- the start function
+-- The start function.
 
 -- it has no parameters and no results, so it ends in no values
 pub record StartIsPlain : Type 0 where
   pub typed : (m : ModuleShape) (f : ℕ) → NoneBroken m → m.start ≡ Some f → slice_get (module_context m).functions f ≡ Some empty_type
   pub no_values : (m : ModuleShape) (bodies : List BodyShape) (pages : ℕ) (i : Module) (f fuel frames k : ℕ) (vs : List Value) (s : Store) → Instantiated m bodies pages i → m.start ≡ Some f → Ends i (fresh_store pages m) f [] fuel frames (Values vs) k s → vs ≡ []
 
--- ---- calls
+-- Calls.
 
 -- a call with arguments of the function's type is typed, on the fresh store and on the one that the start function leaves
 pub record CallsTyped : Type 0 where

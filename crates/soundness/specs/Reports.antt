@@ -15,7 +15,7 @@ use Rattle.wsyntax.specs.Texts.Lines.{verdict_text, verdict_line}
 use Rattle.soundness.specs.Growth.{one_page}
 use Rattle.soundness.specs.Samples.{one, two, word_at}
 
--- ---- calls that are run
+-- Calls that are run.
 
 -- 0: adds its arguments. 1: loads the word at its argument and the offset 2
 abbrev pub adder : Module
@@ -57,7 +57,7 @@ pub record ReportExamples : Type 0 where
   -- two results, joined by a comma, the lowest first
   pub two_results : call_line 12 (Ran (Values (V32 1 ∷ V64 18446744073709551615 ∷ [])) 100) ≡ codes "12 values i32:1,i64:-1 fuel 100\n"
 
--- ---- the other ends
+-- The other ends.
 
 -- what is told of each, and what the total counts
 pub record EndTexts : Type 0 where
@@ -101,7 +101,7 @@ pub record EndTexts : Type 0 where
   pub all_counted : total_line (Ran (Values []) 4 ∷ Ran (Trapped Unreachable) 3 ∷ Ran OutOfFuel 20 ∷ Ran OutOfFrames 100 ∷ NoExport ∷ NotAFunction ∷ BadArguments ∷ NotStarted HasFloats ∷ NoMemory ∷ [])
       ≡ codes "total 9 values 1 traps 1 exhausted 2 refused 4 no-memory 1 fuel 127\n"
 
--- ---- verdicts
+-- Verdicts.
 
 -- the text of each kind
 pub record VerdictTexts : Type 0 where

@@ -12,7 +12,7 @@ use Rattle.wnum.specs.declared.trap.NumTrap.TheVariants.{DivideByZero, IntegerOv
 use Rattle.wsyntax.specs.Execution.Ends.{Outcome, Values, Trapped, OutOfFuel, OutOfFrames}
 use Rattle.wsyntax.specs.Execution.Run.{call_ends}
 
--- ---- types and instructions
+-- Types and instructions.
 
 -- [] -> []
 abbrev pub none : FuncType
@@ -38,7 +38,7 @@ byte_at n = record { of_type = I32; width = 1; signed = true; align = 0; offset 
 abbrev pub word_at : ℕ → Access
 word_at n = record { of_type = I32; width = 4; signed = false; align = 0; offset = n }
 
--- ---- functions
+-- Functions.
 
 -- counts its argument down to 0
 abbrev pub counts : Function
@@ -76,8 +76,9 @@ loads_far = record { func_type = one; locals = []; body = Plain (LocalGet 0) (Pl
 abbrev pub chooses : Function
 chooses = record { func_type = one; locals = []; body = Block (Gives I32) (Block (Gives I32) (const 20 (Plain (LocalGet 0) (Plain (BrTable (0 ∷ 1 ∷ []) 1) Stop))) (const 10 (Plain (Numeric (OfTwo Width32 Sub)) Stop))) Stop }
 
--- ---- a module of them, and its store
+-- A module of them, and its store.
 
+-- the module of these functions
 abbrev pub sample : Module
 sample = record { types = none ∷ one ∷ two ∷ []; functions = counts ∷ calls ∷ divides ∷ loops ∷ recurs ∷ stores ∷ calls_entry ∷ loads_far ∷ chooses ∷ [] }
 
@@ -93,7 +94,7 @@ little = record {
 abbrev pub calling : ℕ → List Value → ℕ → ℕ → Option (Outcome × ℕ)
 calling f args fuel frames = call_ends sample little f args fuel frames 100
 
--- ---- how calls end
+-- How calls end.
 
 -- 4.4.5 control: loops, calls, branches, returns
 pub record ControlExamples : Type 0 where

@@ -18,7 +18,7 @@ use Rattle.soundness.specs.Bodies.{bare}
 use Rattle.soundness.specs.Samples.{one, const}
 use Rattle.soundness.specs.BlockTypes.{turning}
 
--- ---- function types, and the block types that are their indices
+-- Function types, and the block types that are their indices.
 
 -- [i32 i32] -> [i32 i32]
 abbrev pub two_to_two : FuncType
@@ -32,19 +32,23 @@ none_to_two = record { params = []; results = I32 ∷ I32 ∷ [] }
 abbrev pub two_to_one : FuncType
 two_to_one = record { params = I32 ∷ I32 ∷ []; results = I32 ∷ [] }
 
+-- a block type: the type of index 0
 abbrev pub passes : BlockType
 passes = Index 0
 
+-- a block type: the type of index 1
 abbrev pub keeps : BlockType
 keeps = Index 1
 
+-- a block type: the type of index 2
 abbrev pub gives_two : BlockType
 gives_two = Index 2
 
+-- a block type: the type of index 3
 abbrev pub joins : BlockType
 joins = Index 3
 
--- ---- functions
+-- Functions.
 
 -- i32.sub
 abbrev pub sub : Code → Code
@@ -82,7 +86,7 @@ returns_two = record { func_type = none_to_two; locals = []; body = const 9 (fiv
 abbrev pub branches_with_two : Function
 branches_with_two = record { func_type = none_to_two; locals = []; body = const 9 (five_three (Plain (Br 0) Stop)) }
 
--- ---- a module of them, and its store
+-- A module of them, and its store.
 
 -- function 0 is of type [i32] -> [i32] and has this body
 abbrev pub around : Code → Module
@@ -113,7 +117,7 @@ pub record Gives (body : Code) (arg n left : ℕ) : Type 0 where
   pub valid : alg context (I32 ∷ []) (flat_body body) ≡ Accepted
   pub ends : calling body 0 (V32 arg ∷ []) ≡ Some (Values (V32 n ∷ []), left)
 
--- ---- bodies
+-- Bodies.
 
 -- the argument and all that is less are added to the loop's parameter, which is 0 at first
 abbrev pub adds_down : Code
@@ -143,7 +147,7 @@ carries_far = Block gives_two (const 9 (Block gives_two (const 8 (five_three (Pl
 abbrev pub chooses : Code
 chooses = Block gives_two (Block gives_two (five_three (arg (Plain (BrTable (0 ∷ []) 1) Stop))) (drop (const 1 Stop))) (sub Stop)
 
--- ---- how they end
+-- How they end.
 
 -- 4.4.8 and 4.4.9 of Core 2.0: blocks by index, and branches that carry several values
 pub record SeveralExamples : Type 0 where

@@ -31,5 +31,6 @@ sole_body = record { runs = []; code = Do Nop ∷ End ∷ [] }
 abbrev pub sole_instance : Module
 sole_instance = record { types = empty_type ∷ []; functions = (record { func_type = empty_type; locals = []; body = Plain Nop Stop }) ∷ [] }
 
+-- it is the instance of that module
 abbrev pub SoleInstantiated : Type 0
 SoleInstantiated = Instantiated sole (sole_body ∷ []) 1 sole_instance

@@ -9,8 +9,9 @@ use Rattle.wsyntax.specs.Binary.Shell.{empty_module}
 use Rattle.wsyntax.specs.Execution.Store.{Store, Unset, SetTo}
 use Rattle.wsyntax.specs.Execution.Start.{StartRefusal, HasImports, HasFloats, TableLimit, MemoryLimit, ElementOutside, DataOutside, start_refusal, fresh_store}
 
--- ---- parts of modules
+-- Parts of modules.
 
+-- the expression of the offset n
 abbrev pub at : ℕ → List Token
 at n = Do (Const I32 n) ∷ End ∷ []
 
@@ -32,10 +33,11 @@ sized size pages elements segments = record empty_module {
   segments = segments;
 }
 
--- and with an import, with a float
+-- the same with an import
 abbrev pub importing : ModuleShape → ModuleShape
 importing m = record m { imports = (record { module_name = []; item_name = []; kind = Function 0 }) ∷ [] }
 
+-- the same with a float in a type
 abbrev pub floating : ModuleShape → ModuleShape
 floating m = record m { types = (record { params = F32 ∷ []; results = [] }) ∷ [] }
 
@@ -43,7 +45,7 @@ floating m = record m { types = (record { params = F32 ∷ []; results = [] }) �
 abbrev pub refusal : ModuleShape → Option StartRefusal
 refusal m = start_refusal 2 m []
 
--- ---- refusals
+-- Refusals.
 
 -- of two, the first in the order of asking; of segments, the least
 pub record RefusalExamples : Type 0 where
@@ -82,7 +84,7 @@ pub record RefusalExamples : Type 0 where
   -- the offset is read without sign, and nothing wraps
   pub far_data : refusal (sized 2 1 [] (bytes 4294967295 (1 ∷ []) ∷ [])) ≡ Some (DataOutside 0)
 
--- ---- fresh stores
+-- Fresh stores.
 
 -- the memory's first five bytes
 abbrev pub first_bytes : Store → Option (List ℕ)

@@ -12,6 +12,7 @@ some_limits = record { fuel = 10; frames = 1; pages = 1 }
 abbrev pub Answered : List ℕ → List ℕ → List ℕ → Type 0
 Answered bytes text out = IsAnswer bytes text some_limits (λ n. ⊥) out
 
+-- answers to whole inputs, computed
 pub record AnswerExamples : Type 0 where
   -- the header alone spells the module without sections, which breaks no rule
   pub header_alone : IsVerdict header Accepted

@@ -11,6 +11,7 @@ use Rattle.texts.specs.declared.fault.CallsFault.TheVariants.{TooLarge, Line, Me
 abbrev pub call_of : Call → Meant
 call_of c = record { name = c.name.now; args = args_of c.args }
 
+-- what these calls of the code mean
 abbrev pub calls_of : List Call → List Meant
 calls_of calls = map call_of calls
 

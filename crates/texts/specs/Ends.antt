@@ -15,5 +15,6 @@ end_of BadArguments = report.BadArguments
 end_of (NotStarted r) = report.NotStarted (refusal_of r)
 end_of NoMemory = report.NoMemory
 
+-- what these lines of the code mean
 abbrev pub ends_of : List Line → List report.CallEnd
 ends_of lines = map end_of lines

@@ -15,6 +15,7 @@ slices_of slices = map (λ s. s.now) slices
 abbrev pub EndsLine : ℕ → List ℕ → Type 0
 EndsLine size slice = (front : List ℕ) × (slice ≡ front ++ newline) × (size ≤ length front)
 
+-- each slice ends with a newline, after `size` bytes or more
 abbrev pub EachEndsLine : ℕ → List (List ℕ) → Type 0
 EachEndsLine size [] = Unit {0}
 EachEndsLine size (slice ∷ slices) = EndsLine size slice × EachEndsLine size slices

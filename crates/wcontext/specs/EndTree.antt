@@ -30,6 +30,7 @@ start_in starts (One t) = none
 start_in starts (Params y) = (starts_at starts y).params
 start_in starts (Results y) = (starts_at starts y).results
 
+-- the list is taken in, and its fronts begin there
 abbrev pub IsStart : List Starts → TypeList → ℕ → Type 0
 IsStart starts list start = (start < none) × (start_in starts list ≡ start)
 

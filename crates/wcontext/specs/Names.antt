@@ -13,10 +13,11 @@ name_number (b ∷ bs) = b + 256 * name_number bs
 abbrev pub short_number : List ℕ → Option ℕ
 short_number name = cond (nat_lt (length name) 16) (Some (name_number name)) None
 
--- the numbers of those of these names that are short, and the others
+-- the numbers of those of these names that are short
 abbrev pub numbers_of : List (Bor (List ℕ)) → List ℕ
 numbers_of = filter_map (λ x. short_number x.now)
 
+-- the names that are long
 abbrev pub long_of : List (Bor (List ℕ)) → List (Bor (List ℕ))
 long_of = filter (λ x. is_none (short_number x.now))
 

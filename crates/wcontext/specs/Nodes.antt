@@ -44,6 +44,7 @@ pub record IsForked (below : ℕ) (forks : List Fork) (t : ValType) (d : ℕ) : 
 abbrev pub HasChildIn : List Node → List Fork → ℕ → ValType → ℕ → Type 0
 HasChildIn nodes forks p t d = IsOnly (below_at nodes p) t d ⊎ IsForked (below_at nodes p) forks t d
 
+-- a node of these nodes has that child by that type
 abbrev pub HasChild : Nodes → ℕ → ValType → ℕ → Type 0
 HasChild n p t d = HasChildIn n.nodes.items n.forks.items p t d
 

@@ -40,6 +40,7 @@ pub record IsInBlock (all texts : List (List ValType)) (base column : ℕ) (r : 
 abbrev pub BeginsBlock : Reading → Reading → ℕ → Type 0
 BeginsBlock old new base = (all texts : List (List ValType)) → IsReading all texts base old → IsInBlock all texts base base new
 
+-- the block of each list begins at base
 abbrev pub BeginsBlocks : List Reading → List Reading → ℕ → Type 0
 BeginsBlocks lists now base = (all texts : List (List ValType)) → All (IsReading all texts base) lists
     → All (IsInBlock all texts base base) now
@@ -77,6 +78,7 @@ abbrev pub PutsFronts : List ℕ → List ℕ → Reading → ℕ → Type 0
 PutsFronts old new list base = (all texts : List (List ValType)) (column : ℕ) → IsInBlock all texts base column list
     → AreRead all texts old → AreRead all texts new
 
+-- the nodes of each list's block that begins at base were put to the fronts
 abbrev pub PutsBlock : List ℕ → List ℕ → List Reading → ℕ → Type 0
 PutsBlock old new lists base = (all texts : List (List ValType)) (column : ℕ) → All (IsInBlock all texts base column) lists
     → AreRead all texts old → AreRead all texts new

@@ -9,6 +9,7 @@ use Rattle.wcontext.specs.Nodes.{text, above_at, below_at, IsLinked}
 abbrev pub start_at : List Node → ℕ → ℕ
 start_at = above_at
 
+-- where the numbers of a node that is numbered end
 abbrev pub end_at : List Node → ℕ → ℕ
 end_at = below_at
 

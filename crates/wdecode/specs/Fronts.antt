@@ -24,7 +24,7 @@ Ends last m rest segments = EndsAs last m rest (with_segments m segments)
 abbrev pub EndsFront : Front → List DataShape → Type 0
 EndsFront f segments = Ends f.last (module_shape f.module) f.rest.now segments
 
--- ---- reading
+-- Reading.
 
 -- the bytes still to be read make a module of that progress the whole one
 abbrev pub EndsProgress : Progress → ModuleShape → Type 0

@@ -12,6 +12,7 @@ use Rattle.wdecode.specs.declared.section.Section.TheVariants as held
 abbrev pub type_of : List ValType → List ValType → FuncType
 type_of params results = record { params = params; results = results }
 
+-- 5.5 what a section of the code means
 abbrev pub section_shape : Section → SectionShape
 section_shape held.Custom = Custom
 section_shape (held.Types v) = Types v

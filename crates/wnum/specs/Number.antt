@@ -46,10 +46,11 @@ FitsUnsignedBits N v = v < 2 ^ N
 abbrev pub FitsSignedBits : ℕ → ℤ → Type 0
 FitsSignedBits N v = (neg_ℤ (pos (2 ^ (N - 1))) ≤ℤ v) × (v <ℤ pos (2 ^ (N - 1)))
 
--- 5.2.2: the bytes spell v as uN, as sN
+-- 5.2.2 the bytes spell v as uN
 abbrev pub SpellsUnsigned : ℕ → List ℕ → ℕ → Type 0
 SpellsUnsigned N = SpellsNumber N groups (FitsUnsignedBits N)
 
+-- 5.2.2 the bytes spell v as sN
 abbrev pub SpellsSigned : ℕ → List ℕ → ℤ → Type 0
 SpellsSigned N = SpellsNumber N signed_groups (FitsSignedBits N)
 

@@ -37,23 +37,26 @@ sums_at n bytes = do
 abbrev pub ranged : {A : Type 0} → (ℕ → ℕ → A) → (A → Bool) → Read (ℕ × ℕ) → Read A
 ranged value in_range read = read >>= λ x. if in_range (value x.0.0 x.0.1) then Some (value x.0.0 x.0.1, x.1) else None
 
--- what a sum and a sign stand for without and with the sign
+-- what a sum and a sign stand for without the sign
 abbrev pub unsigned_value : ℕ → ℕ → ℕ
 unsigned_value sum sign = sum
 
+-- what a sum and a sign stand for with the sign
 abbrev pub signed_value : ℕ → ℕ → ℤ
 signed_value sum sign = pos sum -ℤ pos sign
 
--- FitsUnsignedBits and FitsSignedBits as tests
+-- FitsUnsignedBits as a test
 abbrev pub fits_unsigned_bits : ℕ → ℕ → Bool
 fits_unsigned_bits N v = nat_lt v (2 ^ N)
 
+-- FitsSignedBits as a test
 abbrev pub fits_signed_bits : ℕ → ℤ → Bool
 fits_signed_bits N v = int_le (neg_ℤ (pos (2 ^ (N - 1)))) v && int_lt v (pos (2 ^ (N - 1)))
 
--- 5.2.2: uN and sN at the front of the bytes
+-- 5.2.2 uN at the front of the bytes
 unfoldable pub unsigned_at : ℕ → List ℕ → Read ℕ
 unsigned_at N bytes = ranged unsigned_value (fits_unsigned_bits N) (sums_at (most N) bytes)
 
+-- 5.2.2 sN at the front of the bytes
 unfoldable pub signed_at : ℕ → List ℕ → Read ℤ
 signed_at N bytes = ranged signed_value (fits_signed_bits N) (sums_at (most N) bytes)

@@ -9,6 +9,7 @@ pub record AreSettings (fuel frames pages : ℕ) : Type 0 where
   pub frames' : frames ≤ 4096
   pub pages' : pages ≤ 1024
 
+-- limits of these numbers
 abbrev pub limits : ℕ → ℕ → ℕ → Limits
 limits fuel frames pages = record { fuel = fuel; frames = frames; pages = pages }
 

@@ -9,15 +9,19 @@ use Rattle.accepted.specs.Judgement.{shapes_of}
 use Rattle.wstore.specs.Held.{store_of}
 use Rattle.wstore.specs.declared.instance.Instance.{Instance}
 
+-- the module that it is an instance of
 abbrev pub module_in : Instance → ModuleShape
 module_in i = module_shape i.accepted.now.«module»
 
+-- the bodies of its module
 abbrev pub bodies_in : Instance → List BodyShape
 bodies_in i = shapes_of i.accepted.now.bodies.items
 
+-- the context of its module
 abbrev pub context_in : Instance → Context
 context_in i = module_context (module_in i)
 
+-- 4.2.3 its store, with the types of its values
 abbrev pub store_in : Instance → Store
 store_in i = store_of (context_in i) (seen i.parts)
 

@@ -8,6 +8,7 @@ pub data Bracket : Type 0 where
   Opening : Bool → Bracket
   Parting Closing Inner : Bracket
 
+-- what a token does to the open blocks
 abbrev pub bracket : Token → Bracket
 bracket (flat.Block t) = Opening false
 bracket (flat.Loop t) = Opening false
@@ -26,6 +27,7 @@ behind Closing [] more last = last
 behind Closing (may ∷ open_blocks) more last = more open_blocks
 behind Inner open_blocks more last = more open_blocks
 
+-- whether no token follows
 abbrev pub is_last : List Token → Bool
 is_last [] = true
 is_last (t ∷ ts) = false

@@ -18,7 +18,7 @@ pub data NumOp : Type 0 where
   ExtendLow : Width → ℕ → NumOp
   FloatOp : Operator → NumOp
 
--- ---- 2.4.4 memory instructions
+-- 2.4.4 memory instructions.
 
 -- what a load or a store says: the type of the value, the bytes in memory, whether a narrow load copies the sign, the alignment's exponent, the offset
 pub record Access : Type 0 where
@@ -28,7 +28,7 @@ pub record Access : Type 0 where
   pub align : ℕ
   pub offset : ℕ
 
--- ---- instructions without a body
+-- Instructions without a body.
 
 -- 2.4.1 to 2.4.5, each with its immediates
 pub data Op : Type 0 where
@@ -47,7 +47,7 @@ pub data Op : Type 0 where
   Const : ValType → ℕ → Op
   Numeric : NumOp → Op
 
--- ---- instructions with bodies
+-- Instructions with bodies.
 
 -- 2.4.5 and 2.4.6: a sequence of instructions. The last argument of each constructor is the rest of the sequence; If is one whose else was not written
 pub data Code : Type 0 where
@@ -65,7 +65,7 @@ follow (Loop t body rest) more = Loop t body (follow rest more)
 follow (If t body rest) more = If t body (follow rest more)
 follow (IfElse t body other rest) more = IfElse t body other (follow rest more)
 
--- ---- tokens
+-- Tokens.
 
 -- an instruction without a body, or one of the words that begin and end the others
 pub data Token : Type 0 where

@@ -23,7 +23,7 @@ use Rattle.wsyntax.specs.declared.module.Import.{Import}
 use Rattle.wsyntax.specs.declared.module.LocalRun.{LocalRun}
 use Rattle.wsyntax.specs.declared.module.Body.{Body}
 
--- ---- tokens
+-- Tokens.
 
 -- a token of the code stands for a token of a tree, whatever the check has written into it; a branch table's labels lie in the list of targets, its default after them
 abbrev pub seen : List ℕ → Flat → Token
@@ -87,7 +87,7 @@ initial_tokens (initial.F64Const bytes) = seen [] (flat.F64Const bytes) ∷ End 
 initial_tokens (initial.GlobalGet x) = seen [] (flat.GlobalGet x) ∷ End ∷ []
 initial_tokens (initial.Other e) = tokens_read e.bytes.now
 
--- ---- 2.5 modules
+-- 2.5 modules.
 
 -- 2.5.11 an import
 pub record ImportShape : Type 0 where
@@ -95,6 +95,7 @@ pub record ImportShape : Type 0 where
   pub item_name : List ℕ
   pub kind : ImportKind
 
+-- 2.5.11 what an import of the code means
 abbrev pub import_shape : Import → ImportShape
 import_shape i = record { module_name = i.«module».now; item_name = i.name.now; kind = i.kind }
 
@@ -104,6 +105,7 @@ pub record ExportShape : Type 0 where
   pub kind : ExportKind
   pub index : ℕ
 
+-- 2.5.10 what an export of the code means
 abbrev pub export_shape : Export → ExportShape
 export_shape e = record { item_name = e.name.now; kind = e.kind; index = e.index }
 
@@ -112,6 +114,7 @@ pub record GlobalShape : Type 0 where
   pub content : GlobalType
   pub init : List Token
 
+-- 2.5.6 what a global of the code means
 abbrev pub global_shape : Global → GlobalShape
 global_shape g = record { content = g.content; init = initial_tokens g.init }
 
@@ -121,6 +124,7 @@ pub record ElementShape : Type 0 where
   pub offset : List Token
   pub functions : List ℕ
 
+-- 2.5.7 what an element segment of the code means
 abbrev pub element_shape : HeldElement → ElementShape
 element_shape e = record { table = e.table; offset = initial_tokens e.offset; functions = e.functions }
 
@@ -130,6 +134,7 @@ pub record DataShape : Type 0 where
   pub offset : List Token
   pub bytes : List ℕ
 
+-- 2.5.8 what a data segment of the code means
 abbrev pub data_shape : Data → DataShape
 data_shape d = record { memory = d.memory; offset = initial_tokens d.offset; bytes = d.bytes.now }
 
@@ -138,6 +143,7 @@ pub record BodyShape : Type 0 where
   pub runs : List LocalRun
   pub code : List Token
 
+-- 2.5.3 what a body of the code means
 abbrev pub body_shape : Body → BodyShape
 body_shape b = record { runs = b.runs.items; code = tokens_of b.code }
 
@@ -156,6 +162,7 @@ pub record ModuleShape : Type 0 where
   pub bodies : List (List ℕ)
   pub segments : List DataShape
 
+-- 2.5 what a module of the code means, wherever it lies in memory
 abbrev pub module_shape : Module → ModuleShape
 module_shape m = record {
   types = m.types;

@@ -10,7 +10,7 @@ pub record FuncType : Type 0 where
   pub params : List ValType
   pub results : List ValType
 
--- ---- whether two types are the same
+-- Whether two types are the same.
 
 -- of value types
 abbrev pub same_type : ValType → ValType → Bool

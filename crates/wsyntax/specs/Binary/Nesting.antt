@@ -43,11 +43,12 @@ nest (false ∷ inner) Else = None
 nest [] End = Some None
 nest (b ∷ inner) End = Some (Some inner)
 
--- the tokens up to the end of the expression, at most n of them
+-- a token, and those after it, unless it closes the expression
 abbrev pub and_then : Token → List ℕ → (List Bool → Option (List Token × List ℕ)) → Option (List Bool) → Option (List Token × List ℕ)
 and_then t rest more None = Some (t ∷ [], rest)
 and_then t rest more (Some inner) = more inner >>= λ x. Some (t ∷ x.0, x.1)
 
+-- at most n tokens up to the end of the expression, where these blocks are open
 abbrev pub tokens_at : ℕ → List Bool → List ℕ → Option (List Token × List ℕ)
 tokens_at zero inner bytes = None
 tokens_at (suc n) inner bytes = token_at bytes >>= λ t. nest inner t.0 >>= λ o. and_then t.0 t.1 (λ now. tokens_at n now t.1) o
@@ -56,5 +57,6 @@ tokens_at (suc n) inner bytes = token_at bytes >>= λ t. nest inner t.0 >>= λ o
 abbrev pub expression_at : List ℕ → Option (List Token × List ℕ)
 expression_at bytes = tokens_at (length bytes) [] bytes
 
+-- 5.4.6 an expression, as tokens
 unfoldable pub expression : Production (List Token)
 expression = record { spells = SpellsTokens; read = expression_at }

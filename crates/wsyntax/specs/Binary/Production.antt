@@ -4,6 +4,7 @@ use Rattle.std.specs.Prelude.{◌⊎◌, ◌≡◌, ℕ, zero, suc, List, [], �
 use Rattle.wnum.specs.Reading.{Reads}
 use Rattle.wnum.specs.Reading as reading
 
+-- 5.1.2 a production: which bytes spell which value, and how a front of the bytes is read
 pub record Production (A : Type 0) : Type 1 where
   pub spells : List ℕ → A → Type 0
   pub read : List ℕ → Option (A × List ℕ)
@@ -12,11 +13,12 @@ pub record Production (A : Type 0) : Type 1 where
 abbrev pub Agrees : {A : Type 0} → Production A → Type 0
 Agrees p = Reads p.read p.spells
 
--- one byte
+-- the byte at the front
 abbrev pub byte_at : List ℕ → Option (ℕ × List ℕ)
 byte_at [] = None
 byte_at (b ∷ rest) = Some (b, rest)
 
+-- 5.1.3 one byte
 abbrev pub byte : Production ℕ
 byte = record { spells = λ bytes b. bytes ≡ b ∷ []; read = byte_at }
 
@@ -42,11 +44,12 @@ exactly b = do
   c ← byte
   given (if c == b then Some c else None)
 
--- what one production spells, or the other. The first is tried first, so that this agrees only where no bytes of the second begin as those of the first
+-- what is read first, or else the other
 abbrev pub or_read : {A : Type 0} → Option (A × List ℕ) → Option (A × List ℕ) → Option (A × List ℕ)
 or_read (Some x) other = Some x
 or_read None other = other
 
+-- 5.1.2 one production or the other; the first is tried first, so this agrees only where no bytes of the second begin as those of the first
 abbrev pub either : {A : Type 0} → Production A → Production A → Production A
 either p q = record { spells = λ bytes a. p.spells bytes a ⊎ q.spells bytes a; read = λ bytes. or_read (p.read bytes) (q.read bytes) }
 
@@ -54,22 +57,25 @@ either p q = record { spells = λ bytes a. p.spells bytes a ⊎ q.spells bytes a
 abbrev pub raw : ℕ → Production (List ℕ)
 raw n = record { spells = λ bytes s. (bytes ≡ s) × (length s ≡ n); read = λ bytes. if nat_lt (length bytes) n then None else Some (take n bytes, drop n bytes) }
 
--- n values, one after the other
+-- n values at the front, one after the other
 abbrev pub times_at : {A : Type 0} → (List ℕ → Option (A × List ℕ)) → ℕ → List ℕ → Option (List A × List ℕ)
 times_at read zero bytes = Some ([], bytes)
 times_at read (suc n) bytes = reading.◌>>=◌ (read bytes) (λ first. reading.◌>>=◌ (times_at read n first.1) (λ others. Some (first.0 ∷ others.0, others.1)))
 
+-- the bytes spell these values, one after the other
 abbrev pub SpellsAll : {A : Type 0} → (List ℕ → A → Type 0) → List ℕ → List A → Type 0
 SpellsAll spells bytes [] = bytes ≡ []
 SpellsAll spells bytes (a ∷ rest) = (x y : List ℕ) × (bytes ≡ x ++ y) × spells x a × SpellsAll spells y rest
 
+-- 5.1.2 n values of the production, one after the other
 abbrev pub times : {A : Type 0} → ℕ → Production A → Production (List A)
 times n p = record { spells = λ bytes values. (length values ≡ n) × SpellsAll p.spells bytes values; read = times_at p.read n }
 
--- no byte, and what all of the bytes s spell
+-- what is read of all of the bytes s
 abbrev pub whole_at : {A : Type 0} → (List ℕ → Option (A × List ℕ)) → List ℕ → Option A
 whole_at read s = reading.◌>>=◌ (read s) (λ found. if length found.1 == 0 then Some found.0 else None)
 
+-- no byte, and what all of the bytes s spell
 abbrev pub inside : {A : Type 0} → List ℕ → Production A → Production A
 inside s p = record { spells = λ bytes a. (bytes ≡ []) × p.spells s a; read = λ bytes. reading.◌>>=◌ (whole_at p.read s) (λ a. Some (a, bytes)) }
 

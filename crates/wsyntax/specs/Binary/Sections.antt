@@ -21,9 +21,11 @@ import_kind_of (suc (suc zero)) = limits >>= λ m. pure (imports.Memory m)
 import_kind_of (suc (suc (suc zero))) = global_type >>= λ g. pure (imports.Global g)
 import_kind_of (suc (suc (suc (suc tag)))) = given None
 
+-- 5.5.5 what an import asks for
 unfoldable pub import_kind : Production ImportKind
 import_kind = byte >>= import_kind_of
 
+-- 5.5.5 an import
 unfoldable pub an_import : Production ImportShape
 an_import = do
   m ← name
@@ -42,6 +44,7 @@ global = do
 abbrev pub export_kind_of : ℕ → Option ExportKind
 export_kind_of b = if b == 0x00 then Some exports.Function else if b == 0x01 then Some exports.Table else if b == 0x02 then Some exports.Memory else if b == 0x03 then Some exports.Global else None
 
+-- 5.5.10 an export
 unfoldable pub an_export : Production ExportShape
 an_export = do
   i ← name
@@ -65,14 +68,17 @@ run = do
   t ← val_type
   pure (record { count = n; content = t })
 
+-- how many locals these runs declare
 abbrev pub locals_of : List LocalRun → ℕ
 locals_of runs = sum_by (λ r. r.count) runs
 
+-- 5.5.13 the runs of declared locals, fewer than 2^32 locals together
 unfoldable pub locals : Production (List LocalRun)
 locals = do
   runs ← vector run
   given (if nat_lt (locals_of runs) (2 ^ 32) then Some runs else None)
 
+-- 5.5.13 a body: its declared locals and its expression
 unfoldable pub body : Production BodyShape
 body = do
   runs ← locals
@@ -110,6 +116,7 @@ filling s p made = inside s p >>= λ v. pure (made v)
 pub data SectionKind : Type 0 where
   CustomSection TypeSection ImportSection FunctionSection TableSection MemorySection GlobalSection ExportSection StartSection ElementSection CodeSection DataSection : SectionKind
 
+-- 5.5.2 what section an id stands for
 abbrev pub kind_of : ℕ → Option SectionKind
 kind_of id =
     if id == 0 then Some CustomSection else if id == 1 then Some TypeSection else if id == 2 then Some ImportSection
@@ -132,6 +139,7 @@ contents_of ElementSection s = filling s (vector element) Elements
 contents_of CodeSection s = filling s (vector blob) Bodies
 contents_of DataSection s = filling s (vector data_segment) Segments
 
+-- 5.5.2 what the contents s of a section of this id say
 abbrev pub contents : ℕ → List ℕ → Production SectionShape
 contents id s = given (kind_of id) >>= λ kind. contents_of kind s
 

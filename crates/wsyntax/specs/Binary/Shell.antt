@@ -27,9 +27,11 @@ section_id (Segments v) = 11
 abbrev pub may_follow : ℕ → SectionShape → Bool
 may_follow last s = section_id s == 0 || nat_lt last (section_id s)
 
+-- the id of the last section after one more, custom ones aside
 abbrev pub last_after : ℕ → SectionShape → ℕ
 last_after last s = if section_id s == 0 then last else section_id s
 
+-- 5.5.15 the sections stand in order after one of the id `last`
 abbrev pub IsOrdered : ℕ → List SectionShape → Type 0
 IsOrdered last [] = Unit {0}
 IsOrdered last (s ∷ ss) = (may_follow last s ≡ true) × IsOrdered (last_after last s) ss
@@ -49,6 +51,7 @@ put m (Elements v) = record m { elements = v }
 put m (Bodies v) = record m { bodies = v }
 put m (Segments v) = record m { segments = v }
 
+-- a module with what these sections hold
 abbrev pub put_all : ModuleShape → List SectionShape → ModuleShape
 put_all m [] = m
 put_all m (s ∷ ss) = put_all (put m s) ss
@@ -82,7 +85,7 @@ SpellsBodies (s ∷ ss) [] = ⊥
 abbrev pub Spells : List ℕ → ModuleShape → List BodyShape → Type 0
 Spells bytes m bodies = Shell bytes m × SpellsBodies m.bodies bodies
 
--- ---- what this implementation takes
+-- What this implementation takes.
 
 -- the most bytes of a module
 abbrev pub module_limit : ℕ
@@ -92,10 +95,11 @@ module_limit = 16777216
 abbrev pub local_limit : ℕ
 local_limit = 100000
 
+-- the body declares no more locals than the limit
 abbrev pub FewLocals : BodyShape → Type 0
 FewLocals b = locals_of b.runs ≤ local_limit
 
--- ---- reading
+-- Reading.
 
 -- the bytes after a front
 abbrev pub strip : List ℕ → List ℕ → Option (List ℕ)

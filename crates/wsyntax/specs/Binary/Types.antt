@@ -11,6 +11,7 @@ use Rattle.wsyntax.specs.Binary.Values.{u32, s33, vector}
 abbrev pub val_type_of : ℕ → Option ValType
 val_type_of b = if b == 0x7F then Some I32 else if b == 0x7E then Some I64 else if b == 0x7D then Some F32 else if b == 0x7C then Some F64 else None
 
+-- 5.3.1 a value type
 unfoldable pub val_type : Production ValType
 val_type = byte >>= λ b. given (val_type_of b)
 
@@ -46,6 +47,7 @@ limits_of (suc zero) = do
   pure (record { min = n; max = Some m })
 limits_of (suc (suc tag)) = given None
 
+-- 5.3.4 limits
 unfoldable pub limits : Production Limits
 limits = byte >>= limits_of
 
@@ -60,6 +62,7 @@ table_type = do
 abbrev pub mutable_of : ℕ → Option Bool
 mutable_of b = if b == 0x00 then Some false else if b == 0x01 then Some true else None
 
+-- 5.3.7 a global type
 unfoldable pub global_type : Production GlobalType
 global_type = do
   t ← val_type

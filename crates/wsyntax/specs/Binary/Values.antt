@@ -10,12 +10,15 @@ use Rattle.wsyntax.specs.Binary.Production.{Production, ◌>>=◌, raw, times, t
 abbrev pub u32 : Production ℕ
 u32 = record { spells = SpellsUnsigned 32; read = unsigned_at 32 }
 
+-- 5.2.2 a number s32
 abbrev pub s32 : Production ℤ
 s32 = record { spells = SpellsSigned 32; read = signed_at 32 }
 
+-- 5.2.2 a number s64
 abbrev pub s64 : Production ℤ
 s64 = record { spells = SpellsSigned 64; read = signed_at 64 }
 
+-- 5.2.2 a number s33
 abbrev pub s33 : Production ℤ
 s33 = record { spells = SpellsSigned 33; read = signed_at 33 }
 
@@ -23,6 +26,7 @@ s33 = record { spells = SpellsSigned 33; read = signed_at 33 }
 abbrev pub vector_at : {A : Type 0} → (List ℕ → Option (A × List ℕ)) → List ℕ → Option (List A × List ℕ)
 vector_at read bytes = reading.◌>>=◌ (unsigned_at 32 bytes) (λ n. times_at read n.0 n.1)
 
+-- 5.1.3 a vector: a count and as many values
 abbrev pub vector : {A : Type 0} → Production A → Production (List A)
 vector p = u32 >>= λ n. times n p
 

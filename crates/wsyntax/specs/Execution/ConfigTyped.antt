@@ -8,14 +8,14 @@ use Rattle.wsyntax.specs.Execution.Values.{Value, types, AreWords}
 use Rattle.wsyntax.specs.Execution.Store.{Function, Module, Memory, Entry, Unset, SetTo, Store, page, may_have}
 use Rattle.wsyntax.specs.Execution.Step.{Work, Source, Invoke, Trap, Label, Frame, Config}
 
--- ---- values
+-- Values.
 
 -- 7.5 values have these types: each is a word of its type
 pub record ValuesTyped (vs : List Value) (a : List ValType) : Type 0 where
   pub typed : types vs ≡ a
   pub words : AreWords vs
 
--- ---- code without floats
+-- Code without floats.
 
 -- an integer type
 abbrev pub IsInteger : ValType → Type 0
@@ -56,7 +56,7 @@ pub record CodeTyped (C : Context) (code : Code) (a z : Stack) : Type 0 where
   pub typed : Typed C code a z
   pub integer : IntegerCode code
 
--- ---- functions and modules
+-- Functions and modules.
 
 -- 7.5 function instances: the body is typed under the function's own locals
 pub record FunctionTyped (C : Context) (fn : Function) : Type 0 where
@@ -70,7 +70,7 @@ pub record ModuleTyped (C : Context) (m : Module) : Type 0 where
   pub same_functions : map (λ (fn : Function). fn.func_type) m.functions ≡ C.functions
   pub each : (f : ℕ) (fn : Function) → slice_get m.functions f ≡ Some fn → FunctionTyped C fn
 
--- ---- stores
+-- Stores.
 
 -- each is a number below 256
 abbrev pub AreBytes : List ℕ → Type 0
@@ -109,7 +109,7 @@ pub record StoreTyped (C : Context) (s : Store) : Type 0 where
   pub table : Has C.has_table (TableTyped C) s.table
   pub globals : ValuesTyped s.globals (global_types C.globals)
 
--- ---- configurations
+-- Configurations.
 
 -- 7.5 administrative instructions: from the empty stack the work leads to b
 abbrev pub WorkTyped : Context → Work → Stack → Type 0

@@ -9,8 +9,9 @@ use Rattle.wsyntax.specs.Execution.Store.{Function, Module, Store, page}
 use Rattle.wsyntax.specs.Execution.Allocation.{Segment, Layout, fresh}
 use Rattle.wsyntax.specs.declared.module.LocalRun.{LocalRun}
 
--- ---- where floats stand: a module that mentions f32 or f64 is not run
+-- Where floats stand: a module that mentions f32 or f64 is not run.
 
+-- 2.3.1 whether a value type is f32 or f64
 abbrev pub is_float : ValType → Bool
 is_float I32 = false
 is_float I64 = false
@@ -71,7 +72,7 @@ has_floats m bodies =
     || any (λ d. any token_has_floats d.offset) m.segments
     || any body_has_floats bodies
 
--- ---- what an instance is made of
+-- What an instance is made of.
 
 -- 4.5.4 the number of a constant expression `i32.const n`, which is what is left where nothing is imported
 abbrev pub constant_in : List Token → ℕ
@@ -82,9 +83,11 @@ constant_in _ = 0
 abbrev pub first_value : GlobalShape → Held
 first_value g = unwrap_or (value_in g.content.content (constant_in g.init)) (V32 0)
 
+-- 4.5.4 an element segment with its place
 abbrev pub element_segment : ElementShape → Segment
 element_segment e = record { place = constant_in e.offset; items = e.functions }
 
+-- 4.5.4 a data segment with its place
 abbrev pub data_segment : DataShape → Segment
 data_segment d = record { place = constant_in d.offset; items = d.bytes }
 
@@ -103,7 +106,7 @@ layout_of m = record {
   data' = map data_segment m.segments;
 }
 
--- ---- refusals
+-- Refusals.
 
 -- why no instance is made, in the order in which it is asked; of segments, the least
 pub data StartRefusal : Type 0 where
@@ -124,6 +127,7 @@ abbrev pub or_else : {A : Type 0} → Option A → Option A → Option A
 or_else (Some x) other = Some x
 or_else None other = other
 
+-- this refusal, where the test is true
 abbrev pub refused_if : Bool → StartRefusal → Option StartRefusal
 refused_if true r = Some r
 refused_if false r = None
@@ -138,7 +142,7 @@ start_refusal pages m bodies = let l = layout_of m in
     (or_else (option_map ElementOutside (first_outside 0 (unwrap_or l.table 0) l.elements))
     (option_map DataOutside (first_outside 0 (unwrap_or (option_map (λ x. x.min) l.memory) 0 * page) l.data'))))))
 
--- ---- the instance
+-- The instance.
 
 -- 4.5.3 the functions: of each its type, its declared locals, and the tree of its tokens
 abbrev pub FunctionsOf : List FuncType → List ℕ → List BodyShape → List Function → Type 0

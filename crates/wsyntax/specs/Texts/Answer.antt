@@ -21,7 +21,7 @@ pub record Limits : Type 0 where
   pub frames : ℕ
   pub pages : ℕ
 
--- ---- one call, alone
+-- One call, alone.
 
 -- no export has the name
 abbrev pub IsMissing : ModuleShape → List ℕ → Type 0
@@ -51,7 +51,7 @@ pub data EndOf (m : ModuleShape) (bodies : List BodyShape) (l : Limits) (met_non
   no_memory : {f : ℕ} {sig : FuncType} → Names m c f sig → types c.args ≡ sig.params → start_refusal l.pages m bodies ≡ None → met_none → EndOf m bodies l met_none c NoMemory
   ran : {f k : ℕ} {sig : FuncType} {i : Module} {o : Outcome} → Names m c f sig → types c.args ≡ sig.params → start_refusal l.pages m bodies ≡ None → (met_none → ⊥) → InstanceOf m bodies i → EndsOn m i l f c.args o k → EndOf m bodies l met_none c (Ran o k)
 
--- ---- all calls
+-- All calls.
 
 -- the ends of the calls from number n on, where those in the set ran out of memory
 abbrev pub EndsOf : ModuleShape → List BodyShape → Limits → (ℕ → Type 0) → ℕ → List Call → List CallEnd → Type 0
@@ -71,6 +71,7 @@ AnswerOn bytes (Good calls) l short out =
     (m : ModuleShape) × (bodies : List BodyShape) × (ends : List CallEnd) × Spells bytes m bodies × EndsOf m bodies l short 0 calls ends × (out ≡ report_text ends)
 AnswerOn bytes bad l short out = out ≡ verdict_line Accepted ++ calls_line bad
 
+-- the answer by the verdict: of an accepted module, by what the text of calls is; of a refused one, its verdict line
 abbrev pub AnswerBy : List ℕ → List ℕ → Limits → (ℕ → Type 0) → List ℕ → Verdict → Type 0
 AnswerBy bytes text l short out Accepted = (c : CallsText) × IsCalls text c × AnswerOn bytes c l short out
 AnswerBy bytes text l short out v = out ≡ verdict_line v

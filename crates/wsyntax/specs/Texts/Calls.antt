@@ -40,6 +40,7 @@ lines_of (b ∷ text) = if b == 0x0A then Ended [] ∷ lines_of text else onto b
 abbrev pub calls_limit : ℕ
 calls_limit = 4194304
 
+-- the most lines of a text of calls
 abbrev pub line_limit : ℕ
 line_limit = 100000
 

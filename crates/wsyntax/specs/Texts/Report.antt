@@ -37,12 +37,14 @@ abbrev pub spaced_values : List Value → List ℕ
 spaced_values [] = []
 spaced_values (v ∷ vs) = codes " " ++ values_text (v ∷ vs)
 
+-- the words of how a run ended
 abbrev pub outcome_text : Outcome → List ℕ
 outcome_text (Values vs) = codes "values" ++ spaced_values vs
 outcome_text (Trapped trap) = codes "trap " ++ trap_text trap
 outcome_text OutOfFuel = codes "out-of-fuel"
 outcome_text OutOfFrames = codes "out-of-frames"
 
+-- the words of why no instance is made
 abbrev pub refusal_text : StartRefusal → List ℕ
 refusal_text HasImports = codes "imports"
 refusal_text HasFloats = codes "floats"
@@ -51,6 +53,7 @@ refusal_text MemoryLimit = codes "memory-limit"
 refusal_text (ElementOutside k) = codes "element-outside " ++ decimal k
 refusal_text (DataOutside k) = codes "data-outside " ++ decimal k
 
+-- the words of how a call ended
 abbrev pub end_text : CallEnd → List ℕ
 end_text (Ran o fuel) = outcome_text o ++ (codes " fuel " ++ decimal fuel)
 end_text NoExport = codes "no-export"
@@ -63,7 +66,7 @@ end_text NoMemory = codes "no-memory"
 abbrev pub call_line : ℕ → CallEnd → List ℕ
 call_line n e = decimal n ++ (codes " " ++ (end_text e ++ newline))
 
--- ---- the total
+-- The total.
 
 -- what a call adds to the counts of values, traps, exhausted, refused and out of memory, and to the fuel
 pub record Tally : Type 0 where
@@ -74,15 +77,18 @@ pub record Tally : Type 0 where
   pub no_memory : ℕ
   pub fuel : ℕ
 
+-- the counts of no calls
 abbrev pub none : Tally
 none = record { values = 0; traps = 0; exhausted = 0; refused = 0; no_memory = 0; fuel = 0 }
 
+-- the counts of one run that ended so at this cost of fuel
 abbrev pub outcome_tally : Outcome → ℕ → Tally
 outcome_tally (Values vs) k = record none { values = 1; fuel = k }
 outcome_tally (Trapped trap) k = record none { traps = 1; fuel = k }
 outcome_tally OutOfFuel k = record none { exhausted = 1; fuel = k }
 outcome_tally OutOfFrames k = record none { exhausted = 1; fuel = k }
 
+-- the counts of one call
 abbrev pub tally_of : CallEnd → Tally
 tally_of (Ran o k) = outcome_tally o k
 tally_of NoExport = record none { refused = 1 }
@@ -102,6 +108,7 @@ plus a b = record {
   fuel = a.fuel + b.fuel;
 }
 
+-- the counts of these calls together
 abbrev pub total_of : List CallEnd → Tally
 total_of [] = none
 total_of (e ∷ es) = plus (tally_of e) (total_of es)

@@ -8,6 +8,7 @@ use Rattle.wsyntax.specs.Execution.Values.{Value, V32, V64}
 abbrev pub newline : List ℕ
 newline = 0x0A ∷ []
 
+-- the tab
 abbrev pub tab : List ℕ
 tab = 0x09 ∷ []
 

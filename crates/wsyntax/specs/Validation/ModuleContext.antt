@@ -8,7 +8,7 @@ use Rattle.wsyntax.specs.declared.module.ImportKind.TheVariants.{Function, Table
 use Rattle.wsyntax.specs.declared.module.Table.{Table as TableType}
 use Rattle.wsyntax.specs.declared.module.LocalRun.{LocalRun}
 
--- ---- what an import adds to each index space
+-- What an import adds to each index space.
 
 -- 2.5.11 a function, by the index of its type
 abbrev pub imported_function : ImportKind → Option ℕ
@@ -17,47 +17,56 @@ imported_function (Table t) = None
 imported_function (Memory l) = None
 imported_function (Global g) = None
 
+-- 2.5.11 the table that an import adds
 abbrev pub imported_table : ImportKind → Option TableType
 imported_table (Function y) = None
 imported_table (Table t) = Some t
 imported_table (Memory l) = None
 imported_table (Global g) = None
 
+-- 2.5.11 the memory that an import adds
 abbrev pub imported_memory : ImportKind → Option Limits
 imported_memory (Function y) = None
 imported_memory (Table t) = None
 imported_memory (Memory l) = Some l
 imported_memory (Global g) = None
 
+-- 2.5.11 the global that an import adds
 abbrev pub imported_global : ImportKind → Option GlobalType
 imported_global (Function y) = None
 imported_global (Table t) = None
 imported_global (Memory l) = None
 imported_global (Global g) = Some g
 
--- ---- what is imported, in the order of the imports
+-- What is imported, in the order of the imports.
 
+-- 2.5.1 the imported functions, each by the index of its type
 abbrev pub imported_functions : ModuleShape → List ℕ
 imported_functions m = filter_map (λ i. imported_function i.kind) m.imports
 
+-- 2.5.1 the imported tables
 abbrev pub imported_tables : ModuleShape → List TableType
 imported_tables m = filter_map (λ i. imported_table i.kind) m.imports
 
+-- 2.5.1 the imported memories
 abbrev pub imported_memories : ModuleShape → List Limits
 imported_memories m = filter_map (λ i. imported_memory i.kind) m.imports
 
+-- 2.5.1 the imported globals
 abbrev pub imported_globals : ModuleShape → List GlobalType
 imported_globals m = filter_map (λ i. imported_global i.kind) m.imports
 
--- ---- 2.5.1 the index spaces: what is imported, and then what the module defines
+-- 2.5.1 the index spaces: what is imported, and then what the module defines.
 
 -- the functions, each by the index of its type
 abbrev pub functions_of : ModuleShape → List ℕ
 functions_of m = imported_functions m ++ m.functions
 
+-- 2.5.1 the tables of a module, the imported ones first
 abbrev pub tables_of : ModuleShape → List TableType
 tables_of m = imported_tables m ++ m.tables
 
+-- 2.5.1 the memories of a module, the imported ones first
 abbrev pub memories_of : ModuleShape → List Limits
 memories_of m = imported_memories m ++ m.memories
 
@@ -65,7 +74,7 @@ memories_of m = imported_memories m ++ m.memories
 abbrev pub globals_of : ModuleShape → List GlobalType
 globals_of m = imported_globals m ++ map (λ g. g.content) m.globals
 
--- ---- 3.4.10 the context of a module
+-- 3.4.10 the context of a module.
 
 -- [] -> []
 abbrev pub empty_type : FuncType
@@ -96,6 +105,7 @@ pub record IndexedContext : Type 0 where
   -- how many functions are imported
   pub imported : ℕ
 
+-- 3.1.1 the context of a module, and the index of each function's type
 abbrev pub indexed_context : ModuleShape → IndexedContext
 indexed_context m = record {
   context = module_context m;
@@ -103,7 +113,7 @@ indexed_context m = record {
   imported = length (imported_functions m);
 }
 
--- ---- 3.4.1 the context of a function
+-- 3.4.1 the context of a function.
 
 -- 5.5.13 the declared locals, one by one
 abbrev pub declared : List LocalRun → List ValType

@@ -8,7 +8,7 @@ use Rattle.wsyntax.specs.Validation.ModuleContext.{imported_functions, imported_
 use Rattle.wsyntax.specs.declared.module.ExportKind.{ExportKind}
 use Rattle.wsyntax.specs.declared.module.ExportKind.TheVariants.{Function, Table, Memory, Global}
 
--- ---- types and limits
+-- Types and limits.
 
 -- rule 1 is no longer asked: function types have any number of results, as in Core 2.0. The other rules keep their numbers
 abbrev pub NotAsked : ModuleShape → Type 0
@@ -46,7 +46,7 @@ OneTable m = length (tables_of m) ≤ 1
 abbrev pub OneMemory : ModuleShape → Type 0
 OneMemory m = length (memories_of m) ≤ 1
 
--- ---- constant expressions
+-- Constant expressions.
 
 -- 3.3.7.2 a constant expression of type t, under these imported globals: one t.const, or one global.get of an imported immutable global of type t
 pub data ConstantOf (globals : List GlobalType) (t : ValType) : List Token → Type 0 where
@@ -57,7 +57,7 @@ pub data ConstantOf (globals : List GlobalType) (t : ValType) : List Token → T
 abbrev pub GlobalsConstant : ModuleShape → Type 0
 GlobalsConstant m = All (λ g. ConstantOf (imported_globals m) g.content.content g.init) m.globals
 
--- ---- exports
+-- Exports.
 
 -- the number of items in the space of that kind
 abbrev pub count_of : ModuleShape → ExportKind → ℕ
@@ -74,7 +74,7 @@ ExportsExist m = All (λ e. e.index < count_of m e.kind) m.exports
 abbrev pub ExportsDistinct : ModuleShape → Type 0
 ExportsDistinct m = AllPairs (λ a b. a.item_name ≢ b.item_name) m.exports
 
--- ---- start function and segments
+-- Start function and segments.
 
 -- the function exists and has that type
 abbrev pub HasType : ModuleShape → FuncType → ℕ → Type 0
@@ -103,7 +103,7 @@ pub record DataValid (m : ModuleShape) (segment : DataShape) : Type 0 where
 abbrev pub SegmentsValid : ModuleShape → Type 0
 SegmentsValid m = All (DataValid m) m.segments
 
--- ---- the rules by their numbers
+-- The rules by their numbers.
 
 -- the rules in order, the first of which is rule 1
 abbrev pub rules : List (ModuleShape → Type 0)

@@ -21,7 +21,7 @@ pub data Verdict : Type 0 where
   RuleBroken : ℕ → Verdict
   BodyRefused : ℕ → BodyFault → Verdict
 
--- ---- one body
+-- One body.
 
 -- 3.4.1 what the function of that index leaves
 abbrev pub result_of : Context → ℕ → Stack
@@ -51,7 +51,7 @@ IsRefused C f bytes BodyMalformed = (body : BodyShape) → SpellsBody bytes body
 IsRefused C f bytes TooManyLocals = (body : BodyShape) × SpellsBody bytes body × (local_limit < locals_of body.runs)
 IsRefused C f bytes (IllTyped at) = IsIllTyped C f bytes at
 
--- ---- all bodies
+-- All bodies.
 
 -- 2.5.1 the index of the function whose body stands at that place: imported ones come first
 abbrev pub function_at : ModuleShape → ℕ → ℕ
@@ -70,7 +70,7 @@ pub record FirstRefused (m : ModuleShape) (f : ℕ) (fault : BodyFault) : Type 0
   pub refused : IsRefused (module_context m) f bytes fault
   pub before : AcceptedBefore m place
 
--- ---- the module
+-- The module.
 
 -- the bytes are within the limit and spell this module, the insides of bodies aside
 pub record IsModule (bytes : List ℕ) (m : ModuleShape) : Type 0 where
