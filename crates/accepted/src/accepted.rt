@@ -32,7 +32,7 @@ pub struct Accepted<'a> {
     /// The number of each export, in the order of their names.
     pub(crate) by_name: Vec<usize>,
     pub(crate) uses_floats: bool,
-    /// Of each type its number, equal for equal types.
+    /// Of each type its id: equal types have equal ids.
     pub(crate) type_ids: Vec<u32>,
     /// What its instances start from.
     pub(crate) layout: Layout,
@@ -66,14 +66,13 @@ impl<'a> Accepted<'a> {
         ensures { ∥ IsJudged (module_shape self.now.module) self.now.context self.now.bodies.items ∥₁ }
     {}
 
-    /// What holds of the numbers of types: each is below the count of types, and two are equal exactly where the types
-    /// are the same.
+    /// What holds of the ids of types: each is below the count of types, and two are equal exactly where the types are the same.
     pub fn types_are_numbered(&self)
         ensures { ∥ AreTypeIds (module_shape self.now.module).types self.now.type_ids.items ∥₁ }
     {}
 
-    /// What the shapes of its functions are: of each body the counts of parameters, declared locals and results, and the
-    /// number of the type.
+    /// What the shapes of its functions are: of each body the counts of parameters, declared locals and results, and the id of
+    /// the type.
     pub fn functions_have_shapes(&self)
         ensures { self.now.shapes.items
             ≡ function_shapes (module_shape self.now.module).types self.now.type_ids.items
@@ -151,7 +150,7 @@ impl<'a> Accepted<'a> {
         &self.shapes
     }
 
-    /// Of each type its number.
+    /// Of each type its id.
     #[inline]
     pub fn type_ids(&self) -> &[u32]
         ensures { result.now ≡ self.now.type_ids.items }
@@ -184,8 +183,7 @@ impl<'a> Accepted<'a> {
         self.uses_floats
     }
 
-    /// The number of the type of that index, by which equal types are known equal; `None` where the module has no such
-    /// type.
+    /// The id of the type of that index, by which equal types are known equal; `None` where the module has no such type.
     #[inline]
     pub fn type_id(&self, type_index: u32) -> Option<u32>
         ensures { result ≡ slice_get self.now.type_ids.items type_index }
@@ -193,8 +191,7 @@ impl<'a> Accepted<'a> {
         self.type_ids.get(type_index as usize).copied()
     }
 
-    /// The number of the type of the function of that index, imported ones counted; `None` where the module has no such
-    /// function.
+    /// The id of the type of the function of that index, imported ones counted; `None` where the module has no such function.
     #[inline]
     pub fn function_type_id(&self, func: u32) -> Option<u32>
         ensures { result ≡ function_number self.now.type_ids.items (slice_get self.now.context.function_types func) }

@@ -1,3 +1,4 @@
+//! The first values of globals (4.5.4).
 ghost use Rattle.std.specs.Prelude.{◌≡◌, map, IfOk};
 ghost use Rattle.wsyntax.specs.Modules.{global_shape};
 ghost use Rattle.wsyntax.specs.Execution.Start.{first_value};

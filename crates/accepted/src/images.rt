@@ -1,6 +1,7 @@
 //! A fresh table and a fresh memory (4.5.4), made once for all instances.
 
-// PERF: 16 MB have room for 2,800,000 segments of one item. To write them took each call 10 to 75 ms (docs/LAB.md, Instances and memory).
+// PERF: a module has room for millions of segments of one item, and without an image each call writes all of them (docs/LAB.md,
+// Instances and memory).
 
 ghost use Rattle.std.specs.Prelude.{◌≡◌, ◌+◌, ◌≤◌, length, map, replicate, nat_le, IfOk, IfSome};
 ghost use Rattle.wsyntax.specs.Execution.Allocation.{overwrite, put_elements, put_data, AllWithin};

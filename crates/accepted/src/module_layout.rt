@@ -13,19 +13,12 @@ const PAGE: usize = 65_536;
 /// whose constant expressions are constants.
 #[derive(Debug, Drop)]
 pub struct Layout {
-    /// The first value of each global without its tag, an i32 in the low half of its word.
     globals: Vec<u64>,
-    /// Of each element segment the index of the entry that it begins with.
     element_places: Vec<u32>,
-    /// Of each data segment the address of the byte that it begins with.
     data_places: Vec<u32>,
-    /// The number of the first element segment that does not end within the table's minimum.
     element_outside: Option<u32>,
-    /// The number of the first data segment that does not end within the memory's minimum.
     data_outside: Option<u32>,
-    /// The entries of a fresh table, where they are kept.
     table: Option<Vec<Option<u32>>>,
-    /// The bytes of a fresh memory, where they are kept.
     memory: Option<Vec<u8>>,
 }
 
@@ -98,8 +91,7 @@ impl Layout {
         self.data_outside
     }
 
-    /// The entries of a fresh table, `None` of one that is unset. They are kept where the segments write
-    /// twice as many.
+    /// The entries of a fresh table, `None` of one that is unset. They are kept where the segments write twice as many.
     pub fn table(&self) -> Option<&[Option<u32>]>
         ensures { option_map (λ s. s.now) result ≡ option_map (λ v. v.items) self.now.table }
     {

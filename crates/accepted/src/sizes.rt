@@ -1,3 +1,4 @@
+//! The minima of the table and the memory.
 ghost use Rattle.std.specs.Prelude.{◌≡◌};
 ghost use Rattle.wsyntax.specs.Modules.{module_shape};
 ghost use Rattle.accepted.specs.Sizes.{table_size, memory_pages};

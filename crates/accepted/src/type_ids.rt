@@ -1,4 +1,4 @@
-//! Numbers of types. Types are sorted by their texts, so that equal ones stand side by side.
+//! Ids of types. Types are sorted by their texts, so that equal ones stand side by side.
 ghost use Rattle.std.specs.Prelude.{◌≡◌, ◌<◌, ◌≤◌, ◌^◌, ◌+◌, ◌*◌, ◌↔◌, IsTrue, IfOk, length, map};
 ghost use Rattle.wsyntax.specs.FuncTypes.{func_type_of};
 ghost use Rattle.accepted.specs.TypeIds.{code_of, digits_below, number_of, long_text_of, text_of, text_in};
@@ -103,8 +103,8 @@ fn is_same(first: &IndexedText, second: &IndexedText) -> bool
     first.0 == second.0 && first.1 == second.1
 }
 
-/// Of each type a number, equal for equal types alone: the least index of its text. The time is near linear in the length
-/// of the types, whatever they are.
+/// Of each type its id, equal for equal types alone: the least index of its text. The time is near linear in the length of the
+/// types, whatever they are.
 pub(crate) fn type_ids(alloc: Global, types: &FuncTypes) -> Result<Vec<u32>, AllocError>
     requires { length types.now < 2 ^ 32 }
     ensures { IfOk result (λ v. AreTypeIds types.now v.items) }

@@ -1,3 +1,4 @@
+//! What `try_all` costs beside a plain loop.
 use anyhow::Result;
 use pieces::{Job, JobFault, Plan, try_all};
 use std::alloc::{AllocError, Global};

@@ -3,15 +3,15 @@ use clap::{Arg, Command, value_parser};
 use std::alloc::{AllocError, Global};
 use std::ops::Range;
 
-/// How many threads work where no word says it.
+/// The default of `--workers`, the number of threads.
 pub const WORKERS_DEFAULT: &str = "4";
-/// How much a thread takes at once where no word says it.
+/// The default of `--piece`, how many bodies or calls a thread takes at once.
 pub const PIECE_DEFAULT: &str = "16";
-/// How much fuel a call has where no word says it.
+/// The default of `--fuel`, in units a call.
 pub const FUEL_DEFAULT: &str = "1000000";
-/// How many functions are entered at a time where no word says it.
+/// The default of `--frames`, how many functions may be entered at a time.
 pub const FRAMES_DEFAULT: &str = "1024";
-/// How many pages of memory a call has where no word says it.
+/// The default of `--pages`, the most pages of a memory.
 pub const PAGES_DEFAULT: &str = "256";
 
 /// What `gate check --help` ends with.

@@ -4,18 +4,18 @@ use wstore::Settings;
 /// What the words ask for.
 #[derive(Drop)]
 pub enum Request<'a> {
-    /// The verdict on the module of this path.
+    /// `gate check`: the verdict on the module at `path`.
     Check {
         path: &'a str,
         plan: Plan,
     },
-    /// The answer to the module of this path and to the calls of that one.
+    /// `gate run`: the answer to the module at `path` and the text of calls at `calls`.
     Run {
         path: &'a str,
         calls: &'a str,
         settings: Settings,
         plan: Plan,
     },
-    /// This text: help, or the version.
+    /// The text of help, or the version.
     Text(String),
 }

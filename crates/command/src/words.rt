@@ -1,4 +1,4 @@
-//! Words among words.
+//! Look-ups in a list of words.
 ghost use Rattle.std.specs.Prelude.{◌≡◌, Contains, IfSome, IsTrue, map};
 ghost use Rattle.command.specs.Requests.{BeginsWith, ContainsFront, first_word};
 

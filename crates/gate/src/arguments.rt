@@ -1,4 +1,4 @@
-//! The program over its process.
+//! The program, on the arguments and the streams of its process.
 use crate::disk::Disk;
 use crate::fault::{Fault, end};
 use crate::program::run;

@@ -22,7 +22,7 @@ impl<R: Files> Source for Disk<'_, R> {
     }
 }
 
-/// Only out of memory is told apart.
+/// Why a read failed. Only out of memory is told apart.
 fn fault_of(error: io::Error) -> ReadFault {
     match error.kind() {
         ErrorKind::OutOfMemory => ReadFault::Memory,

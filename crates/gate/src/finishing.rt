@@ -1,4 +1,4 @@
-//! How the program is done with an answer.
+//! The last step of an answer: what was written is flushed.
 ghost use Rattle.std.specs.Io.KnownBytes.{Keeps};
 ghost use Rattle.gate.specs.Endings.{EndsAs};
 

@@ -1,3 +1,4 @@
+//! Where the program reads modules and calls from.
 ghost use Rattle.std.specs.Prelude.{◌≡◌, ◌≤◌, ℕ, List, [], ◌∷◌, Option, IfOk, IfSome, IsNone, None, take, vec_len};
 ghost use Rattle.gate.specs.Sources.{ReadsPaths};
 

@@ -238,7 +238,7 @@ impl Job for Starving {
     ghost one_fault = { λ j i f g r s. same_fault i f g r.1 s.1 };
 }
 
-/// Want of memory below a refusal is the answer, and one above it is not.
+/// Out of memory below a refusal is the answer, and above it is not.
 fn answers_the_first_of_both<R: Threads + Wait + Abort + Sync>(
     rt: &R,
     alloc: Global,

@@ -1,4 +1,4 @@
-//! The loop of one thread, by many.
+//! The answer of a loop on one thread, worked out by many.
 ghost use Rattle.std.specs.Prelude.{◌≡◌, ◌≤◌, All, MatchResult, vec_len};
 ghost use Rattle.pieces.specs.TryAll.{AllPass, StopsAt, Results, StopsIn};
 

@@ -15,7 +15,7 @@ call_of c = record { name = c.name.now; args = args_of c.args }
 abbrev pub calls_of : List Call → List Meant
 calls_of calls = map call_of calls
 
--- the calls that the text says; or it is too long; or its least bad line. Want of memory says nothing
+-- the calls that the text says; or it is too long; or its least bad line. Out of memory says nothing of the text
 abbrev pub ReadsCalls : List ℕ → Result (Vec Call Global) CallsFault → Type 0
 ReadsCalls text (Ok calls) = IsCalls text (Good (calls_of calls.items))
 ReadsCalls text (Err TooLarge) = IsCalls text TooLong

@@ -26,7 +26,7 @@ impl Args {
         }
     }
 
-    /// These and one after them.
+    /// These arguments, and one more after them.
     pub(crate) fn followed_by(self, alloc: Global, value: Value) -> Result<Args, AllocError>
         ensures { IfOk result (λ args. args_of args ≡ args_of self ++ value ∷ []) }
     {

@@ -7,10 +7,10 @@ use thiserror::Error;
 /// Why a text of calls was not read.
 #[derive(Clone, Copy, Debug, PartialEq, Eq, Error)]
 pub enum CallsFault {
-    /// More than 4,194,304 bytes. This goes before all else.
+    /// More bytes than `wsyntax::CALLS_LIMIT`. This goes before all else.
     #[error("the calls are too large")]
     TooLarge,
-    /// The least bad line, the first being 1: it says no call, has no newline at its end, or is line 100,001.
+    /// The least bad line, the first being 1: it says no call, has no newline at its end, or stands past `wsyntax::LINE_LIMIT`.
     #[error("line {0} of the calls is bad")]
     Line(u32),
     /// A growth of memory was refused.

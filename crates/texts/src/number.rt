@@ -1,11 +1,11 @@
-//! Numbers as they are printed: no needless zero in front, and no sign before zero.
+//! Numbers are read in the one way in which they are printed: no needless zero in front, and no sign before zero.
 ghost use Rattle.std.specs.Prelude.{ℕ, ◌<◌, ◌^◌, decimal, FitsSigned, IsTrue, ◌↔◌, ◌∷◌};
 ghost use Rattle.std.specs.Fmt.{signed_decimal};
 ghost use Rattle.std.specs.Int.{w64};
 ghost use Rattle.wnum.specs.Arithmetic.{signed};
 ghost use Rattle.texts.specs.Reading.{IsReading, IsFrontPrinted, IsLonger};
 
-/// The word of 32 bits that is so printed, read with its sign.
+/// The word of 32 bits whose signed number the text prints.
 pub(crate) fn read_word32(text: &[u8]) -> Option<u32>
     ensures { IsReading (λ n. n < 2 ^ 32) (λ n. signed_decimal (signed 32 n)) text.now result }
 {
@@ -13,14 +13,14 @@ pub(crate) fn read_word32(text: &[u8]) -> Option<u32>
     Some(number.cast_unsigned())
 }
 
-/// The word of 64 bits that is so printed, read with its sign.
+/// The word of 64 bits whose signed number the text prints.
 pub(crate) fn read_word64(text: &[u8]) -> Option<u64>
     ensures { IsReading (λ n. n < 2 ^ 64) (λ n. signed_decimal (signed 64 n)) text.now result }
 {
     Some(read_signed(text)?.cast_unsigned())
 }
 
-/// The signed number that is so printed.
+/// The signed number that the text prints.
 fn read_signed(text: &[u8]) -> Option<i64>
     ensures { IsReading (λ z. FitsSigned w64 z) signed_decimal text.now result }
 {
@@ -30,7 +30,7 @@ fn read_signed(text: &[u8]) -> Option<i64>
     }
 }
 
-/// The number that is so printed after a minus sign, which is never zero.
+/// The negative number that is printed as a minus sign and these digits.
 fn read_negative(digits: &[u8]) -> Option<i64>
     ensures { IsReading (λ z. FitsSigned w64 z) signed_decimal (45 ∷ digits.now) result }
 {
@@ -41,7 +41,7 @@ fn read_negative(digits: &[u8]) -> Option<i64>
     0_i64.checked_sub_unsigned(magnitude)
 }
 
-/// The number that is so printed.
+/// The number that these digits print.
 fn read_decimal(digits: &[u8]) -> Option<u64>
     ensures { IsReading (λ n. n < 2 ^ 64) decimal digits.now result }
 {
@@ -58,7 +58,7 @@ fn read_decimal(digits: &[u8]) -> Option<u64>
     Some(number)
 }
 
-/// There is a first digit, and it is no needless zero.
+/// Whether there is a first digit, and no needless zero.
 fn begins_as_printed(digits: &[u8]) -> bool
     ensures { IsTrue result ↔ IsFrontPrinted digits.now }
 {
@@ -68,7 +68,7 @@ fn begins_as_printed(digits: &[u8]) -> bool
     }
 }
 
-/// The number with a digit after it. None where that is no digit, or where the number is too great.
+/// The number with a digit after it. `None` where the byte is no digit, or where the number is too great.
 fn with_digit(number: u64, digit: u8) -> Option<u64>
     ensures { IsLonger number digit result }
 {

@@ -1,3 +1,4 @@
+//! Parts of a report.
 ghost use Rattle.std.specs.Prelude.{◌≡◌, ◌+◌, ◌<◌, ◌^◌, IfOk, length, string_bytes};
 ghost use Rattle.texts.specs.Ends.{ends_of};
 ghost use Rattle.texts.specs.Parts.{IsPart};

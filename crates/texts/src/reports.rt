@@ -1,3 +1,4 @@
+//! The report, whole or by its parts.
 ghost use Rattle.std.specs.Prelude.{◌≡◌, ◌<◌, ◌^◌, ◌++◌, List, IfOk, length, string_bytes};
 ghost use Rattle.wsyntax.specs.Texts.Report.{CallEnd, report_text};
 ghost use Rattle.texts.specs.Ends.{ends_of};

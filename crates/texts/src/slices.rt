@@ -1,3 +1,4 @@
+//! A text of calls is cut into slices, which workers read.
 ghost use Rattle.std.specs.Prelude.{◌≤◌, ◌≢◌, All, IfOk, MatchOption, drop, length, take};
 ghost use Rattle.texts.specs.Slices.{CutsLines, EndsLine, CountsCalls, slices_of};
 

@@ -21,7 +21,7 @@ pub(crate) struct Total {
 }
 
 impl Total {
-    /// Of no calls.
+    /// The counts of no calls.
     pub(crate) fn new() -> Total
         ensures calls { result.calls ≡ 0 }
         ensures tally { tally result ≡ none }

@@ -5,7 +5,7 @@ ghost use Rattle.texts.specs.Reading.{IsReading};
 use crate::number::{read_word32, read_word64};
 use wsyntax::Value;
 
-/// The value that is so printed: its type, a colon, and its word read with its sign.
+/// The value that the text prints: its type, a colon, and its word read with its sign.
 pub(crate) fn read_value(field: &[u8]) -> Option<Value>
     ensures { IsReading IsWord value_text field.now result }
 {

@@ -1,4 +1,4 @@
-//! The words of a line, each after what is written already.
+//! The words of a line. Each function appends to the text that is written already.
 ghost use Rattle.std.specs.Prelude.{◌≡◌, ◌++◌, codes, OnOk, string_bytes};
 ghost use Rattle.wsyntax.specs.Texts.Words.{value_text};
 ghost use Rattle.wsyntax.specs.Texts.Report.{trap_text, spaced_values, outcome_text, refusal_text, end_text};

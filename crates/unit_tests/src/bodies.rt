@@ -1,3 +1,4 @@
+//! Bodies as the decoder takes them.
 use std::alloc::Global;
 use std::test::*;
 use wdecode::BodyFault::{self, Malformed, TooManyLocals};

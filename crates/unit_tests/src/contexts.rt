@@ -1,3 +1,4 @@
+//! Contexts, and the rules that modules break.
 use std::alloc::{AllocError, Global};
 use std::test::Fail;
 use wcontext::*;

@@ -1,3 +1,4 @@
+//! The tree of ends says what comparing says.
 use std::alloc::{AllocError, Global};
 use std::test::Fail;
 use wcontext::{Context, Front, TypeList, check_early};

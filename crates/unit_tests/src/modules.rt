@@ -1,3 +1,4 @@
+//! Modules as the decoder takes them, whole and in parts.
 use std::alloc::Global;
 use std::test::*;
 use wdecode::DecodeFault::{self, Malformed, TooLarge};

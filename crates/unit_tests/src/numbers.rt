@@ -1,3 +1,4 @@
+//! Numbers in LEB128, and integer operators.
 use std::test::*;
 use wnum::*;
 

@@ -1,3 +1,4 @@
+//! Rows of the table of instructions, as the standard has them.
 use std::test::*;
 use wsyntax::ValType::{self, F32, F64, I32, I64};
 use wsyntax::{Immediates, Row, row};

@@ -1,3 +1,4 @@
+//! Element segments by their numbers.
 use std::alloc::{AllocError, Global};
 use std::test::Fail;
 use wsyntax::{ConstExpr, Elements};

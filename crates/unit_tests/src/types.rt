@@ -1,3 +1,4 @@
+//! Function types by their indices.
 use std::alloc::{AllocError, Global};
 use std::test::Fail;
 use wsyntax::{FuncTypes, ValType};

@@ -1,3 +1,4 @@
+//! The rules in their order: those before the bodies, those after them, or all.
 ghost use Rattle.std.specs.Prelude.{◌≡◌, ◌↔◌, ◌≤◌, ◌<◌, ℕ, IsTrue, IfOk, OnOk, IfErr};
 ghost use Rattle.wsyntax.specs.Modules.{module_shape};
 ghost use Rattle.wsyntax.specs.Validation.ModuleContext.{indexed_context};
@@ -20,7 +21,7 @@ const LATE: u32 = 9;
 /// The number of the last rule, that on data segments (3.4.6), which may be asked of one segment at a time.
 pub const SEGMENTS_RULE: u32 = 13;
 
-/// Whether a module keeps the early rule of that number. Rule 1 of Core 1.0 is no longer asked.
+/// Whether a module keeps the early rule of that number. Rule 1 of Core 1.0 is not asked.
 fn keeps_early(module: &Module<'_>, spaces: &Spaces, rule: u32) -> bool
     requires spaces { AreSpacesOf (module_shape «module».now) spaces.now }
     requires least { 1 ≤ rule }

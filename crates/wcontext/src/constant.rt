@@ -1,3 +1,4 @@
+//! Constant expressions (3.3.7.2), and where a module has them.
 ghost use Rattle.std.specs.Prelude.{◌≡◌, ◌↔◌, IsTrue, All, Some, option_and_then};
 ghost use Rattle.wsyntax.specs.Modules.{initial_tokens};
 ghost use Rattle.wsyntax.specs.Validation.Rules.{ConstantOf};

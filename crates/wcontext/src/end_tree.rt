@@ -12,12 +12,11 @@ use wsyntax::{FuncTypes, ValType};
 /// A list of at least this many types is long. To compare shorter ones takes no longer than to look them up.
 pub(crate) const LONG: usize = 256;
 
-/// In the place of the start of a list that is not taken in.
+/// The start of a list that is not in the tree.
 const NONE: u32 = u32::MAX;
 
-/// Each byte of a body can have a list compared once. A list is not taken in where that comes to at most this many types for
-/// each type of all long lists. To compare so many takes up to 8 ns, 20 where the lists have megabytes, and to take in a type
-/// up to 110.
+/// Each byte of a body can have a list compared once. A list is left out of the tree where that compares at most this many
+/// types for each type of all long lists, since to put a type into the tree takes longer.
 const COMPARED: usize = 128;
 
 /// The places of the first fronts of a function type's lists.
@@ -45,7 +44,7 @@ pub(crate) struct EndTree {
     nodes: Vec<Node>,
 }
 
-/// The long lists of some function types that are taken in.
+/// The long lists of some function types that go into the tree.
 #[derive(Drop)]
 struct Gathered<'a> {
     /// How many types the shortest may have.
@@ -56,7 +55,7 @@ struct Gathered<'a> {
     fronts: u32,
 }
 
-/// What the long lists of some function types come to.
+/// How many long lists some function types have, how many types these have together, and the length of the longest.
 #[derive(Clone, Copy)]
 struct LongLists {
     count: usize,
@@ -65,7 +64,7 @@ struct LongLists {
 }
 
 impl LongLists {
-    /// These and a list of that length, if it is long.
+    /// Counts a list of that length, if it is long.
     fn and(self, length: usize) -> LongLists {
         if length < LONG {
             return self;
@@ -93,7 +92,7 @@ impl LongLists {
         long
     }
 
-    /// From how many types on a list is taken in; `None` where no list has as many, or no body a byte.
+    /// How many types a list of the tree has at least; `None` where no list has as many, or where the bodies have no byte.
     fn least_taken(self, bodies: &[&[u8]]) -> Option<usize> {
         let compared = self.types.saturating_mul(COMPARED);
         let least = compared.checked_div(size_of_all(bodies))?.max(LONG);
@@ -114,7 +113,7 @@ fn size_of_all(bodies: &[&[u8]]) -> usize {
 }
 
 impl<'a> Gathered<'a> {
-    /// Puts a list after the others, if it is long enough; where its fronts begin.
+    /// Puts a list after the others, if it is long enough, and says where its fronts begin; `NONE` where it is not.
     fn put(&mut self, types: &'a [ValType]) -> Option<u32>
         ensures put { IfSome result (λ start. PutsList self.old self.new types.now start) }
         ensures starts { self.new.starts ≡ self.old.starts }
@@ -150,8 +149,8 @@ impl<'a> Gathered<'a> {
 }
 
 impl EndTree {
-    /// The fronts of the long lists, but of those that the bodies are too short to ask much of; `None` where these are
-    /// all, or where memory is refused.
+    /// The tree of the long lists. Lists that the bodies are too short to have compared often are left out (`COMPARED`). `None`
+    /// where no list is left, or where memory is refused.
     pub(crate) fn new(alloc: Global, types: &FuncTypes, bodies: &[&[u8]]) -> Option<EndTree>
         ensures { IfSome result (IsEndTree types.now) }
     {
@@ -168,7 +167,7 @@ impl EndTree {
         })
     }
 
-    /// Where the fronts of a list begin; `None` where it is not taken in.
+    /// Where the fronts of a list begin; `None` where it is not in the tree.
     #[inline]
     fn start_of(&self, list: TypeList) -> Option<u32>
         ensures { IfSome result (λ start. IsStart self.now.starts.items list start) }
@@ -181,7 +180,7 @@ impl EndTree {
         if start < NONE { Some(start) } else { None }
     }
 
-    /// The numbers of the front of that list that has `count` types; `None` where the list is not taken in.
+    /// The numbers of the front of that list that has `count` types; `None` where the list is not in the tree.
     #[inline]
     fn numbers(&self, list: TypeList, count: usize) -> Option<Numbers>
         ensures { IfSome result (HoldsFront self.now list count) }

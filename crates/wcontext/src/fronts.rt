@@ -46,7 +46,7 @@ impl Context {
 
     /// Whether the types of `short` are an end of those of `long`. It takes constant time, but where a front has fewer
     /// than 256 types, where the bodies are too short to ask much, or where memory was refused: then they are compared.
-    /// Nothing is promised of a `false`.
+    /// No contract says that `false` is right.
     pub fn is_end(&self, short: Front, long: Front) -> bool
         ensures { result ≡ true → IsEnd (front_of self.now.context.types short) (front_of self.now.context.types long) }
     {

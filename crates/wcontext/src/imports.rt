@@ -1,3 +1,4 @@
+//! What imports add to the index spaces (2.5.1, 2.5.11).
 ghost use Rattle.std.specs.Prelude.{◌≡◌, IfOk, filter_map};
 ghost use Rattle.wsyntax.specs.Validation.ModuleContext.{imported_function, imported_table, imported_memory, imported_global};
 

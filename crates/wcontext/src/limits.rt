@@ -1,3 +1,4 @@
+//! Limits (3.2).
 ghost use Rattle.std.specs.Prelude.{◌↔◌, IsTrue};
 ghost use Rattle.wsyntax.specs.Validation.Rules.{InOrder, WithinRange};
 

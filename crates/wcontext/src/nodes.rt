@@ -17,11 +17,11 @@ const FORKS: u32 = 1 << 31;
 /// nodes are never in memory at once.
 #[derive(Clone, Copy, Debug)]
 pub(crate) struct Node {
-    /// Its link, or a node farther up the links, up to which no node has a child by a type by which it has none itself. Once
-    /// it is numbered, its own number.
+    /// Where a look-up that finds no child here goes on: at the node's link, or farther up the links, past nodes whose only child
+    /// is by the same type as this node's. Once the node is numbered, its number.
     pub(crate) above: u32,
-    /// Its only child, as four times the child and the number of its type, or `FORKS` and the place of a fork; 0 for none.
-    /// Once it is numbered, where the numbers of the nodes that hang below it end.
+    /// One child: four times its place, plus the number of its type. Several: `FORKS`, plus the place of the fork. None: 0.
+    /// Once the node is numbered, where the numbers of the nodes below it end.
     pub(crate) below: u32,
 }
 
@@ -160,8 +160,8 @@ impl Nodes {
         0
     }
 
-    /// Keeps above a node what is kept above its link, where both have one child alone, by the same type: a type by which the
-    /// one has no child leads nowhere from the other.
+    /// Lets a look-up pass the link of a node, where both have one child alone, by the same type: where the node has no child by
+    /// a type, its link has none either.
     #[inline]
     fn pass_link(&mut self, node: u32) -> Option<()>
         ensures { IfSome result (λ _. KeepsNodes self.old self.new) }

@@ -1,5 +1,5 @@
 //! The rules that a module keeps (3.2, 3.4), one function a rule, in the order in which they are looked at.
-//! Rule 1, at most one result a function type, is no longer asked; the others keep their numbers.
+//! Rule 1 of Core 1.0, at most one result a function type, is not asked: Core 2.0 has no such rule. The others keep their numbers.
 ghost use Rattle.std.specs.Prelude.{◌↔◌, IsTrue, IfOk};
 ghost use Rattle.wsyntax.specs.Modules.{module_shape};
 ghost use Rattle.wsyntax.specs.Validation.Rules.{ImportsTyped, FunctionsTyped, TablesLimited, MemoriesLimited, OneTable, OneMemory};

@@ -1,3 +1,4 @@
+//! The start function (3.4.7).
 ghost use Rattle.std.specs.Prelude.{◌↔◌, ◌≡◌, ℕ, IsTrue, Some, slice_get};
 ghost use Rattle.wsyntax.specs.FuncTypes.{func_type_of};
 ghost use Rattle.wsyntax.specs.Validation.ModuleContext.{empty_type};

@@ -1,3 +1,4 @@
+//! Bodies of functions (5.5.13).
 ghost use Rattle.std.specs.Prelude.{◌≡◌, ◌≤◌, ◌<◌, ◌^◌, ℕ, List, length, nat_lt, Option, Some, None};
 ghost use Rattle.std.specs.Prelude.{IfOk, IsErrOf, if◌then◌else◌};
 ghost use Rattle.wsyntax.specs.BranchTables.{FollowAll};

@@ -1,3 +1,4 @@
+//! Element segments (5.5.12).
 ghost use Rattle.std.specs.Prelude.{◌≡◌, ℕ, List, Option, map};
 ghost use Rattle.wdecode.specs.Gives.{Gives};
 ghost use Rattle.wdecode.specs.Segments.{GivesFunctions, GivesElement};

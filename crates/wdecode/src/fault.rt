@@ -1,3 +1,4 @@
+//! Why bytes are not decoded.
 ghost use Rattle.std.specs.Prelude.{◌≡◌};
 ghost use Rattle.wdecode.specs.declared.fault.Fault.TheVariants.{Memory};
 
@@ -33,7 +34,7 @@ impl<T: Drop> From<AllocFailed<T>> for Fault {
 /// Why a module was not decoded.
 #[derive(Clone, Copy, Debug, PartialEq, Eq, Error)]
 pub enum DecodeFault {
-    /// More than 16,777,216 bytes. This goes before all else.
+    /// More bytes than `wsyntax::MODULE_LIMIT`. This goes before all else.
     #[error("too large")]
     TooLarge,
     /// The bytes spell no module.
@@ -49,7 +50,7 @@ pub enum BodyFault {
     /// The bytes spell no body.
     #[error("malformed")]
     Malformed,
-    /// The bytes spell a body that declares more than 100,000 locals.
+    /// The bytes spell a body that declares more locals than `wsyntax::LOCAL_LIMIT`.
     #[error("too many locals")]
     TooManyLocals,
     #[error("out of memory")]

@@ -1,3 +1,4 @@
+//! Instructions and expressions (5.4), read as flat tokens.
 ghost use Rattle.std.specs.Prelude.{◌≡◌, ◌≢◌, ◌<◌, ℕ, Bool, List, ◌++◌, Option, Some, None, reverse, length};
 ghost use Rattle.std.specs.Prelude.{IfOk, IfErr, IsTrue, if◌then◌else◌};
 ghost use Rattle.wsyntax.specs.Brackets.{lies_within};

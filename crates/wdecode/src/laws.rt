@@ -1,3 +1,4 @@
+//! The laws of decoding, each an `ensures` of a function that does nothing.
 ghost use Rattle.std.specs.Prelude.{◌≡◌, ℕ, List, [], IsTrue, map};
 ghost use Rattle.wsyntax.specs.declared.instructions.Token.{Token as Held};
 ghost use Rattle.wsyntax.specs.Brackets.{closes};

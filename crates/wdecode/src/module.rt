@@ -1,3 +1,4 @@
+//! Modules (5.5.15), whole or up to their data segments.
 ghost use Rattle.std.specs.Prelude.{◌≡◌, ◌≤◌, ◌<◌, true, List, length, ◌↔◌, IfOk, IsErrOf, option_map};
 ghost use Rattle.wdecode.specs.Held.{section_shape};
 ghost use Rattle.wdecode.specs.declared.section.TheConstants.{DATA_SECTION};
@@ -44,7 +45,7 @@ pub(crate) struct Progress<'a> {
     pub(crate) rest: &'a [u8],
 }
 
-/// Whether no section is left to be read, or that of the data segments is next and not wanted.
+/// Whether the reading ends here: after the last section, or, with `before_segments`, at the data section.
 fn is_over(rest: &[u8], before_segments: bool) -> bool
     ensures { result ≡ stops before_segments rest.now }
 {

@@ -1,3 +1,4 @@
+//! Sections by their ids (5.5.2).
 ghost use Rattle.std.specs.Prelude.{◌≡◌, ℕ, List, Option, map};
 ghost use Rattle.wdecode.specs.Gives.{Gives};
 ghost use Rattle.wdecode.specs.Held.{section_shape};

@@ -1,3 +1,4 @@
+//! What the sections hold, value by value (5.5).
 ghost use Rattle.std.specs.Prelude.{◌≡◌, ℕ, List, Option, Some, IfSome, map};
 ghost use Rattle.wdecode.specs.Gives.{Gives};
 ghost use Rattle.wsyntax.specs.Modules.{ImportShape, ExportShape, GlobalShape, DataShape};

@@ -1,3 +1,4 @@
+//! Types (5.3).
 ghost use Rattle.std.specs.Prelude.{◌≡◌, ℕ, List, Option, map};
 ghost use Rattle.wdecode.specs.Gives.{Gives};
 ghost use Rattle.wdecode.specs.Held.{type_of};

@@ -1,3 +1,4 @@
+//! Bytes, vectors and names (5.1.3, 5.2).
 ghost use Rattle.std.specs.Prelude.{◌≡◌, ℕ, List, [], Option, map};
 ghost use Rattle.std.specs.Str.{is_utf8};
 ghost use Rattle.wdecode.specs.Gives.{Gives};

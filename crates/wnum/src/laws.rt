@@ -1,3 +1,4 @@
+//! The laws of numbers and operators, each an `ensures` of a function that does nothing.
 ghost use Rattle.std.specs.Prelude.{ℕ};
 ghost use Rattle.wnum.specs.Number.{SpellsUnsigned, SpellsSigned};
 ghost use Rattle.wnum.specs.Reading.{Reads, unsigned_at, signed_at};

@@ -1,10 +1,11 @@
+//! Numbers in LEB128 (5.2.2): one or two bytes are read in place, longer ones by their groups.
 ghost use Rattle.std.specs.Prelude.{◌≡◌, ◌≤◌, ◌<◌, ◌*◌, ◌+◌, ℕ, List, ◌++◌, length, drop, slice_range};
 ghost use Rattle.std.specs.Prelude.{Option, Some, IfSome, IfNone};
 ghost use Rattle.std.specs.Option.{option_map};
 ghost use Rattle.wnum.specs.Reading.{sums_at, ranged, signed_value, fits_signed_bits, unsigned_at, signed_at};
 ghost use Rattle.wnum.specs.Number.{five, SpellsUnsigned, SpellsSigned, IsSpelledAt, NoneSpelledAt};
 
-/// The groups of a number, summed; what its sign lessens that by; and the bytes after it.
+/// A number at the front: the sum of its groups, what a negative one subtracts from that, and the bytes after it.
 #[derive(Clone, Copy)]
 struct Groups<'a> {
     sum: u64,
@@ -12,7 +13,8 @@ struct Groups<'a> {
     rest: &'a [u8],
 }
 
-/// The groups of a number of five bytes, which linkers write where they may put another number later; `None` at others.
+/// The groups of a number of five bytes, which linkers write where they may put another number later; `None` where it has fewer
+/// or more.
 #[inline(always)]
 fn five_groups(bytes: &[u8]) -> Option<Groups<'_>>
     ensures value { IfSome result (λ x. sums_at 5 bytes.now ≡ Some ((x.sum, x.sign), x.rest.now)) }

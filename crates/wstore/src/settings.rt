@@ -1,11 +1,10 @@
 ghost use Rattle.std.specs.Prelude.{◌≡◌, option_map};
 ghost use Rattle.wstore.specs.Settings.{AreSettings};
 
-/// The most units of fuel.
 const MOST_FUEL: u32 = 1_000_000_000;
-/// The most frames.
+
 const MOST_FRAMES: u32 = 4_096;
-/// The most pages of a memory.
+
 const MOST_PAGES: u32 = 1_024;
 
 /// The limits of each call: units of fuel, at most 1,000,000,000; frames, 1 to 4,096; and pages of memory, at most 1,024.
@@ -40,21 +39,21 @@ impl Settings {
         ensures { AreSettings self.now.fuel self.now.frames self.now.pages }
     {}
 
-    /// The units of fuel.
+    /// How many units of fuel a call has.
     pub fn fuel(&self) -> u32
         ensures { result ≡ self.now.fuel }
     {
         self.fuel
     }
 
-    /// The frames.
+    /// How many frames may stand at a time.
     pub fn frames(&self) -> u32
         ensures { result ≡ self.now.frames }
     {
         self.frames
     }
 
-    /// The pages of a memory.
+    /// How many pages a memory may have.
     pub fn pages(&self) -> u32
         ensures { result ≡ self.now.pages }
     {

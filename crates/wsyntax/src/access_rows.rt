@@ -1,3 +1,4 @@
+//! What loads and stores say of their accesses (2.4.4).
 ghost use Rattle.std.specs.Prelude.{◌≡◌, ◌≤◌, ◌^◌, ℕ};
 ghost use Rattle.wsyntax.specs.Table.{load_access, store_access};
 

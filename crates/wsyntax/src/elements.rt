@@ -1,3 +1,4 @@
+//! Element segments (2.5.7), whose functions share one list.
 ghost use Rattle.std.specs.Prelude.{◌≡◌, ◌<◌, ◌≤◌, IfOk, length, slice_range};
 ghost use Rattle.wsyntax.specs.Elements.{start_at};
 

@@ -1,3 +1,4 @@
+//! Function types (2.3.3), whose value types share one list.
 ghost use Rattle.std.specs.Prelude.{◌≡◌, IfOk};
 
 use crate::places::place_in_list;

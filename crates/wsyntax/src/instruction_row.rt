@@ -1,3 +1,4 @@
+//! A row of the table of instructions (5.4).
 use crate::types::ValType;
 
 /// What follows an opcode (5.4).

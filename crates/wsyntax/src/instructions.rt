@@ -1,3 +1,4 @@
+//! Instructions as flat tokens (2.4).
 use crate::types::ValType;
 use std::mem::size_of;
 

@@ -1,3 +1,4 @@
+//! Modules and their parts (2.5).
 ghost use Rattle.std.specs.Prelude.{IsTrue, [], length};
 ghost use Rattle.std.specs.List.{list_all};
 ghost use Rattle.wsyntax.specs.Brackets.{closes, lies_within};

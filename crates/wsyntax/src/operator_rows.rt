@@ -1,3 +1,4 @@
+//! What numeric operators take and leave (3.3.1).
 ghost use Rattle.std.specs.Prelude.{◌≡◌, [], ◌∷◌};
 ghost use Rattle.wsyntax.specs.declared.operator_rows.Arity.TheVariants.{One, Two};
 ghost use Rattle.wsyntax.specs.Row.{operands_in, results_in};

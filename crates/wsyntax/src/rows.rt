@@ -1,3 +1,4 @@
+//! The table of instructions by their opcodes (5.4).
 ghost use Rattle.std.specs.Prelude.{◌≡◌, [], ◌∷◌, option_map};
 ghost use Rattle.wsyntax.specs.Row.{immediates_of, row_of, row_view, type_of, width_of};
 

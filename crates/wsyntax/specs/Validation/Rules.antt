@@ -10,7 +10,7 @@ use Rattle.wsyntax.specs.declared.module.ExportKind.TheVariants.{Function, Table
 
 -- Types and limits.
 
--- rule 1 is no longer asked: function types have any number of results, as in Core 2.0. The other rules keep their numbers
+-- rule 1 is not asked: function types have any number of results, as in Core 2.0. The other rules keep their numbers
 abbrev pub NotAsked : ModuleShape → Type 0
 NotAsked m = Unit {0}
 
