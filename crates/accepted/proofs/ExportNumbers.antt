@@ -18,7 +18,7 @@ use Rattle.accepted.specs.Exports.{name_of, name_at}
 some_is : {A : Type 0} (a c : A) → Some a ≡ Some c → a ≡ c
 some_is a c e = cc
 
--- ---- the numbers from 0 on, in another order
+-- The numbers from 0 on, in another order.
 
 -- each of them is below the count
 number_below : (n : ℕ) (numbers : List ℕ) (k : ℕ) → IsPermutation (range_with_len 0 n) numbers → Contains numbers k → k < n
@@ -37,7 +37,7 @@ number_among n numbers k moved within =
     let is : 0 + k ≡ k = omega arith in
     Contains-permutation (range_with_len 0 n) numbers k moved (k, rw length-range_with_len within, get_or-range_with_len 0 n k k within ∙ is)
 
--- ---- names
+-- Names.
 
 name_of_shape : (o : Option Export) (e : ExportShape) → option_map export_shape o ≡ Some e → name_of o ≡ e.item_name
 name_of_shape None e is = absurd cc

@@ -12,7 +12,7 @@ use Rattle.wsyntax.specs.Validation.Rules.{ConstantOf, one_const, one_get, Globa
 use Rattle.wsyntax.specs.Execution.Start.{any, is_float, token_has_floats, type_has_floats}
 use Rattle.accepted.specs.Floats.{global_has_floats, declarations_have_floats}
 
--- ---- a constant expression
+-- A constant expression.
 
 once : (t : Bool) → (t || false) ≡ t
 once true = refl
@@ -27,7 +27,7 @@ told : (globals : List GlobalType) (t : ValType) (tokens : List Token) → Const
 told globals t _ (one_const n) = twice (is_float t)
 told globals t _ (one_get x there) = once (is_float t)
 
--- ---- lists
+-- Lists.
 
 -- two tests that are alike on each
 alike : {A : Type 0} (p q : A → Bool) (xs : List A) → All (λ x. p x ≡ q x) xs → any p xs ≡ any q xs
@@ -43,7 +43,7 @@ no_test (x ∷ xs) = no_test xs
 none : {A : Type 0} (p : A → Bool) (xs : List A) → All (λ x. p x ≡ false) xs → any p xs ≡ false
 none p xs never = alike p (λ x. false) xs never ∙ no_test xs
 
--- ---- the declarations
+-- The declarations.
 
 -- rule 8 is kept
 globals_tell : (m : ModuleShape) → GlobalsConstant m → any (λ g. is_float g.content.content || any token_has_floats g.init) m.globals ≡ any global_has_floats m.globals

@@ -15,7 +15,7 @@ use Rattle.std.proofs.lemmas.List.Sorted.{IsPermutation-map, All-permutation}
 use Rattle.wsyntax.specs.declared.module.Export.{Export}
 use Rattle.accepted.specs.Exports.{head, AreBytes, name_at, AreAscending}
 
--- ---- heads
+-- Heads.
 
 -- a byte more
 pub head_more : (n : ℕ) (bs : List ℕ) → head (suc n) bs ≡ 256 * head n bs + get_or bs n 0
@@ -68,7 +68,7 @@ head_less (suc n) (x ∷ xs) [] few small less = absurd (omega arith)
 head_less (suc n) (x ∷ xs) (y ∷ ys) few small less =
     first_less (nat_cmp x y) n x y xs ys (ranked x y (nat_cmp x y) refl) (λ k. small (suc k)) less (head_less n xs ys (λ k. few (suc k)) (λ k. small (suc k)))
 
--- ---- entries
+-- Entries.
 
 -- a head, a name and a number
 abbrev pub Entry : Type 0
@@ -89,7 +89,7 @@ numbers_more old new x n is put before =
 pub entries_more : (exports : List Export) (old new : List Entry) (x : Entry) → new ≡ old ++ x ∷ [] → All (IsNamed exports) old → IsNamed exports x → All (IsNamed exports) new
 entries_more exports old new x put before here = subst (All (IsNamed exports)) (sym put) (All-push (IsNamed exports) old x before here)
 
--- ---- the order of entries
+-- The order of entries.
 
 abbrev entry_cmp : Entry → Entry → Ordering
 entry_cmp x y = ordering_then (ordering_then (nat_cmp x.0 y.0) (slice_cmp nat_cmp x.1.now y.1.now)) (nat_cmp x.2 y.2)
@@ -119,7 +119,7 @@ ascending exports (x ∷ xs) named up k d low within =
     name_rises exports (get_or (x ∷ xs) k x) (get_or (x ∷ xs) (k + 1) x) _ _ (named k x (omega arith)) (named (k + 1) x all)
     (get_or-map (λ x. x.2) (x ∷ xs) k x d (omega arith)) (get_or-map (λ x. x.2) (x ∷ xs) (k + 1) x d all) (up k x low all)
 
--- ---- the numbers, once sorted
+-- The numbers, once sorted.
 
 pub each_number : (n : ℕ) (xs ys : List Entry) → map (λ x. x.2) xs ≡ range_with_len 0 n → IsPermutation xs ys → IsPermutation (range_with_len 0 n) (map (λ x. x.2) ys)
 each_number n xs ys numbers moved = subst (λ (ks : List ℕ). IsPermutation ks (map (λ x. x.2) ys)) numbers (IsPermutation-map (λ x. x.2) xs ys moved)

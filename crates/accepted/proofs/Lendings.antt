@@ -23,7 +23,7 @@ shaped_same shapes types numbers numbers' functions functions' lent all n f is h
     ∙ ap (λ (fs : List ℕ). function_shapes types numbers' fs lent) f
     ∙ ap (function_shapes types numbers' functions') is
 
--- ---- what is asked of lists that are lent
+-- What is asked of lists that are lent.
 
 pub typed_same : (types : List FuncType) (functions functions' : List ℕ) → functions ≡ functions' → All (λ y. y < length types) functions' → All (λ y. y < length types) functions
 typed_same types functions functions' f h = rw f h

@@ -18,7 +18,7 @@ any_shown shows p (x ∷ xs) = ap (λ (t : Bool). p (shows x) || t) (any_shown s
 pub second_is : (a b r : Bool) → a ≡ false → r ≡ b → r ≡ (a || b)
 second_is a b r none is = is ∙ sym (ap (λ (t : Bool). t || b) none)
 
--- ---- one after the other
+-- One after the other.
 
 neither : (a b : Bool) → (a || b) ≡ false → (a ≡ false) × (b ≡ false)
 neither true b h = absurd cc

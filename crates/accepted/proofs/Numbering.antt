@@ -13,7 +13,7 @@ use Rattle.accepted.specs.TypeIds.{IndexedText, IsTextIn, AreTexts, AreTogether,
 use Rattle.accepted.proofs.TypeTexts.{text_is, func_type_is, func_type_itself}
 use Rattle.accepted.proofs.TextRuns.{AreNumbered, GoesOn, numbered_step}
 
--- ---- the texts
+-- The texts.
 
 pub texts_more : (types : List FuncType) (n : ℕ) (texts : List IndexedText) (t : FuncType) (x : IndexedText) → AreTexts types n texts → slice_get types n ≡ Some t → text_in x ≡ text_of t → x.2 ≡ n → AreTexts types (n + 1) (texts ++ x ∷ [])
 texts_more types n texts t x before is text index =
@@ -35,7 +35,7 @@ texts_moved types n texts moved before moves =
       all = λ y lt. let old = before.all y lt in (old.0, Contains-permutation texts moved old.0 moves old.1, old.2);
     }
 
--- ---- their numbers
+-- Their numbers.
 
 -- the text and the index at a place
 abbrev pub key_at : List IndexedText → IndexedText → ℕ → ℕ × List ℕ
@@ -103,7 +103,7 @@ pub index_read : (types : List FuncType) (texts : List IndexedText) (numbers : L
 index_read types texts numbers x q are count lt is =
     subst (λ (z : IndexedText). z.2 < length numbers) (sym is) (index_in types texts numbers x q are count lt)
 
--- ---- all numbers
+-- All numbers.
 
 -- the type of that index has its text at a place
 pub record IsAt (types : List FuncType) (texts : List IndexedText) (d : IndexedText) (y : ℕ) (t : FuncType) : Type 0 where

@@ -23,7 +23,7 @@ pub no_word : (e : ConstExpr) → ((x : ℕ) × (e ≡ initial.GlobalGet x)) ⊎
 no_word e (inl h) = sym (ap (λ (d : ConstExpr). constant_in (initial_tokens d)) h.1)
 no_word e (inr h) = no_form (tokens_read h.0.bytes.now) h.0.other ∙ sym (ap (λ (d : ConstExpr). constant_in (initial_tokens d)) h.1)
 
--- ---- an offset that is no i32.const
+-- An offset that is no i32.const.
 
 its_type : (globals : List GlobalType) (t : ValType) (n : ℕ) (tokens : List Token) → ConstantOf globals I32 tokens → tokens ≡ Do (Const t n) ∷ End ∷ [] → t ≡ I32
 its_type globals t n _ (one_const m) is = cc

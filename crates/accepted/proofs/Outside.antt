@@ -12,7 +12,7 @@ use Rattle.wsyntax.specs.Execution.Allocation.{Segment, AllWithin}
 use Rattle.wsyntax.specs.Execution.Start.{element_segment, data_segment, first_outside}
 use Rattle.accepted.specs.Segments.{element_segments, data_segments}
 
--- ---- the segments from one on
+-- The segments from one on.
 
 -- of a list that is mapped twice
 from_here : {X Y Z : Type 0} (g : Y → Z) (f : X → Y) (xs : List X) (i : ℕ) (x : X) → x ≡ get_or xs i x → i < length xs
@@ -31,7 +31,7 @@ pub data_from : (ds : List Data) (i : ℕ) (d : Data) → d ≡ get_or ds i d �
     → drop i (data_segments ds) ≡ data_segment (data_shape d) ∷ drop (i + 1) (data_segments ds)
 data_from ds i d is below = from_here data_segment data_shape ds i d is below
 
--- ---- the first outside
+-- The first outside.
 
 pub outside_here : (n place count i : ℕ) (s : Segment) (all from rest : List Segment) (b : Bool) → from ≡ s ∷ rest → place ≡ s.place → count ≡ length s.items → b ≡ leb (place + count) n → b ≡ false
     → first_outside 0 n all ≡ first_outside i n from → Some i ≡ first_outside 0 n all
@@ -50,7 +50,7 @@ inside_here n place count i s all from rest b is at many test holds before =
     let next : suc i ≡ i + 1 = omega arith in
     before ∙ ap (first_outside i n) is ∙ ap (λ x. cond x (Some i) (first_outside (suc i) n rest)) in' ∙ ap (λ k. first_outside k n rest) next
 
--- ---- where none lies outside, all are within
+-- Where none lies outside, all are within.
 
 within_if : (b : Bool) (k : ℕ) (o : Option ℕ) → cond b (Some k) o ≡ None → (b ≡ false) × (o ≡ None)
 within_if true k o e = absurd cc

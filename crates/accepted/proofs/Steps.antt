@@ -11,7 +11,7 @@ use Rattle.wsyntax.specs.Execution.Store.{Entry, SetTo}
 use Rattle.wsyntax.specs.Execution.Start.{element_segment, data_segment}
 use Rattle.accepted.specs.Segments.{element_segments, data_segments, places_of}
 
--- ---- the place of one
+-- The place of one.
 
 -- of a list that is mapped twice
 place_at : {X Y : Type 0} (g : Y → Segment) (f : X → Y) (xs : List X) (i : ℕ) (x : X) (places : List ℕ) → places ≡ places_of (map g (map f xs)) → x ≡ get_or xs i x → i < length xs → get_or places i 0 ≡ (g (f x)).place
@@ -31,7 +31,7 @@ element_placed es i e places all read =
 pub data_placed : (ds : List Data) (i : ℕ) (d : Data) (places : List ℕ) → places ≡ places_of (data_segments ds) → d ≡ get_or ds i d → i < length ds → get_or places i 0 ≡ (data_segment (data_shape d)).place
 data_placed ds i d places all is below = place_at data_segment data_shape ds i d places all is below
 
--- ---- what is within
+-- What is within.
 
 -- the first segment of those that are left, at its place, of that many items
 pub within_here : (n place count : ℕ) (s : Segment) (all rest : List Segment) → all ≡ s ∷ rest → place ≡ s.place → count ≡ length s.items → AllWithin n all → place + count ≤ n
@@ -41,7 +41,7 @@ within_here n place count s all rest is at many within =
 pub within_later : (n : ℕ) (s : Segment) (all rest : List Segment) → all ≡ s ∷ rest → AllWithin n all → AllWithin n rest
 within_later n s all rest is within = let h = subst (AllWithin n) is within in h.1
 
--- ---- what is put
+-- What is put.
 
 pub put_elements_here : (place : ℕ) (fs : List ℕ) (s : Segment) (all from rest : List Segment) (old was new : List Entry) → from ≡ s ∷ rest → place ≡ s.place → fs ≡ s.items
     → new ≡ overwrite place (map SetTo fs) was → put_elements from was ≡ put_elements all old → put_elements rest new ≡ put_elements all old

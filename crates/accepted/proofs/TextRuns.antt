@@ -14,7 +14,7 @@ use Rattle.std.proofs.lemmas.List.{length-set, get_or-set_same, get_or-set_other
 use Rattle.std.proofs.lemmas.Option.{slice_get-get_or}
 use Rattle.accepted.specs.TypeIds.{IndexedText, text_in, AreTogether}
 
--- ---- sorted texts
+-- Sorted texts.
 
 -- the order of texts
 abbrev text_cmp : ℕ × List ℕ → ℕ × List ℕ → Ordering
@@ -81,7 +81,7 @@ together_from_sorted texts up low mid high d first second below same =
     let down : is_lt (text_cmp (text_in (get_or texts mid d)) (text_in (get_or texts high d))) ≡ false = ap (λ (x : ℕ × List ℕ). is_lt (text_cmp (text_in (get_or texts mid d)) x)) (sym same) ∙ left in
     text_is_tied _ _ (neither _ _ (text_total.antisymm (text_in (get_or texts mid d)) (text_in (get_or texts high d))) down right)
 
--- ---- numbers of runs
+-- Numbers of runs.
 
 -- The items before this place have their numbers: one text has one number, the index of an item with that text. A run
 -- begins at `first`.

@@ -8,7 +8,7 @@ use Rattle.wsyntax.specs.declared.ValType.TheVariants.{I32, I64, F32, F64}
 use Rattle.wsyntax.specs.Types.{FuncType, same_type, same_types, same_func_type}
 use Rattle.accepted.specs.TypeIds.{code_of, digits_below, number_of, long_text_of, text_of}
 
--- ---- equal types
+-- Equal types.
 
 both_true : (a b : Bool) → (a && b) ≡ true → (a ≡ true) × (b ≡ true)
 both_true true b e = (refl, e)
@@ -65,7 +65,7 @@ func_type_is s t e =
 pub func_type_itself : (t : FuncType) → same_func_type t t ≡ true
 func_type_itself t = rw (types_themselves t.params) (types_themselves t.results)
 
--- ---- equal codes
+-- Equal codes.
 
 back : ℕ → ValType
 back zero = I32
@@ -96,7 +96,7 @@ code_below I64 = omega arith
 code_below F32 = omega arith
 code_below F64 = omega arith
 
--- ---- equal numbers
+-- Equal numbers.
 
 low_is : (m n a b : ℕ) → a < 5 → b < 5 → 8 * m + a ≡ 8 * n + b → a ≡ b
 low_is m n a b first second e = omega arith
@@ -142,7 +142,7 @@ digits_above n (t ∷ ts) above = omega (arith, code_above t)
 number_above : (t : FuncType) → 0 < number_of t
 number_above t = digits_above (8 * digits_below 0 t.results + 5) t.params (omega arith)
 
--- ---- equal texts
+-- Equal texts.
 
 never_five : (t : ValType) → code_of t ≡ 5 → ⊥
 never_five t e = omega (arith, code_below t)
@@ -186,7 +186,7 @@ text_is s t e =
       | inr one ↦ long_is s t one
     ]
 
--- ---- how large a number is
+-- How large a number is.
 
 one_more : (n d c p : ℕ) → d + 1 ≤ (n + 1) * p → c < 5 → (8 * d + c) + 1 ≤ (n + 1) * (8 * p)
 one_more n d c p before small = omega arith

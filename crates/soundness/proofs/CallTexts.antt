@@ -20,7 +20,7 @@ use Rattle.soundness.proofs.Joined.Names.{NoTab, up_to_tab, value_no_tab, name_n
 pub line_examples : LineExamples
 line_examples = record { no_line = refl; one_line = refl; empty_line = refl; several_lines = refl; no_newline = refl }
 
--- ---- good texts
+-- Good texts.
 
 -- bytes above newline are bytes of a name
 plain_name : (name : List ℕ) → list_all (nat_lt 10) name ≡ true → IsName name
@@ -41,7 +41,7 @@ good_texts = record {
   space_in_name = (omega arith, omega arith, ((plain_call (codes "f i32:1") _ refl tt, refl), tt));
 }
 
--- ---- bad texts
+-- Bad texts.
 
 no_tab : (bytes : List ℕ) → list_all (nat_lt 10) bytes ≡ true → NoTab bytes
 no_tab bytes e = name_no_tab bytes (plain_name bytes e)
@@ -79,7 +79,7 @@ bad_number k name text n t h (l, (c, (is, e))) =
     let v = one_value name (codes "i32:" ++ text) c (no_tab name n) (no_tab (codes "i32:" ++ text) t) is e in
     no_value text h v.0 v.1 v.2
 
--- ---- why each of these is no number
+-- Why each of these is no number.
 
 -- the number of digits is the one that they write
 written : (n : ℕ) (text : List ℕ) → n < 2 ^ 32 → decimal n ≡ text → AllDigits 10 text × (digits_value 10 text ≡ n)
@@ -113,7 +113,7 @@ past_the_greatest = record {
   negative = λ n l e. omega (arith, (behind_minus 50 _ _ e).0);
 }
 
--- ---- the least bad line
+-- The least bad line.
 
 pub first_bad : (text : List ℕ) (line : TextLine) → slice_get (lines_of text) 0 ≡ Some line → (IsGood 1 line → ⊥) → LeastBad text 1
 first_bad text line e bad = record { place = 0; line = line; number = refl; stands = e; bad = bad; before = λ j other l s. absurd (omega (arith, l)) }

@@ -10,7 +10,7 @@ use Rattle.wsyntax.specs.Binary.Values.{u32, s32, s33, s64, name}
 use Rattle.wsyntax.specs.Binary.Types.{block_type}
 use Rattle.soundness.specs.Spellings.{SpellNone, UnsignedSpellings, SignedSpellings, BlockTypeReadings, NameSpellings}
 
--- ---- what is read is spelled
+-- What is read is spelled.
 
 whole : {A : Type 0} (p : Production A) → Agrees p → (bytes : List ℕ) (a : A) → p.read bytes ≡ Some (a, []) → p.spells bytes a
 whole {A} p agrees bytes a e =
@@ -22,7 +22,7 @@ none {A} p agrees bytes e a h =
     let r : p.read bytes ≡ Some (a, []) = subst (λ bs. p.read bs ≡ Some (a, [])) (append-nil bytes) (agrees.complete bytes a [] h) in
     absurd cc
 
--- ---- numbers
+-- Numbers.
 
 spelled_u32 : (bytes : List ℕ) (n : ℕ) → unsigned_at 32 bytes ≡ Some (n, []) → u32.spells bytes n
 spelled_u32 = whole u32 (unsigned_reads 32)
@@ -67,7 +67,7 @@ pub block_type_readings : BlockTypeReadings
 unfolding block_type unsigned_at signed_at
 block_type_readings = record { index = refl; longer_index = refl; value_type = refl; minus_one = refl; least = refl }
 
--- ---- names
+-- Names.
 
 -- a count in one byte is that byte
 count_is : (n k : ℕ) (x y rest : List ℕ) → n < 128 → SpellsUnsigned 32 x k → n ∷ rest ≡ x ++ y → (n ≡ k) × (rest ≡ y)

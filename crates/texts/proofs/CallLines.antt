@@ -7,7 +7,7 @@ use Rattle.std.proofs.lemmas.List.Elements.{recursion_from_All}
 use Rattle.wsyntax.specs.Texts.Calls.{Call, TextLine, Ended, Unended, onto, lines_of, calls_limit, line_limit, Says, IsGood, SayAll, TooLong, BadLine, Good, LeastBad, IsCalls, IsCall, call_text}
 use Rattle.texts.specs.Reading.{SplitsBefore}
 
--- ---- the lines of a text
+-- The lines of a text.
 
 not_newline : (b : ℕ) (x y : List TextLine) → b ≢ 0x0A → cond (eqb b 0x0A) x y ≡ y
 not_newline b x y h = grind (arith, nat_tests)
@@ -46,7 +46,7 @@ pub some_line : (rest : List ℕ) → 0 < length rest → (first : TextLine) × 
 some_line [] some = absurd (omega arith)
 some_line (b ∷ rest) some = by_test (eqb b 0x0A) (lines_of rest) (onto b (lines_of rest)) (some_onto b (lines_of rest))
 
--- ---- the lines that are read
+-- The lines that are read.
 
 -- that many lines of the text say these calls
 pub record LinesRead (text rest : List ℕ) (calls : List Call) : Type 0 where
@@ -72,7 +72,7 @@ line_more text rest line next calls c h room at says = record {
   few = simp length-append (omega arith);
 }
 
--- ---- the least bad line
+-- The least bad line.
 
 pub same_length : (done : List TextLine) (calls : List Call) → SayAll done calls → length done ≡ length calls
 same_length [] [] h = refl
@@ -105,7 +105,7 @@ least_bad text rest calls line others h at bad =
       before = λ j other l e. (omega (arith, h.few), said_before h.done calls (line ∷ others) j other h.say (omega arith) (sym (ap (λ l. slice_get l j) whole) ∙ e));
     }
 
--- ---- what the text is
+-- What the text is.
 
 -- a line refuses the calls
 pub refused_at : (text rest : List ℕ) (calls : List Call) (line : TextLine) (others : List TextLine) (k : ℕ) → length text ≤ calls_limit → LinesRead text rest calls → lines_of rest ≡ line ∷ others → k ≡ length calls + 1

@@ -14,7 +14,7 @@ pub two_parts : {U E : Type 0} (r : Result U E) (new mid old a b : List ℕ) →
 two_parts (Ok u) new mid old a b e h = h ∙ ap (λ l. l ++ b) e ∙ append_assoc old a b
 two_parts (Err f) new mid old a b e h = tt
 
--- ---- values
+-- Values.
 
 -- what stands in front of the value at a place
 abbrev pub separator : ℕ → List ℕ
@@ -47,7 +47,7 @@ values_more vs i v text old l e =
     append_assoc text (separator i) (value_text (get_or vs i v)) ∙ ap (λ l. l ++ (separator i ++ value_text (get_or vs i v))) e
     ∙ append_assoc old (spaced_values (take i vs)) (separator i ++ value_text (get_or vs i v)) ∙ ap (λ l. old ++ l) (sym more)
 
--- ---- lines
+-- Lines.
 
 line_behind : (n : ℕ) (es : List CallEnd) (e : CallEnd) → call_lines n (es ++ e ∷ []) ≡ call_lines n es ++ call_line (length es + n) e
 line_behind n [] e = ap (λ m. call_line m e ++ []) (omega arith) ∙ append-nil (call_line (length {A = CallEnd} [] + n) e)
@@ -73,7 +73,7 @@ lines_append n (x ∷ xs) ys =
     let at : suc n + length xs ≡ n + suc (length xs) = omega arith in
     ap (λ l. call_line n x ++ l) (lines_append (suc n) xs ys ∙ ap (λ m. call_lines (suc n) xs ++ call_lines m ys) at) ∙ sym (append_assoc (call_line n x) (call_lines (suc n) xs) (call_lines (n + suc (length xs)) ys))
 
--- ---- the total
+-- The total.
 
 equal_fields : (v t x r m f v' t' x' r' m' f' : ℕ) → v ≡ v' → t ≡ t' → x ≡ x' → r ≡ r' → m ≡ m' → f ≡ f'
     → ◌≡◌ {A = Tally} (record { values = v; traps = t; exhausted = x; refused = r; no_memory = m; fuel = f }) (record { values = v'; traps = t'; exhausted = x'; refused = r'; no_memory = m'; fuel = f' })
@@ -95,7 +95,7 @@ pub totals_append : (xs ys : List CallEnd) → total_of (xs ++ ys) ≡ plus (tot
 totals_append [] ys = same_tally _ _ (omega arith) (omega arith) (omega arith) (omega arith) (omega arith) (omega arith)
 totals_append (x ∷ xs) ys = ap (plus (tally_of x)) (totals_append xs ys) ∙ same_tally _ _ (omega arith) (omega arith) (omega arith) (omega arith) (omega arith) (omega arith)
 
--- ---- the report
+-- The report.
 
 -- all lines and the total
 pub report_whole : (ends : List CallEnd) (total : Total) (text whole : List ℕ) → text ≡ call_lines 0 ends → tally total ≡ total_of ends → total.calls ≡ length ends

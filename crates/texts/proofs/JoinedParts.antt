@@ -11,7 +11,7 @@ use Rattle.texts.specs.Parts.{IsPart, AreParts, parts_text}
 use Rattle.texts.specs.Totals.{tally, IsWithin, total_text}
 use Rattle.texts.proofs.Joined.{lines_append, totals_append, report_whole}
 
--- ---- one part
+-- One part.
 
 -- all its lines are written
 pub part_whole : (n : ℕ) (lines : List Line) (i : ℕ) (p : Part) → i ≡ length lines → string_bytes p.text ≡ call_lines n (ends_of (take i lines)) → tally p.total ≡ total_of (ends_of (take i lines)) → p.total.calls ≡ i → IsWithin p.total
@@ -25,7 +25,7 @@ part_whole n lines i p all text counts calls within =
       within = within;
     }
 
--- ---- parts one after another
+-- Parts one after another.
 
 -- the parts up to a place are joined, and the others have the calls that are left
 pub record Joined (parts : List Part) (i : ℕ) (text : List ℕ) (total : Total) (ends : List CallEnd) : Type 0 where

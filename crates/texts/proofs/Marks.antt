@@ -38,7 +38,7 @@ front_of P (x ∷ xs) ys h = (h.0, front_of P xs ys h.1)
 pub All-front : (P : ℕ → Type 0) (xs ys : List ℕ) → All P (xs ++ ys) → All P xs
 All-front P xs ys h = All-from_recursion P xs (front_of P xs ys (recursion_from_All P (xs ++ ys) h))
 
--- ---- a value holds no tab
+-- A value holds no tab.
 
 digits_free : (n : ℕ) → n < 2 ^ 64 → All (λ b. b ≢ 9) (decimal n)
 digits_free n h k d l e =

@@ -12,7 +12,7 @@ use Rattle.texts.specs.Calls.{call_of, calls_of}
 use Rattle.texts.specs.Slices.{EndsLine, EachEndsLine, EachRead, joined_calls}
 use Rattle.texts.proofs.CallLines.{say_both, same_length}
 
--- ---- the lines of two texts
+-- The lines of two texts.
 
 -- each line is ended
 abbrev pub AllEnded : List TextLine → Type 0
@@ -45,7 +45,7 @@ lines_behind : (text other : List ℕ) → AllEnded (lines_of text) → lines_of
 lines_behind [] other h = refl
 lines_behind (b ∷ text) other h = by_test (eqb b 0x0A) b (lines_of text) (lines_of (text ++ other)) (lines_of other) (lines_behind text other) h
 
--- ---- the calls of slices
+-- The calls of slices.
 
 said : (text : List ℕ) (calls : List Meant) → IsCalls text (Good calls) → SayAll (lines_of text) calls
 unfolding IsCalls
@@ -67,7 +67,7 @@ slices_say (s ∷ slices) (c ∷ read) h =
     subst (λ (l : List TextLine). SayAll l (calls_of (joined_calls (c ∷ read)))) (sym lines)
     (subst (λ (m : List Meant). SayAll (lines_of s ++ lines_of (flat_map (λ s. s) slices)) m) (sym (map-append call_of c.items (joined_calls read))) both)
 
--- ---- a text that is cut
+-- A text that is cut.
 
 -- slices are cut, and the rest is left
 pub record CutSoFar (size : ℕ) (text rest : List ℕ) (slices : List (List ℕ)) : Type 0 where
@@ -106,7 +106,7 @@ ends_there text line (b ∷ after) size «end» fits split some is =
     let at : take end text ≡ front ++ newline = ap (take end) whole ∙ ap (λ (n : ℕ). take n ((front ++ newline) ++ after)) (sym to) ∙ take-append_seam (front ++ newline) after in
     (omega (arith, ap length whole, length-append (front ++ newline) after, to), (front, at, omega (arith, count)))
 
--- ---- how many calls
+-- How many calls.
 
 -- those so far, and those of the next slice
 pub count_more : (read : List (Vec Call Global)) (i : ℕ) (calls : Vec Call Global) → i < length read → calls ≡ get_or read i calls

@@ -22,7 +22,7 @@ number_same F32 F32 e = refl
 number_same F64 F64 e = refl
 number_same _ _ e = absurd (omega arith)
 
--- ---- a node of which `below` is written
+-- A node of which `below` is written.
 
 pub above_kept : (nodes : List Node) (p : ℕ) (n : Node) (q : ℕ) → p < length nodes → n.above ≡ above_at nodes p → above_at (set nodes p n) q ≡ above_at nodes q
 above_kept nodes p n q within same = let none : Node = record { above = 0; below = 0 } in elim (cases_eq q p) [
@@ -36,7 +36,7 @@ below_there nodes p n q within is = ap (below_at (set nodes p n)) is ∙ ap (λ 
 pub below_kept : (nodes : List Node) (p : ℕ) (n : Node) (q : ℕ) → (q ≡ p → ⊥) → below_at (set nodes p n) q ≡ below_at nodes q
 below_kept nodes p n q other = ap (λ (x : Node). x.below) (get_or-set_other nodes p q n record { above = 0; below = 0 } other)
 
--- ---- a fork
+-- A fork.
 
 -- four children are all, where each is the only one by its type
 pub all_four : (n : Nodes) (p a b c d : ℕ) → HasNoOther n p I32 a → HasNoOther n p I64 b → HasNoOther n p F32 c → HasNoOther n p F64 d → AreAllChildren n p (a ∷ b ∷ c ∷ d ∷ [])

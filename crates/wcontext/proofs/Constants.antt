@@ -15,7 +15,7 @@ use Rattle.wsyntax.specs.declared.Token.{Token}
 use Rattle.wsyntax.specs.declared.Token.TheVariants.{I32Const, I64Const, F32Const, F64Const, GlobalGet}
 use Rattle.wcontext.specs.Constants.{immutable_type, constant_type, constant_of}
 
--- ---- what is computed is so
+-- What is computed is so.
 
 immutable_is : (u t : ValType) (m : Bool) → (if m then None else Some u) ≡ Some t → let g : GlobalType = record { content = u; mutable = m } in g ≡ record { content = t; mutable = false }
 immutable_is u t true e = cc
@@ -45,7 +45,7 @@ constant_holds globals t (initial.F64Const n) is = one_holds globals t [] (F64Co
 constant_holds globals t (initial.GlobalGet x) is = one_holds globals t [] (GlobalGet x) is
 constant_holds globals t (initial.Other e) is = cc
 
--- ---- what is so is computed
+-- What is so is computed.
 
 -- a constant expression has the form of one
 has_form : (globals : List GlobalType) (t : ValType) (tokens : List Shown) → ConstantOf globals t tokens → has_constant_form tokens ≡ true
@@ -75,7 +75,7 @@ constant_known globals t (initial.F64Const n) is = one_known globals t (F64Const
 constant_known globals t (initial.GlobalGet x) is = one_known globals t (GlobalGet x) _ is refl
 constant_known globals t (initial.Other e) is = cc (has_form globals t (tokens_read e.bytes.now) is, e.other)
 
--- ---- what the instruction leaves
+-- What the instruction leaves.
 
 pub leaves_constant : (globals : List GlobalType) (t : ValType) (e : ConstExpr) (one : Option Token) (b : Bool) → one ≡ constant_instruction e
     → (IsTrue b ↔ (option_and_then (constant_type globals) one ≡ Some t)) → IsTrue b ↔ ConstantOf globals t (initial_tokens e)

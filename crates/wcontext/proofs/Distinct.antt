@@ -19,7 +19,7 @@ use Rattle.wcontext.specs.Names.{name_number, short_number, numbers_of, long_of,
 use Rattle.wcontext.proofs.NameNumbers.{same_name}
 use Rattle.wcontext.proofs.Split.{alike, distinct_apart}
 
--- ---- what is sorted
+-- What is sorted.
 
 false_unless : (b : Bool) → (b ≡ true → ⊥) → b ≡ false
 false_unless true never = absurd (never refl)
@@ -58,7 +58,7 @@ module _ {X : Type 0} (order : X → X → Ordering) (total : IsTotalOrder order
         test.1 (λ k d below. (apart (slice_index_or ys k d) (slice_index_or ys (k + 1) d)).0 (apart_from_distinct (eq_by_cmp order) ys k (k + 1) d distinct (omega arith) below)),
   )
 
--- ---- numbers
+-- Numbers.
 
 matched_equal : (k m : ℕ) (o : Ordering) → MatchOrdering o (k < m) (k ≡ m) (m < k) → is_eq o ≡ true → k ≡ m
 matched_equal k m Less below equal = cc
@@ -74,7 +74,7 @@ tied_number k m same = let itself : nat_cmp k k ≡ Equal = tied_itself nat_cmp_
 pub number_apart : (k m : ℕ) → eq_by_cmp nat_cmp k m ≡ false ↔ (k ≢ m)
 number_apart k m = (λ told same. let equal = tied_number k m same in cc, λ differ. false_unless _ (λ equal. differ (same_number k m equal)))
 
--- ---- names
+-- Names.
 
 -- the order of names
 abbrev pub name_cmp : Bor (List ℕ) → Bor (List ℕ) → Ordering
@@ -103,7 +103,7 @@ distinct_pairs xs distinct i j d before below = (name_apart (slice_index_or xs i
 pairs_distinct : (xs : List (Bor (List ℕ))) → AllPairs (λ a b. a.now ≢ b.now) xs → IsDistinct (eq_by_cmp name_cmp) xs
 pairs_distinct xs pairs = IsDistinct-from_apart (eq_by_cmp name_cmp) xs (λ i j d before below. (name_apart (slice_index_or xs i d) (slice_index_or xs j d)).1 (pairs i j d before below))
 
--- ---- short names and the others
+-- Short names and the others.
 
 same_answer : (a b : Bool) → (a ≡ true → b ≡ true) → (b ≡ true → a ≡ true) → a ≡ b
 same_answer true b there back = sym (there refl)

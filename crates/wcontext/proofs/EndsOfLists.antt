@@ -30,7 +30,7 @@ end_from tells long short k within h =
     let rest : take (length long - k) (drop k long) ≡ drop k long = ap (λ n. take n (drop k long)) (sym (length-drop k long)) ∙ take-length (drop k long) in
     (take k long, sym (take-append-drop k long) ∙ ap (λ z. take k long ++ z) (sym rest ∙ same_from tells _ short h))
 
--- ---- what the tree of ends tells
+-- What the tree of ends tells.
 
 front_whole : (types : List FuncType) (f : Front) (n : ℕ) → n ≡ length (front_of types f) → (n ≤ length (list_of types f.list)) × (take n (list_of types f.list) ≡ front_of types f)
 front_whole types f n is =

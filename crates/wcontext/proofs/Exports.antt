@@ -11,7 +11,7 @@ use Rattle.wcontext.specs.Names.{short_number, numbers_of, long_of, IsOfBytes}
 use Rattle.wcontext.proofs.Shapes.{AllPairs-map, AllPairs-unmap}
 use Rattle.wcontext.proofs.Distinct.{distinct_by_sorting, name_cmp, name_total, name_apart, number_apart, names_distinct, names_tied}
 
--- ---- one more name
+-- One more name.
 
 more_names : {E N : Type 0} (f : E → N) (es : List E) (i : ℕ) (d : E) → i < length es → map f (take (i + 1) es) ≡ map f (take i es) ++ f (slice_index_or es i d) ∷ []
 more_names f es i d below = ap (map f) (take_more es i d below) ∙ map-append f (take i es) (slice_index_or es i d ∷ [])
@@ -32,7 +32,7 @@ pub more_bytes : {E : Type 0} (f : E → Bor (List ℕ)) (es : List E) (i : ℕ)
 more_bytes f es i d below before here =
     subst (All IsOfBytes) (sym (more_names f es i d below)) (All-push IsOfBytes (map f (take i es)) (f (slice_index_or es i d)) before here)
 
--- ---- all names
+-- All names.
 
 numbers_told : (xs ys zs : List ℕ) (b : Bool) → xs ≡ zs → IsPermutation xs ys → IsSorted nat_cmp ys → (IsTrue b ↔ AllAdjacentBelow (λ x y. x ≢ y) ys (length ys)) → IsTrue b ↔ IsDistinct (eq_by_cmp nat_cmp) zs
 numbers_told xs ys zs b is moved up test =

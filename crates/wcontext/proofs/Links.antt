@@ -8,7 +8,7 @@ use Rattle.wcontext.specs.Nodes.{text, link_at, above_at, below_at, IsOnly, IsFo
 use Rattle.wcontext.specs.declared.nodes.Node.{Node}
 use Rattle.wcontext.specs.declared.nodes.Nodes.{Nodes}
 
--- ---- ends
+-- Ends.
 
 pub end_nothing : (l : List ValType) → IsEnd [] l
 end_nothing l = (l, sym (append-nil l))
@@ -22,7 +22,7 @@ end_through a b c ab bc = (bc.0 ++ ab.0, bc.1 ∙ ap (λ z. bc.0 ++ z) ab.1 ∙ 
 end_more : (a b : List ValType) (t : ValType) → IsEnd a b → IsEnd (a ++ t ∷ []) (b ++ t ∷ [])
 end_more a b t ab = (ab.0, ap (λ z. z ++ t ∷ []) ab.1 ∙ append_assoc ab.0 a (t ∷ []))
 
--- ---- up the links
+-- Up the links.
 
 pub next_above : (texts : List (List ValType)) (count : ℕ) (up : ℕ → ℕ) (p q next : ℕ) → LeadsUp texts count up → IsOnTheWay texts p q → next ≡ up q → next < q → IsOnTheWay texts p next
 next_above texts count up p q next leads above is low =
@@ -37,7 +37,7 @@ child_found texts n p q d t are above some has =
 pub none_found : (texts : List (List ValType)) (n : Nodes) (p : ℕ) (t : ValType) → AreNodes texts n → (0 < length texts) × IsEnd (text texts 0) (text texts p ++ t ∷ [])
 none_found texts n p t are = (are.some, rw are.root (end_nothing _))
 
--- ---- one node more
+-- One node more.
 
 pub text_front : (texts more : List (List ValType)) (q : ℕ) → q < length texts → text (texts ++ more) q ≡ text texts q
 text_front texts more q below = get_or_append_left texts more [] q below
@@ -163,7 +163,7 @@ kept_itself n there q u e some has = has
 pub link_made : (old mid new : Nodes) (p d : ℕ) (t : ValType) (l : ℕ) → mid.links.items ≡ old.links.items ++ l ∷ [] → d ≡ length old.links.items → PutsChild mid new p t d → link_at new.links.items d ≡ l
 link_made old mid new p d t l links is puts = rw (puts.links, links) (get_or_push old.links.items l 0 d (sym is))
 
--- ---- nodes that are kept
+-- Nodes that are kept.
 
 pub none_after : (old new : Nodes) (q : ℕ) (t : ValType) → below_at new.nodes.items q ≡ below_at old.nodes.items q → new.forks ≡ old.forks → HasNoOther old q t 0 → HasNoOther new q t 0
 none_after old new q t same forks none e some has = none e some (child_before old new q t e same forks has)

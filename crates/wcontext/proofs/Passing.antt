@@ -11,7 +11,7 @@ use Rattle.wcontext.specs.declared.nodes.Nodes.{Nodes}
 use Rattle.wcontext.proofs.Children.{number_below, below_there, below_kept}
 use Rattle.wcontext.proofs.Links.{end_through, same_below, child_before, none_after, nodes_kept}
 
--- ---- a way up
+-- A way up.
 
 pub passes_low : (n : Nodes) (t : ValType) (s q : ℕ) → Passes n t s q → link_at n.links.items q < q
 passes_low n t s q (Here _ low is) = low
@@ -55,7 +55,7 @@ way_on n p at next t (inr passed) above none on =
       λ high. absurd (omega (arith, high, passes_below n t next at way)),
     )
 
--- ---- nodes of which the ways up are kept
+-- Nodes of which the ways up are kept.
 
 misses_alike : (old new : Nodes) (q bound low : ℕ) → ((r : ℕ) → r < bound → link_at new.links.items r ≡ link_at old.links.items r) → q < bound → ((t : ValType) (r : ℕ) → r < low → HasNoOther old r t 0 → HasNoOther new r t 0)
     → ((t : ValType) → HasNoOther new q t 0 → HasNoOther old q t 0) → (link_at old.links.items q < old.growing → link_at old.links.items q < low) → above_at new.nodes.items q ≡ above_at old.nodes.items q → old.growing ≤ new.growing → MissesNone old q → MissesNone new q
@@ -123,7 +123,7 @@ made_misses_none old new n miss childless nodes links forks growing next =
       ];
     }
 
--- ---- nodes that are kept
+-- Nodes that are kept.
 
 pub keeps_itself : (n : Nodes) → KeepsNodes n n
 keeps_itself n = record { texts = λ texts are. are; none = λ none. none; links = refl; forks = refl; below = λ q. refl }
@@ -225,7 +225,7 @@ keeps_passed old new p l n link within above less low grows under some only othe
       below = same;
     }
 
--- ---- node 0
+-- Node 0.
 
 one_above : (q : ℕ) → above_at (record { above = 0; below = 0 } ∷ []) q ≡ 0
 one_above zero = refl

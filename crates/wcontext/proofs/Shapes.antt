@@ -33,7 +33,7 @@ pub all_shapes_by : {X Y : Type 0} (f : X → Y) (P : Y → Type 0) (Q : X → T
 all_shapes_by f P Q xs b there back test =
     all_shapes f P xs b (λ t k d below. there _ (test.0 t k d below), λ all. test.1 (λ k d below. back _ (all k d below)))
 
--- ---- a loop that tests each item
+-- A loop that tests each item.
 
 -- this item fails
 pub fails_here : {X : Type 0} (P : X → Type 0) (xs : List X) (i : ℕ) (x : X) (b : Bool) → x ≡ slice_index_or xs i x → i < length xs → (IsTrue b ↔ P x) → b ≡ false → IsTrue false ↔ All P xs
@@ -56,13 +56,13 @@ got_passes P xs i x b got = passes_here P xs i x b (sym (get_or_from_slice_get x
 pub passes_all : {X : Type 0} (P : X → Type 0) (xs : List X) (n : ℕ) → length xs ≤ n → All P (take n xs) → IsTrue true ↔ All P xs
 passes_all P xs n end passed = (λ t. subst (All P) (take_all n xs end) passed, λ all. refl)
 
--- ---- a test that ran over a copy of the list
+-- A test that ran over a copy of the list.
 
 pub all_shapes_of : {X Y : Type 0} (f : X → Y) (P : Y → Type 0) (Q : X → Type 0) (xs ys : List X) (b : Bool) → ys ≡ xs → ((x : X) → Q x → P (f x)) → ((x : X) → P (f x) → Q x) → (IsTrue b ↔ All Q ys) → (IsTrue b ↔ All P (map f xs))
 all_shapes_of f P Q xs ys b same there back test =
     all_shapes_by f P Q xs b there back (subst (λ l. IsTrue b ↔ All Q l) same test)
 
--- ---- a relation of each two items, and of the items' shapes
+-- A relation of each two items, and of the items' shapes.
 
 pub AllPairs-map : {X Y : Type 0} (f : X → Y) (R : Y → Y → Type 0) (xs : List X) → AllPairs (λ x y. R (f x) (f y)) xs → AllPairs R (map f xs)
 AllPairs-map f R [] all i j d before below = absurd (omega arith)

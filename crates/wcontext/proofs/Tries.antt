@@ -19,7 +19,7 @@ unread n fronts x e =
       | inr above ↦ get_or_past (replicate n 0) x 0 (omega (arith, above, length-replicate {A = ℕ} n 0))
     ]
 
--- ---- more nodes
+-- More nodes.
 
 pub read_more : (all texts more : List (List ValType)) (fronts : List ℕ) → AreRead all texts fronts → AreRead all (texts ++ more) fronts
 read_more all texts more fronts read x above =
@@ -45,7 +45,7 @@ in_block_more all texts more base column r held = record {
   nodes = texts_more texts more (λ i. text all (r.start + base + i)) r.nodes held.nodes;
 }
 
--- ---- one type more is read
+-- One type more is read.
 
 -- a node is put where its text is wanted
 pub put_node : (texts : List (List ValType)) (wanted : ℕ → List ValType) (nodes : List ℕ) (place d : ℕ) → AreTexts texts wanted nodes → (0 < d → (d < length texts) × (text texts d ≡ wanted place)) → AreTexts texts wanted (set nodes place d)
@@ -98,7 +98,7 @@ none_there all texts list base i held past = record {
   nodes = held.nodes;
 }
 
--- ---- one type more of one list more
+-- One type more of one list more.
 
 -- one element more is as the first ones
 pub one_more : {X : Type 0} (P Q : X → Type 0) (now : List X) (k : ℕ) (next : X) → k < length now → Q next → AllWithin Q now 0 k → AllWithin P now k (length now) → AllWithin Q (set now k next) 0 (k + 1) × AllWithin P (set now k next) (k + 1) (length (set now k next))
@@ -134,7 +134,7 @@ none_of_column old new lists base i kept all texts are each =
     let q : P (texts ++ []) = subst P (sym (append-nil texts)) (kept texts are, AllWithin-none (IsInBlock all texts base (base + i + 1)) lists 0, AllWithin-from_all (IsInBlock all texts base (base + i)) lists each) in
     ([], q.0, q.1, q.2)
 
--- ---- a block
+-- A block.
 
 pub column_read : (old mid new : Nodes) (lists left rest : List Reading) (base i : ℕ) → ReadsBlock old mid lists left base i → ReadsColumn mid new left rest base i → ReadsBlock old new lists rest base (i + 1)
 column_read old mid new lists left rest base i before step all texts are each =
@@ -153,7 +153,7 @@ none_of_block n lists base all texts are each =
     let q : G (texts ++ []) = subst G same (are, subst (λ k. All (IsInBlock all texts base k) lists) sum each) in
     ([], q.0, q.1)
 
--- ---- the fronts of a block
+-- The fronts of a block.
 
 pub put_front : (old now : List ℕ) (list : Reading) (base place i : ℕ) → PutsFronts old now list base → place ≡ list.start + base + i → PutsFronts old (set now place (get_or list.nodes i 0)) list base
 put_front old now list base place i before at all texts column held read =
@@ -161,7 +161,7 @@ put_front old now list base place i before at all texts column held read =
     let node = held.nodes i above in
     (node.0, node.1 ∙ ap (text all) (sym at)))
 
--- ---- all columns
+-- All columns.
 
 pub none_read : (lists : List Reading) (trie : Trie) → IsNew trie → ReadsTo lists trie lists 0
 none_read lists trie new all each = (

@@ -11,7 +11,7 @@ use Rattle.wcontext.specs.Walk.{IsWalk, HaveLinksOf, count_at, AreCounted}
 use Rattle.wcontext.proofs.Children.{above_kept, below_there, below_kept}
 use Rattle.wcontext.proofs.Links.{end_itself, end_through}
 
--- ---- counting
+-- Counting.
 
 count_more : (nodes : List Node) (i q : ℕ) → i < length nodes → (above_at nodes i ≡ q → count_at (drop i nodes) q ≡ below_at nodes i + count_at (drop (i + 1) nodes) q) × (above_at nodes i ≢ q → count_at (drop i nodes) q ≡ count_at (drop (i + 1) nodes) q)
 count_more nodes i q within =
@@ -25,7 +25,7 @@ linked_alike texts old new same linked = record {
   ends = λ q above within. rw (same.links q) (linked.ends q above within);
 }
 
--- ---- numbering
+-- Numbering.
 
 pub walk_more : (R : ℕ → ℕ → Type 0) (s e n u v m : ℕ → ℕ) (i f : ℕ) → IsWalk R s e n i → ((a : ℕ) → R a a) → ((a : ℕ) → R a f → R a i) → f < i → n f < v i → v i ≤ e f → u i ≡ n f → m i ≡ n f + 1 → m f ≡ v i
     → ((a : ℕ) → a < i → u a ≡ s a) → ((a : ℕ) → a < i → v a ≡ e a) → ((a : ℕ) → a < i → a ≢ f → m a ≡ n a) → IsWalk R u v m (i + 1)

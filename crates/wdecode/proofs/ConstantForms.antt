@@ -18,7 +18,7 @@ pub single_form : (whole after : List ℕ) (t : Token) (x : ConstExpr) → expre
 single_form whole after t x read form tokens =
     form ∙ ap has_constant_form (sym tokens) ∙ ap (λ (r : Tokens). has_constant_form (tokens_in r)) (sym read)
 
--- ---- tokens that have it not
+-- Tokens that have it not.
 
 -- the first is no constant and no global.get
 no_constant : (t : Token) (ts : List Token) → is_const_or_get t ≡ false → has_constant_form (t ∷ ts) ≡ false
@@ -32,7 +32,7 @@ no_end : (t u : Token) (ts : List Token) → (u ≡ End → ⊥) → has_constan
 no_end t End ts not = absurd (not refl)
 no_end t _ ts not = refl
 
--- ---- tokens that are read, the first apart
+-- Tokens that are read, the first apart.
 
 -- the second is no end, and the others are read after it
 no_end_pushed : (t u : Token) (read : Tokens) → (u ≡ End → ⊥)
@@ -65,7 +65,7 @@ end_spelled rest after is =
     let f = token_reads.sound rest End after is in
     f.2 ∙ ap (λ (front : List ℕ). front ++ after) f.1
 
--- ---- all tokens that are read
+-- All tokens that are read.
 
 pushed : (t : Token) (read : Tokens) → has_constant_form (t ∷ tokens_in read) ≡ false
     → has_constant_form (tokens_in (read >>= λ x. let y : List Token × List ℕ = (t ∷ x.0, x.1) in Some y)) ≡ false

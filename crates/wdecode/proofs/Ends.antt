@@ -111,7 +111,7 @@ none_there Memory whole s now t rest ends h moves open_still none = tt
 none_there Malformed whole s now t rest ends h moves open_still none =
     sym h.same ∙ left_open h.most s now t rest ends moves open_still ∙ ap rest_of (none_then h.most now rest none)
 
--- ---- what is said of the end, said of all tokens
+-- What is said of the end, said of all tokens.
 
 -- no token is there at first
 pub none_at_first : (e : Fault) (whole : List ℕ) → Fails e (token_at whole) → Fails e (expression.read whole)

@@ -33,7 +33,7 @@ carried start last now m n bytes after s r ok is made so_far whole =
       λ x. (so_far whole).1 (step.1 (subst (λ (k : ModuleShape). EndsAs (last_after last s) k after whole) made (subst (λ (l : ℕ). EndsAs l n after whole) (sym is) x))),
     )
 
--- ---- before the data segments
+-- Before the data segments.
 
 early_put : (last : ℕ) (m : ModuleShape) (s : SectionShape) → section_id s ≢ 11 → IsBeforeSegments last m → IsBeforeSegments (last_after last s) (put m s)
 early_put last m Custom other e = e
@@ -69,7 +69,7 @@ none_left (b ∷ bytes) over = absurd cc
 pub ends_here : (last : ℕ) (m : ModuleShape) (bytes : List ℕ) → bytes ≡ [] → EndsAs last m bytes m
 ends_here last m bytes is = ([], is, tt, refl)
 
--- ---- from the data segments on
+-- From the data segments on.
 
 -- after them stand custom sections, which say nothing
 put_customs : (ss : List SectionShape) (m : ModuleShape) → IsOrdered 11 ss → put_all m ss ≡ m
@@ -133,7 +133,7 @@ pub whole_made : (last : ℕ) (m whole : ModuleShape) (bytes : List ℕ) → ((i
 whole_made last m whole bytes next e =
     let is = only_segments last m whole bytes next e in (whole.segments, subst (EndsAs last m bytes) is e, is)
 
--- ---- the section of data segments, read in place
+-- The section of data segments, read in place.
 
 -- the bytes from the section of data segments on, after its id
 abbrev pub after_id : List ℕ → List ℕ
@@ -173,7 +173,7 @@ no_customs last m rest contents after segments early b w none to ends =
     let step = one_more last m (11 ∷ rest) after (Segments segments) (segments_read rest contents after segments b w) (segments_follow last segments early) to in
     none (customs_after (with_segments m segments) empty_module after to (step.0 ends))
 
--- ---- the whole
+-- The whole.
 
 -- nothing ends so, where the sections after the header do not
 pub no_shell : (bytes tail : List ℕ) (start : ModuleShape) → strip header bytes ≡ Some tail → start ≡ empty_module → ((to : ModuleShape) → EndsAs 0 start tail to → ⊥) → (m : ModuleShape) → Shell bytes m → ⊥
@@ -202,7 +202,7 @@ unpaired bytes tail start last m rest stripped empty same next differ whole s =
     let is = only_segments last m whole rest next ends in
     differ (sym (ap (λ (w : ModuleShape). length w.functions) is) ∙ s.paired ∙ ap (λ (w : ModuleShape). length w.bodies) is)
 
--- ---- a rule that each data segment is to keep
+-- A rule that each data segment is to keep.
 
 all_last : {X : Type 0} (P : X → Type 0) (xs : List X) (n : X) → All P (xs ++ n ∷ []) → All P xs × P n
 all_last P [] n a = (All-nil P, All-head P n [] a)

@@ -13,7 +13,7 @@ use Rattle.wdecode.specs.Fronts.{EndsAs}
 use Rattle.wdecode.proofs.Agree.{pair_is}
 use Rattle.wdecode.proofs.SectionLaws.{section_agrees}
 
--- ---- the id of a section is its first byte
+-- The id of a section is its first byte.
 
 number : SectionKind → ℕ
 number CustomSection = 0
@@ -99,7 +99,7 @@ section_shorter bytes after s h =
     let first = spelled_section_id f.0 s f.1 in
     omega (arith, ap length f.2, length-append f.0 after, ap length first.1)
 
--- ---- one section more
+-- One section more.
 
 first_same : (bytes after x y : List ℕ) (s t : SectionShape) → section.read bytes ≡ Some (s, after) → bytes ≡ x ++ y → section.spells x t → (s ≡ t) × (after ≡ y)
 first_same bytes after x y s t r is sp = pair_is s t after y (sym r ∙ ap section.read is ∙ section_agrees.complete x t y sp)
@@ -165,7 +165,7 @@ one_list (s ∷ ss) (t ∷ ts) bytes a b =
     let others = one_list ss ts b.1 (subst (λ (w : List ℕ). SpellsAll section.spells w ss) same.1 a.4) b.4 in
     ap (λ (w : SectionShape). w ∷ ss) same.0 ∙ ap (λ (w : List SectionShape). t ∷ w) others
 
--- ---- the order of sections
+-- The order of sections.
 
 abbrev pub Follows : ℕ → SectionShape → ℕ → Type 0
 Follows last s now = (may_follow last s ≡ true) × (last_after last s ≡ now)
@@ -188,7 +188,7 @@ misplaced s last id r ne le =
     let behind : ltb last (section_id s) ≡ false = le-ltb last (section_id s) (omega (arith, r)) in
     rw (named, behind) refl
 
--- ---- the header, and the whole
+-- The header, and the whole.
 list_same : (a c : List ℕ) → Some a ≡ Some c → a ≡ c
 list_same a c e = cc
 

@@ -143,7 +143,7 @@ tokens_close (suc n) s bytes ts rest e =
     let all = step s a.0.0 f.0 a.0.1 (λ now. tokens_at n now a.0.1) ts rest f.1 (λ now us left h. tokens_close n now a.0.1 us left h) a.2 in
     subst (λ (b : List ℕ). Closes s rest b ts) (sym f.2) all
 
--- ---- The other way: what trees spell is read.
+-- The other way: what trees spell is read.
 
 abbrev pub push : List Token → Tokens → Tokens
 push front read = read >>= λ x. let y : List Token × List ℕ = (front ++ x.0, x.1) in Some y

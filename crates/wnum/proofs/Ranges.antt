@@ -18,7 +18,7 @@ Word = Result ℕ NumTrap
 abbrev ok : ℕ → Word
 ok v = Ok v
 
--- ---- one operand
+-- One operand.
 
 count_at_most : (n x : ℕ) (f : Unary) → x < 2 ^ n → unary n f x ≤ n
 count_at_most n x Clz h = leading_at_most n x h
@@ -29,13 +29,13 @@ one_below : (w : Width) (f : Unary) (x : ℕ) → x < 2 ^ bits w → unary (bits
 one_below Width32 f x h = omega (arith, count_at_most 32 x f h)
 one_below Width64 f x h = omega (arith, count_at_most 64 x f h)
 
--- ---- whole numbers
+-- Whole numbers.
 
 unsigned_below : (n : ℕ) (z : ℤ) → unsigned n z < 2 ^ n
 unsigned_below n (pos x) = omega (arith, pow_pos n)
 unsigned_below n (negsuc x) = omega (arith, pow_pos n)
 
--- ---- two operands
+-- Two operands.
 
 ok_below : (m v r : ℕ) → v < m → ok v ≡ ok r → r < m
 ok_below m v r h e = let is : v ≡ r = cc in subst (λ a. a < m) is h

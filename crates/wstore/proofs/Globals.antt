@@ -22,7 +22,7 @@ store m t g = record { memory = m; table = t; globals = g }
 pub joined : {m n : Option Memory} {t u : Option (List Entry)} {g h : List ℕ} → m ≡ n → t ≡ u → g ≡ h → store m t g ≡ store n u h
 joined {m} {n} {t} {u} {g} {h} a b c = ap (λ x. store x t g) a ∙ ap (λ x. store n x g) b ∙ ap (λ x. store n u x) c
 
--- ---- the declared types
+-- The declared types.
 
 without_imports : (m : ModuleShape) → m.imports ≡ [] → globals_of m ≡ map (λ g. g.content) m.globals
 without_imports m none = ap (λ i. filter_map (λ x. imported_global x.kind) i ++ map (λ g. g.content) m.globals) none

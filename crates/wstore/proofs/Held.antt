@@ -15,7 +15,7 @@ use Rattle.wsyntax.specs.Execution.ConfigTyped.{IsInteger, Has, MemoryTyped, Sto
 use Rattle.soundness.specs.Slots.{SlotStore, bits, slots, tagged, all_tagged, slot_store}
 use Rattle.wstore.specs.Held.{store_of, IsHeld}
 
--- ---- values of their types, tagged again, are themselves
+-- Values of their types, tagged again, are themselves.
 
 low : (n : ℕ) → n < 2 ^ 32 → n % 2 ^ 32 ≡ n
 low n w = omega arith
@@ -39,7 +39,7 @@ tagged_again C s h = ap (λ vs. record s { globals = vs }) (all_tagged_slots (gl
 pub is_held : (C : Context) (s : Store) → StoreTyped C s → IsHeld C (slot_store s)
 is_held C s h = record { typed = subst (StoreTyped C) (sym (tagged_again C s h)) h; same = ap slot_store (tagged_again C s h) }
 
--- ---- another memory
+-- Another memory.
 
 has_some : {A : Type 0} (P : A → Type 0) (b : Bool) (x : A) → P x → Has b P (Some x)
 has_some P true x h = h
@@ -51,7 +51,7 @@ other_memory C s m t h =
     let typed : StoreTyped C new = record { memory = has_some MemoryTyped C.has_memory m t; table = h.typed.table; globals = h.typed.globals } in
     subst (IsHeld C) (ap (λ (x : SlotStore). record x { memory = Some m }) h.same) (is_held C new typed)
 
--- ---- one global
+-- One global.
 
 pub tagged_at : (ts : List ValType) (ns : List ℕ) (x : ℕ) (t : ValType) (n : ℕ) → slice_get ts x ≡ Some t → slice_get ns x ≡ Some n → slice_get (all_tagged ts ns) x ≡ Some (tagged t n)
 tagged_at [] ns x t n e f = absurd cc

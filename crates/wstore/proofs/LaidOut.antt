@@ -17,7 +17,7 @@ use Rattle.accepted.specs.Sizes.{table_size, memory_pages}
 use Rattle.accepted.proofs.Outside.{all_within}
 use Rattle.wstore.specs.LaidOut.{IsLaidOut}
 
--- ---- what is not refused
+-- What is not refused.
 
 or_else_none : {A : Type 0} (a b : Option A) → or_else a b ≡ None → (a ≡ None) × (b ≡ None)
 or_else_none None b e = (refl, e)
@@ -52,7 +52,7 @@ unrefused pages m bodies e =
       segments = map_none DataOutside _ f.1;
     }
 
--- ---- the memory
+-- The memory.
 
 within_most : (most : Option ℕ) (n : ℕ) → ForSome most (λ x. n ≤ x) → within most n ≡ true
 within_most None n h = refl
@@ -73,7 +73,7 @@ nothing : {A : Type 0} (xs : List A) → nat_lt 0 (length xs) ≡ false → xs �
 nothing [] e = refl
 nothing (x ∷ xs) e = absurd (omega (arith, ltb-false 0 (length (x ∷ xs)) e))
 
--- ---- the whole
+-- The whole.
 
 memory_fits : (pages : ℕ) (m : ModuleShape) → NoneBroken m → m.imports ≡ [] → memory_pages m ≤ pages → ForSome (layout_of m).memory (λ (l : Limits). may_have (zeros l.min l.max pages) l.min ≡ true)
 memory_fits pages m rules none few =

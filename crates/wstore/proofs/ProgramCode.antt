@@ -21,7 +21,7 @@ use Rattle.accepted.specs.FunctionShapes.{function_shape, function_shapes}
 use Rattle.accepted.specs.TypeIds.{AreTypeIds}
 use Rattle.wstore.proofs.Programs.{StandsAt, body_at}
 
--- ---- shapes
+-- Shapes.
 
 -- the declared locals, counted
 length-declared : (runs : List LocalRun) → locals_of runs ≡ length (declared runs)
@@ -52,7 +52,7 @@ shapes_count types numbers [] (c ∷ cs) e = absurd (omega arith)
 shapes_count types numbers (y ∷ ys) [] e = refl
 shapes_count types numbers (y ∷ ys) (c ∷ cs) e = ap suc (shapes_count types numbers ys cs (omega arith))
 
--- ---- numbers of types
+-- Numbers of types.
 
 untrue : (t : Bool) → (t ≡ true → false ≡ true) → t ≡ false
 untrue true h = sym (h refl)
@@ -72,7 +72,7 @@ numbers_tell types numbers y z k t n within is there =
     let same = n.same y z (type_at types y) t (type_there types y within) is in
     same_test (slice_index numbers y) k (same_func_type (type_at types y) t) (λ e. same.0 (here ∙ e ∙ sym there)) (λ e. sym here ∙ same.1 e ∙ there)
 
--- ---- the code
+-- The code.
 
 -- the code has the parts of the module
 pub record HasParts (c : Code) (m : ModuleShape) (numbers : List ℕ) (all : List CheckedBody) : Type 0 where

@@ -19,7 +19,7 @@ use Rattle.interpreter.specs.Code.{body_of, bodies_of}
 use Rattle.accepted.specs.Judgement.{IsJudged, shapes_of}
 use Rattle.wstore.specs.Runs.{longest}
 
--- ---- trees
+-- Trees.
 
 -- the tokens are those of the tree that is found
 abbrev pub HasTree : CheckedBody → Type 0
@@ -31,7 +31,7 @@ tree_of found ts code e = ap (λ x. flat_body (code_of x)) (sym e) ∙ ap flat_b
 pub has_tree : (m : ModuleShape) (x : IndexedContext) (all : List CheckedBody) (f : ℕ) (c : CheckedBody) → TreeIsFound → IsJudged m x all → slice_get all f ≡ Some c → HasTree c
 has_tree m x all f c found j is = let h = (j.bodies.each f c is).2 in tree_of found (tokens_of c.body.code) h.code h.tree
 
--- ---- the functions are those of the module
+-- The functions are those of the module.
 
 pub functions_are : (types : List FuncType) (fs : List ℕ) (all : List CheckedBody) → length fs ≡ length all → ((k : ℕ) (c : CheckedBody) → slice_get all k ≡ Some c → HasTree c)
     → FunctionsOf types fs (shapes_of all) (map (λ (b : Body). b.function) (bodies_of types fs all))
@@ -40,7 +40,7 @@ functions_are types [] (c ∷ cs) e h = absurd (omega arith)
 functions_are types (y ∷ ys) [] e h = absurd (omega arith)
 functions_are types (y ∷ ys) (c ∷ cs) e h = (refl, refl, h 0 c refl, functions_are types ys cs (omega arith) (λ k b is. h (suc k) b is))
 
--- ---- the body of a function
+-- The body of a function.
 
 -- the index of its type, and its checked body
 pub record StandsAt (types : List FuncType) (fs : List ℕ) (all : List CheckedBody) (f : ℕ) (b : Body) : Type 0 where
@@ -70,7 +70,7 @@ mapped_at g [] i y e = absurd cc
 mapped_at g (x ∷ xs) zero y e = (x, refl)
 mapped_at g (x ∷ xs) (suc i) y e = mapped_at g xs i y e
 
--- ---- a module without imports
+-- A module without imports.
 
 pub none_imported : (m : ModuleShape) → m.imports ≡ [] → imported_functions m ≡ []
 none_imported m e = ap (λ is. filter_map (λ i. imported_function i.kind) is) e
@@ -89,7 +89,7 @@ type_defined m f y e is =
 pub defined_at : (m : ModuleShape) (f : ℕ) (sig : FuncType) → m.imports ≡ [] → slice_get (module_context m).functions f ≡ Some sig → (y : ℕ) × (slice_get m.functions f ≡ Some y)
 defined_at m f sig e is = mapped_at (type_at m.types) m.functions f sig (ap (λ fs. slice_get (map (type_at m.types) fs) f) (sym (functions_defined m e)) ∙ is)
 
--- ---- the longest body
+-- The longest body.
 
 pub longest_at : (all : List CheckedBody) (f : ℕ) (c : CheckedBody) → slice_get all f ≡ Some c → length (tokens_of c.body.code) ≤ longest (shapes_of all)
 longest_at [] f c e = absurd cc
@@ -105,7 +105,7 @@ pub longest_within : (n : ℕ) (all : List CheckedBody) → ((f : ℕ) (c : Chec
 longest_within n [] h = omega arith
 longest_within n (x ∷ xs) h = max-le (h 0 x refl) (longest_within n xs (λ f c is. h (suc f) c is))
 
--- ---- each body holds
+-- Each body holds.
 
 pub body_holds : (m : ModuleShape) (x : IndexedContext) (all : List CheckedBody) (f y : ℕ) (c : CheckedBody) → TreeIsFound → IsJudged m x all → m.imports ≡ []
     → slice_get m.functions f ≡ Some y → slice_get all f ≡ Some c → BodyHolds (module_context m) (longest (shapes_of all)) (body_of (type_at m.types y) c)

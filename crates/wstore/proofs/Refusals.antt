@@ -7,7 +7,7 @@ use Rattle.wsyntax.specs.Execution.Store.{page}
 use Rattle.wsyntax.specs.Execution.Start.{StartRefusal, HasImports, HasFloats, TableLimit, MemoryLimit, ElementOutside, DataOutside, has_floats, layout_of, table_limit, first_outside, or_else, refused_if, start_refusal}
 use Rattle.accepted.specs.Sizes.{table_size, memory_pages}
 
--- ---- one question
+-- One question.
 
 refused : (b : Bool) (r : StartRefusal) (other : Option StartRefusal) → b ≡ true → Some r ≡ or_else (refused_if b r) other
 refused true r other e = refl
@@ -27,7 +27,7 @@ pub none_of : {A : Type 0} (o : Option A) → ((x : A) → o ≡ Some x → ⊥)
 none_of None never = refl
 none_of (Some x) never = absurd (never x refl)
 
--- ---- what has passed before
+-- What has passed before.
 
 -- nothing is imported, no float is mentioned, and the limits hold
 pub record Passes (pages : ℕ) (m : ModuleShape) (bodies : List BodyShape) : Type 0 where
@@ -36,7 +36,7 @@ pub record Passes (pages : ℕ) (m : ModuleShape) (bodies : List BodyShape) : Ty
   pub table : table_size m ≤ table_limit
   pub memory : memory_pages m ≤ pages
 
--- ---- the answers
+-- The answers.
 
 pub at_imports : (pages : ℕ) (m : ModuleShape) (bodies : List BodyShape) → 0 < length m.imports → Some HasImports ≡ start_refusal pages m bodies
 unfolding start_refusal

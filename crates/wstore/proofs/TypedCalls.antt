@@ -35,7 +35,7 @@ use Rattle.wstore.proofs.Held.{tagged_again, is_held}
 use Rattle.wstore.proofs.Programs.{has_tree, functions_are, body_at, body_there, defined_at, longest_within, body_holds}
 use Rattle.wstore.proofs.ProgramCode.{HasParts, parts_program, is_code}
 
--- ---- before the call
+-- Before the call.
 
 -- what is known of an accepted module, its program and its store
 pub record Known (m : ModuleShape) (x : IndexedContext) (all : List CheckedBody) (numbers : List ℕ) (store : SlotStore) : Type 0 where
@@ -102,7 +102,7 @@ typed_call m x all numbers store c f args fuel frames found one k h fits =
       };
     }
 
--- ---- after the call
+-- After the call.
 
 typed_is_held : (C : Context) (s : Store) (store : SlotStore) → StoreTyped C s → slot_store s ≡ store → IsHeld C store
 typed_is_held C s store h e = subst (IsHeld C) e (is_held C s h)

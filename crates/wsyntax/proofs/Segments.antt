@@ -12,7 +12,7 @@ pub fill_within : (functions : List ℕ) (start : ℕ) (ss : List Segment) → F
 fill_within functions start [] fill = omega (arith, fill)
 fill_within functions start (s ∷ ss) fill = let rest = fill_within functions s.end ss fill.1 in omega (arith, fill.0, rest)
 
--- ---- a segment that is read
+-- A segment that is read.
 
 pub count_from : (functions : List ℕ) (start : ℕ) (ss : List Segment) → length (elements_from functions start ss) ≡ length ss
 count_from functions start [] = refl
@@ -38,7 +38,7 @@ start_behind start [] n s e = cc e
 start_behind start (r ∷ ss) zero s e = let same : r ≡ s = cc e in ap (λ (x : Segment). x.end) same
 start_behind start (r ∷ ss) (suc n) s e = start_behind r.end ss n s e
 
--- ---- a segment more, which has no functions
+-- A segment more, which has no functions.
 
 none_there : (functions : List ℕ) (n : ℕ) → slice_range functions n n ≡ []
 none_there functions n = let e : n - n ≡ 0 = omega arith in rw e refl
@@ -53,7 +53,7 @@ pub fill_more : (functions : List ℕ) (start : ℕ) (ss : List Segment) (s : Se
 fill_more functions start [] s end fill = (omega (arith, end, fill), end)
 fill_more functions start (r ∷ ss) s end fill = (fill.0, fill_more functions r.end ss s end fill.1)
 
--- ---- a function more, in the last segment
+-- A function more, in the last segment.
 
 part_more : (functions : List ℕ) (f start : ℕ) → start ≤ length functions → slice_range (functions ++ f ∷ []) start (length functions + 1) ≡ slice_range functions start (length functions) ++ f ∷ []
 part_more functions f start le =

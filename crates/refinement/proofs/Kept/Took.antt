@@ -98,7 +98,7 @@ pub took : (w : World) (j : Joint) (r : Stack) → ConfigTyped w.C (config_of (s
 took w j r t s =
     code_took (j.running).code w (spot j) (stands w j s) (j.running).levels (s.running).here (s.running).levels (j.running).held r t (s.running).fits
 
--- ---- the entry of a branch table has the number of its labels
+-- The entry of a branch table has the number of its labels.
 
 table_entry : (fn : Filled) (here : Place) (pc : ℕ) (i : Op) (ls : List ℕ) (d : ℕ) (e : Branch) → Do i ≡ Do (BrTable ls d) → Jumps fn here.labels pc i → slice_get fn.table pc ≡ Some e → e.arity ≡ length ls
 table_entry fn here pc i ls d e is jumps at_entry =

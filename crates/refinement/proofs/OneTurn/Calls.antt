@@ -23,7 +23,7 @@ use Rattle.refinement.proofs.OneTurn.Stacks.{top_is, take_slots, drop_slots}
 use Rattle.refinement.proofs.OneTurn.Labels.{others}
 use Rattle.refinement.proofs.OneTurn.Tee.{with_held}
 
--- ---- frames
+-- Frames.
 
 labels_frames : (xs : List LabelLayer) (w : Work) → frames_in (in_labels xs w) ≡ frames_in w
 labels_frames [] w = refl
@@ -42,7 +42,7 @@ frames_then : (j : Joint) (f : ℕ) (rest : Code) → frames_in (invoking j f re
 frames_then j f rest =
     omega (arith, frames_are (others j) (activation j.running).arity (j.running).locals (in_labels (j.running).levels (Invoke (j.running).held f rest)), labels_frames (j.running).levels (Invoke (j.running).held f rest), length-map j.waiting activation)
 
--- ---- the configuration enters
+-- The configuration enters.
 
 pub body_at : (bs : List Body) (f : ℕ) (b : Body) → slice_get bs f ≡ Some b → slice_get (map (λ (b : Body). b.function) bs) f ≡ Some b.function
 body_at [] f b e = absurd cc
@@ -63,7 +63,7 @@ invoke_is m s l vs f fn rest e le =
     Steps Entering s l (Frame vs (length (fn.func_type).results) (reverse args ++ zeros fn.locals) (Label [] (length (fn.func_type).results) Stop (Source [] fn.body) Stop) rest)))) e
     ∙ top_is (length (fn.func_type).params) vs (λ args vs. Steps Entering s l (Frame vs (length (fn.func_type).results) (reverse args ++ zeros fn.locals) (Label [] (length (fn.func_type).results) Stop (Source [] fn.body) Stop) rest)) le
 
--- ---- the machine enters
+-- The machine enters.
 
 map-reverse : {A B : Type 0} (f : A → B) (xs : List A) → map f (reverse xs) ≡ reverse (map f xs)
 map-reverse f [] = refl
@@ -121,7 +121,7 @@ module _ (laws : ReductionLaws) where
       laws.steps_there (module_of p) j.store j.store (activation j.running) (others j) (Invoke (j.running).held f rest) (frame_of b.function (j.running).held rest) (j.running).locals Entering
       (invoke_is (module_of p) j.store (j.running).locals (j.running).held f b.function rest (body_at p.bodies f b e) le)
 
-  -- ---- after a step to the invoke; before it there are these operands
+  -- After a step to the invoke; before it there are these operands.
 
   module _ (p : Program) (frames f : ℕ) (j : Joint) (b : Body) (rest : Code) (vs : List Value) (d : Did) (ed : d ≡ entering frames j b) (is : step (module_of p) (config_of (state_of (with_held j vs))) ≡ Steps Working j.store [] (invoking j f rest)) (eb : slice_get p.bodies f ≡ Some b) (le : length ((b.function).func_type).params ≤ length (j.running).held) where
     pub moves_in : (left : ℕ) → j.fuel ≡ suc left → suc (length j.waiting) < frames → Moves p frames (with_held j vs) (entered j b left rest) d
@@ -155,7 +155,7 @@ module _ (laws : ReductionLaws) where
       few = omega arith;
     }
 
-  -- ---- call
+  -- Call.
 
   call_step : (p : Program) (j : Joint) (f : ℕ) (rest : Code) → (j.running).code ≡ Plain (Call f) rest → step (module_of p) (config_of (state_of j)) ≡ Steps Working j.store [] (invoking j f rest)
   unfolding next source act

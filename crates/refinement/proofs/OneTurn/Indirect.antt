@@ -20,7 +20,7 @@ use Rattle.refinement.proofs.OneTurn.Labels.{others}
 use Rattle.refinement.proofs.OneTurn.Straight.{falling}
 use Rattle.refinement.proofs.OneTurn.Calls.{body_at, invoking, entering, moves_in, without_fuel, without_frames}
 
--- ---- the machine, and the step, at an entry
+-- The machine, and the step, at an entry.
 
 -- the operands below the number
 abbrev under : Joint → List ℕ

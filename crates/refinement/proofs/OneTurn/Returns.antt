@@ -72,7 +72,7 @@ module _ (laws : ReductionLaws) where
         refl,
       )
 
-  -- ---- with nobody waiting
+  -- With nobody waiting.
 
   pub return_ends_call : ReturnEndsCall
   unfolding next source act

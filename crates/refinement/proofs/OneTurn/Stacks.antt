@@ -6,7 +6,7 @@ use Rattle.wsyntax.specs.declared.value.Value.{Value}
 use Rattle.wsyntax.specs.Execution.Step.{Next, on_some, on_top_of, grab, put_on}
 use Rattle.soundness.specs.Slots.{bits, slots}
 
--- ---- taking values off
+-- Taking values off.
 
 grab_is : (n : ℕ) (vs : List Value) → n ≤ length vs → grab n vs ≡ Some (take n vs, drop n vs)
 grab_is zero vs h = refl
@@ -17,7 +17,7 @@ grab_is (suc n) (v ∷ vs) h = ap (put_on v) (grab_is n vs (omega arith))
 pub top_is : (n : ℕ) (vs : List Value) (go : List Value → List Value → Next) → n ≤ length vs → on_top_of n vs go ≡ go (take n vs) (drop n vs)
 top_is n vs go h = ap (λ o. on_some o (λ (p : List Value × List Value). go p.0 p.1)) (grab_is n vs h)
 
--- ---- slots
+-- Slots.
 
 -- what is taken and what is left are the whole
 pub split_again : (n : ℕ) (vs lower : List Value) → slots (vs ++ lower) ≡ slots (take n vs ++ (drop n vs ++ lower))

@@ -107,7 +107,7 @@ module _ (laws : ReductionLaws) where
       subst (λ o. Turned p frames C (z ++ c) rest j (takes p frames (machine_of j) o)) (sym et)
       (subst (Turned p frames C (z ++ c) rest j) (sym (does_straight p frames (machine_of j) i str)) (turned p frames C j i rest a z c mt st lt ec str nf h e))
 
-  -- ---- ends in a trap
+  -- Ends in a trap.
 
   -- what falls, falls to the end of the call
   pub falling : (p : Program) (frames : ℕ) (j : Joint) (kind : Kind) (vs : List Value) (trap : TrapKind) (rest : Code) (d : Did) → d ≡ Over (TrappedBy trap) (slot_store j.store) j.fuel → charge kind ≡ 0 → step (module_of p) (config_of (state_of j)) ≡ Steps kind j.store [] (frames_around (activation j.running).arity (j.running).locals (in_labels (j.running).levels (Trap vs trap rest)) (map activation j.waiting)) → FinishesInTrap p frames j trap d

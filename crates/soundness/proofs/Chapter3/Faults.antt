@@ -165,7 +165,7 @@ typed_where_no_fault C r body = (
   λ h k f. f.lost (body, drop (k + 1) (flat_body body), sym (take-append-drop (k + 1) (flat_body body)), h),
 )
 
--- ---- every body is typed or has one first fault
+-- Every body is typed or has one first fault.
 
 chosen : (C : Context) (r : Stack) (body : Code) (v : Verdict) → alg C r (flat_body body) ≡ v → BodyTyped C r body ⊎ ((k : ℕ) × FirstFault C r body k)
 chosen C r body Accepted e = inl (accepted_is_typed C r body e)
@@ -193,7 +193,7 @@ fault_inside C r body k f =
           absurd (f.lost (subst (CanBeTyped C r) whole (f.before (n - 1) last)))
     ]
 
--- ---- the verdict by the frames
+-- The verdict by the frames.
 
 refuses-from : (C : Context) (front rest : List Token) (t : Token) (gs fs : List Frame) (k : ℕ) → run C front gs ≡ Some fs → step C t fs ≡ None → alg_from C (front ++ t ∷ rest) gs k ≡ Refused (k + length front)
 refuses-from C [] rest t gs fs k e none =

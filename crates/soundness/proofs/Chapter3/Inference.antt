@@ -9,7 +9,7 @@ use Rattle.wsyntax.specs.Validation.Inference.{InstrTyped, SeqTyped, RulesAgree}
 use Rattle.wsyntax.specs.Validation.Inference as rule
 use Rattle.soundness.proofs.Chapter3.Compose.{composes}
 
--- ---- from the rules
+-- From the rules.
 
 -- an instruction without a body
 from_op : {C : Context} {i : Op} {a b : Stack} → InstrTyped C (Plain i Stop) a b → OpTyped C i a b
@@ -51,7 +51,7 @@ mutual
   from_instruction (rule.if_alone {s = s} e h k) = (s, [], e, from_sequence h, from_sequence k, sym (append-nil (I32 ∷ enter s)), append-nil (leave s))
   from_instruction h = alone h
 
--- ---- to the rules
+-- To the rules.
 
 -- the same instruction, where it takes and leaves these
 at_types : (C : Context) (code : Code) (a p b q : Stack) → a ≡ p → b ≡ q → InstrTyped C code p q → InstrTyped C code a b

@@ -87,7 +87,7 @@ pub one_of_three : OneOfThree
 unfolding Goes
 one_of_three C m c r mt t = goes_at C r m c (step m c) refl (step_ok m c mt t)
 
--- ---- chains
+-- Chains.
 
 kept : {C : Context} {m : Module} {c d : Config} {kinds : List Kind} (r : Stack) → ModuleTyped C m → Chain m c kinds d → ConfigTyped C c r → ConfigTyped C d r
 kept r mt Chain.ends t = t
@@ -131,7 +131,7 @@ store_kept C m s f args sig t fuel frames k o s' e =
     let typed = kept (leave sig) t.typed_module (unlimited e.chain) (start_ok t) in
     subst (StoreTyped C) (sym e.kept) typed.store
 
--- ---- one end
+-- One end.
 
 pub paid : Paid
 paid m frames fuel left c d kinds Within.ends = omega arith

@@ -16,7 +16,7 @@ pub exact : (w : Width) (n : ℕ) → n < 2 ^ bits w → IsExact w n
 exact Width32 n h = let same : n % 2 ^ 32 ≡ n = omega arith in ap (λ k. Some k) same
 exact Width64 n h = let same : n % 2 ^ 64 ≡ n = omega arith in ap (λ k. Some k) same
 
--- ---- loads
+-- Loads.
 
 -- the number of that many bytes
 bytes_below : (bytes : List ℕ) → AreBytes bytes → little_endian bytes < 2 ^ (8 * length bytes)
@@ -39,7 +39,7 @@ load_exact w bytes at width n h le e =
     let fits : 2 ^ (8 * length part) ≤ 2 ^ bits w = pow_mono (omega (arith, length-take width (drop at bytes))) in
     exact w n (omega arith)
 
--- ---- sizes
+-- Sizes.
 
 pub size_exact : (m : Memory) → MemoryTyped m → IsExact Width32 (length m.bytes / page)
 size_exact m t =

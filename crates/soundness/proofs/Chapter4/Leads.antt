@@ -38,7 +38,7 @@ unfolding next source
 stepped m s s' a bs i rest kind l w ec is =
     steps_there m s s' a bs (Source a.held a.code) w l kind (ap (λ code. next m s a.locals (Source a.held code)) ec ∙ is)
 
--- ---- straight instructions
+-- Straight instructions.
 
 module _ (C : Context) (m : Module) (frames fuel : ℕ) (s : Store) (a : Activation) (bs : List Activation) (i : Op) (rest : Code) (p q c : Stack) (mt : ModuleTyped C m) (st : StoreTyped C s) (lt : ValuesTyped a.locals C.locals) (ec : a.code ≡ Plain i rest) (str : IsStraight i) (nf : IntegerOp i) (h : OpTyped C i p q) (e : ValuesTyped a.held (p ++ c)) where
   go : (o : Next) (eff : Effect) → act m s a.locals i a.held rest ≡ o → Mirrors s (belows a.levels) rest o eff → Leads C m frames fuel s a bs rest (q ++ c) eff
@@ -73,7 +73,7 @@ module _ (C : Context) (m : Module) (frames fuel : ℕ) (s : Store) (a : Activat
   straight_leads =
       go _ _ refl (effect_is_step C m s a.locals a.held (belows a.levels) i rest p q c st lt str nf h e)
 
--- ---- local.tee
+-- local.tee.
 
 set_step : (m : Module) (s : Store) (l vs : List Value) (x : ℕ) (v was : Value) (rest : Code) → slice_get l x ≡ Some was → act m s l (LocalSet x) (v ∷ v ∷ vs) rest ≡ Steps Working s (slice_set l x v) (Source (v ∷ vs) rest)
 unfolding act

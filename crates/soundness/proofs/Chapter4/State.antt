@@ -15,7 +15,7 @@ use Rattle.wsyntax.specs.Execution.ConfigTyped.{WorkTyped}
 use Rattle.soundness.specs.State.{Activation, frames_around, config_at, belows, StepsThere, BranchLands, ReturnGives, ReturnEnds, Falls, TrapFalls, FramesStand, StateTyped}
 use Rattle.soundness.proofs.Chapter4.Stacks.{words_join}
 
--- ---- steps
+-- Steps.
 
 labels_step : (m : Module) (s s' : Store) (l l' : List Value) (kind : Kind) (xs : List LabelLayer) (w w' : Work) → next m s l w ≡ Steps kind s' l' w' → next m s l (in_labels xs w) ≡ Steps kind s' l' (in_labels xs w')
 unfolding next
@@ -38,7 +38,7 @@ pub steps_there : StepsThere
 steps_there m s s' a bs w w' own kind e =
     whole m s s' kind bs a.arity a.locals own (in_labels a.levels w) (in_labels a.levels w') (labels_step m s s' a.locals own kind a.levels w w' e)
 
--- ---- branches and returns
+-- Branches and returns.
 
 grab_is : (n : ℕ) (vs : List Value) → n ≤ length vs → grab n vs ≡ Some (take n vs, drop n vs)
 grab_is zero vs h = refl
@@ -86,7 +86,7 @@ pub return_ends : ReturnEnds
 unfolding step
 return_ends m s a h e = ap (outermost s []) (frame_returns m s [] [] Stop a h e)
 
--- ---- traps
+-- Traps.
 
 -- a trap alone, or with something around it
 abbrev Fails : TrapKind → Next → Type 0
@@ -151,7 +151,7 @@ pub trap_falls : TrapFalls
 trap_falls m frames fuel s a bs vs trap rest =
     falls m frames fuel s trap bs a.arity a.locals _ (labels_fail m s a.locals trap a.levels (Trap vs trap rest) (trap_fails m s a.locals vs trap rest))
 
--- ---- frames
+-- Frames.
 
 pub labels_frames : (xs : List LabelLayer) (w : Work) → frames_in (in_labels xs w) ≡ frames_in w
 labels_frames [] w = refl
@@ -165,7 +165,7 @@ frames_are (a ∷ bs) n own w =
 pub frames_stand : FramesStand
 frames_stand a bs = frames_are bs a.arity a.locals (in_labels a.levels (Source a.held a.code)) ∙ omega (arith, labels_frames a.levels (Source a.held a.code))
 
--- ---- types
+-- Types.
 
 -- under the labels of one frame
 record InLabels (C : Context) (xs : List LabelLayer) (w : Work) : Type 0 where

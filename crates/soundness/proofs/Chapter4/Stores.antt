@@ -31,7 +31,7 @@ pub has_still : {A : Type 0} (P : A → Type 0) (b : Bool) (x : A) → P x → H
 has_still P true x h = h
 has_still P false x h = h
 
--- ---- bytes
+-- Bytes.
 
 pub bytes_join : (a b : List ℕ) → AreBytes a → AreBytes b → AreBytes (a ++ b)
 bytes_join [] b h k = k
@@ -59,7 +59,7 @@ length-to_bytes : (width n : ℕ) → length (to_bytes width n) ≡ width
 length-to_bytes zero n = refl
 length-to_bytes (suc width) n = ap suc (length-to_bytes width _)
 
--- ---- memories
+-- Memories.
 
 -- as long as before, and bytes
 abbrev Written : ℕ → Option (List ℕ) → Type 0
@@ -106,7 +106,7 @@ grows m more t =
 pub grown_typed : (m more : Memory) (n : ℕ) → MemoryTyped m → grown m n ≡ Some more → MemoryTyped more
 grown_typed m more n t e = subst Grows e (grows m n t)
 
--- ---- bits as values
+-- Bits as values.
 
 pub record Made (t : ValType) (o : Option Value) : Type 0 where
   pub value : Value
@@ -123,7 +123,7 @@ value_ok F64 k i = absurd i
 pub loaded_ok : (a : Access) (n : ℕ) → IsInteger a.of_type → Made a.of_type (loaded a n)
 loaded_ok a n i = value_ok a.of_type _ i
 
--- ---- whole stores
+-- Whole stores.
 
 pub with_memory : {C : Context} {s : Store} (m : Memory) → StoreTyped C s → MemoryTyped m → StoreTyped C (put_memory s m)
 with_memory {C} {s} m t h = record { memory = has_still MemoryTyped C.has_memory m h; table = t.table; globals = t.globals }

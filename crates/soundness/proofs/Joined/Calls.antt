@@ -20,7 +20,7 @@ use Rattle.soundness.proofs.Chapter4.Weight.{end_exists}
 use Rattle.soundness.proofs.Joined.Functions.{one_instance}
 use Rattle.soundness.proofs.Joined.Fresh.{starts_typed}
 
--- ---- the start function
+-- The start function.
 
 start_type : (m : ModuleShape) (f : ℕ) → NoneBroken m → m.start ≡ Some f → slice_get (module_context m).functions f ≡ Some empty_type
 start_type m f h e =
@@ -55,7 +55,7 @@ start_values m bodies pages i f fuel frames k vs s h e ends =
 pub start_is_plain : StartIsPlain
 start_is_plain = record { typed = start_type; no_values = start_values }
 
--- ---- calls
+-- Calls.
 
 started_store : (m : ModuleShape) (bodies : List BodyShape) (l : Limits) (i : Module) (s : Store) (k : ℕ) → Instantiated m bodies l.pages i → Started m i l s k → StoreTyped (module_context m) s
 started_store m bodies l i s k h (plainly e) = starts_typed.store m bodies l.pages h.judged h.bytes h.not_refused
@@ -73,7 +73,7 @@ started_call m bodies l i s k f args sig h st e a = record {
 pub calls_typed : CallsTyped
 calls_typed = record { on_fresh = fresh_call; on_started = started_call }
 
--- ---- how they end
+-- How they end.
 
 -- a call after the start
 call_ends : (m : ModuleShape) (bodies : List BodyShape) (l : Limits) (i : Module) (s : Store) (k left f : ℕ) (args : List Value) (sig : FuncType) → Instantiated m bodies l.pages i → Started m i l s k → l.fuel ≡ k + left → slice_get (module_context m).functions f ≡ Some sig → ValuesTyped args sig.params → (o : Outcome) × (n : ℕ) × EndsOn m i l f args o n

@@ -20,7 +20,7 @@ use Rattle.soundness.specs.OneAnswer.{OneEndOf}
 use Rattle.soundness.proofs.Chapter4.Chains.{one_end}
 use Rattle.soundness.proofs.Joined.Functions.{one_instance}
 
--- ---- on an instance
+-- On an instance.
 
 started_same : (m : ModuleShape) (i : Module) (l : Limits) (s t : Store) (k n : ℕ) → Started m i l s k → Started m i l t n → (s ≡ t) × (k ≡ n)
 started_same m i l s t k n (plainly e) (plainly d) = (refl, refl)
@@ -55,7 +55,7 @@ on_same m i l f args o u k n (in_call {k = j} {n = a} {left = x} {s = s} {after 
     let q = one_end i t f args x' l.frames o u a a' y y' b'' b' in
     (q.0, cc (r.1, q.1))
 
--- ---- by name
+-- By name.
 
 -- where an element stands
 stands : (xs : List ExportShape) (x : ExportShape) → Contains xs x → (k : ℕ) × (k < length xs) × (slice_get xs k ≡ Some x)
@@ -81,7 +81,7 @@ one_export m a b d ca cb same =
     let q = stands m.exports b cb in
     by_place m a b p.0 q.0 d p.1 q.1 p.2 q.2 same (cases_order p.0 q.0)
 
--- ---- whole ends
+-- Whole ends.
 
 module _ (m : ModuleShape) (bodies : List BodyShape) (l : Limits) (met_none : Type 0) (c : Call) (d : ExportsDistinct m) where
   -- the export that a call names

@@ -71,7 +71,7 @@ integer_flat (IfElse t body other rest) e =
 pub integer_code : (code : Code) → any token_has_floats (flat_body code) ≡ false → IntegerCode code
 integer_code code e = integer_flat code (any_join token_has_floats (flat code) (End ∷ []) e).0
 
--- ---- declared locals
+-- Declared locals.
 
 integers_join : (ts us : List ValType) → AreIntegers ts → AreIntegers us → AreIntegers (ts ++ us)
 integers_join [] us h k = k

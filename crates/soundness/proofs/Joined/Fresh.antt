@@ -22,7 +22,7 @@ use Rattle.soundness.proofs.Chapter4.Stores.{has_still, value_ok}
 use Rattle.soundness.proofs.Chapter4.Allocation.{fresh_typed}
 use Rattle.soundness.proofs.Joined.Floats.{integer_type}
 
--- ---- what is not refused
+-- What is not refused.
 
 or_else_none : {A : Type 0} (a b : Option A) → or_else a b ≡ None → (a ≡ None) × (b ≡ None)
 or_else_none None b e = (refl, e)
@@ -72,7 +72,7 @@ all_inside k size (s ∷ ss) e =
     let h = cond_none (nat_lt size (s.place + length s.items)) k (first_outside (suc k) size ss) e in
     (ltb-false size (s.place + length s.items) h.0, all_inside (suc k) size ss h.1)
 
--- ---- the memory
+-- The memory.
 
 within_ok : (o : Option ℕ) (n : ℕ) → ForSome o (λ most. n ≤ most) → within o n ≡ true
 within_ok None n h = refl
@@ -99,7 +99,7 @@ memory_ok pages (x ∷ ms) ss h a b k =
     has_still (MemoryFits pages ss) (nat_lt 0 (length (x ∷ ms))) x
     (and_from _ _ (within_ok x.max x.min r.2) (and_from _ _ (le-leb x.min 65536 r.0) (le-leb x.min pages (ltb-false pages x.min a))), all_inside 0 (x.min * page) ss b, k)
 
--- ---- the table
+-- The table.
 
 some_there : {A : Type 0} (xs : List A) (k : ℕ) → k < length xs → (x : A) × (slice_get xs k ≡ Some x)
 some_there [] k h = absurd (omega arith)
@@ -121,7 +121,7 @@ table_ok : (C : Context) (ts : List TableType) (ss : List Segment) → AllElemen
 table_ok C [] ss h = tt
 table_ok C (t ∷ ts) ss h = has_still (λ (n : ℕ). AllElements C ss) (nat_lt 0 (length (t ∷ ts))) t.limits.min h
 
--- ---- the globals
+-- The globals.
 
 globals_ok : (gs : List GlobalShape) → any (λ (g : GlobalShape). is_float g.content.content || any token_has_floats g.init) gs ≡ false → ValuesTyped (map first_value gs) (global_types (map (λ (g : GlobalShape). g.content) gs))
 globals_ok [] e = no_values
@@ -139,7 +139,7 @@ no_floats_in_globals m bodies e =
     let c = or_parts _ (any (λ (e : ElementShape). any token_has_floats e.offset) m.elements) b.0 in
     (or_parts (any type_has_floats m.types) (any (λ (g : GlobalShape). is_float g.content.content || any token_has_floats g.init) m.globals) c.0).1
 
--- ---- the layout
+-- The layout.
 
 -- the index spaces are those that the module defines
 memories_defined : (m : ModuleShape) → m.imports ≡ [] → memories_of m ≡ m.memories

@@ -17,7 +17,7 @@ use Rattle.soundness.specs.Instances.{Runnable, OneInstance}
 use Rattle.soundness.proofs.Chapter3.Unique.{unique_tree}
 use Rattle.soundness.proofs.Joined.Floats.{any_at, integer_code, integer_locals}
 
--- ---- there are such
+-- There are such.
 
 functions_exist : (types : List FuncType) (ys : List ℕ) (bs : List BodyShape) → length ys ≡ length bs → ((k : ℕ) (b : BodyShape) → slice_get bs k ≡ Some b → (code : Code) × (flat_body code ≡ b.code)) → (fns : List Function) × FunctionsOf types ys bs fns
 functions_exist types [] [] e h = ([], tt)
@@ -29,7 +29,7 @@ functions_exist types (y ∷ ys) (b ∷ bs) e h =
     let fn : Function = record { func_type = type_at types y; locals = declared b.runs; body = c.0 } in
     (fn ∷ r.0, (refl, refl, c.1, r.1))
 
--- ---- and no others
+-- And no others.
 
 function_same : (f g : Function) → f.func_type ≡ g.func_type → f.locals ≡ g.locals → f.body ≡ g.body → f ≡ g
 function_same f g a b c = λ k. record { func_type = a k; locals = b k; body = c k }
@@ -49,7 +49,7 @@ instance_same m bodies i j h k =
     let functions = functions_same m.types m.functions bodies i.functions j.functions h.each k.each in
     λ n. record { types = types n; functions = functions n }
 
--- ---- they are typed
+-- They are typed.
 
 functions_types : (types : List FuncType) (ys : List ℕ) (bs : List BodyShape) (fs : List Function) → FunctionsOf types ys bs fs → map (λ (fn : Function). fn.func_type) fs ≡ map (type_at types) ys
 functions_types types [] [] [] h = refl

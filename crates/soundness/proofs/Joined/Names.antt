@@ -15,7 +15,7 @@ use Rattle.wsyntax.specs.Execution.Values.{IsWord, AreWords}
 use Rattle.wsyntax.specs.Texts.Words.{tab, value_text}
 use Rattle.wsyntax.specs.Texts.Calls.{Call, IsName, IsCall, call_text}
 
--- ---- up to the next tab
+-- Up to the next tab.
 
 abbrev pub NoTab : List ℕ → Type 0
 NoTab [] = Unit {0}
@@ -37,7 +37,7 @@ up_to_tab (a ∷ as') (b ∷ bs) xs ys na nb tx ty e =
     let r = up_to_tab as' bs xs ys na.1 nb.1 tx ty k in
     (cc (h, r.0), r.1)
 
--- ---- numbers
+-- Numbers.
 
 pub digits_no_tab : (ds : List ℕ) → AllDigits 10 ds → NoTab ds
 digits_no_tab [] d = tt
@@ -69,7 +69,7 @@ signed_same32 x y hx hy e = signs_apart (2 ^ 32 - 1) x y (nat_lt x (2 ^ 31)) (na
 signed_same64 : (x y : ℕ) → x < 2 ^ 64 → y < 2 ^ 64 → signed 64 x ≡ signed 64 y → x ≡ y
 signed_same64 x y hx hy e = signs_apart (2 ^ 64 - 1) x y (nat_lt x (2 ^ 63)) (nat_lt y (2 ^ 63)) (omega arith) (omega arith) e
 
--- ---- values
+-- Values.
 
 pub value_no_tab : (v : Value) → IsWord v → NoTab (value_text v)
 value_no_tab (V32 n) h = ((λ e. omega arith), ((λ e. omega arith), ((λ e. omega arith), ((λ e. omega arith), signed_no_tab (signed 32 n) (small32 n h)))))
@@ -88,7 +88,7 @@ value_same (V64 n) (V64 k) h j e =
     let t : signed_decimal (signed 64 n) ≡ signed_decimal (signed 64 k) = cc in
     ap V64 (signed_same64 n k h j (signed_decimal_injective (signed 64 n) (signed 64 k) (small64 n h) (small64 k j) t))
 
--- ---- calls
+-- Calls.
 
 abbrev pub args_text : List Value → List ℕ
 args_text vs = flat_map (λ v. tab ++ value_text v) vs

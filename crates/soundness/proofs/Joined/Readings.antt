@@ -14,7 +14,7 @@ use Rattle.soundness.specs.OneAnswer.{OneCalls, ModuleIsOne, OneAnswer}
 use Rattle.soundness.proofs.Joined.Names.{call_same}
 use Rattle.soundness.proofs.Joined.Ends.{ends_same}
 
--- ---- the text of calls
+-- The text of calls.
 
 says_same : (line : TextLine) (c d : Call) → Says line c → Says line d → c ≡ d
 says_same (Ended line) c d h k = call_same c d h.0 k.0 (sym h.1 ∙ k.1)
@@ -64,7 +64,7 @@ one_calls text (Good cs) TooLong h k = absurd (omega (arith, h.0, k))
 one_calls text (Good cs) (BadLine n) h k = absurd (not_bad text n cs k.1 h.1 h.2)
 one_calls text (Good cs) (Good ds) h k = ap Good (say_same (lines_of text) cs ds h.2 k.2)
 
--- ---- the answer
+-- The answer.
 
 -- accepted bodies are spelled
 spelled : (ss : List (List ℕ)) → ((k : ℕ) (bytes : List ℕ) → k < length ss → slice_get ss k ≡ Some bytes → (b : BodyShape) × SpellsBody bytes b) → (bs : List BodyShape) × SpellsBodies ss bs

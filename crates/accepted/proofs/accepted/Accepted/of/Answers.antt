@@ -7,7 +7,7 @@ use Rattle.accepted.specs.Exports.{AreAscending}
 use Rattle.accepted.proofs.Lendings.{shaped_same, looked_same, typed_same, numbered_same, paired_same, few_same}
 use Rattle.accepted.proofs.accepted.Accepted.of.Goals as goal
 
--- ---- what the shapes ask for
+-- What the shapes ask for.
 
 -- rule 3 is kept
 pub function_shapes-requires-clause-typed : goal.function_shapes-requires-clause-typed
@@ -25,7 +25,7 @@ function_shapes-requires-clause-paired c =
 pub function_shapes-requires-clause-few : goal.function_shapes-requires-clause-few
 function_shapes-requires-clause-few c = few_same c.deref-4.result.now c.args.bodies.items (module_shape c.args.«module») c.args.context c.deref-4.ensures.value c.requires.judged
 
--- ---- what the layout asks for
+-- What the layout asks for.
 
 pub of-requires-clause-few : goal.of-requires-clause-few
 of-requires-clause-few c = record { elements = c.requires.small.elements; segments = c.requires.small.segments }
@@ -38,7 +38,7 @@ of-requires-clause-elements c = c.requires.judged.rules 12
 pub of-requires-clause-segments : goal.of-requires-clause-segments
 of-requires-clause-segments c = c.requires.judged.rules 13
 
--- ---- what the search for floats asks for
+-- What the search for floats asks for.
 
 -- rule 8 is kept
 pub has_floats-uses_floats-requires-clause-globals : goal.has_floats-uses_floats-requires-clause-globals
@@ -50,7 +50,7 @@ has_floats-uses_floats-requires-clause-elements c = c.requires.judged.rules 12
 pub has_floats-uses_floats-requires-clause-segments : goal.has_floats-uses_floats-requires-clause-segments
 has_floats-uses_floats-requires-clause-segments c = c.requires.judged.rules 13
 
--- ---- what the holders know
+-- What the holders know.
 
 pub invariant_of-result-clause-judged : goal.invariant_of-result-clause-judged
 invariant_of-result-clause-judged c = ∣ c.requires.judged ∣₁
