@@ -1,4 +1,5 @@
 -- What holds of every accepted module, whoever holds it.
+-- No rule is broken, the context is the module's, and each function has its checked body, typed, with a side table that fits.
 use Rattle.std.specs.Prelude.{◌≡◌, ℕ, ◌+◌, List, Some, length, slice_get, map}
 use Rattle.wsyntax.specs.Instructions.{Code}
 use Rattle.wsyntax.specs.Modules.{ModuleShape, BodyShape, body_shape}

@@ -1,4 +1,5 @@
 -- What is kept of a module that is accepted.
+-- The bytes spell the module, and of each body the checked one is that of its bytes.
 use Rattle.std.specs.Prelude.{◌≡◌, ◌-◌, ℕ, List, Option, Some, None, length, slice_get, nat_lt, if◌then◌else◌}
 use Rattle.wsyntax.specs.Modules.{module_shape}
 use Rattle.wsyntax.specs.Binary.Shell.{Shell}

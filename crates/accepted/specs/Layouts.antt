@@ -1,4 +1,6 @@
 -- 4.5.4 What is computed once a module.
+-- It is the definition's `layout_of`: first values without tags, the places of segments, and of each kind the first segment outside
+-- the minimum.
 use Rattle.std.specs.Prelude.{◌≡◌, ◌*◌, map, replicate, IfSome}
 use Rattle.wsyntax.specs.Modules.{ModuleShape}
 use Rattle.wsyntax.specs.Execution.Store.{page, Unset}

@@ -1,4 +1,5 @@
 -- How large a module of at most 16,777,216 bytes can be.
+-- It has fewer than 2^32 function types and segments of each kind, and each body at most 16,777,216 tokens.
 use Rattle.std.specs.Prelude.{◌≡◌, ℕ, ◌^◌, ◌<◌, ◌≤◌, List, length, Some, slice_get}
 use Rattle.wsyntax.specs.Modules.{ModuleShape, tokens_of}
 use Rattle.wsyntax.specs.Binary.Shell.{module_limit}

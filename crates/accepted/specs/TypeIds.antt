@@ -1,4 +1,5 @@
 -- Numbers of types, by which equal types are known.
+-- Two types have one number exactly where they are the same.
 use Rattle.std.specs.Prelude.{◌≡◌, ◌↔◌, ◌<◌, ◌≤◌, ◌+◌, ◌*◌, ℕ, IsTrue, List, [], ◌∷◌, ◌++◌, Option, Some, None, cond, nat_lt, length, map, slice_get, All, Vec}
 use Rattle.std.specs.declared.alloc.Global.{Global}
 use Rattle.std.specs.List.{Contains, slice_index_or}

@@ -3,6 +3,9 @@
 //! it stand the entries of the side table, by which each branch goes on, and the shape of a function. The check of
 //! bodies proves what the table promises beside the typing of the body (`Fits`, `Bounded`), and the interpreter rests
 //! on it.
+//!
+//! Proved: a `CheckedBody` is made only of parts that are proved to fit. `entry_at` is the entry that a token holds.
+//! `is_float`, `token_has_floats` and `runs_have_floats` say what their names say, exactly.
 #![tactic(auto)]
 
 mod body;

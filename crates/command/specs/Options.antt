@@ -1,4 +1,5 @@
 -- What the words of the command line say of numbers.
+-- Of the words before the first `--`, the first that begins with the option says its number.
 use Rattle.std.specs.Prelude.{◌≡◌, ◌≢◌, ◌⊎◌, ℕ, ◌+◌, ◌<◌, List, [], ◌++◌, length, slice_index_or, codes, pos}
 use Rattle.std.specs.List.{All, AllWithin, before_first}
 use Rattle.std.specs.Str.{bytes_eq}

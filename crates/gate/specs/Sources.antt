@@ -1,4 +1,5 @@
 -- What is asked of a source.
+-- Which paths are asked for, in which order.
 use Rattle.std.specs.Prelude.{◌≡◌, ℕ, List, ◌++◌, Option, Some, IfSome}
 
 -- where the paths that were asked for before are known, these are asked for after them

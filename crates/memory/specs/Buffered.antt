@@ -1,4 +1,5 @@
 -- 4.2.8 A memory instance in the buffer that holds its bytes.
+-- What is lent is zero. What a write, a growth and a segment leave is the definition's.
 use Rattle.std.specs.Prelude.{◌≡◌, ℕ, ◌+◌, ◌*◌, ◌/◌, ◌<◌, ◌≤◌, ◌⊎◌, List, length, take, replicate, slice_index, slice_index_or, Bool, true, false, Option, Some, None, IsSome, Vec, vec_len}
 use Rattle.std.specs.declared.alloc.Global.{Global}
 use Rattle.wsyntax.specs.Execution.Store.{Memory, page, may_have, write, grown}

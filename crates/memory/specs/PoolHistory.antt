@@ -1,4 +1,5 @@
 -- The history of a pool: a queue of memories, each seen as the number of its bytes.
+-- It is one legal history of all tickets: only the first memory is lent.
 use Rattle.std.specs.Prelude.{◌≡◌, ℕ, suc, ◌<◌, ◌≤◌, nat_eq, Bool, true, false, List, [], ◌∷◌, ◌++◌, length, take, drop}
 use mathlib.Core.Option.{some}
 use lib.ListN.{get_elem?}

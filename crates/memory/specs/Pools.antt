@@ -1,4 +1,6 @@
 -- What a clause says of a pool and its tickets.
+-- A memory that is lent is the first, and one that is given is kept. What was put in or dropped for that is exact for a pool of one
+-- ticket: for several, the steps of the others are not known.
 use Rattle.std.specs.Prelude.{◌≡◌, ℕ, zero, suc, List, [], ◌∷◌, ◌++◌, List, All, map, length}
 use Rattle.crossbeam_queue.specs.Fifo.{Held}
 use Rattle.crossbeam_queue.specs.Passes.{view, IsPassOf, ruled_capacity}

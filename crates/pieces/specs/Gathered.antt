@@ -1,4 +1,5 @@
 -- What all workers answer together.
+-- No index comes twice, and none is passed over without a smaller refusal.
 use Rattle.std.specs.Prelude.{ℕ, ◌<◌, ◌==◌, ◌⊎◌, if◌then◌else◌, slice_index_or, All, List, map, length, Result, Ok, Err, MatchResult}
 use Rattle.pieces.specs.declared.job.JobFault.{JobFault}
 use Rattle.pieces.specs.Counting.{total, times}

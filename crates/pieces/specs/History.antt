@@ -1,4 +1,5 @@
 -- The history of the mark: a register that keeps the least index.
+-- One legal history has the calls of all shares, as often as they were made. What is read never rises.
 use Rattle.std.specs.Prelude.{◌≡◌, ℕ, ◌≤◌, ◌==◌, min, if◌then◌else◌, Option, Some, None, List, [], ◌∷◌, ◌++◌}
 use mathlib.Core.List.{IsPrefix}
 use Rattle.pieces.specs.declared.history.MarkCall.{MarkCall}

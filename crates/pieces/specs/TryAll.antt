@@ -1,4 +1,5 @@
 -- What `try_all` gives.
+-- All results in order, or the least refusal.
 use Rattle.std.specs.Prelude.{◌≡◌, ℕ, ◌<◌, Some, slice_get, List, [], ◌∷◌, ◌++◌, length, Ok, Err}
 use Rattle.pieces.specs.declared.job.JobFault.{JobFault}
 use Rattle.pieces.specs.declared.job.JobFault.TheVariants.{Refused}

@@ -1,6 +1,10 @@
 //! Runs a job at each of n indices on many threads, and has the answer of one thread. Indices are cut into
 //! pieces, workers take pieces from one deque and pass over what lies above the least refusal, and their
 //! answers are gathered in order. It knows nothing of what the job is.
+//!
+//! Proved: no piece is handed out twice, and all of them are where one share met the end. The mark is one register that
+//! never rises. `gather` names no index twice, and passes none over without a smaller refusal. `try_all` gives what a
+//! loop on one thread may give, for every number of workers and every cutting. How often a job runs an index is tested.
 #![tactic(auto)]
 
 mod bag;

@@ -1,5 +1,9 @@
 //! The interpreter beside the reduction: a machine over flat tokens, a side table and slots without tags makes the
 //! steps of the definition. Each function does nothing; its `ensures` is a law about definitions in `specs/`.
+//!
+//! Proved, over the definitions alone: the machine ends a call as the reduction ends it, with the same charges and the
+//! same store. It never lacks what its token needs. Its dispatches lie between the work done and the fuel spent times the
+//! longest body (one more only out of fuel).
 #![tactic(auto)]
 
 ghost use Rattle.refinement.specs.Laws.{Begins, EndsWell, EntryRefused, GoesOn, IsBounded, IsReady, StopsAnywhere};

@@ -10,7 +10,7 @@ use Rattle.wsyntax.specs.Execution.ConfigTyped.{AreBytes, MemoryTyped}
 abbrev pub IsExact : Width → ℕ → Type 0
 IsExact w n = number (type_at w) (word w n) ≡ Some n
 
--- the results of operators on words, of loads without a sign and of memory.size
+-- results of operators on words, of loads without a sign and of memory.size are words before they are taken modulo 2^N
 pub record ResultsAreExact : Type 0 where
   pub of_one : (w : Width) (f : Unary) (x : ℕ) → x < 2 ^ bits w → IsExact w (unary (bits w) f x)
   pub of_two : (w : Width) (f : Binary) (x y r : ℕ) → x < 2 ^ bits w → y < 2 ^ bits w → binary (bits w) f x y ≡ Ok r → IsExact w r

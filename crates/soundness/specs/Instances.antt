@@ -40,7 +40,7 @@ pub record Runnable (m : ModuleShape) (bodies : List BodyShape) : Type 0 where
 
 -- Instances.
 
--- it has one run-time module, which is typed
+-- a judged module without imports and floats has one run-time module, which is typed
 pub record OneInstance : Type 0 where
   pub exists : (m : ModuleShape) (bodies : List BodyShape) → Judged m bodies → (i : Module) × InstanceOf m bodies i
   pub same : (m : ModuleShape) (bodies : List BodyShape) (i j : Module) → InstanceOf m bodies i → InstanceOf m bodies j → i ≡ j
@@ -57,7 +57,7 @@ pub record Instantiated (m : ModuleShape) (bodies : List BodyShape) (pages : ℕ
   pub not_refused : start_refusal pages m bodies ≡ None
   pub instance : InstanceOf m bodies i
 
--- where nothing is refused, the module may be run, and its layout and its fresh store are typed
+-- where nothing refuses the start, the module may be run, and its layout and its fresh store are typed
 pub record StartsTyped : Type 0 where
   pub runnable : (m : ModuleShape) (bodies : List BodyShape) (pages : ℕ) → Judged m bodies → start_refusal pages m bodies ≡ None → Runnable m bodies
   pub layout : (m : ModuleShape) (bodies : List BodyShape) (pages : ℕ) → Judged m bodies → SegmentsAreBytes m → start_refusal pages m bodies ≡ None → LayoutTyped (module_context m) pages (layout_of m)
@@ -65,7 +65,7 @@ pub record StartsTyped : Type 0 where
 
 -- The start function.
 
--- it has no parameters and no results, so it ends in no values
+-- the start function has no parameters and no results, so it ends in no values
 pub record StartIsPlain : Type 0 where
   pub typed : (m : ModuleShape) (f : ℕ) → NoneBroken m → m.start ≡ Some f → slice_get (module_context m).functions f ≡ Some empty_type
   pub no_values : (m : ModuleShape) (bodies : List BodyShape) (pages : ℕ) (i : Module) (f fuel frames k : ℕ) (vs : List Value) (s : Store) → Instantiated m bodies pages i → m.start ≡ Some f → Ends i (fresh_store pages m) f [] fuel frames (Values vs) k s → vs ≡ []
@@ -77,7 +77,7 @@ pub record CallsTyped : Type 0 where
   pub on_fresh : (m : ModuleShape) (bodies : List BodyShape) (pages : ℕ) (i : Module) (f : ℕ) (args : List Value) (sig : FuncType) → Instantiated m bodies pages i → slice_get (module_context m).functions f ≡ Some sig → ValuesTyped args sig.params → CallTyped (module_context m) i (fresh_store pages m) f args sig
   pub on_started : (m : ModuleShape) (bodies : List BodyShape) (l : Limits) (i : Module) (s : Store) (k f : ℕ) (args : List Value) (sig : FuncType) → Instantiated m bodies l.pages i → Started m i l s k → slice_get (module_context m).functions f ≡ Some sig → ValuesTyped args sig.params → CallTyped (module_context m) i s f args sig
 
--- so it is never stuck, it ends, and where it ends in values they are of the function's result types
+-- such a call is never stuck, it ends, and where it ends in values they are of the function's result types
 pub record CallsAreSafe : Type 0 where
   pub never_stuck : (m : ModuleShape) (bodies : List BodyShape) (l : Limits) (i : Module) (s : Store) (k f : ℕ) (args : List Value) (sig : FuncType) → Instantiated m bodies l.pages i → Started m i l s k → slice_get (module_context m).functions f ≡ Some sig → ValuesTyped args sig.params → (kinds : List Kind) (c : Config) → Chain i (start s f args) kinds c → IsStuck i c → ⊥
   pub ends : (m : ModuleShape) (bodies : List BodyShape) (l : Limits) (i : Module) (f : ℕ) (args : List Value) (sig : FuncType) → Instantiated m bodies l.pages i → slice_get (module_context m).functions f ≡ Some sig → ValuesTyped args sig.params → (o : Outcome) × (k : ℕ) × EndsOn m i l f args o k

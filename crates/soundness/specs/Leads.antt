@@ -17,7 +17,7 @@ abbrev pub KeepsLabels : Op → Type 0
 KeepsLabels (LocalTee x) = Unit {0}
 KeepsLabels i = IsStraight i
 
--- local.tee, and the local.set that it becomes: two steps, the second of which is work, and neither is charged
+-- local.tee, and the local.set that it becomes, are two steps, the second of which is work, and neither is charged
 abbrev pub TeeTakesTwo : Type 0
 TeeTakesTwo = (m : Module) (frames fuel : ℕ) (s : Store) (a : Activation) (bs : List Activation) (x : ℕ) (v was : Value) (vs : List Value) (rest : Code) → a.code ≡ Plain (LocalTee x) rest → a.held ≡ v ∷ vs → slice_get a.locals x ≡ Some was → Within m frames fuel (config_of (record { store = s; running = a; waiting = bs })) (Quiet ∷ Working ∷ []) (config_of (record { store = s; running = record a { locals = slice_set a.locals x v; held = v ∷ vs; code = rest }; waiting = bs })) fuel
 
@@ -48,6 +48,6 @@ Leads C m frames fuel s a bs rest z (Puts S L ns) = LeadsOn C m frames fuel s a 
 Leads C m frames fuel s a bs rest z (Fails trap) = LeadsOut m frames fuel s a bs trap
 Leads C m frames fuel s a bs rest z Off = ⊥
 
--- the configuration goes where the effect says
+-- the configuration goes where the effect of its instruction says
 abbrev pub EffectLeads : Type 0
 EffectLeads = (C : Context) (m : Module) (frames fuel : ℕ) (s : Store) (a : Activation) (bs : List Activation) (i : Op) (rest : Code) (p q c : Stack) → ModuleTyped C m → StoreTyped C s → ValuesTyped a.locals C.locals → a.code ≡ Plain i rest → KeepsLabels i → IntegerOp i → OpTyped C i p q → ValuesTyped a.held (p ++ c) → Leads C m frames fuel s a bs rest (q ++ c) (effect i (slot_store s) (slots a.locals) (slots (operands_of a)))

@@ -26,6 +26,6 @@ VerdictIsOne = (bytes : List ℕ) (v w : Verdict) → IsVerdict bytes v → IsVe
 abbrev pub ModuleIsOne : Type 0
 ModuleIsOne = (bytes : List ℕ) (m n : ModuleShape) (bs ds : List BodyShape) → Spells bytes m bs → Spells bytes n ds → (m ≡ n) × (bs ≡ ds)
 
--- where that holds, the answer for the same bytes, text and limits is one, if the same calls ran out of memory
+-- where bytes have one verdict and spell one module: the same bytes, text and limits have one answer, where the same calls ran out of memory
 abbrev pub OneAnswer : Type 0
 OneAnswer = VerdictIsOne → ModuleIsOne → (bytes text : List ℕ) (l : Limits) (short : ℕ → Bool) (out other : List ℕ) → IsAnswer bytes text l (λ n. IsTrue (short n)) out → IsAnswer bytes text l (λ n. IsTrue (short n)) other → out ≡ other

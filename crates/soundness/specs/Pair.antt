@@ -18,6 +18,6 @@ pair_context = record { types = one ∷ []; functions = one ∷ one ∷ []; has_
 abbrev pub no_page : Store
 no_page = record { memory = Some (record { bytes = []; most = None; pages = 1 }); table = None; globals = [] }
 
--- a call of the pair is typed
+-- there is a typed module and a typed call of it
 abbrev pub PairTyped : Type 0
 PairTyped = CallTyped pair_context pair no_page 1 (V32 2 ∷ []) one

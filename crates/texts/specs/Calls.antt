@@ -1,4 +1,5 @@
 -- What reading a text of calls gives.
+-- The calls that the text says, or that it is too long, or its least bad line.
 use Rattle.std.specs.Prelude.{ℕ, List, map, Result, Ok, Err, Vec}
 use Rattle.std.specs.declared.alloc.Global.{Global}
 use Rattle.wsyntax.specs.Texts.Calls.{Call as Meant, TooLong, BadLine, Good, IsCalls}

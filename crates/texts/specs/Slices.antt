@@ -1,4 +1,5 @@
 -- A text in slices, and the calls of slices one after another.
+-- Each slice but the last ends with a newline. The calls of slices that were read are those of the whole text, or too many.
 use denote.Ref.{Bor}
 use Rattle.std.specs.Prelude.{◌≡◌, ◌≢◌, ℕ, ◌<◌, ◌≤◌, List, [], ◌∷◌, ◌++◌, All, length, drop, map, flat_map, Option, Some, None, Ok, Vec}
 use Rattle.std.specs.declared.alloc.Global.{Global}

@@ -1,4 +1,8 @@
 //! The text of calls that is read, and the report that is written of how they ended.
+//!
+//! Proved: `read_calls` gives the calls that a text says, or that it is too long, or its least bad line. `cut_lines` cuts
+//! a text after newlines, and the calls of the slices are those of the text. `report` writes exactly the report of its
+//! lines, and so do the texts of its parts with `last_line` after them.
 #![tactic(auto)]
 
 mod args;

@@ -1,4 +1,6 @@
 -- 2.5.1 How much the index spaces of a module hold, and 3.4 what is asked by it.
+-- It counts each index space, and has the types of the imported globals and whether the start function is plain. By it a data segment
+-- is valid (3.4.6).
 use Rattle.std.specs.Prelude.{◌≡◌, ◌↔◌, ℕ, ◌<◌, length, IsTrue}
 use Rattle.wsyntax.specs.Modules.{ModuleShape, DataShape}
 use Rattle.wsyntax.specs.Validation.ModuleContext.{imported_globals, functions_of, tables_of, memories_of, globals_of}

@@ -1,4 +1,5 @@
 -- The fronts of long lists, and which of them are ends of which.
+-- One list is an end of another. Where the tree says so, it is so; nothing is said where it does not.
 use Rattle.std.specs.Prelude.{◌≡◌, ℕ, ◌<◌, ◌≤◌, List, ◌++◌, length, take, get_or}
 use Rattle.std.specs.List.{All}
 use Rattle.wsyntax.specs.Types.{FuncType}

@@ -1,4 +1,8 @@
 //! The rules that a module keeps (3.4), and the context under which the bodies of its functions are checked (3.1.1).
+//!
+//! Proved: `check_module` gives the context exactly where no rule is broken, else the least broken rule. `check_early`
+//! does so for rules 1 to 8 and `check_late` for rules 9 to 12; `SpaceSizes::takes_segment` is rule 13. Each look-up is
+//! the definition's. `Context::is_end` is right where it says yes; that its no is right is tested.
 #![tactic(auto)]
 
 mod check;

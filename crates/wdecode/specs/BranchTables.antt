@@ -1,4 +1,5 @@
 -- 2.4.5 The labels of the branch tables of an expression, in one list: of each table its labels, and its default after them.
+-- They stand in the order of the tokens, nothing between them and nothing after.
 use Rattle.std.specs.Prelude.{ℕ, List, [], ◌∷◌, ◌++◌}
 use Rattle.wsyntax.specs.Instructions.{Token, Do, BrTable}
 

@@ -1,4 +1,6 @@
 -- 5.5.2, 5.5.14 and 5.5.15 A module in two parts: what its sections before the data section say, and the bytes from that section on.
+-- The bytes from the data section on are sections in order after those that were read. With what they hold, the module is the same
+-- with these data segments.
 use Rattle.std.specs.Prelude.{◌≡◌, ◌<◌, ℕ, Bool, true, ◌&&◌, ◌==◌, List, [], ◌∷◌, length}
 use Rattle.wsyntax.specs.Modules.{ModuleShape, DataShape, module_shape}
 use Rattle.wsyntax.specs.Binary.Production.{SpellsAll}

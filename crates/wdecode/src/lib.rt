@@ -1,5 +1,10 @@
 //! Modules of WebAssembly (Core 1.0, chapter 5) from their bytes, and the bodies of their functions from theirs.
 //! Of Core 2.0 are the block types that are the index of a type, and the sign extensions of the lowest bits.
+//!
+//! Proved: `decode_module` gives the module of the binary grammar, and each refusal, exactly; `decode_body` does so for
+//! bodies, with the limit on locals, and its targets are the labels of the branch tables. `decode_front` leaves the data
+//! segments as bytes: `Front::whole` reads them, and `Front::segments_pass` asks a rule of each. Bytes spell one module
+//! and one body at most.
 #![tactic(auto)]
 
 mod body;

@@ -19,7 +19,7 @@ pub data Binary : Type 0 where
 pub data Compare : Type 0 where
   Eq Ne LtS LtU GtS GtU LeS LeU GeS GeU : Compare
 
--- N, the number of bits
+-- 2.4.1 N, the number of bits
 abbrev pub bits : Width → ℕ
 bits Width32 = 32
 bits Width64 = 64
@@ -28,12 +28,12 @@ bits Width64 = 64
 abbrev pub signed : ℕ → ℕ → ℤ
 signed n x = if nat_lt x (2 ^ (n - 1)) then pos x else negsuc (2 ^ n - 1 - x)
 
--- 4.3.2, the inverse of signed: the word of n bits that is a whole number modulo 2^n
+-- 4.3.2 the inverse of signed: the word of n bits that is a whole number modulo 2^n. Ours: it takes every whole number
 abbrev pub unsigned : ℕ → ℤ → ℕ
 unsigned n (pos x) = x % 2 ^ n
 unsigned n (negsuc x) = 2 ^ n - 1 - x % 2 ^ n
 
--- 4.3.2 extend_s: the word of `to` bits that has the signed value of a word of n bits
+-- 4.3.4 extend_s: the word of `to` bits that has the signed value of a word of n bits
 abbrev pub extended : ℕ → ℕ → ℕ → ℕ
 extended n to x = unsigned to (signed n x)
 
@@ -52,7 +52,7 @@ unfoldable pub ones : ℕ → ℕ → ℕ
 ones zero x = 0
 ones (suc n) x = x % 2 + ones n (x / 2)
 
--- 4.3.2 iclz, ictz, ipopcnt
+-- 4.3.2 iclz, ictz, ipopcnt. Ours: they count by recursion on the bits
 abbrev pub unary : ℕ → Unary → ℕ → ℕ
 unary n Clz x = leading n x
 unary n Ctz x = trailing n x
@@ -79,7 +79,7 @@ by_divisor (suc y) r = r
 abbrev pub div_signed : ℕ → ℕ → ℕ → Result ℕ NumTrap
 div_signed n x y = if nat_eq x (2 ^ (n - 1)) then (if nat_eq y (2 ^ n - 1) then Err IntegerOverflow else Ok (unsigned n (int_div (signed n x) (signed n y)))) else Ok (unsigned n (int_div (signed n x) (signed n y)))
 
--- 4.3.2 iadd to irotr; the operand x is the one pushed first. Counts of shifts and rotations are taken modulo n
+-- 4.3.2 iadd to irotr; x is the operand that was pushed first, and counts of shifts and rotations are taken modulo n. Ours: where the standard has no result, a trap with a name
 abbrev pub binary : ℕ → Binary → ℕ → ℕ → Result ℕ NumTrap
 binary n Add x y = Ok ((x + y) % 2 ^ n)
 binary n Sub x y = Ok ((x + (2 ^ n - y)) % 2 ^ n)
@@ -101,7 +101,7 @@ binary n Rotr x y = Ok (rotate_left n x ((n - y % n) % n))
 abbrev pub moved : ℕ → ℕ → ℕ
 moved n x = (x + 2 ^ (n - 1)) % 2 ^ n
 
--- 4.3.2 ieq to ige_u
+-- 4.3.2 ieq to ige_u. Ours: signed words are compared after both were moved by half the range; the law ComparesSigned says that this compares the signed numbers
 abbrev pub compare_by : ℕ → Compare → ℕ → ℕ → Bool
 compare_by n Eq x y = nat_eq x y
 compare_by n Ne x y = not (nat_eq x y)

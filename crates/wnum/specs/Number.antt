@@ -31,7 +31,7 @@ five a b c d e = a % 128 + 128 * (b % 128 + 128 * (c % 128 + 128 * (d % 128 + 12
 abbrev pub most : ℕ → ℕ
 most N = (N + 6) / 7
 
--- 5.2.2: the bytes spell v, a number of N bits that stands for its groups and lies in a range; a longer spelling than is needed is fine
+-- 5.2.2 the bytes spell v, a number of N bits that stands for its groups and lies in a range; a longer spelling than is needed counts. Ours: one shape for uN and sN
 pub record SpellsNumber {A : Type 0} (N : ℕ) (stands_for : List ℕ → A) (InRange : A → Type 0) (bytes : List ℕ) (v : A) : Type 0 where
   pub number : IsNumber bytes
   pub short : length bytes ≤ most N
@@ -54,10 +54,10 @@ SpellsUnsigned N = SpellsNumber N groups (FitsUnsignedBits N)
 abbrev pub SpellsSigned : ℕ → List ℕ → ℤ → Type 0
 SpellsSigned N = SpellsNumber N signed_groups (FitsSignedBits N)
 
--- the bytes from a place up to another spell a value
+-- 5.1 the bytes from a place up to another spell a value. Ours: the standard has no places
 abbrev pub IsSpelledAt : {A : Type 0} → (List ℕ → A → Type 0) → List ℕ → ℕ → A × ℕ → Type 0
 IsSpelledAt spells bytes at found = (at ≤ found.1) × (found.1 ≤ length bytes) × spells (slice_range bytes at found.1) found.0
 
--- no front of the bytes from a place on spells a value
+-- 5.1 no front of the bytes from a place on spells a value. Ours: the standard has no places
 abbrev pub NoneSpelledAt : {A : Type 0} → (List ℕ → A → Type 0) → List ℕ → ℕ → Type 0
 NoneSpelledAt {A} spells bytes at = (front rest : List ℕ) (v : A) → drop at bytes ≡ front ++ rest → spells front v → ⊥

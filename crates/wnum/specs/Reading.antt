@@ -13,8 +13,7 @@ abbrev pub ◌>>=◌ : {A B : Type 0} → Option A → (A → Option B) → Opti
 (Some x) >>= f = f x
 None >>= f = None
 
--- A function reads a spelling exactly: what it reads is spelled so, and what is spelled so it reads, whatever follows.
--- So it reads nothing exactly where no front of the bytes is spelled.
+-- 5.1 a function reads a spelling exactly: what it reads is spelled so, and what is spelled so it reads, whatever follows
 pub record Reads {A : Type 0} (read : List ℕ → Read A) (spells : List ℕ → A → Type 0) : Type 0 where
   pub sound : (bytes : List ℕ) (a : A) (rest : List ℕ) → read bytes ≡ Some (a, rest) → (front : List ℕ) × spells front a × (bytes ≡ front ++ rest)
   pub complete : (front : List ℕ) (a : A) (rest : List ℕ) → spells front a → read (front ++ rest) ≡ Some (a, rest)

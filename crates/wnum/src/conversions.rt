@@ -1,4 +1,4 @@
-//! The conversions between words of 32 and of 64 bits (4.3.2).
+//! The conversions between words of 32 and of 64 bits (4.3.4).
 
 ghost use Rattle.std.specs.Prelude.{◌≡◌, ◌%◌, ◌^◌};
 ghost use Rattle.wnum.specs.Arithmetic.{extended};

@@ -1,4 +1,5 @@
 -- 4.5.4 When each fault of an instance comes.
+-- The first refusal of the start comes; or out of memory, where nothing refuses the start.
 use Rattle.std.specs.Prelude.{◌≡◌, ℕ, List, Some, None}
 use Rattle.wsyntax.specs.Modules.{ModuleShape, BodyShape}
 use Rattle.wsyntax.specs.Execution.Start.{start_refusal}

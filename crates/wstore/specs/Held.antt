@@ -1,4 +1,5 @@
 -- 4.2.3 The store that slots without tags stand for.
+-- The types are those of the module's globals. The store of each instance is typed, by the instance's type.
 use Rattle.std.specs.Prelude.{◌≡◌, map}
 use Rattle.wsyntax.specs.declared.types.GlobalType.{GlobalType}
 use Rattle.wsyntax.specs.Validation.Context.{Context}

@@ -1,4 +1,6 @@
 -- 4.5.5 A call on the store of an instance.
+-- It ends by the definition on every run-time module of the module, of which there is one, with this store and so much fuel. Where it
+-- is given up, it has come to a configuration by a chain within the limits. The tokens that were taken are bounded both ways.
 use Rattle.std.specs.Prelude.{◌≡◌, ℕ, ◌+◌, ◌*◌, ◌≤◌, List, [], ◌∷◌, length, max, Some, slice_get}
 use Rattle.wsyntax.specs.Types.{FuncType}
 use Rattle.wsyntax.specs.declared.value.Value.{Value}

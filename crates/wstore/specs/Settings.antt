@@ -1,4 +1,5 @@
 -- The limits of a call, and their ranges.
+-- There are settings of three numbers exactly where each is in its range.
 use Rattle.std.specs.Prelude.{ℕ, ◌≤◌, nat_le, Bool, ◌&&◌, Option, Some, None, if◌then◌else◌}
 use Rattle.wsyntax.specs.Texts.Answer.{Limits}
 

@@ -1,4 +1,5 @@
 -- 4.2.3 What is read of the store of an instance.
+-- With it stands what a write and a growth leave.
 use Rattle.std.specs.Prelude.{◌≡◌, ◌≢◌, ℕ, ◌/◌, Bool, true, false, option_map, List, length, Option, Some, None, slice_get, option_and_then}
 use Rattle.wsyntax.specs.Execution.Store as meant
 use Rattle.wsyntax.specs.Execution.Store.{Memory, page, write, grown}

@@ -1,5 +1,10 @@
 //! Instances of accepted modules (Core 1.0, 4.5.4): what refuses one, the fresh store that it begins with, and the clean
 //! memory that is lent for it and comes back.
+//!
+//! Proved: `Settings::new` takes exactly the ranges. `instantiate` gives an instance with the definition's fresh store
+//! exactly where nothing refuses its start, else the first refusal, with the memory as it was lent. The store of an
+//! instance is typed, by its type, and its parts are read, written and grown as the definition says. `close` gives back a
+//! clean memory of no fewer bytes than were lent.
 #![tactic(auto)]
 
 mod entry;

@@ -5,7 +5,7 @@ use Rattle.wsyntax.specs.declared.elements.Element.{Element}
 use Rattle.wsyntax.specs.declared.elements.Segment.{Segment}
 use Rattle.wsyntax.specs.declared.elements.Elements.TheInside.{Inside}
 
--- the segment that is lent
+-- 2.5.7 the element segment that a lent one stands for
 abbrev pub element_of : Element → HeldElement
 element_of e = record { table = e.table; offset = e.offset.now; functions = e.functions.now }
 
@@ -29,7 +29,7 @@ start_at start ss zero = start
 start_at start [] (suc n) = start
 start_at start (s ∷ ss) (suc n) = start_at s.end ss n
 
--- what callers see
+-- 2.5.7 the element segments that a held list stands for, wherever their functions lie in memory
 abbrev pub held_elements : Inside → List HeldElement
 held_elements a = elements_from a.functions.items 0 a.segments.items
 
@@ -37,7 +37,7 @@ held_elements a = elements_from a.functions.items 0 a.segments.items
 abbrev pub AreAll : Inside → Type 0
 AreAll a = FillFrom a.functions.items 0 a.segments.items
 
--- a function more in the last segment
+-- 2.5.7 the segments with a function more in the last one
 abbrev pub with_function : List HeldElement → ℕ → List HeldElement
 with_function [] f = []
 with_function (e ∷ []) f = record e { functions = e.functions ++ f ∷ [] } ∷ []

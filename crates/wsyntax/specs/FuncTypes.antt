@@ -5,11 +5,11 @@ use Rattle.wsyntax.specs.declared.func_types.FuncType.{FuncType as LentFuncType}
 use Rattle.wsyntax.specs.declared.func_types.TypeRange.{TypeRange}
 use Rattle.wsyntax.specs.declared.func_types.FuncTypes.TheInside.{Inside}
 
--- the function type that is lent
+-- 2.3.3 the function type that a lent one stands for
 abbrev pub func_type_of : LentFuncType → FuncType
 func_type_of t = record { params = t.params.now; results = t.results.now }
 
--- the lists of a type have fewer than 2^32 types each
+-- 2.3.3 each list of a lent function type has fewer than 2^32 types
 pub record IsShort (t : LentFuncType) : Type 0 where
   pub params : length t.params.now < 2 ^ 32
   pub results : length t.results.now < 2 ^ 32
@@ -24,7 +24,7 @@ pub record IsWithin (values : List ValType) (r : TypeRange) : Type 0 where
   pub results : r.middle ≤ r.end
   pub all : r.end ≤ length values
 
--- what callers see
+-- 2.3.3 the function types that a held list stands for, wherever they lie in memory
 abbrev pub held_types : Inside → List FuncType
 held_types a = map (type_in a.values.items) a.ranges.items
 

@@ -8,7 +8,7 @@ abbrev pub tokens_in : Option (List Token × List ℕ) → List Token
 tokens_in (Some x) = x.0
 tokens_in None = []
 
--- the tokens of the expression at the front of the bytes
+-- 2.5.6 to 2.5.8 the tokens of the expression at the front of the bytes
 abbrev pub tokens_read : List ℕ → List Token
 tokens_read bytes = tokens_in (expression.read bytes)
 
@@ -18,7 +18,7 @@ is_const_or_get (Do (Const t n)) = true
 is_const_or_get (Do (GlobalGet x)) = true
 is_const_or_get _ = false
 
--- one of these and an end, as 3.3.7.2 asks of a constant expression that leaves one value
+-- 3.3.7.2 whether the tokens are a t.const or a global.get, and an end
 abbrev pub has_constant_form : List Token → Bool
 has_constant_form (t ∷ End ∷ []) = is_const_or_get t
 has_constant_form _ = false

@@ -6,7 +6,7 @@ pub use Rattle.wsyntax.specs.declared.instructions.BlockType.TheVariants.{Empty,
 use Rattle.wsyntax.specs.declared.instructions.Operator.{Operator}
 use Rattle.wsyntax.specs.Types.{ValType}
 
--- 2.4.1 a numeric instruction: an integer operator by its width and its operation, or a float operator by its name
+-- 2.4.1 a numeric instruction. Ours: an integer operator by its width and its operation, a float operator by its name alone; `ExtendLow` is the sign extensions of Core 2.0
 pub data NumOp : Type 0 where
   OfOne : Width → Unary → NumOp
   OfTwo : Width → Binary → NumOp
@@ -20,7 +20,7 @@ pub data NumOp : Type 0 where
 
 -- 2.4.4 memory instructions.
 
--- what a load or a store says: the type of the value, the bytes in memory, whether a narrow load copies the sign, the alignment's exponent, the offset
+-- 2.4.4 what a load or a store says: the type of the value, the bytes in memory, whether a narrow load copies the sign, the alignment's exponent, the offset. Ours: one record for all of them
 pub record Access : Type 0 where
   pub of_type : ValType
   pub width : ℕ
@@ -30,7 +30,7 @@ pub record Access : Type 0 where
 
 -- Instructions without a body.
 
--- 2.4.1 to 2.4.5, each with its immediates
+-- 2.4.1 to 2.4.5 an instruction without a body, with its immediates. Ours: a constant is its type and its bits
 pub data Op : Type 0 where
   -- 2.4.5 control instructions: br_table has its labels and the default
   Unreachable Nop Return : Op
@@ -49,14 +49,14 @@ pub data Op : Type 0 where
 
 -- Instructions with bodies.
 
--- 2.4.5 and 2.4.6: a sequence of instructions. The last argument of each constructor is the rest of the sequence; If is one whose else was not written
+-- 2.4.5, 2.4.6 a sequence of instructions; the last argument of each constructor is the rest of the sequence. Ours: `If` is one whose else was not written, `IfElse` one whose else was
 pub data Code : Type 0 where
   Stop : Code
   Plain : Op → (rest : Code) → Code
   Block Loop If : BlockType → (body rest : Code) → Code
   IfElse : BlockType → (body other rest : Code) → Code
 
--- one sequence, and then another
+-- 3.3.6 one sequence, and then another
 abbrev pub follow : Code → Code → Code
 follow Stop more = more
 follow (Plain i rest) more = Plain i (follow rest more)
@@ -67,13 +67,13 @@ follow (IfElse t body other rest) more = IfElse t body other (follow rest more)
 
 -- Tokens.
 
--- an instruction without a body, or one of the words that begin and end the others
+-- 5.4 an instruction without a body, or one of the words that open, part and close the others
 pub data Token : Type 0 where
   Do : Op → Token
   OpenBlock OpenLoop OpenIf : BlockType → Token
   Else End : Token
 
--- the tokens of a sequence
+-- 5.4, 2.4.6 the tokens of a sequence
 abbrev pub flat : Code → List Token
 flat Stop = []
 flat (Plain i rest) = Do i ∷ flat rest

@@ -25,7 +25,7 @@ use Rattle.wsyntax.specs.declared.module.Body.{Body}
 
 -- Tokens.
 
--- a token of the code stands for a token of a tree, whatever the check has written into it; a branch table's labels lie in the list of targets, its default after them
+-- 2.4 the token of a tree that a token of the code stands for, whatever the check has written into it; a branch table's labels lie in the list of targets, its default after them
 abbrev pub seen : List ℕ → Flat → Token
 seen targets flat.Unreachable = Do Unreachable
 seen targets flat.Nop = Do Nop
@@ -65,11 +65,11 @@ unchecked (flat.Br l) = flat.Br (record { index = l.index; destination = Short 0
 unchecked (flat.BrIf l) = flat.BrIf (record { index = l.index; destination = Short 0 0 0 })
 unchecked t = t
 
--- what an expression holds
+-- 2.4.6 the tokens that an expression of the code holds
 abbrev pub tokens_of : Expression → List Token
 tokens_of e = map (seen e.targets.items) e.tokens.items
 
--- the instruction of an expression of one constant, or of one global.get
+-- 3.3.7.2 the instruction of an expression of one constant, or of one global.get
 abbrev pub constant_instruction : ConstExpr → Option Flat
 constant_instruction (initial.I32Const n) = Some (flat.I32Const n)
 constant_instruction (initial.I64Const n) = Some (flat.I64Const n)
@@ -78,7 +78,7 @@ constant_instruction (initial.F64Const bytes) = Some (flat.F64Const bytes)
 constant_instruction (initial.GlobalGet x) = Some (flat.GlobalGet x)
 constant_instruction (initial.Other e) = None
 
--- the tokens of the expression of a first value or an offset
+-- 2.5.6 to 2.5.8 the tokens of the expression of a first value or an offset
 abbrev pub initial_tokens : ConstExpr → List Token
 initial_tokens (initial.I32Const n) = seen [] (flat.I32Const n) ∷ End ∷ []
 initial_tokens (initial.I64Const n) = seen [] (flat.I64Const n) ∷ End ∷ []
@@ -147,7 +147,7 @@ pub record BodyShape : Type 0 where
 abbrev pub body_shape : Body → BodyShape
 body_shape b = record { runs = b.runs.items; code = tokens_of b.code }
 
--- 2.5 a module, its bodies as bytes
+-- 2.5 a module. Ours: its bodies are left as bytes
 pub record ModuleShape : Type 0 where
   pub types : List FuncType
   pub imports : List ImportShape

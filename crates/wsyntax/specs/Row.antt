@@ -72,7 +72,7 @@ width_of (code.Load l) = (load_access l 0 0).width
 width_of (code.Store s) = (store_access s 0 0).width
 width_of _ = 0
 
--- what an opcode's row says
+-- 5.4, 3.3 what an opcode's row says: its immediates, its operand and result types where the context does not matter, the width of an access
 abbrev pub shape_of : Opcode → RowShape
 shape_of o = record { imm = immediates_of o; operands = (type_of o).params; results = (type_of o).results; width = width_of o }
 

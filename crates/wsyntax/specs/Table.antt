@@ -147,7 +147,7 @@ num_op op.I64Extend8S = ExtendLow Width64 8
 num_op op.I64Extend16S = ExtendLow Width64 16
 num_op op.I64Extend32S = ExtendLow Width64 32
 
--- 3.3.1 the type of a float operator, as it is written; the other operators have theirs by their width
+-- 3.3.1 the type of a float operator, as it is written; the other operators have theirs by their width. Ours: float instructions are typed and never executed
 abbrev pub float_type : Operator → FuncType
 float_type op.F32Eq = record { params = F32 ∷ F32 ∷ []; results = I32 ∷ [] }
 float_type op.F32Ne = record { params = F32 ∷ F32 ∷ []; results = I32 ∷ [] }

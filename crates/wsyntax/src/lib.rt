@@ -2,6 +2,11 @@
 //! the binary grammar, the typing rules, reduction, and the texts that are written. How a call ends, and why an
 //! instance is not made (4.2.2, 4.5.4 and 4.5.5), stand here too: instances, the interpreter and the texts of reports
 //! share these types.
+//!
+//! Proved: `Opcode::from_byte` and `row` are the table of opcodes for all 256 bytes. `Operator::row`, `Load::row` and
+//! `Store::row` say what each operator and access takes and gives, and the code says it nowhere else. `FuncTypes` and
+//! `Elements` are lists: what is pushed comes last, and what is lent is the one of that index. An `OtherExpression` is
+//! neither one constant nor one `global.get`, by its type.
 #![tactic(auto)]
 
 mod access_rows;

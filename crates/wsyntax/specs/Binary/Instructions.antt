@@ -15,7 +15,7 @@ use Rattle.wsyntax.specs.Binary.Types.{block_type}
 abbrev pub with_index : (ℕ → Op) → Production Op
 with_index made = u32 >>= λ n. pure (made n)
 
--- what follows an opcode that begins an instruction without a body
+-- 5.4 what follows an opcode that begins an instruction without a body
 abbrev pub immediates : Opcode → Production Op
 -- 5.4.1 control instructions; block, loop and if have bodies
 immediates code.Unreachable = pure tree.Unreachable
@@ -62,14 +62,14 @@ immediates code.F32Const = raw 4 >>= λ b. pure (tree.Const F32 (little_endian b
 immediates code.F64Const = raw 8 >>= λ b. pure (tree.Const F64 (little_endian b))
 immediates (code.Numeric f) = pure (tree.Numeric (num_op f))
 
--- an instruction without a body
+-- 5.4 an instruction without a body. Ours: the opcode is looked up in the table
 unfoldable pub plain_instruction : Production Op
 plain_instruction = do
   b ← byte
   o ← given (opcode_of b)
   immediates o
 
--- A sequence of instructions, by cases on its tree: block and loop end with 0B; if ends with 0B, and may have one 05 before it.
+-- 5.4.1 a sequence of instructions, by cases on its tree: block and loop end with 0B; if ends with 0B, and may have one 05 before it
 abbrev pub SpellsCode : List ℕ → Code → Type 0
 SpellsCode bytes tree.Stop = bytes ≡ []
 SpellsCode bytes (tree.Plain i rest) = (x y : List ℕ) × (bytes ≡ x ++ y) × plain_instruction.spells x i × SpellsCode y rest
@@ -82,6 +82,6 @@ SpellsCode bytes (tree.IfElse t body other rest) = (h x z y : List ℕ) × (byte
 abbrev pub SpellsExpression : List ℕ → Code → Type 0
 SpellsExpression bytes code = (x : List ℕ) × (bytes ≡ x ++ (0x0B ∷ [])) × SpellsCode x code
 
--- the tokens of a spelled expression
+-- 5.4.6 the tokens of a spelled expression
 abbrev pub SpellsTokens : List ℕ → List Token → Type 0
 SpellsTokens bytes tokens = (code : Code) × SpellsExpression bytes code × (tokens ≡ flat_body code)

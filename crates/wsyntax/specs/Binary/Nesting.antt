@@ -19,7 +19,7 @@ SpellsToken bytes End = bytes ≡ 0x0B ∷ []
 abbrev pub seen_as : {A : Type 0} → (A → Token) → Option (A × List ℕ) → Option (Token × List ℕ)
 seen_as f read = read >>= λ x. Some (f x.0, x.1)
 
--- the token at the front
+-- 5.4 the token at the front
 unfoldable pub token_at : List ℕ → Option (Token × List ℕ)
 token_at [] = None
 token_at (b ∷ rest) =
@@ -30,8 +30,7 @@ token_at (b ∷ rest) =
     else if b == 0x0B then Some (End, rest)
     else seen_as Do (plain_instruction.read (b ∷ rest))
 
--- Of each open block, from the innermost on: may an else still come. A token opens, parts or closes: nothing, where it cannot stand there;
--- else what is open after it, or nothing where it closes the expression.
+-- 5.4.1 what is open after a token, where `inner` says of each open block, the innermost first, whether an else may still come: None where the token cannot stand there, Some None where it closes the expression
 abbrev pub nest : List Bool → Token → Option (Option (List Bool))
 nest inner (Do i) = Some (Some inner)
 nest inner (OpenBlock t) = Some (Some (false ∷ inner))
@@ -57,6 +56,6 @@ tokens_at (suc n) inner bytes = token_at bytes >>= λ t. nest inner t.0 >>= λ o
 abbrev pub expression_at : List ℕ → Option (List Token × List ℕ)
 expression_at bytes = tokens_at (length bytes) [] bytes
 
--- 5.4.6 an expression, as tokens
+-- 5.4.6 an expression. Ours: its value is its tokens; a law says that they are those of one tree
 unfoldable pub expression : Production (List Token)
 expression = record { spells = SpellsTokens; read = expression_at }

@@ -4,12 +4,12 @@ use Rattle.std.specs.Prelude.{◌⊎◌, ◌≡◌, ℕ, zero, suc, List, [], �
 use Rattle.wnum.specs.Reading.{Reads}
 use Rattle.wnum.specs.Reading as reading
 
--- 5.1.2 a production: which bytes spell which value, and how a front of the bytes is read
+-- 5.1.1 a production: which bytes spell which value, and how a front of the bytes is read
 pub record Production (A : Type 0) : Type 1 where
   pub spells : List ℕ → A → Type 0
   pub read : List ℕ → Option (A × List ℕ)
 
--- What is read is spelled so, and what is spelled so is read, whatever follows: so the bytes at the front spell one value at most.
+-- 5.1 what is read is spelled so, and what is spelled so is read, whatever follows: so the bytes at the front spell one value at most
 abbrev pub Agrees : {A : Type 0} → Production A → Type 0
 Agrees p = Reads p.read p.spells
 
@@ -18,11 +18,11 @@ abbrev pub byte_at : List ℕ → Option (ℕ × List ℕ)
 byte_at [] = None
 byte_at (b ∷ rest) = Some (b, rest)
 
--- 5.1.3 one byte
+-- 5.2.1 one byte
 abbrev pub byte : Production ℕ
 byte = record { spells = λ bytes b. bytes ≡ b ∷ []; read = byte_at }
 
--- no byte, and the value, where there is one
+-- 5.1.1 no byte, and the value, where there is one
 abbrev pub given : {A : Type 0} → Option A → Production A
 given o = record { spells = λ bytes a. (bytes ≡ []) × (o ≡ Some a); read = λ bytes. reading.◌>>=◌ o (λ a. Some (a, bytes)) }
 
@@ -30,7 +30,7 @@ given o = record { spells = λ bytes a. (bytes ≡ []) × (o ≡ Some a); read =
 abbrev pub pure : {A : Type 0} → A → Production A
 pure a = given (Some a)
 
--- one production after the other
+-- 5.1.1 one production after the other
 infixl 10 ◌>>=◌
 abbrev pub ◌>>=◌ : {A B : Type 0} → Production A → (A → Production B) → Production B
 ◌>>=◌ {A} p f = record {
@@ -49,7 +49,7 @@ abbrev pub or_read : {A : Type 0} → Option (A × List ℕ) → Option (A × Li
 or_read (Some x) other = Some x
 or_read None other = other
 
--- 5.1.2 one production or the other; the first is tried first, so this agrees only where no bytes of the second begin as those of the first
+-- 5.1.1 one production or the other; the first is tried first, so this agrees only where no bytes of the second begin as those of the first
 abbrev pub either : {A : Type 0} → Production A → Production A → Production A
 either p q = record { spells = λ bytes a. p.spells bytes a ⊎ q.spells bytes a; read = λ bytes. or_read (p.read bytes) (q.read bytes) }
 
@@ -67,7 +67,7 @@ abbrev pub SpellsAll : {A : Type 0} → (List ℕ → A → Type 0) → List ℕ
 SpellsAll spells bytes [] = bytes ≡ []
 SpellsAll spells bytes (a ∷ rest) = (x y : List ℕ) × (bytes ≡ x ++ y) × spells x a × SpellsAll spells y rest
 
--- 5.1.2 n values of the production, one after the other
+-- 5.1.1 n values of the production, one after the other
 abbrev pub times : {A : Type 0} → ℕ → Production A → Production (List A)
 times n p = record { spells = λ bytes values. (length values ≡ n) × SpellsAll p.spells bytes values; read = times_at p.read n }
 
@@ -75,7 +75,7 @@ times n p = record { spells = λ bytes values. (length values ≡ n) × SpellsAl
 abbrev pub whole_at : {A : Type 0} → (List ℕ → Option (A × List ℕ)) → List ℕ → Option A
 whole_at read s = reading.◌>>=◌ (read s) (λ found. if length found.1 == 0 then Some found.0 else None)
 
--- no byte, and what all of the bytes s spell
+-- 5.1.2 no byte, and what all of the bytes s spell. Ours: what must see the end of its bytes reads a slice apart
 abbrev pub inside : {A : Type 0} → List ℕ → Production A → Production A
 inside s p = record { spells = λ bytes a. (bytes ≡ []) × p.spells s a; read = λ bytes. reading.◌>>=◌ (whole_at p.read s) (λ a. Some (a, bytes)) }
 

@@ -33,7 +33,7 @@ an_import = do
   k ← import_kind
   pure (record { module_name = m; item_name = i; kind = k })
 
--- 5.5.9 globals
+-- 5.5.9 a global
 unfoldable pub global : Production GlobalShape
 global = do
   t ← global_type
@@ -53,7 +53,7 @@ an_export = do
   x ← u32
   pure (record { item_name = i; kind = k; index = x })
 
--- 5.5.12 element segments
+-- 5.5.12 an element segment
 unfoldable pub element : Production ElementShape
 element = do
   t ← u32
@@ -61,7 +61,7 @@ element = do
   fs ← vector u32
   pure (record { table = t; offset = e; functions = fs })
 
--- 5.5.13 bodies: runs of locals, whose counts together are below 2^32, and an expression
+-- 5.5.13 a run of declared locals
 unfoldable pub run : Production LocalRun
 run = do
   n ← u32
@@ -85,7 +85,7 @@ body = do
   e ← expression
   pure (record { runs = runs; code = e })
 
--- 5.5.14 data segments
+-- 5.5.14 a data segment
 unfoldable pub data_segment : Production DataShape
 data_segment = do
   m ← u32

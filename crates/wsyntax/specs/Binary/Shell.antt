@@ -4,7 +4,7 @@ use Rattle.wsyntax.specs.Modules.{ModuleShape, BodyShape}
 use Rattle.wsyntax.specs.Binary.Production.{SpellsAll}
 use Rattle.wsyntax.specs.Binary.Sections.{SectionShape, Custom, Types, Imports, Functions, Tables, Memories, Globals, Exports, Start, Elements, Bodies, Segments, section, body, locals_of}
 
--- the magic bytes and the version
+-- 5.5.15 the magic bytes and the version
 abbrev pub header : List ℕ
 header = 0x00 ∷ 0x61 ∷ 0x73 ∷ 0x6D ∷ 0x01 ∷ 0x00 ∷ 0x00 ∷ 0x00 ∷ []
 
@@ -23,7 +23,7 @@ section_id (Elements v) = 9
 section_id (Bodies v) = 10
 section_id (Segments v) = 11
 
--- a custom section stands anywhere, another one after those of smaller ids only
+-- 5.5.2 a custom section stands anywhere, another one after those of smaller ids only
 abbrev pub may_follow : ℕ → SectionShape → Bool
 may_follow last s = section_id s == 0 || nat_lt last (section_id s)
 
@@ -56,11 +56,11 @@ abbrev pub put_all : ModuleShape → List SectionShape → ModuleShape
 put_all m [] = m
 put_all m (s ∷ ss) = put_all (put m s) ss
 
--- an absent section counts as an empty one
+-- 5.5.2 an absent section counts as an empty one
 abbrev pub empty_module : ModuleShape
 empty_module = record { types = []; imports = []; functions = []; tables = []; memories = []; globals = []; exports = []; start = None; elements = []; bodies = []; segments = [] }
 
--- 5.5.15 the bytes are the header, and then sections in order that say what the module is; it has a body for each function
+-- 5.5.15 the bytes are the header, and then sections in order that say what the module is; it has a body for each function. Ours: bodies are left as bytes, since their insides are judged after the rules of the module
 pub record Shell (bytes : List ℕ) (m : ModuleShape) : Type 0 where
   pub tail : List ℕ
   pub sections : List SectionShape
@@ -74,24 +74,24 @@ pub record Shell (bytes : List ℕ) (m : ModuleShape) : Type 0 where
 abbrev pub SpellsBody : List ℕ → BodyShape → Type 0
 SpellsBody bytes b = body.spells bytes b
 
--- each body, spelled by the bytes that stand for it
+-- 5.5.13 each body, spelled by the bytes that stand for it
 abbrev pub SpellsBodies : List (List ℕ) → List BodyShape → Type 0
 SpellsBodies [] [] = Unit {0}
 SpellsBodies (s ∷ ss) (b ∷ bs) = SpellsBody s b × SpellsBodies ss bs
 SpellsBodies [] (b ∷ bs) = ⊥
 SpellsBodies (s ∷ ss) [] = ⊥
 
--- which bytes spell a module and its bodies
+-- 5.5.15 which bytes spell a module and its bodies
 abbrev pub Spells : List ℕ → ModuleShape → List BodyShape → Type 0
 Spells bytes m bodies = Shell bytes m × SpellsBodies m.bodies bodies
 
 -- What this implementation takes.
 
--- the most bytes of a module
+-- the most bytes of a module: 16,777,216
 abbrev pub module_limit : ℕ
 module_limit = 16777216
 
--- the most declared locals of a body, parameters aside
+-- the most declared locals of a body, parameters aside: 100,000
 abbrev pub local_limit : ℕ
 local_limit = 100000
 

@@ -24,11 +24,11 @@ abbrev pub index_of : ℤ → Option BlockType
 index_of (pos y) = Some (Index y)
 index_of (negsuc y) = None
 
--- 5.4.1 of Core 2.0: empty, one value type, or the index of a type, which is a number s33
+-- 5.3.2 a block type. Ours: as in 5.4.1 of Core 2.0, empty, one value type, or the index of a type, which is a number s33 that is not negative
 unfoldable pub block_type : Production BlockType
 block_type = either (byte >>= λ b. given (block_type_of b)) (s33 >>= λ z. given (index_of z))
 
--- 5.3.3 function types
+-- 5.3.3 a function type
 unfoldable pub func_type : Production FuncType
 func_type = do
   tag ← exactly 0x60
@@ -51,7 +51,7 @@ limits_of (suc (suc tag)) = given None
 unfoldable pub limits : Production Limits
 limits = byte >>= limits_of
 
--- 5.3.6 table types
+-- 5.3.6 a table type
 unfoldable pub table_type : Production Table
 table_type = do
   tag ← exactly 0x70

@@ -6,7 +6,7 @@ use Rattle.wnum.specs.Reading.{unsigned_at, signed_at}
 use Rattle.wnum.specs.Reading as reading
 use Rattle.wsyntax.specs.Binary.Production.{Production, ◌>>=◌, raw, times, times_at}
 
--- 5.2.2 u32, s32, s64, and s33 of Core 2.0
+-- 5.2.2 a number u32
 abbrev pub u32 : Production ℕ
 u32 = record { spells = SpellsUnsigned 32; read = unsigned_at 32 }
 
@@ -30,7 +30,7 @@ vector_at read bytes = reading.◌>>=◌ (unsigned_at 32 bytes) (λ n. times_at 
 abbrev pub vector : {A : Type 0} → Production A → Production (List A)
 vector p = u32 >>= λ n. times n p
 
--- a vector of bytes, and what has a size in front
+-- 5.1.3 a vector of bytes, and what has a size in front
 abbrev pub blob : Production (List ℕ)
 blob = u32 >>= raw
 

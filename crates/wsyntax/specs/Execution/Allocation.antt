@@ -11,7 +11,7 @@ pub record Segment : Type 0 where
   pub place : ℕ
   pub items : List ℕ
 
--- what an instance is made of: the limits of its memory, the minimum of its table, the first values of its globals, its element and data segments with their offsets computed
+-- 4.5.4 what an instance is made of: the limits of its memory, the minimum of its table, the first values of its globals, its segments. Ours: offsets and first values are computed before
 pub record Layout : Type 0 where
   pub memory : Option Limits
   pub table : Option ℕ
@@ -37,7 +37,7 @@ put_elements (s ∷ ss) table = put_elements ss (overwrite s.place (map SetTo s.
 abbrev pub fresh_memory : ℕ → List Segment → Limits → Memory
 fresh_memory pages segments l = record { bytes = put_data segments (replicate (l.min * page) 0); most = l.max; pages = pages }
 
--- 4.5.4 the fresh store: a memory of its minimum with zeros, a table of its minimum with unset entries, and then the segments in order
+-- 4.5.4 the fresh store: a memory of its minimum with zeros, a table of its minimum with unset entries, and then the segments in order. Ours: all segments are known to fit before one is written
 abbrev pub fresh : ℕ → Layout → Store
 fresh pages l = record {
   memory = option_map (fresh_memory pages l.data') l.memory;
@@ -65,7 +65,7 @@ abbrev pub AllElements : Context → List Segment → Type 0
 AllElements C [] = Unit {0}
 AllElements C (s ∷ ss) = AllFunctions C s.items × AllElements C ss
 
--- what the module rules and the refusals of an instance leave of a module
+-- 4.5.4 what the module rules and the refusals of an instance leave of a module
 pub record LayoutTyped (C : Context) (pages : ℕ) (l : Layout) : Type 0 where
   pub memory : Has C.has_memory (λ x. (may_have (record { bytes = []; most = x.max; pages = pages }) x.min ≡ true) × AllWithin (x.min * page) l.data' × AllBytes l.data') l.memory
   pub table : Has C.has_table (λ n. AllElements C l.elements) l.table

@@ -51,7 +51,7 @@ IntegerCode (Loop t body rest) = IntegerCode body × IntegerCode rest
 IntegerCode (If t body rest) = IntegerCode body × IntegerCode rest
 IntegerCode (IfElse t body other rest) = IntegerCode body × IntegerCode other × IntegerCode rest
 
--- code that takes a and leaves z, without floats
+-- 7.5 code that takes a and leaves z. Ours: without floats
 pub record CodeTyped (C : Context) (code : Code) (a z : Stack) : Type 0 where
   pub typed : Typed C code a z
   pub integer : IntegerCode code

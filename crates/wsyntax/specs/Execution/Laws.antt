@@ -59,7 +59,7 @@ Paid = (m : Module) (frames fuel left : ℕ) (c d : Config) (kinds : List Kind) 
 abbrev pub Computed : Type 0
 Computed = (m : Module) (s : Store) (f : ℕ) (args : List Value) (fuel frames n : ℕ) (o : Outcome) (left : ℕ) (last : Config) → run m frames n fuel (start s f args) ≡ Over o left last → (k : ℕ) × (fuel ≡ k + left) × Ends m s f args fuel frames o k last.store
 
--- one run after another
+-- one run after another is a run
 abbrev pub Joins : Type 0
 Joins = (m : Module) (frames fuel mid left : ℕ) (c d e : Config) (kinds more : List Kind) → Within m frames fuel c kinds d mid → Within m frames mid d more e left → Within m frames fuel c (kinds ++ more) e left
 

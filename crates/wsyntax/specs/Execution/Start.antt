@@ -63,7 +63,7 @@ run_has_floats r = nat_lt 0 r.count && is_float r.content
 abbrev pub body_has_floats : BodyShape → Bool
 body_has_floats b = any run_has_floats b.runs || any token_has_floats b.code
 
--- in a function type, a global's type, a declared local, a block type or an instruction of any expression
+-- whether a module mentions f32 or f64: in a function type, a global's type, a declared local, a block type or an instruction of any expression
 abbrev pub has_floats : ModuleShape → List BodyShape → Bool
 has_floats m bodies =
     any type_has_floats m.types
@@ -96,7 +96,7 @@ abbrev pub first : {A : Type 0} → List A → Option A
 first [] = None
 first (x ∷ xs) = Some x
 
--- 4.5.4 limits of the memory, minimum of the table, first values of the globals, segments
+-- 4.5.4 limits of the memory, minimum of the table, first values of the globals, segments. Ours: of modules without imports, where every constant expression is a constant
 abbrev pub layout_of : ModuleShape → Layout
 layout_of m = record {
   memory = first m.memories;
@@ -108,7 +108,7 @@ layout_of m = record {
 
 -- Refusals.
 
--- why no instance is made, in the order in which it is asked; of segments, the least
+-- why no instance is made, in the order in which it is asked: imports, floats, the table's limit, the memory's limit, the first element segment outside, the first data segment outside
 pub data StartRefusal : Type 0 where
   HasImports HasFloats TableLimit MemoryLimit : StartRefusal
   ElementOutside DataOutside : ℕ → StartRefusal
@@ -132,7 +132,7 @@ abbrev pub refused_if : Bool → StartRefusal → Option StartRefusal
 refused_if true r = Some r
 refused_if false r = None
 
--- 4.5.4 what refuses the instance, the least-numbered first
+-- 4.5.4 the first refusal of the instance, where there is one; as in the standard, all segments are checked before one is written. Ours: the order, imports, floats and the limits
 unfoldable pub start_refusal : ℕ → ModuleShape → List BodyShape → Option StartRefusal
 start_refusal pages m bodies = let l = layout_of m in
     or_else (refused_if (nat_lt 0 (length m.imports)) HasImports)

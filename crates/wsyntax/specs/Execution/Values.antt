@@ -14,11 +14,11 @@ abbrev pub type_of : Value → ValType
 type_of (V32 n) = I32
 type_of (V64 n) = I64
 
--- the types of values
+-- 4.2.1 the types of values
 abbrev pub types : List Value → List ValType
 types vs = map type_of vs
 
--- its number is that of a word
+-- 4.2.1 the number in a value is a word of its type
 abbrev pub IsWord : Value → Type 0
 IsWord (V32 n) = n < 2 ^ 32
 IsWord (V64 n) = n < 2 ^ 64
@@ -28,18 +28,18 @@ abbrev pub AreWords : List Value → Type 0
 AreWords [] = Unit {0}
 AreWords (v ∷ vs) = IsWord v × AreWords vs
 
--- the number in a value, if it is of this type
+-- 4.2.1 the number in a value, if it is of this type
 abbrev pub number : ValType → Value → Option ℕ
 number I32 (V32 n) = Some n
 number I64 (V64 n) = Some n
 number _ _ = None
 
--- the value that stands for a number modulo 2^N
+-- 4.3.1 the value that stands for a number modulo 2^N. Ours: results of operators are taken modulo 2^N once more; the law ResultsAreExact says that this changes none
 abbrev pub word : Width → ℕ → Value
 word Width32 n = V32 (n % 2 ^ 32)
 word Width64 n = V64 (n % 2 ^ 64)
 
--- the value of a type in these bits
+-- 4.3.1 the value of a type in these bits
 abbrev pub value_in : ValType → ℕ → Option Value
 value_in I32 n = Some (word Width32 n)
 value_in I64 n = Some (word Width64 n)

@@ -31,7 +31,7 @@ abbrev pub trap_weight : List Value → Code → ℕ
 trap_weight [] Stop = 0
 trap_weight _ rest = 1 + size rest
 
--- the weight of what is left to do
+-- the weight of what is left to do: each step without a charge makes it smaller
 abbrev pub weight : Work → ℕ
 weight (Source vs code) = size code
 weight (Invoke vs f rest) = 1 + size rest

@@ -31,12 +31,12 @@ onto b [] = Unended (b ∷ []) ∷ []
 onto b (Ended line ∷ lines) = Ended (b ∷ line) ∷ lines
 onto b (Unended line ∷ lines) = Unended (b ∷ line) ∷ lines
 
--- the lines of the text
+-- the lines of the text, and what stands after the last newline
 abbrev pub lines_of : List ℕ → List TextLine
 lines_of [] = []
 lines_of (b ∷ text) = if b == 0x0A then Ended [] ∷ lines_of text else onto b (lines_of text)
 
--- the most bytes and the most lines of the text
+-- the most bytes of a text of calls
 abbrev pub calls_limit : ℕ
 calls_limit = 4194304
 
@@ -59,7 +59,7 @@ SayAll [] [] = Unit {0}
 SayAll (line ∷ lines) (c ∷ calls) = Says line c × SayAll lines calls
 SayAll _ _ = ⊥
 
--- what the text is
+-- what a text of calls is: too long, bad from a line on, or these calls
 pub data CallsText : Type 0 where
   TooLong : CallsText
   -- the least bad line, from 1
@@ -75,7 +75,7 @@ pub record LeastBad (text : List ℕ) (k : ℕ) : Type 0 where
   pub bad : IsGood k line → ⊥
   pub before : (j : ℕ) (other : TextLine) → j < place → slice_get (lines_of text) j ≡ Some other → IsGood (suc j) other
 
--- too long goes first, then the least bad line
+-- what a text of calls is: too long goes first, then the least bad line, else the calls that it says
 unfoldable pub IsCalls : List ℕ → CallsText → Type 0
 IsCalls text TooLong = calls_limit < length text
 IsCalls text (BadLine k) = (length text ≤ calls_limit) × LeastBad text k

@@ -9,7 +9,7 @@ body_fault_text BodyMalformed = codes "malformed"
 body_fault_text TooManyLocals = codes "too-many-locals"
 body_fault_text (IllTyped at) = codes "ill-typed at " ++ decimal at
 
--- the verdict
+-- the words of a verdict (docs/FORMATS.md)
 abbrev pub verdict_text : Verdict → List ℕ
 verdict_text Accepted = codes "accepted"
 verdict_text TooLarge = codes "refused too-large"
@@ -17,6 +17,6 @@ verdict_text Malformed = codes "refused malformed"
 verdict_text (RuleBroken k) = codes "refused rule " ++ decimal k
 verdict_text (BodyRefused f fault) = codes "refused body " ++ (decimal f ++ (codes " " ++ body_fault_text fault))
 
--- the verdict line
+-- the verdict line: its words and a newline
 abbrev pub verdict_line : Verdict → List ℕ
 verdict_line v = verdict_text v ++ newline

@@ -97,7 +97,7 @@ tally_of BadArguments = record none { refused = 1 }
 tally_of (NotStarted r) = record none { refused = 1 }
 tally_of NoMemory = record none { no_memory = 1 }
 
--- of all calls together
+-- two counts together
 abbrev pub plus : Tally → Tally → Tally
 plus a b = record {
   values = a.values + b.values;
@@ -113,7 +113,7 @@ abbrev pub total_of : List CallEnd → Tally
 total_of [] = none
 total_of (e ∷ es) = plus (tally_of e) (total_of es)
 
--- the last line
+-- the last line of the report, with the counts of all calls
 abbrev pub total_line : List CallEnd → List ℕ
 total_line ends = let t = total_of ends in
     codes "total " ++ (decimal (length ends) ++ (codes " values " ++ (decimal t.values ++ (codes " traps " ++ (decimal t.traps

@@ -12,7 +12,7 @@ newline = 0x0A ∷ []
 abbrev pub tab : List ℕ
 tab = 0x09 ∷ []
 
--- a value, its word read with its sign
+-- a value: `i32:` or `i64:`, and its word read with its sign
 abbrev pub value_text : Value → List ℕ
 value_text (V32 n) = codes "i32:" ++ signed_decimal (signed 32 n)
 value_text (V64 n) = codes "i64:" ++ signed_decimal (signed 64 n)

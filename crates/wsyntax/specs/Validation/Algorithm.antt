@@ -25,7 +25,7 @@ abbrev pub all_take : List Stack → Stack → List ℕ → Bool
 all_take labels r [] = true
 all_take labels r (l ∷ ls) = takes (slice_get labels l) r && all_take labels r ls
 
--- what an instruction does to the operands
+-- 7.3 what an instruction does to the operands. Ours: one of four, which takes and leaves, ends, drops or selects
 pub data Rule : Type 0 where
   -- takes the first from the stack, and leaves the second
   Takes : Stack → Stack → Rule
@@ -34,7 +34,7 @@ pub data Rule : Type 0 where
   Drops : Rule
   Selects : Rule
 
--- the rule of an instruction, if what it names is there
+-- 7.3 the rule of an instruction, if what it names is there
 abbrev pub rule : Context → Op → Option Rule
 -- 3.3.5 control instructions
 rule C Unreachable = Some (Ends [])
@@ -63,7 +63,7 @@ rule C MemoryGrow = when C.has_memory (Some (Takes (I32 ∷ []) (I32 ∷ [])))
 rule C (Const t n) = Some (Takes [] (t ∷ []))
 rule C (Numeric f) = Some (Takes (reverse (operands f)) (reverse (results f)))
 
--- 7.3 the operands of one frame
+-- 7.3 the operands of one frame. Ours: each frame has its own, and unknown ones are `None`
 pub record Operands : Type 0 where
   -- the types above the frame's height, the topmost first, None where a type is not known
   pub known : List (Option ValType)
@@ -108,7 +108,7 @@ join None y = Some y
 join (Some t) None = Some (Some t)
 join (Some t) (Some u) = when (same_type t u) (Some (Some t))
 
--- what a rule makes of the operands
+-- 7.3 what a rule makes of the operands
 abbrev pub apply : Rule → Operands → Option Operands
 apply (Takes p q) o = on (take_all p o) (λ o1. Some (put q o1))
 apply (Ends p) o = on (take_all p o) (λ o1. Some record { known = []; is_dead = true })
@@ -159,7 +159,7 @@ abbrev pub pass_on : Stack → List Frame → List Frame
 pass_on r [] = []
 pass_on r (f ∷ fs) = record f { operands = put r f.operands } ∷ fs
 
--- 7.3 one token
+-- 7.3 one token, under these frames. Ours: an end that closes an if without else also asks that the empty else fits
 abbrev pub step : Context → Token → List Frame → Option (List Frame)
 step C t [] = None
 step C (Do i) (f ∷ fs) =
@@ -172,7 +172,7 @@ step C Else (f ∷ fs) =
     when f.is_then (when (ends_with f.gives f.operands) (Some (record f { is_then = false; operands = fresh f.starts } ∷ fs)))
 step C End (f ∷ fs) = when (ends_with f.gives f.operands) (when (may_lack_else f) (Some (pass_on f.gives fs)))
 
--- accepted, or refused at a token
+-- how the algorithm ends: accepted, or the number of the first token that is refused
 pub data Verdict : Type 0 where
   Accepted : Verdict
   -- the number of the first token that is refused
@@ -193,7 +193,7 @@ alg_from C (t ∷ ts) fs k = refused_or k (step C t fs) (λ gs. alg_from C ts gs
 abbrev pub start : Stack → List Frame
 start r = record { is_then = false; label = r; starts = []; gives = r; operands = fresh [] } ∷ []
 
--- the verdict on the tokens of a body with the results r, under the locals of C
+-- 7.3 the verdict on the tokens of a body with the results r, under the locals of C
 abbrev pub alg : Context → Stack → List Token → Verdict
 alg C r tokens = alg_from (body_context r C) tokens (start r) 0
 

@@ -3,19 +3,19 @@ use Rattle.std.specs.Prelude.{Bool, List, [], ◌∷◌, Option, Some, slice_get
 use Rattle.wsyntax.specs.Types.{ValType, FuncType, GlobalType}
 use Rattle.wsyntax.specs.Instructions.{BlockType, Empty, Value, Index}
 
--- the types of the operands on a stack, the topmost first
+-- 2.3.2 the types of the operands on a stack. Ours: the topmost first
 abbrev pub Stack : Type 0
 Stack = List ValType
 
--- what a function or a block takes from the stack
+-- 2.3.3 what a function or a block takes from the stack
 abbrev pub enter : FuncType → Stack
 enter t = reverse t.params
 
--- what it leaves there
+-- 2.3.3 what a function or a block leaves there
 abbrev pub leave : FuncType → Stack
 leave t = reverse t.results
 
--- 3.1.1 what the rules look up
+-- 3.1.1 what the rules look up. Ours: of tables and memories only whether there is one
 pub record Context : Type 0 where
   pub types : List FuncType
   -- the type of each function
@@ -42,7 +42,7 @@ frame_context locals r C = record C { locals = locals; labels = []; return = Som
 abbrev pub body_context : Stack → Context → Context
 body_context r C = under r (frame_context C.locals r C)
 
--- 2.4.5 the function type that a block type stands for; an index is of Core 2.0
+-- 2.4.5 the function type that a block type stands for. Ours: an index is of Core 2.0
 abbrev pub block_sig : List FuncType → BlockType → Option FuncType
 block_sig types Empty = Some record { params = []; results = [] }
 block_sig types (Value t) = Some record { params = []; results = t ∷ [] }

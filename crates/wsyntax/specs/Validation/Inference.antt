@@ -7,7 +7,7 @@ use Rattle.wsyntax.specs.Validation.Context.{Stack, enter, leave, Context, under
 use Rattle.wsyntax.specs.Validation.Typing.{operands, results, OpTyped, Typed}
 
 mutual
-  -- 3.3.1 to 3.3.5: `C ⊢ instr : [a] → [b]`, a constructor an instruction. One instruction is a sequence with nothing after it
+  -- 3.3.1 to 3.3.5 `C ⊢ instr : [a] → [b]`, a constructor an instruction. Ours: one instruction is a sequence with nothing after it
   pub data InstrTyped : Context → Code → Stack → Stack → Type 0 where
     -- 3.3.1 numeric instructions
     const : {C : Context} {t : ValType} {n : ℕ} → InstrTyped C (Plain (Const t n) Stop) [] (t ∷ [])
@@ -42,14 +42,14 @@ mutual
     call : {C : Context} {x : ℕ} {s : FuncType} → slice_get C.functions x ≡ Some s → InstrTyped C (Plain (Call x) Stop) (enter s) (leave s)
     call_indirect : {C : Context} {y : ℕ} {s : FuncType} → IsTrue C.has_table → slice_get C.types y ≡ Some s → InstrTyped C (Plain (CallIndirect y) Stop) (I32 ∷ enter s) (leave s)
 
-  -- 3.3.6: `C ⊢ instr* : [a] → [b]`, the last instruction at the end
+  -- 3.3.6 `C ⊢ instr* : [a] → [b]`: the empty sequence, and a sequence with one instruction at its end
   pub data SeqTyped : Context → Code → Stack → Stack → Type 0 where
     -- 3.3.6.1 `ε : [t*] → [t*]`
     empty : {C : Context} {t : Stack} → SeqTyped C Stop t t
     -- 3.3.6.2 `instr* instrN : [t1*] → [t0* t3*]`, where `instr* : [t1*] → [t0* t*]` and `instrN : [t*] → [t3*]`
     non_empty : {C : Context} {front last : Code} (t0 : Stack) {t1 t t3 : Stack} → SeqTyped C front t1 (t ++ t0) → InstrTyped C last t t3 → SeqTyped C (follow front last) t1 (t3 ++ t0)
 
--- what is typed by clauses and by recursion is what these rules type: an instruction without a body, and a sequence
+-- typing by clauses and by recursion is typing by the standard's rules of inference, both ways
 pub record RulesAgree : Type 0 where
   pub instructions : (C : Context) (i : Op) (a b : Stack) → OpTyped C i a b ↔ InstrTyped C (Plain i Stop) a b
   pub sequences : (C : Context) (code : Code) (a b : Stack) → Typed C code a b ↔ SeqTyped C code a b

@@ -14,8 +14,7 @@ AcceptedIsTyped = (C : Context) (r : Stack) (body : Code) → alg C r (flat_body
 abbrev pub TypedIsAccepted : Type 0
 TypedIsAccepted = (C : Context) (r : Stack) (body : Code) → BodyTyped C r body → alg C r (flat_body body) ≡ Accepted
 
--- the verdict by the frames: accepted where every token is taken and no frame is left, refused at the first token that is not taken,
--- and refused after the last one where every token is taken and a frame is still open
+-- the verdict by the frames: accepted where every token is taken and no frame is left, refused at the first token that is not taken, or after the last one where a frame is still open
 pub record RunsDecide : Type 0 where
   pub accepts : (C : Context) (r : Stack) (tokens : List Token) → run (body_context r C) tokens (start r) ≡ Some [] → alg C r tokens ≡ Accepted
   pub refuses : (C : Context) (r : Stack) (front rest : List Token) (t : Token) (fs : List Frame) → run (body_context r C) front (start r) ≡ Some fs → step (body_context r C) t fs ≡ None → alg C r (front ++ t ∷ rest) ≡ Refused (length front)

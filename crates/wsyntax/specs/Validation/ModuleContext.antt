@@ -58,7 +58,7 @@ imported_globals m = filter_map (λ i. imported_global i.kind) m.imports
 
 -- 2.5.1 the index spaces: what is imported, and then what the module defines.
 
--- the functions, each by the index of its type
+-- 2.5.1 the functions of a module, each by the index of its type, the imported ones first
 abbrev pub functions_of : ModuleShape → List ℕ
 functions_of m = imported_functions m ++ m.functions
 
@@ -70,7 +70,7 @@ tables_of m = imported_tables m ++ m.tables
 abbrev pub memories_of : ModuleShape → List Limits
 memories_of m = imported_memories m ++ m.memories
 
--- the globals, each by its type
+-- 2.5.1 the globals of a module, each by its type, the imported ones first
 abbrev pub globals_of : ModuleShape → List GlobalType
 globals_of m = imported_globals m ++ map (λ g. g.content) m.globals
 

@@ -48,7 +48,7 @@ OneMemory m = length (memories_of m) ≤ 1
 
 -- Constant expressions.
 
--- 3.3.7.2 a constant expression of type t, under these imported globals: one t.const, or one global.get of an imported immutable global of type t
+-- 3.3.7.2 a constant expression of type t, under these imported globals: one t.const, or one global.get of an imported immutable global of type t. Ours: the offsets of segments read imported globals alone, too
 pub data ConstantOf (globals : List GlobalType) (t : ValType) : List Token → Type 0 where
   one_const : (n : ℕ) → ConstantOf globals t (Do (Const t n) ∷ End ∷ [])
   one_get : (x : ℕ) → slice_get globals x ≡ Some record { content = t; mutable = false } → ConstantOf globals t (Do (GlobalGet x) ∷ End ∷ [])
@@ -84,7 +84,7 @@ HasType m t f = (y : ℕ) × (slice_get (functions_of m) f ≡ Some y) × (slice
 abbrev pub StartsPlainly : ModuleShape → Type 0
 StartsPlainly m = ForSome m.start (HasType m empty_type)
 
--- 3.4.5 the segment's table exists, its offset is a constant expression of type i32, its functions exist. That an offset reads imported globals alone is this project's choice, here and for data segments
+-- 3.4.5 the segment's table exists, its offset is a constant expression of type i32, its functions exist
 pub record ElementValid (m : ModuleShape) (segment : ElementShape) : Type 0 where
   pub in_table : segment.table < length (tables_of m)
   pub constant : ConstantOf (imported_globals m) I32 segment.offset

@@ -34,7 +34,7 @@ results ExtendU = I64 ∷ []
 results (ExtendLow w n) = type_at w ∷ []
 results (FloatOp f) = (float_type f).results
 
--- 3.3.1 to 3.3.5: the instruction takes a from the stack, and leaves b. What a rule of the standard leaves free is free here
+-- 3.3.1 to 3.3.5 the instruction takes a from the stack, and leaves b: one clause a rule. What a rule leaves free is free here; the labels of a br_table all have one list of types, as 1.0 says
 abbrev pub OpTyped : Context → Op → Stack → Stack → Type 0
 -- 3.3.5 control instructions
 OpTyped C Unreachable a b = Unit {0}
@@ -66,8 +66,7 @@ OpTyped C MemoryGrow a b = IsTrue C.has_memory × (a ≡ I32 ∷ []) × (b ≡ I
 OpTyped C (Const t n) a b = (a ≡ []) × (b ≡ t ∷ [])
 OpTyped C (Numeric f) a b = (a ≡ reverse (operands f)) × (b ≡ reverse (results f))
 
--- 3.3.5 and 3.3.6: the sequence takes a and leaves z. Each instruction leaves some c below its operands as it was.
--- An else that was not written is the empty sequence, which gives what it takes
+-- 3.3.5, 3.3.6 the sequence takes a and leaves z; each instruction leaves some c below its operands as it was. Ours: by recursion on the sequence, from its first instruction on; an else that was not written is the empty sequence
 abbrev pub Typed : Context → Code → Stack → Stack → Type 0
 Typed C Stop a z = a ≡ z
 Typed C (Plain i rest) a z =
@@ -85,6 +84,6 @@ Typed C (IfElse t body other rest) a z =
     (s : FuncType) × (c : Stack) × (block_sig C.types t ≡ Some s) × Typed (under (leave s) C) body (enter s) (leave s)
     × Typed (under (leave s) C) other (enter s) (leave s) × (a ≡ (I32 ∷ enter s) ++ c) × Typed C rest (leave s ++ c) z
 
--- 3.3.7 and 3.4.1: the body of a function with the results r, under the locals of C
+-- 3.3.7, 3.4.1 the body of a function with the results r is typed, under the locals of C
 abbrev pub BodyTyped : Context → Stack → Code → Type 0
 BodyTyped C r code = Typed (body_context r C) code [] r

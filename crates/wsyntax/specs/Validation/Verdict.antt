@@ -27,7 +27,7 @@ pub data Verdict : Type 0 where
 abbrev pub result_of : Context → ℕ → Stack
 result_of C f = leave (type_at C.functions f)
 
--- the bytes of the function of that index spell a body within the limit, which is well typed
+-- 3.4.1 the bytes of the function of that index spell a body within the limit, which is well typed
 pub record IsAccepted (C : Context) (f : ℕ) (bytes : List ℕ) : Type 0 where
   pub body : BodyShape
   pub code : Code
@@ -77,7 +77,7 @@ pub record IsModule (bytes : List ℕ) (m : ModuleShape) : Type 0 where
   pub small : length bytes ≤ module_limit
   pub shell : Shell bytes m
 
--- the verdict on these bytes: the first of these that holds
+-- the verdict on these bytes, the first that holds: too large, malformed, a rule, a body, accepted
 unfoldable pub IsVerdict : List ℕ → Verdict → Type 0
 IsVerdict bytes TooLarge = module_limit < length bytes
 IsVerdict bytes Malformed = (length bytes ≤ module_limit) × ((m : ModuleShape) → Shell bytes m → ⊥)
