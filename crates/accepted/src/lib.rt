@@ -4,7 +4,7 @@
 //!
 //! Proved: no rule is broken, the context is the module's, and each function has its checked body (`accepted_holds`). The
 //! start function takes nothing and gives nothing (`start_is_plain`). `export` gives kind and index of the export of a
-//! name; `body_at`, `type_id`, `function_type_id`, `has_floats`, `declared_locals` and `function_shapes` say what their
+//! name; `body`, `type_id`, `function_type_id`, `has_floats`, `declared_locals` and `function_shapes` say what their
 //! names say, exactly. The layout is the definition's.
 #![tactic(auto)]
 
