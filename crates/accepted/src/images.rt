@@ -1,6 +1,6 @@
 //! A fresh table and a fresh memory (4.5.4), made once for all instances.
 
-// PERF: a module has room for millions of segments of one item, and without an image each call writes all of them (docs/LAB.md,
+// PERF: a module has room for millions of segments of one item, and without an image each call writes all of them (bench/LAB.md,
 // Instances and memory).
 
 ghost use Rattle.std.specs.Prelude.{◌≡◌, ◌+◌, ◌≤◌, length, map, replicate, nat_le, IfOk, IfSome};

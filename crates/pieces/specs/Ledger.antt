@@ -1,5 +1,5 @@
 -- The ledger: what all shares of one bag and one mark did.
--- No piece is taken twice, only the bag's pieces are taken, and all of them where one share met the end (docs/PIECES.md).
+-- No piece is taken twice, only the bag's pieces are taken, and all of them where one share met the end (crates/pieces/README.md).
 use Rattle.std.specs.Prelude.{◌≡◌, ℕ, ◌<◌, ◌≤◌, Bool, true, false, ◌||◌, None, List, [], ◌∷◌, ◌++◌, map}
 use Rattle.pieces.specs.declared.history.MarkCall.{MarkCall}
 use Rattle.pieces.specs.declared.share.Share.{Share}
