@@ -71,6 +71,6 @@ pub record LayoutTyped (C : Context) (pages : ℕ) (l : Layout) : Type 0 where
   pub table : Has C.has_table (λ n. AllElements C l.elements) l.table
   pub globals : ValuesTyped l.globals (global_types C.globals)
 
--- a fresh store is typed
+-- the fresh store of a typed layout is typed
 abbrev pub FreshTyped : Type 0
 FreshTyped = (C : Context) (pages : ℕ) (l : Layout) → LayoutTyped C pages l → StoreTyped C (fresh pages l)

@@ -103,7 +103,7 @@ TableTyped C table = (i : ℕ) (e : Entry) → slice_get table i ≡ Some e → 
 abbrev pub global_types : List GlobalType → List ValType
 global_types gs = map (λ (g : GlobalType). g.content) gs
 
--- 7.5 stores
+-- 7.5 stores: the memory, the table and the globals are typed
 pub record StoreTyped (C : Context) (s : Store) : Type 0 where
   pub memory : Has C.has_memory MemoryTyped s.memory
   pub table : Has C.has_table (TableTyped C) s.table
@@ -128,7 +128,7 @@ WorkTyped C (Frame vs n own inner rest) b =
 abbrev pub outside : List ValType → Context → Context
 outside locals C = record C { locals = locals; labels = []; return = None }
 
--- 7.5 configurations: a whole one leads to r
+-- 7.5 configurations: a whole one leads to values of the types r
 pub record ConfigTyped (C : Context) (c : Config) (r : Stack) : Type 0 where
   pub store : StoreTyped C c.store
   pub locals : AreWords c.locals

@@ -37,12 +37,12 @@ pub data Started (m : ModuleShape) (i : Module) (l : Limits) : Store → ℕ →
   plainly : m.start ≡ None → Started m i l (fresh_store l.pages m) 0
   by_start : {f k : ℕ} {s : Store} → m.start ≡ Some f → Ends i (fresh_store l.pages m) f [] l.fuel l.frames (Values []) k s → Started m i l s k
 
--- how the call ends on an instance of its own: the start function's end, where that is not values, else that of the function, with the fuel that is left
+-- how a call ends on an instance of its own: the start function's end, where that is not values, else that of the function, with the fuel that is left
 pub data EndsOn (m : ModuleShape) (i : Module) (l : Limits) (f : ℕ) (args : List Value) : Outcome → ℕ → Type 0 where
   in_start : {g k : ℕ} {o : Outcome} {s : Store} → m.start ≡ Some g → Ends i (fresh_store l.pages m) g [] l.fuel l.frames o k s → (o ≢ Values []) → EndsOn m i l f args o k
   in_call : {k n left : ℕ} {o : Outcome} {s after : Store} → Started m i l s k → l.fuel ≡ k + left → Ends i s f args left l.frames o n after → EndsOn m i l f args o (k + n)
 
--- the end of a call, whatever is refused first: no export, not a function, arguments, the start of an instance; then out of memory, for the calls that met it
+-- the end of a call, by what is refused first: no export, not a function, arguments, the start of an instance, then out of memory for the calls that met it; else how it ran
 pub data EndOf (m : ModuleShape) (bodies : List BodyShape) (l : Limits) (met_none : Type 0) (c : Call) : CallEnd → Type 0 where
   missing : IsMissing m c.name → EndOf m bodies l met_none c NoExport
   other_kind : {e : ExportShape} → Contains m.exports e → e.item_name ≡ c.name → (e.kind ≢ kinds.Function) → EndOf m bodies l met_none c NotAFunction

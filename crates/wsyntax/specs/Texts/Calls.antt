@@ -17,7 +17,7 @@ pub record IsCall (c : Call) : Type 0 where
   pub name : IsName c.name
   pub words : AreWords c.args
 
--- its line without the newline: the name, and then for each argument a tab and its value. So a number has no needless zero in front, and zero has no sign
+-- the line of a call without the newline: the name, and then for each argument a tab and its value. So a number has no needless zero in front, and zero has no sign
 abbrev pub call_text : Call → List ℕ
 call_text c = c.name ++ flat_map (λ v. tab ++ value_text v) c.args
 
