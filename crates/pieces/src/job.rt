@@ -30,19 +30,19 @@ pub trait Job {
     /// Why an index is refused.
     type Fault: Send + Drop;
 
-    // The job may be run at the indices below this number.
+    /// The job may be run at the indices below this number.
     ghost limit: { Self → ℕ };
 
-    // The local is one of this job's.
+    /// The local is one of this job's.
     ghost belongs: { Self → Self.Local → Type 0 };
 
-    // The index passes.
+    /// The index passes.
     ghost passes: { Self → ℕ → Type 0 };
 
-    // The index may give this result, where it passes.
+    /// The index may give this result, where it passes.
     ghost gives: { Self → ℕ → Self.Out → Type 0 };
 
-    // The index is refused with this fault.
+    /// The index is refused with this fault.
     ghost refuses: { Self → ℕ → Self.Fault → Type 0 };
 
     /// Runs the job at one index, with the local of the worker that runs it. How often it is called for an
@@ -60,9 +60,9 @@ pub trait Job {
             (λ out. passes self.now index × gives self.now index out)
             (AllowsFault (refuses self.now index)) };
 
-    // No index both passes and is refused.
+    /// No index both passes and is refused.
     ghost never_both: { (j : Self) (i : ℕ) (f : Self.Fault) → passes j i → refuses j i f → ⊥ };
 
-    // No index is refused with two faults.
+    /// No index is refused with two faults.
     ghost one_fault: { (j : Self) (i : ℕ) (f g : Self.Fault) → refuses j i f → refuses j i g → f ≡ g };
 }

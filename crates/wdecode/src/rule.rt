@@ -12,7 +12,7 @@ use wsyntax::Data;
 
 /// What is asked of each data segment.
 pub trait SegmentRule {
-    // The rule allows the segment.
+    /// The rule allows the segment.
     ghost holds: { Self → DataShape → Type 0 };
 
     fn accepts(&self, segment: &Data<'_>) -> bool
