@@ -13,7 +13,7 @@ import sys
 ROOT = os.path.realpath(os.path.join(os.path.dirname(os.path.abspath(__file__)), '..'))
 DOCUMENT = os.path.join('docs', 'DEFINITIONS.md')
 SPECS = 'crates/wsyntax/specs/'
-LAWS = 'crates/soundness/specs/'
+SOUNDNESS = 'crates/soundness/specs/'
 
 # Of each table its files, in order, and of each file its definitions, in order. A table of a folder alone has the head of each file.
 TABLES = {
@@ -74,8 +74,8 @@ TABLES = {
         'soundness/specs/Instances': 'OneInstance StartsTyped StartIsPlain CallsTyped CallsAreSafe',
         'soundness/specs/OneAnswer': 'OneCalls OneEndOf OneAnswer',
         'refinement/specs/Laws': 'IsReady GoesOn EndsWell IsBounded StopsAnywhere'}),
-    'examples': (LAWS, ('Spellings Bodies BlockTypes Instructions SeveralValues Samples Growth Counts Operators Floats Starts StartFirst '
-                        'CallTexts EndsOfCalls Reports WholeAnswers')),
+    'examples': (SOUNDNESS, 'Spellings Bodies BlockTypes Instructions SeveralValues Samples Growth Counts Operators Floats Starts '
+                            'StartFirst CallTexts EndsOfCalls Reports WholeAnswers'),
 }
 
 DEFINITION = re.compile(r'\s*(?:abbrev pub|unfoldable pub|pub record|pub data) (\S+)')
