@@ -9,7 +9,7 @@ use crate::bytes::{provide, zero};
 use std::alloc::AllocError;
 
 /// The number of bytes of a block.
-// PERF: with marks of blocks, cleaning costs what was written, and not all between two far writes (docs/LAB.md, Instances and memory).
+// PERF: with marks of blocks, cleaning costs what was written, and not all between two far writes (bench/LAB.md, Instances and memory).
 pub const BLOCK: usize = 4_096;
 
 /// A store writes at most `REACH` bytes after its first.

@@ -36,6 +36,7 @@ struct Fork {
 pub(crate) struct Nodes {
     nodes: Vec<Node>,
     /// Their links: the node of the longest shorter front that is an end of a node's types.
+    // PERF: they lie apart, since a way up reads its first alone.
     links: Vec<u32>,
     /// At most one a list: where it parts from those before it.
     forks: Vec<Fork>,

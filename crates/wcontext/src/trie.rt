@@ -9,6 +9,7 @@ use std::alloc::Global;
 use wsyntax::ValType;
 
 /// How many types of each list are read at once: those of one list and their fronts lie together.
+// PERF: each step takes a type of the next list, and the lists lie on pages of their own, which no cache holds together.
 const WIDTH: usize = 16;
 
 /// A list that is read type by type.

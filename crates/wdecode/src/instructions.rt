@@ -312,6 +312,7 @@ pub fn token_at<'a>(targets: &mut Vec<u32>, bytes: &'a [u8]) -> Result<(Token, &
 }
 
 /// How many open blocks need no memory of their own.
+// PERF: this stack is made anew for each body, and most bodies are not that deep.
 const FEW: usize = 16;
 
 /// Moves what is open by a token, the innermost block last: of each, whether an else may still come.

@@ -88,6 +88,7 @@ fn run_at(bytes: &[u8]) -> Result<(LocalRun, &[u8]), Fault>
 }
 
 /// A data segment at the front whose offset is a constant i32, as nearly each is; `None` says nothing.
+// PERF: it is read as one piece, since the compiler else cuts the offset into bytes on its way to the segment.
 #[inline(always)]
 #[tactic(auto, unfolding(wsyntax::specs::Binary::Sections::data_segment))]
 fn frequent_data_at(bytes: &[u8]) -> Option<(Data<'_>, &[u8])>

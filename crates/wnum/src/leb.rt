@@ -20,6 +20,7 @@ fn five_groups(bytes: &[u8]) -> Option<Groups<'_>>
     ensures value { IfSome result (λ x. sums_at 5 bytes.now ≡ Some ((x.sum, x.sign), x.rest.now)) }
     ensures small { IfSome result (λ x. (x.sum < 34359738368) × (x.sign ≤ 34359738368)) }
 {
+    // PERF: one test of the length serves all five bytes.
     let [a, b, c, d, e, rest @ ..] = bytes else {
         return None;
     };

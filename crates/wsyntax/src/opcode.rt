@@ -37,6 +37,7 @@ pub enum Opcode {
 
 impl Opcode {
     /// What the opcode `byte` names; nothing where no instruction begins with it.
+    // PERF: one match in the order of the opcodes, with an arm for each gap, becomes one table; ranges become comparisons.
     #[inline(always)]
     #[tactic(auto, unfolding(crate::specs::Table::opcode_of))]
     pub fn from_byte(byte: u8) -> Option<Opcode>
