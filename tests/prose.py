@@ -21,7 +21,8 @@ MOST_WORDS = {'README.md': 700, 'CONTRIBUTING.md': 1300, 'CHANGELOG.md': 300, 'd
               'tests/README.md': None, 'bench/README.md': None, 'examples/README.md': None}
 # Where a figure may be typed: what an operator plans with, and what trials gave.
 FIGURES_ARE_TYPED = ('docs/SECURITY.md', 'bench/LAB.md')
-FIGURE = re.compile(r'\d[\d.,]*(?:\s+to\s+\d[\d.]*)?\s+(?:[MG]B/s|[nuµ]s\b|lengths\b|times\s+(?:as\s+(?:fast|long)|faster|ordinary|generated))')
+FIGURE = re.compile(r'\d[\d.,]*(?:\s+to\s+\d[\d.]*)?\s+(?:[MG]B/s|[nuµ]s\b|lengths\b'
+                    r'|times\s+(?:as\s+(?:fast|long)|faster|ordinary|generated))')
 
 MARK = re.compile(r'\s*<!-- (begin|end) ([\w-]+) -->\s*$')
 ITEM = re.compile(r'\s*(?:[-*+]|\d+[.)])\s+')
@@ -30,7 +31,7 @@ CODE = re.compile(r'(`+)(?!`)(.+?)(?<!`)\1(?!`)', re.DOTALL)
 SENTENCE_END = re.compile(r'(?<![\s.])[.!?][)\]"\'*_]*\s+(?=[(\["\'*_]*[A-Z0-9])')
 ABBREVIATIONS = ('e.g.', 'i.e.', 'cf.', 'vs.', 'etc.')
 # What is no figure: versions, places in the standard and numbers of rules.
-REFERENCES = re.compile(r'\b(?:Core(?: Specification)?|[Cc]hapters?|[Ss]ections?|[Rr]ules?|[Vv]ersions?|glibc|Node|node|wabt|Python|Debian|V8)'
+REFERENCES = re.compile(r'\b(?:Core(?: Specification)?|[Cc]hapters?|[Ss]ections?|[Rr]ules?|[Vv]ersions?|glibc|[Nn]ode|wabt|Python|V8)'
                         r'\s+\d[\d.]*(?:(?:,|,?\s+(?:and|or|to))\s+\d[\d.]*)*|\d+\.\d+\.\d[\d.]*'
                         r'|\(\d\.\d+(?:(?:,|\s+and|\s+to)\s+\d\.\d+)*(?=[),;])')
 NUMBER = re.compile(r'(?<![\w.^/-])\d[\d,]*(?:\.\d+)?(?:\^\d+)?(?![\w^]|-[a-z])')
