@@ -13,14 +13,15 @@ FOLDER = os.path.join(os.path.dirname(os.path.abspath(__file__)), 'results')
 HEAD = ('commit', 'date', 'processor', 'peers', 'command')
 # How each peer says its version.
 VERSIONS = {'V8': ['node', '-p', '`${process.versions.v8} (node ${process.versions.node})`'], 'wabt': ['wasm-validate', '--version'],
-            'JavaScriptCore': ['jsc', '--version'], 'clang': ['clang', '-dumpversion'], 'gcc': ['gcc', '-dumpversion']}
+            'JavaScriptCore': ['dpkg-query', '-W', '-f', '${Version}\\n', 'libjavascriptcoregtk-*-bin'],
+            'clang': ['clang', '-dumpversion'], 'gcc': ['gcc', '-dumpversion']}
 
 
 def said(words):
     """The first line that a program prints; nothing where there is none."""
     if not shutil.which(words[0]):
         return ''
-    lines = subprocess.run(words, capture_output=True, text=True).stdout.splitlines()
+    lines = subprocess.run(words, stdin=subprocess.DEVNULL, capture_output=True, text=True).stdout.splitlines()
     return lines[0].strip() if lines else ''
 
 
@@ -46,8 +47,10 @@ def head():
 
 
 def field(value):
-    """A field as text, numbers with four digits that count."""
-    return '' if value is None else f'{value:.4g}' if isinstance(value, float) and abs(value) < 1e4 else f'{value}'
+    """A field as text, numbers with four digits that count, or whole."""
+    if not isinstance(value, float):
+        return '' if value is None else f'{value}'
+    return f'{value:.4g}' if abs(value) < 1e4 else f'{value:.0f}'
 
 
 class Recorder:
