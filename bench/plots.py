@@ -23,9 +23,9 @@ POINTS = {V8: [(-4.5, -4.5), (4.5, -4.5), (4.5, 4.5), (-4.5, 4.5)], C: [(0, -6),
           OTHER: [(-6, -2), (6, -2), (6, 2), (-6, 2)]}
 
 # What a plot shows: its title, the axis in words, its series (the number of a mark, and a name), its rows (a label and a value for
-# each series, or None), the ticks of the axis, whether it is logarithmic, the value that others are measured by, where there is
-# one, and the short name of the first series, whose values stand beside the rows.
-Plot = collections.namedtuple('Plot', 'title axis series rows ticks is_logarithmic unit first')
+# each series, or None), whether the axis is logarithmic, the value that others are measured by, where there is one, and the short
+# name of the first series, whose values stand beside the rows.
+Plot = collections.namedtuple('Plot', 'title axis series rows is_logarithmic unit first')
 
 
 def escaped(text):
@@ -53,10 +53,23 @@ def number_text(value):
     return f'{value:,.0f}' if value >= 100 else f'{value:.1f}' if value >= 10 else f'{value:.2f}'
 
 
-def scale(plot):
+def ticks_of(plot):
+    """The ticks of the axis: it begins at or below each value, and ends at or past each."""
+    values = [value for _, row in plot.rows for value in row if value is not None]
+    if plot.is_logarithmic:
+        ticks = [first * 10.0 ** power for power in range(-4, 6) for first in (1, 2, 5)]
+        first = max(index for index, tick in enumerate(ticks) if tick <= min(values))
+    else:
+        step = 1 if max(values) <= 8 else 5 * math.ceil(max(values) / 40)
+        ticks, first = [step * index for index in range(42)], 0
+    last = min(index for index, tick in enumerate(ticks) if tick >= max(values))
+    return ticks[first:last + 1]
+
+
+def scale(plot, ticks):
     """Where a value stands on the axis."""
     turned = math.log if plot.is_logarithmic else float
-    least, most = turned(plot.ticks[0]), turned(plot.ticks[-1])
+    least, most = turned(ticks[0]), turned(ticks[-1])
     return lambda value: LEFT + (turned(value) - least) / (most - least) * (WIDTH - LEFT - RIGHT)
 
 
@@ -69,23 +82,31 @@ def legend(plot, y):
     return parts
 
 
+def axis(plot, ticks, at, top, bottom):
+    """The lines of the axis and its numbers, and what it is in words."""
+    parts = [text((LEFT + WIDTH - RIGHT) / 2, bottom + 40, plot.axis, 'middle')]
+    for tick in ticks:
+        parts += [line('grid', at(tick), top - 6, at(tick), bottom), text(at(tick), bottom + 17, f'{tick:g}', 'middle')]
+    return parts + ([line('one', at(plot.unit), top - 6, at(plot.unit), bottom)] if plot.unit else [])
+
+
+def row(series, label, values, at, y):
+    """A row: its label, a mark for each value, the first on top, and the first as a number."""
+    shown = [(shape, value) for (shape, _), value in zip(series, values) if value is not None]
+    return ([line('row', LEFT, y, WIDTH - RIGHT, y), text(LEFT - 12, y + 4, label, 'end', '')]
+            + [mark(shape, at(value), y) for shape, value in reversed(shown)]
+            + [text(WIDTH - 12, y + 4, '-' if values[0] is None else number_text(values[0]), 'end')])
+
+
 def drawn(plot):
     """The plot as the text of an SVG file. Beside each row stands the value of the first series."""
-    at, top = scale(plot), 72
-    bottom = top + HIGH * len(plot.rows)
+    ticks, top = ticks_of(plot), 72
+    at, bottom = scale(plot, ticks), top + HIGH * len(plot.rows)
     parts = [f'<svg xmlns="http://www.w3.org/2000/svg" viewBox="0 0 {WIDTH} {bottom + 52}" role="img">',
              f'<title>{escaped(plot.title)}</title>', f'<style>{SCHEME}</style>',
              f'<rect class="page" width="{WIDTH}" height="{bottom + 52}"/>',
-             text(12, 24, plot.title, kind='title')] + legend(plot, 50)
-    parts.append(text(WIDTH - 12, 50, plot.first, 'end'))
-    for tick in plot.ticks:
-        parts += [line('one' if tick == plot.unit else 'grid', at(tick), top - 6, at(tick), bottom),
-                  text(at(tick), bottom + 17, f'{tick:g}', 'middle')]
+             text(12, 24, plot.title, kind='title'), text(WIDTH - 12, 50, plot.first, 'end')]
+    parts += legend(plot, 50) + axis(plot, ticks, at, top, bottom)
     for index, (label, values) in enumerate(plot.rows):
-        y = top + HIGH * index + HIGH / 2
-        parts += [line('row', LEFT, y, WIDTH - RIGHT, y), text(LEFT - 12, y + 4, label, 'end', '')]
-        shown = [(shape, value) for (shape, _), value in zip(plot.series, values) if value is not None]
-        parts += [mark(shape, at(value), y) for shape, value in reversed(shown)]
-        parts.append(text(WIDTH - 12, y + 4, number_text(values[0]) if values[0] is not None else '-', 'end'))
-    parts.append(text((LEFT + WIDTH - RIGHT) / 2, bottom + 40, plot.axis, 'middle'))
+        parts += row(plot.series, label, values, at, top + HIGH * (index + 0.5))
     return '\n'.join(parts + ['</svg>', ''])

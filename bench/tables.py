@@ -85,8 +85,7 @@ def check_plot():
             wabt = divided(beside(speeds, ('wabt process', '1'), ('gate process', '1')), beside(speeds, ('V8', '1'), ('gate', '1')))
             rows.append((label, [beside(speeds, engine, ('V8', '1')) for engine in (('gate', '1'), ('C', '1'))] + [wabt]))
     return Plot('The check: how fast one worker is beside V8, by module', 'times as fast as V8 on one thread (V8 is 1; logarithmic)',
-                [(GATE, 'gate'), (C, 'plain C, one pass'), (WABT, 'wabt, a whole process beside that of gate')], rows,
-                [0.02, 0.05, 0.1, 0.2, 0.5, 1, 2, 4], True, 1, 'gate')
+                [(GATE, 'gate'), (C, 'plain C, one pass'), (WABT, 'wabt, a whole process beside that of gate')], rows, True, 1, 'gate')
 
 
 def workers_plot():
@@ -94,8 +93,7 @@ def workers_plot():
                      beside(speeds, ('gate process', '4'), ('gate process', '1'))])
             for label, _, speeds, _ in check_rows() if ('gate', '4') in speeds and ('V8', 'all') in speeds]
     return Plot('The check: what four workers gain over one, by module', 'times as fast as the same on one thread, with four processors',
-                [(GATE, 'gate, 4 workers'), (V8, 'V8, all threads'), (OTHER, 'gate, 4 workers, whole process')], rows,
-                [0, 1, 2, 3, 4], False, 1, 'gate')
+                [(GATE, 'gate, 4 workers'), (V8, 'V8, all threads'), (OTHER, 'gate, 4 workers, whole process')], rows, False, 1, 'gate')
 
 
 # Calls.
@@ -126,7 +124,7 @@ def kernels_plot():
               'C goto': (OTHER, 'C, computed gotos'), 'wabt': (WABT, 'wabt'), 'V8': (V8, 'V8, compiled')}
     rows = [(name, [times.get(engine) for engine in series]) for name, _, times in kernel_rows()]
     return Plot('Kernels: the time of other engines beside the interpreter of gate', 'times as long as gate (gate is 1; logarithmic)',
-                list(series.values()), rows, [0.01, 0.02, 0.05, 0.1, 0.2, 0.5, 1, 2, 5, 10, 20], True, 1, 'JSC')
+                list(series.values()), rows, True, 1, 'JSC')
 
 
 def instances_plot():
@@ -137,7 +135,7 @@ def instances_plot():
     engines = [(GATE, 'gate'), (V8, 'V8'), (WABT, 'wabt')]
     rows = [(name, [took.get(engine) for _, engine in engines]) for name, took in modules.items()]
     return Plot('A call on a fresh instance, by what the module does', 'microseconds a call, one thread, the least of a run (logarithmic)',
-                engines, rows, [0.1, 0.2, 0.5, 1, 2, 5, 10, 20, 50, 100, 200, 500], True, None, 'gate')
+                engines, rows, True, None, 'gate')
 
 
 def small_calls():
@@ -186,8 +184,7 @@ def families_plot():
     sizes = sorted({size for _, (_, times, _, _) in families() for size in times}, reverse=True)
     rows = [(name, [times.get(size) for size in sizes]) for name, (_, times, _, _) in families()[:DRAWN]]
     return Plot('The check: the modules that cost most a byte, by size', 'times as long a byte as generated ordinary code',
-                [(shape, f'{size:g} MB') for shape, size in enumerate(sizes)], rows, [0, 1, 5, 10, 15, 20, 25], False, 1,
-                f'{sizes[0]:g} MB')
+                [(shape, f'{size:g} MB') for shape, size in enumerate(sizes)], rows, False, 1, f'{sizes[0]:g} MB')
 
 
 def judging_plot():
@@ -199,8 +196,7 @@ def judging_plot():
     others = sorted((row for row in rows if not row[0].startswith('generated')), key=lambda row: -row[1])[:DRAWN - len(kinds)]
     return Plot('Judging for gate run, which keeps the bodies, beside the check', 'ns a byte at 16 MB, one worker (logarithmic)',
                 [(GATE, 'gate run, nothing called'), (OTHER, 'gate check')],
-                [(name, [took, took / times]) for name, took, times in kinds + others],
-                [2, 5, 10, 20, 50, 100, 200, 500], True, None, 'run')
+                [(name, [took, took / times]) for name, took, times in kinds + others], True, None, 'run')
 
 
 def judging_list():
@@ -226,7 +222,8 @@ def large_pages():
 def head_line(name):
     """Which commit a file of results is of, when and where it was measured, and beside which peers."""
     head = results(name).head
-    words = [f'commit {head["commit"]}', head['date'], head['processor'] or 'machine not noted', head['peers'] and f'beside {head["peers"]}']
+    machine = head['processor'] or 'machine not noted'
+    words = [f'commit {head["commit"]}', head['date'], machine, head['peers'] and f'beside {head["peers"]}']
     return f'- `{name}.tsv`: ' + '; '.join(word for word in words if word) + '.'
 
 
