@@ -7,11 +7,10 @@ programs (--programs, else of generated code) of that size, the peak memory in l
 A verdict that is not the form's ends the run. Then, for what is accepted, what it costs to judge it for `gate run`, and last what
 calls of such modules cost, in microseconds. `--judging` measures what it costs to judge alone.
 
-With --table FILE.. nothing is measured: what runs of some sizes printed becomes the table of docs/SPEED.md, the worst first.
+With --results FILE.tsv the rows are written too: each says whether it is of the check, of judging, or of a call.
 """
 import argparse
 import os
-import re
 import resource
 import subprocess
 import sys
@@ -22,8 +21,11 @@ sys.path.insert(0, here)
 from encoding import function_type, sized, signed, unsigned, whole
 from families import FAMILIES, KEPT, module_of
 from measuring import peak, processor_seconds
+from recording import Recorder
 from modules import module
 
+COLUMNS = ['measure', 'name', 'form', 'megabytes', 'ns_a_byte', 'times_loop', 'times_ordinary', 'times_check', 'memory_lengths',
+           'us_a_call', 'verdict']
 LIMIT = 120
 SLOW = 'more than two minutes'
 TIMES = 3
@@ -57,8 +59,8 @@ def write(path, contents):
 class Check:
     """What `gate check` takes, a line a module."""
 
-    def __init__(self, gate, path):
-        self.gate, self.path, self.usual = gate, path, ()
+    def __init__(self, gate, path, recorder):
+        self.gate, self.path, self.usual, self.size, self.recorder = gate, path, (), 0, recorder
 
     def measured(self, name, contents, wanted):
         # Nanoseconds a byte, the memory in lengths, and the verdict.
@@ -72,10 +74,13 @@ class Check:
     def line(self, name, form, length, cost, memory, verdict):
         times = ''.join(f'{cost / usual:7.1f}' for usual in self.usual) or ' ' * 14
         print(f'{name:32}{length / 1e6:6.1f}{cost:9.1f}{times}{memory:8.1f}  {form:14} {verdict[:40]}', flush=True)
+        times_loop, times_ordinary = [cost / usual for usual in self.usual] or [None, None]
+        self.recorder.add(measure='check', name=name, form=form, megabytes=self.size / 1e6, ns_a_byte=cost, times_loop=times_loop,
+                          times_ordinary=times_ordinary, memory_lengths=memory, verdict=verdict)
 
     def ordinary(self, size, programs):
         # Measures the two kinds of ordinary code that all others stand beside.
-        self.usual, costs = (), []
+        self.usual, self.size, costs = (), size, []
         for name, contents in [('a hot loop', hot_loop(size)), ('generated code', module('large', size, 7))] + programs:
             cost, memory, verdict = self.measured(name, contents, 'accepted')
             self.line(name, 'accepted', len(contents), cost, memory, verdict)
@@ -94,8 +99,8 @@ class Check:
             self.line(name, form, length, cost, memory, verdict)
 
 
-def check(words, path):
-    checked = Check(words.gate, path)
+def check(words, path, recorder):
+    checked = Check(words.gate, path, recorder)
     programs = []
     for program in words.programs:
         with open(program, 'rb') as file:
@@ -108,28 +113,31 @@ def check(words, path):
 
 
 def accepted_modules(size, seed, only):
-    # Ordinary code, and the families in their accepted forms, with their names.
+    # Ordinary code, and the families in their accepted forms, with their names and forms.
     for kind in ['many', 'large', 'one', 'tiny']:
-        yield f'generated: {kind}', module(kind, size, seed)
+        yield f'generated: {kind}', 'accepted', module(kind, size, seed)
     for name in only or KEPT | FAMILIES:
         for form in (KEPT | FAMILIES)[name][0]:
             if form.endswith('accepted'):
-                yield f'{name}, {form}', module_of(name, form, size, seed)
+                yield name, form, module_of(name, form, size, seed)
 
 
-def judging(words, path, calls_path):
+def judging(words, path, calls_path, recorder):
     # A call of no export: all of the module is judged and kept, and nothing is run.
     write(calls_path, b'no-such\n')
     print(f'{"to judge for run":48}{"MB":>6}{"ns/byte":>9}{"check":>7}{"memory":>8}')
     for size in words.sizes:
-        for name, contents in accepted_modules(int(size * 1e6), words.seed, words.only):
+        for name, form, contents in accepted_modules(int(size * 1e6), words.seed, words.only):
             write(path, contents)
             kept = [words.gate, 'run', path, calls_path, '--workers', '1']
             (seconds, out), (checked, verdict) = best_of(kept), best_of([words.gate, 'check', path, '--workers', '1'])
             if not out.startswith('0 ') or verdict != 'accepted\n':
-                sys.exit(f'{name}: {out[:80]!r}, {verdict!r}')
+                sys.exit(f'{name}, {form}: {out[:80]!r}, {verdict!r}')
             length, times = len(contents), seconds / checked
-            print(f'{name:48}{length / 1e6:6.1f}{seconds / length * 1e9:9.1f}{times:7.1f}{peak(kept) / length:8.1f}', flush=True)
+            cost, memory = seconds / length * 1e9, peak(kept) / length
+            print(f'{name + ", " + form:48}{length / 1e6:6.1f}{cost:9.1f}{times:7.1f}{memory:8.1f}', flush=True)
+            recorder.add(measure='judging', name=name, form=form, megabytes=size, ns_a_byte=cost, times_check=times,
+                         memory_lengths=memory, verdict='accepted')
 
 
 def run_module(code, pages=0, locals_of=b'\x00', data=None, table=0):
@@ -148,7 +156,7 @@ def store(at):
     return b'\x41' + signed(at) + b'\x41\x01\x3A\x00\x00'
 
 
-def calls(gate, path, calls_path):
+def calls(gate, path, calls_path, recorder):
     families = [('nothing', run_module(b''), 100_000), ('a page, not written', run_module(b'', 1), 100_000),
                 ('1,024 pages, first and last byte written', run_module(store(0) + store(1024 * 65536 - 1), 1024), 2_000),
                 ('1,024 pages, a byte in each', run_module(b''.join(store(p * 65536) for p in range(1024)), 1024), 2_000),
@@ -163,63 +171,29 @@ def calls(gate, path, calls_path):
         if f'values {count} ' not in out:
             sys.exit(f'{name}: {out[-200:]!r}')
         print(f'{name:44}{seconds / count * 1e6:10.2f}', flush=True)
-
-
-FIRST = re.compile(r'a hot loop +([\d.]+) ')
-ROW = re.compile(r'(\S.*?) +[\d.]+ +([\d.]+) +[\d.]+ +([\d.]+) +([\d.]+)  (dead \w+|\w+) +(?:accepted|refused)')
-
-
-def rows_of(files):
-    # The lines of families, each with the megabytes of its run: those of the hot loop, which stands before them.
-    size = 0
-    for line in (line for file in files for line in open(file)):
-        first, row = FIRST.match(line), ROW.match(line)
-        if first:
-            size = round(float(first.group(1)))
-        elif row:
-            yield size, row
-
-
-def table(files):
-    # Of each family, by the sizes: how many times the mean; of the largest size the form and the cost; and the most memory past
-    # one megabyte, since an empty process takes nearly two.
-    families = {}
-    for size, row in rows_of(files):
-        name, cost, times, memory, form = row.groups()
-        families.setdefault(name, {})[size] = float(times), float(cost), float(memory), form
-    sizes = sorted({size for rows in families.values() for size in rows})
-    print(f'| family | form | times the generated code, {"; ".join(map(str, sizes))} MB | ns a byte | memory in lengths |')
-    print('|---|---|---|---|---|')
-    for name, rows in sorted(families.items(), key=lambda it: -max(times for times, *_ in it[1].values())):
-        times = '; '.join(f'{rows[size][0]:.1f}' if size in rows else '-' for size in sizes)
-        _, cost, _, form = rows[max(rows)]
-        memory = max(rows[size][2] for size in rows if size > 1 or len(rows) == 1)
-        print(f'| {name} | {form} | {times} | {cost:.0f} | {memory:.1f} |')
+        recorder.add(measure='call', name=name, us_a_call=seconds / count * 1e6)
 
 
 def main():
     parser = argparse.ArgumentParser(description=__doc__, formatter_class=argparse.RawDescriptionHelpFormatter)
-    parser.add_argument('gate', nargs='?', help='the program')
+    parser.add_argument('gate', help='the program')
     parser.add_argument('sizes', nargs='*', type=float, help='megabytes; 1, 4 and 16 where none is given')
-    parser.add_argument('--table', nargs='+', metavar='FILE', help='what runs printed becomes a table')
+    parser.add_argument('--results', metavar='FILE.tsv', help='write what was measured, with what it was measured on')
     parser.add_argument('--only', action='append', choices=FAMILIES | KEPT, metavar='FAMILY', help='this family; may be said again')
     parser.add_argument('--judging', action='store_true', help='only what judging for `gate run` costs')
     parser.add_argument('--all', action='store_true', help='a line for each form, the worst first')
     parser.add_argument('--seed', type=int, default=7)
     parser.add_argument('--programs', nargs='+', default=[], metavar='FILE', help='real programs, whose mean counts')
     words = parser.parse_args()
-    if words.table:
-        return table(words.table)
-    if not words.gate:
-        parser.error('the program is missing')
     words.gate, words.sizes = os.path.abspath(words.gate), words.sizes or [1.0, 4.0, 16.0]
+    recorder = Recorder(words.results, COLUMNS)
     with tempfile.TemporaryDirectory() as folder:
         path, calls_path = os.path.join(folder, 'module.wasm'), os.path.join(folder, 'calls')
         if not words.judging:
-            check(words, path)
-        judging(words, path, calls_path)
+            check(words, path, recorder)
+        judging(words, path, calls_path, recorder)
         if not words.only and not words.judging:
-            calls(words.gate, path, calls_path)
+            calls(words.gate, path, calls_path, recorder)
 
 
 if __name__ == '__main__':

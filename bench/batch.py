@@ -24,7 +24,9 @@ import time
 here = os.path.dirname(os.path.abspath(__file__))
 sys.path.insert(0, here)
 from measuring import translated, waited_for, write
+from recording import Recorder
 
+COLUMNS = ['module', 'engine', 'workers', 'least', 'most']
 KINDS = [('nothing', '(func (export "f"))', 100_000),
          ('a page, segment, store, load', '(memory 1) (data (i32.const 0) "\\01\\02\\03") (func (export "f") (i32.store (i32.const 8) (i32.load (i32.const 0))))', 100_000),
          ('200 turns of a loop', '(func (export "f") (local i32) (loop (br_if 0 (i32.lt_u (local.tee 0 (i32.add (local.get 0) (i32.const 1))) (i32.const 200)))))', 100_000),
@@ -45,11 +47,9 @@ def seconds(commands):
 
 
 def in_turn(runs):
-    # Of each of these lists of commands the least of both times.
-    best = [(1e9, 1e9)] * len(runs)
-    for _ in range(5):
-        best = [tuple(map(min, old, seconds(commands))) for old, commands in zip(best, runs)]
-    return best
+    # Of each of these lists of commands both times, turn by turn.
+    turns = [[seconds(commands) for commands in runs] for _ in range(5)]
+    return list(zip(*turns))
 
 
 def wabt_program(folder):
@@ -60,11 +60,21 @@ def wabt_program(folder):
 
 
 def microseconds(words):
-    # As the program says itself; the best of three.
-    return min(float(subprocess.run(words, capture_output=True, check=True).stdout) for _ in range(3))
+    # As the program says itself, three times; nothing where there is none.
+    return [float(subprocess.run(words, capture_output=True, check=True).stdout) for _ in range(3)] if words else []
 
 
-def main(gate):
+def record(recorder, name, count, turns, others):
+    # Microseconds a call: a row for each number of workers, for four programs side by side, and for each peer.
+    took = {('gate', workers): [clock / count * 1e6 for clock, _ in all_of] for workers, all_of in zip('124', turns)}
+    took['four programs of gate', '1'] = [clock / count * 1e6 for clock, _ in turns[3]]
+    took |= {(engine, '1'): all_of for engine, all_of in others.items() if all_of}
+    for (engine, workers), all_of in took.items():
+        recorder.add(module=name, engine=engine, workers=workers, least=min(all_of), most=max(all_of))
+
+
+def main(gate, results):
+    recorder = Recorder(results, COLUMNS)
     print(f'{"us a call":32}{"1 worker":>10}{"2":>8}{"4":>8}{"4 programs":>12}{"4 to these":>12}{"4, CPU":>9}{"wabt":>9}{"node":>9}')
     with tempfile.TemporaryDirectory() as folder:
         calls, quarter = os.path.join(folder, 'calls'), os.path.join(folder, 'quarter')
@@ -74,15 +84,20 @@ def main(gate):
             write(quarter, 'f\n' * (count // 4))
             wasm = translated(folder, 'm', f'(module {text})')
             runs = [[[gate, 'run', wasm, calls, '--workers', str(n)]] for n in (1, 2, 4)]
-            best = in_turn(runs + [[[gate, 'run', wasm, quarter, '--workers', '1']] * 4])
+            turns = in_turn(runs + [[[gate, 'run', wasm, quarter, '--workers', '1']] * 4])
+            best = [tuple(map(min, *all_of)) for all_of in turns]
             cells = ''.join(f'{spent / count * 1e6:{width}.2f}' for (spent, _), width in zip(best, (10, 8, 8, 12)))
             ratios = best[2][0] / best[3][0], best[2][1] / best[0][1]
-            others = [microseconds([wabt, wasm, str(count // 10)]) if wabt else 0.0,
-                      microseconds(['node', '-e', NODE, wasm, str(count // 10)]) if shutil.which('node') else 0.0]
-            print(f'{name:32}{cells}{ratios[0]:12.2f}{ratios[1]:9.2f}' + ''.join(f'{o:9.2f}' if o else f'{"-":>9}' for o in others), flush=True)
+            often = str(count // 10)
+            others = {'wabt': microseconds(wabt and [wabt, wasm, often]),
+                      'V8': microseconds(['node', '-e', NODE, wasm, often] if shutil.which('node') else [])}
+            record(recorder, name, count, turns, others)
+            print(f'{name:32}{cells}{ratios[0]:12.2f}{ratios[1]:9.2f}' + ''.join(f'{min(o):9.2f}' if o else f'{"-":>9}' for o in others.values()), flush=True)
 
 
 if __name__ == '__main__':
     parser = argparse.ArgumentParser(description=__doc__, formatter_class=argparse.RawDescriptionHelpFormatter)
     parser.add_argument('gate', metavar='GATE', help='the program')
-    main(os.path.abspath(parser.parse_args().gate))
+    parser.add_argument('--results', metavar='FILE.tsv', help='write what was measured, with what it was measured on')
+    chosen = parser.parse_args()
+    main(os.path.abspath(chosen.gate), chosen.results)

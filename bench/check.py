@@ -28,7 +28,8 @@ from operator import itemgetter
 
 here = os.path.dirname(os.path.abspath(__file__))
 sys.path.insert(0, here)
-from measuring import geometric_mean, peak, write
+from measuring import geometric_mean, peak
+from recording import Recorder
 
 KINDS = {'many': 'many functions', 'tiny': 'functions of ten bytes', 'large': 'large functions', 'one': 'one function',
          'lists': 'a type of half as many parameters', 'labels': 'branch tables of half as many labels'}
@@ -38,7 +39,11 @@ LONG_LISTS = ('lists', 'labels')
 NODE = """const b=require('fs').readFileSync(process.argv[1]);for(let i=0;i<3;i++){const s=process.hrtime.bigint();
 if(!WebAssembly.validate(b))throw 'refused';console.log(Number(process.hrtime.bigint()-s))}"""
 JUDGE = os.path.join(here, '..', 'crates', 'bench', 'out', 'bench')
-COLOURS = {'gate': '#1b6ca8', 'C': '#8a8a8a', 'node': '#d9822b', 'wabt': '#7a9e3b'}
+COLUMNS = ['module', 'kind', 'megabytes', 'engine', 'workers', 'median', 'least', 'most', 'memory_lengths']
+# What an engine is called in a file of results, and its workers.
+NAMES = {'gate': ('gate', '1'), 'C': ('C', '1'), 'node': ('V8', '1'), 'gate 4': ('gate', '4'), 'node 4': ('V8', 'all'),
+         '1 workers': ('gate process', '1'), '2 workers': ('gate process', '2'), '4 workers': ('gate process', '4'),
+         'wabt': ('wabt process', '1')}
 
 
 def process(words, wanted):
@@ -94,51 +99,46 @@ def times(takes, turns):
     return all_times
 
 
-def measure(takes, path, turns, counts):
-    # The MB/s of each engine, by the time that counts of those that it took.
+def measure(takes, path, turns):
+    # The MB/s of each engine, turn by turn.
     all_times = times(takes, turns)
     if '1 workers' not in all_times or 'gate' not in all_times:
         sys.exit(f'{path}: not accepted')
-    return {name: os.path.getsize(path) / counts(took) / 1e6 for name, took in all_times.items()}
+    return {name: [os.path.getsize(path) / took / 1e6 for took in all_took] for name, all_took in all_times.items()}
 
 
 def cell(speeds, name, base):
     return f'{speeds[name]:.1f} ({speeds[name] / speeds[base]:.2f})' if name in speeds else '-'
 
 
-def report(gate, label, path, speeds):
+def memory(gate, path):
+    # The peak of `gate check` with one worker, in lengths of the module.
+    return peak([gate, 'check', path, '--workers', '1']) / os.path.getsize(path) if os.path.exists('/usr/bin/time') else None
+
+
+def record(recorder, label, path, turns, lengths):
+    # A row for each engine.
+    name = label.rsplit(', ', 1)[0]
+    kind = 'generated' if name in KINDS.values() else 'program'
+    megabytes = f'{os.path.getsize(path) / 1e6:.1f}'
+    for engine, speeds in turns.items():
+        called, workers = NAMES[engine]
+        recorder.add(module=name, kind=kind, megabytes=megabytes, engine=called, workers=workers,
+                     median=statistics.median(speeds), least=min(speeds), most=max(speeds),
+                     memory_lengths=lengths if engine == '1 workers' else None)
+
+
+def report(label, speeds, lengths):
     cells = [f'{speeds["gate"]:.1f}', cell(speeds, 'C', 'gate'), cell(speeds, 'node', 'gate')]
     cells += [cell(speeds, 'gate 4', 'gate'), cell(speeds, 'node 4', 'node'), f'{speeds["1 workers"]:.1f}']
     cells += [cell(speeds, name, '1 workers') for name in ('2 workers', '4 workers', 'wabt')]
-    timed = os.path.exists('/usr/bin/time')
-    cells.append(f'{peak([gate, "check", path, "--workers", "1"]) / os.path.getsize(path):.1f}' if timed else '-')
+    cells.append('-' if lengths is None else f'{lengths:.1f}')
     print('| ' + ' | '.join([label] + cells) + ' |', flush=True)
 
 
 def mean(rows, name):
     ratios = [speeds['gate'] / speeds[name] for _, speeds in rows if name in speeds]
     return f'{geometric_mean(ratios):.2f} times {name} (in {len(ratios)} rows)' if ratios else f'no {name}'
-
-
-def bars(rows):
-    # The rows as bars, a group for each module, in MB/s; the text is drawn in the reader's own colour.
-    most = max(speed for _, speeds in rows for name, speed in speeds.items() if name in COLOURS)
-    left, width, high, gap = 300, 560, 11, 12
-    parts, y = [], 34
-    for x, name in enumerate(COLOURS):
-        parts.append(f'<rect x="{left + 110 * x}" y="8" width="12" height="12" fill="{COLOURS[name]}"/>')
-        parts.append(f'<text x="{left + 110 * x + 17}" y="18">{name}</text>')
-    for label, speeds in rows:
-        shown = [name for name in COLOURS if name in speeds]
-        parts.append(f'<text x="{left - 8}" y="{y + high * len(shown) / 2 + 4:.0f}" text-anchor="end">{label}</text>')
-        for name in shown:
-            long = width * speeds[name] / most
-            parts.append(f'<rect x="{left}" y="{y}" width="{long:.1f}" height="{high - 1}" fill="{COLOURS[name]}"/>')
-            parts.append(f'<text x="{left + long + 4:.1f}" y="{y + high - 2}" font-size="10">{speeds[name]:.0f}</text>')
-            y += high
-        y += gap
-    head = f'<svg xmlns="http://www.w3.org/2000/svg" viewBox="0 0 {left + width + 50} {y}" font-family="sans-serif" font-size="12">'
-    return '\n'.join([head, f'<rect width="{left + width + 50}" height="{y}" fill="#ffffff"/>'] + parts + ['</svg>', ''])
 
 
 def modules(folder, words):
@@ -155,8 +155,8 @@ def modules(folder, words):
 
 
 def main(words):
-    gate, counts = os.path.abspath(words.gate), statistics.median if words.median else min
-    rows = []
+    gate, counts = os.path.abspath(words.gate), statistics.median if words.median else max
+    rows, recorder = [], Recorder(words.results, COLUMNS)
     if not os.path.exists(JUDGE):
         subprocess.run(['rt', 'run'], cwd=os.path.join(here, '..', 'crates', 'bench'), stdout=sys.stderr, check=True)
     with tempfile.TemporaryDirectory() as folder:
@@ -165,19 +165,19 @@ def main(words):
         print('| module | gate | C | node | gate 4 | node 4 | whole | 2 workers | 4 workers | wabt | memory |\n|' + '---|' * 11)
         for label, path, has_long_lists in modules(folder, words.rows):
             takes = engines(gate, peer, path, has_long_lists, itemgetter(0) if words.first else min)
-            speeds = measure(takes, path, words.median or 7, counts)
-            report(gate, label, path, speeds)
+            turns, lengths = measure(takes, path, words.median or 7), memory(gate, path)
+            speeds = {name: counts(all_of) for name, all_of in turns.items()}
+            report(label, speeds, lengths)
+            record(recorder, label, path, turns, lengths)
             rows.append((label, speeds))
     print(f'In the geometric mean gate is {mean(rows, "node")}, {mean(rows, "C")}, {mean(rows, "wabt")}.')
-    if words.plot:
-        write(words.plot, bars(rows))
 
 
 if __name__ == '__main__':
     parser = argparse.ArgumentParser(description=__doc__, formatter_class=argparse.RawDescriptionHelpFormatter)
     parser.add_argument('gate', metavar='GATE', help='the program')
     parser.add_argument('rows', metavar='MEGABYTES or MODULE.wasm', nargs='*', help='1, 4 and 15 MB where none is given')
-    parser.add_argument('--plot', metavar='FILE.svg', help='draw the rows as bars')
+    parser.add_argument('--results', metavar='FILE.tsv', help='write what was measured, with what it was measured on')
     parser.add_argument('--median', metavar='TURNS', type=int, help='the median of this many turns counts, and not the best of seven')
     parser.add_argument('--first', action='store_true', help='the first of the three in a process counts, and not the best')
     main(parser.parse_intermixed_args())

@@ -13,7 +13,11 @@ import sys
 import tempfile
 
 here = os.path.dirname(os.path.abspath(__file__))
+sys.path.insert(0, here)
+from recording import Recorder
+
 root = os.path.dirname(here)
+COLUMNS = ['engine', 'what', 'bytes', 'least_us', 'median_us']
 ADD = os.path.join(root, 'examples', 'add.wasm')
 NODE = """const bytes = require('fs').readFileSync(process.argv[1]), now = () => Number(process.hrtime.bigint());
 function turn(once, rounds) { const start = now(); for (let i = 0; i < rounds; i++) once(); return (now() - start) / rounds; }
@@ -50,13 +54,16 @@ def wabt(usr, folder):
     return program if built(words + places) else None
 
 
-def report(engine, size, words):
+def report(recorder, engine, size, words):
     for line in subprocess.run(words, capture_output=True, text=True, check=True).stdout.splitlines():
         name, least, median = line.split('\t')
+        recorder.add(engine='V8' if engine == 'node' else engine, what=name, bytes=size, least_us=float(least) / 1000,
+                     median_us=float(median) / 1000)
         print(f'| {engine} | {name} | {size} | {float(least) / 1000:,.2f} | {float(median) / 1000:,.2f} |', flush=True)
 
 
-def main(program, library, usr):
+def main(program, library, usr, results):
+    recorder = Recorder(results, COLUMNS)
     with tempfile.TemporaryDirectory() as folder:
         host, peer = embedding(library, folder), wabt(usr, folder)
         header = os.path.join(folder, 'header.wasm')
@@ -65,14 +72,16 @@ def main(program, library, usr):
         print('| engine | what | bytes | least us | median us |\n|---|---|---|---|---|')
         for path, calls in ((header, []), (ADD, ['add', '40', '2'])):
             size = os.path.getsize(path)
-            report('gate', size, [host, 'library', path] + calls)
-            report('gate', size, [host, 'process', program, 'check', path])
+            report(recorder, 'gate', size, [host, 'library', path] + calls)
+            report(recorder, 'gate', size, [host, 'process', program, 'check', path])
             if shutil.which('node'):
-                report('node', size, ['node', '-e', NODE, path])
+                report(recorder, 'node', size, ['node', '-e', NODE, path])
             if peer:
-                report('wabt', size, [peer, path])
+                report(recorder, 'wabt', size, [peer, path])
     for name in ('libgate.a', 'libgate.so.1'):
-        print(f'{name}: {os.path.getsize(os.path.join(library, name)):,} bytes')
+        size = os.path.getsize(os.path.join(library, name))
+        recorder.add(engine='gate', what=name, bytes=size)
+        print(f'{name}: {size:,} bytes')
     return 0
 
 
@@ -81,5 +90,6 @@ if __name__ == '__main__':
     parser.add_argument('program', metavar='PROGRAM', help='the proved program')
     parser.add_argument('--library', metavar='FOLDER', required=True, help='where library.py put the library')
     parser.add_argument('--wabt', metavar='FOLDER', default='/usr', help='where include/wabt and lib stand (default: /usr)')
+    parser.add_argument('--results', metavar='FILE.tsv', help='write what was measured, with what it was measured on')
     chosen = parser.parse_args()
-    sys.exit(main(os.path.abspath(chosen.program), chosen.library, chosen.wabt))
+    sys.exit(main(os.path.abspath(chosen.program), chosen.library, chosen.wabt, chosen.results))

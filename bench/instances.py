@@ -18,9 +18,11 @@ import tempfile
 
 sys.dont_write_bytecode = True
 from measuring import best_of, translated, write
+from recording import Recorder
 from run import compiled
 
 COUNT = 100_000
+COLUMNS = ['module', 'engine', 'nanoseconds', 'times_gate']
 NOTHING = '(func (export "f") (param i32))'
 # Name, module, and for the program in C: pages, length of the segment, writes, globals, entries of the table.
 KINDS = [('no memory', NOTHING, (0, 0, 0, 0, 0)),
@@ -48,7 +50,8 @@ def by_c(program, way, sizes):
     return float(subprocess.run(words, capture_output=True, check=True).stdout)
 
 
-def main(gate):
+def main(gate, results):
+    recorder = Recorder(results, COLUMNS)
     print(f'{"ns an instance":32}{"gate":>9}{"C, kept":>18}{"C, fresh":>18}{"a refused line":>16}')
     with tempfile.TemporaryDirectory() as folder:
         program, calls = compiled(folder, 'instances', 'instances.c'), os.path.join(folder, 'calls')
@@ -56,6 +59,8 @@ def main(gate):
             module = translated(folder, 'm', f'(module {text})')
             spent, refused = by_gate(gate, module, calls)
             others = [by_c(program, way, sizes) for way in (('kept', 'fresh') if sizes[0] else ('kept',))]
+            for engine, took in zip(('gate', 'C, kept', 'C, fresh'), [spent] + others):
+                recorder.add(module=name, engine=engine, nanoseconds=took, times_gate=took / spent)
             cells = [f'{other:9.1f} ({other / spent:5.2f})' for other in others] + ['-'] * (2 - len(others))
             print(f'{name:32}{spent:9.1f}' + ''.join(f'{cell:>18}' for cell in cells) + f'{refused:16.1f}', flush=True)
 
@@ -63,4 +68,6 @@ def main(gate):
 if __name__ == '__main__':
     parser = argparse.ArgumentParser(description=__doc__, formatter_class=argparse.RawDescriptionHelpFormatter)
     parser.add_argument('gate', metavar='GATE', help='the program')
-    main(os.path.abspath(parser.parse_args().gate))
+    parser.add_argument('--results', metavar='FILE.tsv', help='write what was measured, with what it was measured on')
+    chosen = parser.parse_args()
+    main(os.path.abspath(chosen.gate), chosen.results)

@@ -33,7 +33,11 @@ import tempfile
 here = os.path.dirname(os.path.abspath(__file__))
 sys.path.insert(0, here)
 from measuring import best_of, geometric_mean, translated, write
+from recording import Recorder
 
+COLUMNS = ['what', 'engine', 'unit', 'least', 'most', 'times_gate']
+# What an engine is called in a file of results.
+NAMES = {'gate': 'gate', 'switch': 'C switch', 'goto': 'C goto', 'wabt': 'wabt', 'jsc': 'JavaScriptCore', 'node': 'V8'}
 KERNELS = [('fib', 27), ('sums', 5_000_000), ('sieve', 20), ('words', 150), ('mixing', 2_000_000), ('collatz', 20_000),
            ('cases', 2_500_000), ('table', 3_000_000), ('globals', 5_000_000), ('sorting', 10), ('hashing', 60)]
 NODE = """const fs=require('fs');const m=new WebAssembly.Module(fs.readFileSync(process.argv[1]));
@@ -117,8 +121,8 @@ def engines(folder, programs, module, words, wabt_module, name, size, idle, wabt
 
 
 def in_turn(name, takes):
-    # The best milliseconds of each engine.
-    best, result = {}, None
+    # The milliseconds of each engine, turn by turn.
+    turns, result = {}, None
     for turn in range(5):
         for engine, take in takes.items():
             if engine == 'wabt' and turn > 1:
@@ -127,8 +131,8 @@ def in_turn(name, takes):
             result = value if result is None else result
             if (value - result) % 2 ** 32:
                 sys.exit(f'{name}: {engine} gives {value}, gate {result}')
-            best[engine] = min(spent, best.get(engine, spent))
-    return best
+            turns.setdefault(engine, []).append(spent)
+    return turns
 
 
 def milliseconds(of_gate, of_other):
@@ -171,8 +175,15 @@ def show_jumps(gate):
     print(f'indirect jumps of the loop over the tokens: {jumps}' + (f', WARNING: below {FEWEST_JUMPS}' if jumps < FEWEST_JUMPS else ''))
 
 
-def main(gate):
+def record(recorder, name, turns):
+    # A row for each engine, with how many times as long as `gate` it takes by the least of its times.
+    for engine, took in turns.items():
+        recorder.add(what=name, engine=NAMES[engine], unit='ms', least=min(took), most=max(took), times_gate=min(took) / min(turns['gate']))
+
+
+def main(gate, results):
     show_jumps(gate)
+    recorder = Recorder(results, COLUMNS)
     with open(os.path.join(here, 'kernels.wat')) as file:
         text = file.read()
     ratios, in_fib = {}, {}
@@ -186,7 +197,9 @@ def main(gate):
         for name, size in KERNELS:
             write(calls, f'{name}\ti32:{size}\n')
             wabt_module = translated(folder, name, alone(text, name, size))
-            best = in_turn(name, engines(folder, programs, module, words, wabt_module, name, size, idle, wabt_idle))
+            turns = in_turn(name, engines(folder, programs, module, words, wabt_module, name, size, idle, wabt_idle))
+            record(recorder, name, turns)
+            best = {engine: min(took) for engine, took in turns.items()}
             spent = best.pop('gate')
             for engine, other in best.items():
                 ratios.setdefault(engine, []).append(other / spent)
@@ -197,7 +210,11 @@ def main(gate):
         for engine, all_of in ratios.items():
             print(f'geometric mean, {engine}: {geometric_mean(all_of):.2f}')
         print('a call and its return (fib), ns: ' + ', '.join(f'{engine} {of:.1f}' for engine, of in in_fib.items()))
+        for engine, of in in_fib.items():
+            recorder.add(what='a call and its return', engine=NAMES[engine], unit='ns', least=of, times_gate=of / in_fib['gate'])
         small, begun, refused = small_calls(gate, folder)
+        recorder.add(what='a small call on an instance that is there', engine='gate', unit='ns', least=begun - small)
+        recorder.add(what='a small call on a fresh instance', engine='gate', unit='ns', least=small - refused)
         print(f'a small call, ns: {begun - small:.0f} on an instance that is there, {small - refused:.0f} on a fresh one, '
               f'beside {refused:.0f} for a line that is refused')
 
@@ -205,4 +222,6 @@ def main(gate):
 if __name__ == '__main__':
     parser = argparse.ArgumentParser(description=__doc__, formatter_class=argparse.RawDescriptionHelpFormatter)
     parser.add_argument('gate', metavar='GATE', help='the program')
-    main(os.path.abspath(parser.parse_args().gate))
+    parser.add_argument('--results', metavar='FILE.tsv', help='write what was measured, with what it was measured on')
+    chosen = parser.parse_args()
+    main(os.path.abspath(chosen.gate), chosen.results)
