@@ -31,7 +31,7 @@ files() {
     cd "$here"
     {
         find bin include lib share ! -type d | sed "s,.*,&$tab&,"
-        find README.md PROOFS docs ! -type d | sed "s,.*,&${tab}share/doc/gate/&,"
+        find README.md CHANGELOG.md PROOFS docs examples ! -type d | sed "s,.*,&${tab}share/doc/gate/&,"
     } | sort
 }
 
@@ -71,6 +71,14 @@ look() {
     done
 }
 
+# What a host may still need, by where the library lies.
+hint() {
+    case $prefix in
+    /usr | /usr/local) say "where a program does not find libgate.so, run ldconfig" ;;
+    *) say "hosts need PKG_CONFIG_PATH=$prefix/lib/pkgconfig, and LD_LIBRARY_PATH=$prefix/lib or an rpath" ;;
+    esac
+}
+
 install_all() {
     [ -x "$here/bin/gate" ] || fail "no bin/gate beside it: it installs an unpacked release, and ./release makes one"
     list=$(files)
@@ -86,7 +94,7 @@ install_all() {
     done
     set_prefix
     say "installed $(printf '%s\n' "$list" | wc -l) files below $top$prefix"
-    [ -n "$top" ] || say "where a program does not find libgate.so, run ldconfig"
+    [ -n "$top" ] || hint
 }
 
 uninstall_all() {

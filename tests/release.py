@@ -3,8 +3,10 @@
 
 packed     Two packings have the same bytes: of this tree, and of a copy of it in another folder, with other times and modes of
            files, another time zone, language and umask. `./release --check` finds them equal, and names a program that is not.
-unpacked   `sha256sum -c` holds, the program judges and runs the examples and what gate.1 shows, and the pages and completions
-           name all of its options and all functions of the header. `man` has no warning, where it is there.
+unpacked   `sha256sum -c` holds, and the program judges and runs the examples, and what gate.1, README.md and docs/FORMATS.md show.
+           gate.3 names all functions of the header, and `man` has no warning, where it is there. What is written of the command line
+           holds (manual.py). Each relative link of a document leads to something packed; what the user's pages name of the sources
+           is packed too, or the same line says that it is in the repository.
 installed  `install.sh` below a DESTDIR: the example of gate.3 is compiled by what pkg-config says, for the shared library and for
            the static one, where `cc` and `pkg-config` are there, and says what the program says. What others have is not written
            over. An uninstall leaves what was there before.
@@ -17,9 +19,14 @@ import shutil
 import subprocess
 import sys
 import tempfile
+import textwrap
 
-root = os.path.join(os.path.dirname(os.path.abspath(__file__)), '..')
+here = os.path.dirname(os.path.abspath(__file__))
+root = os.path.join(here, '..')
 MODULES = ['add', 'fold', 'primes']
+# The pages of which all that they name is looked for.
+PAGES = ['README.md', 'docs/FORMATS.md', 'docs/HOSTS.md', 'docs/SECURITY.md']
+LINK = re.compile(r'\]\(([^()\s#]+)(?:#[^()\s]*)?\)')
 
 
 class Count:
@@ -95,8 +102,15 @@ def unpacked(count, folder, name):
     count.expect(ended == (0, ''), 'sha256sum -c', ended)
     there = os.path.join(folder, name)
     answers(count, there)
-    pages(count, there)
+    manuals(count, there)
     sessions(count, there, folder)
+    shown(count, there)
+    links(count, there)
+    for page in PAGES:
+        lost = list(missing(there, page))
+        count.expect(not lost, f'what {page} names is packed, or said to be in the repository', lost)
+    ended = run(sys.executable, os.path.join(here, 'manual.py'), os.path.join(there, 'bin', 'gate'))
+    count.expect(ended[0] == 0, 'what is written of the command line', ended)
     return there
 
 
@@ -110,14 +124,9 @@ def answers(count, there):
     count.expect(ended == (0, read(os.path.join(root, 'examples/fold.report')).decode()), 'the report of fold', ended)
 
 
-def pages(count, there):
-    """What the pages and the completions name."""
+def manuals(count, there):
+    """The functions that gate.3 names, and the pages as `man` shows them."""
     share = os.path.join(there, 'share')
-    help_on = run(os.path.join(there, 'bin', 'gate'), 'run', '--help')[1]
-    for path in ('man/man1/gate.1', 'bash-completion/completions/gate', 'zsh/site-functions/_gate', 'fish/vendor_completions.d/gate.fish'):
-        text = read(os.path.join(share, path)).decode()
-        lost = [it for it in re.findall(r'--(\w+) <N>', help_on) if not re.search(rf'-(-|l ){it}\b|Fl -{it}\b', text)]
-        count.expect(not lost and '--fuel <N>' in help_on, f'the options in {path}', lost)
     functions = re.findall(r'\b(gate_\w+)\(', read(os.path.join(there, 'include/gate.h')).decode())
     text = read(os.path.join(share, 'man/man3/gate.3')).decode()
     lost = [it for it in functions if not re.search(rf'^\.F[no] {it}\b', text, re.MULTILINE)]
@@ -143,6 +152,41 @@ def sessions(count, there, folder):
         ended = run('sh', '-c', command, cwd=folder, env=path)
         count.expect(ended[1] == printed, f'{command}, as gate.1 shows it', ended)
     count.expect(len(shown) == 4, 'the commands that gate.1 shows', shown)
+
+
+def shown(count, there):
+    """The commands that README.md and FORMATS show, each block with what it prints, in the unpacked release."""
+    for page in PAGES[:2]:
+        sessions = re.findall(r'(?:^    .*\n)+', read(os.path.join(there, page)).decode(), re.MULTILINE)
+        sessions = [textwrap.dedent(it) for it in sessions if it.startswith('    $ ')]
+        count.expect(sessions, f'the commands that {page} shows')
+        for session in sessions:
+            commands = ''.join(re.findall(r'^\$ (.*\n)', session, re.MULTILINE))
+            ended = run('sh', '-c', commands, cwd=there)
+            count.expect(ended[1] == re.sub(r'^\$ .*\n', '', session, flags=re.MULTILINE), f'{commands}, as {page} shows it', ended)
+
+
+def links(count, there):
+    """The relative links of all documents that are packed."""
+    pages = glob.glob(os.path.join(there, '**', '*.md'), recursive=True)
+    for page in pages:
+        targets = [it for it in LINK.findall(read(page).decode()) if not re.match('[a-z]+:', it)]
+        lost = [it for it in targets if not os.path.exists(os.path.join(os.path.dirname(page), it))]
+        count.expect(not lost, f'the links of {os.path.relpath(page, there)}', lost)
+    count.expect({os.path.join(there, it) for it in PAGES} < set(pages), 'the documents of a release', pages)
+
+
+def missing(there, page):
+    """What a page names of the sources that is not packed, where neither the line nor that before the code says where it lies."""
+    said = ''
+    for line in read(os.path.join(there, page)).decode().splitlines():
+        if line and not line.startswith('    '):
+            said = line
+        names = [it.removeprefix('./').rstrip('/.') for it in re.findall(r'[\w./-]+', line) if re.search(r'[./]\w', it)]
+        for name in names:
+            is_source = name and not name.startswith('/') and os.path.exists(os.path.join(root, name))
+            if is_source and not os.path.exists(os.path.join(there, name)) and not re.search('repository|clone', line + said):
+                yield name
 
 
 def everything(folder):

@@ -1,0 +1,151 @@
+#!/usr/bin/env python3
+"""Holds what is written about the command line to the program: docs/FORMATS.md, gate.1, and the completions.
+
+options    Each of them has the options of `gate check --help` and of `gate run --help`, no others, and where it has numbers
+           the least, the greatest and the default of the help.
+ranges     The program takes the least and the greatest number of each option, and refuses those beside them.
+lines      The verdicts of the help are those of docs/FORMATS.md; gate.1 has each line and each status that it has.
+"""
+import argparse
+import os
+import re
+import subprocess
+import sys
+
+root = os.path.join(os.path.dirname(os.path.abspath(__file__)), '..')
+COMMANDS = ['check', 'run']
+# The sections of docs/FORMATS.md with tables of lines that are printed.
+SECTIONS = ['The verdict line', 'The text of calls', 'The report']
+MACROS = re.compile(r'^\.\w\w\b|\b(?:Ar|Cm|Fl|Li|Ns|Op|Ql)\b')
+
+
+class Count:
+    def __init__(self):
+        self.passed = self.failed = 0
+
+    def expect(self, holds, name, got=''):
+        self.passed, self.failed = self.passed + bool(holds), self.failed + (not holds)
+        if not holds:
+            print(f'manual: {name}: {str(got)[:600]}')
+
+
+def read(path):
+    with open(os.path.join(root, path), encoding='utf-8') as file:
+        return file.read()
+
+
+def run(program, *words):
+    return subprocess.run([program, *words], capture_output=True, text=True)
+
+
+def number(text):
+    return int(text.replace(',', ''))
+
+
+def numbered(found):
+    """Options as (name, least, greatest, default): the three numbers of each, by its name."""
+    return {name: tuple(map(number, numbers)) for name, *numbers in found}
+
+
+def between(text, begin, end):
+    """What stands between two texts."""
+    return text.split(begin, 1)[1].split(end, 1)[0]
+
+
+def options_of_help(program, command):
+    said = run(program, command, '--help').stdout
+    return numbered(re.findall(r'--(\w+) <N>\n.*, (\d+) to (\d+)\n\s*\[default: (\d+)\]', said))
+
+
+def options_written():
+    """Of each text the options of each command with their numbers; none where the text has no numbers."""
+    formats, page, zsh, fish, bash = (read(it) for it in (
+        'docs/FORMATS.md', 'man/gate.1', 'completions/_gate', 'completions/gate.fish', 'completions/gate.bash'))
+    row = r'^\| `--(\w+)` \|.*\| ([\d,]+) \| ([\d,]+) \| ([\d,]+) \|$'
+    yield 'the options of FORMATS', 'run', numbered(re.findall(row, formats, re.M))
+    item = r'^\.It Fl -(\w+) Ar n\n.*: ([\d,]+) to ([\d,]+), by default ([\d,]+)\.$'
+    yield 'the options of gate.1', 'run', numbered(re.findall(item, page, re.M))
+    shared, limits = (numbered(re.findall(r"'--(\w+)=\[.*\]:(\d+) to (\d+), by default (\d+): '", between(zsh, begin, '\n    )')))
+                      for begin in ('shared=(', 'limits=('))
+    yield 'the completion of zsh', 'check', shared
+    yield 'the completion of zsh', 'run', {**shared, **limits}
+    judging, running = (numbered(re.findall(rf"-n \${name} -l (\w+) -x -d '.*: (\d+) to (\d+), by default (\d+)'", fish))
+                        for name in ('judging', 'running'))
+    yield 'the completion of fish', 'check', judging
+    yield 'the completion of fish', 'run', {**judging, **running}
+    first, more = re.findall(r"options\+?='([^']*)'", bash)
+    both = [re.findall(r'--(\w+)', words.replace('--help', '')) for words in (first, first + more)]
+    for command, names in zip(COMMANDS, both):
+        yield 'the completion of bash', command, dict.fromkeys(names)
+    yield 'the numbers of bash', 'run', dict.fromkeys(re.search(r'--@\((.*?)\)', bash)[1].split('|'))
+    yield 'the numbers of bash', 'run', dict.fromkeys(re.findall(r'--(\w+)', re.search(r'^ +(--workers \|.*)\)$', bash, re.M)[1]))
+    yield from options_of_usage(formats, page)
+
+
+def options_of_usage(formats, page):
+    """The options of the lines that say how to call the program."""
+    synopsis = between(page, '.Sh SYNOPSIS', '.Sh')
+    for command in COMMANDS:
+        usage = re.search(rf'^    gate {command} .*', formats, re.M)[0]
+        yield 'the usage in FORMATS', command, dict.fromkeys(re.findall(r'\[--(\w+) N\]', usage))
+        yield 'the synopsis of gate.1', command, dict.fromkeys(re.findall(r'Op Fl -(\w+)', between(synopsis, f'.Cm {command}', '.Nm')))
+
+
+def options(count, program):
+    wanted = {command: options_of_help(program, command) for command in COMMANDS}
+    count.expect(set(wanted['check']) < set(wanted['run']), 'the options of the help', wanted)
+    for name, command, found in options_written():
+        there = wanted[command] if None not in found.values() else dict.fromkeys(wanted[command])
+        count.expect(found == there, f'{name}, {command}', (found, there))
+    limits = {name: (number(least), number(most))
+              for name, least, most in re.findall(r'^\| (\w+)[\w ]* \| ([\d,]+) \| ([\d,]+) \|$', read('docs/FORMATS.md'), re.M)}
+    for name, (least, most, _) in wanted['run'].items():
+        count.expect(limits.get(name) == (least, most), f'the limits of FORMATS, {name}', limits)
+        ranges(count, program, name, least, most)
+
+
+def ranges(count, program, name, least, most):
+    """The program at the borders of an option: a number is refused before a file is missed."""
+    for value, status in ((least, 74), (most, 74), (least - 1, 64), (most + 1, 64)):
+        ended = run(program, 'run', 'no/such/module', 'no/such/calls', f'--{name}={value}')
+        count.expect(ended.returncode == status, f'--{name}={value}', ended)
+
+
+def tables(section):
+    """The cells of the rows that stand in a section of FORMATS, but the heads."""
+    rows = re.findall(r'^\| (.*) \|$', between(read('docs/FORMATS.md'), f'\n## {section}\n', '\n## '), re.M)
+    return [row.split(' | ') for row in rows if not re.match('line|answer|reason|status|-', row)]
+
+
+def in_words(text):
+    """The words of a text, each between blanks, in small letters."""
+    return f" {' '.join(re.findall('[a-z-]+', text.lower()))} "
+
+
+def lines(count, program):
+    page = in_words('\n'.join(MACROS.sub(' ', line) for line in read('man/gate.1').splitlines()))
+    written = [it for section in SECTIONS for row in tables(section) for it in re.findall('`([^`]+)`', row[0])]
+    written += re.findall('`([a-z-]+)`', next(row[1] for row in tables('The report') if 'trap KIND' in row[0]))
+    count.expect(len(written) > 30, 'the lines of FORMATS', written)
+    for line in written:
+        count.expect(in_words(line) in page, f'{line} in gate.1')
+    verdicts = {row[0].strip('`') for row in tables('The verdict line')}
+    helped = set(re.findall(r'^    (accepted|refused(?: \S+)+)  ', run(program, 'check', '--help').stdout, re.M))
+    count.expect(verdicts == helped, 'the verdicts of the help and of FORMATS', verdicts ^ helped)
+    statuses = {row[0] for row in tables('Status and standard error')}
+    listed = set(re.findall(r'^\.It (\d+)$', read('man/gate.1'), re.M))
+    count.expect(statuses == listed and '70' in listed, 'the statuses of gate.1 and of FORMATS', statuses ^ listed)
+
+
+def main(program):
+    count = Count()
+    options(count, os.path.abspath(program))
+    lines(count, os.path.abspath(program))
+    print(f'{count.passed} passed, {count.failed} failed')
+    return 1 if count.failed or not count.passed else 0
+
+
+if __name__ == '__main__':
+    parser = argparse.ArgumentParser(description=__doc__, formatter_class=argparse.RawDescriptionHelpFormatter)
+    parser.add_argument('program', metavar='PROGRAM', help='the built program')
+    sys.exit(main(parser.parse_args().program))
