@@ -1,4 +1,4 @@
-//! Sizes that were chosen by measuring. No promise depends on one of them; docs/LAB.md has what was measured.
+//! Sizes that were chosen by measuring. No promise depends on one of them; bench/LAB.md has what was measured.
 
 /// The bytes of a text that one thread reads before others have started.
 pub(crate) const SHORT_TEXT: usize = 65_536;

@@ -1,4 +1,4 @@
-//! Sizes that were chosen by measuring. No promise depends on one of them; docs/LAB.md has what was measured.
+//! Sizes that were chosen by measuring. No promise depends on one of them; bench/LAB.md has what was measured.
 
 /// How many runs of locals ordinary bodies have, at most.
 pub(crate) const LOCAL_RUNS: usize = 64;

@@ -1,4 +1,4 @@
-//! Sizes that were chosen by measuring. No promise depends on one of them; docs/LAB.md has what was measured.
+//! Sizes that were chosen by measuring. No promise depends on one of them; bench/LAB.md has what was measured.
 
 /// How many runs of operands ordinary bodies have at once.
 pub(crate) const OPERAND_RUNS: usize = 16;
