@@ -1,5 +1,4 @@
 -- What the words of the command line ask for.
--- Its paths are among the words, and its numbers are what the words say, or the defaults.
 use Rattle.std.specs.Prelude.{◌≡◌, ◌⊎◌, ℕ, List, [], ◌++◌, Contains, codes, slice_index_or}
 use Rattle.command.specs.Options.{SaysLimits, SaysPlan, option_words}
 use Rattle.command.specs.declared.request.Request.{Request}

@@ -1,4 +1,4 @@
-//! Look-ups in a list of words.
+// Words among words.
 ghost use Rattle.std.specs.Prelude.{◌≡◌, Contains, IfSome, IsTrue, map};
 ghost use Rattle.command.specs.Requests.{BeginsWith, ContainsFront, first_word};
 

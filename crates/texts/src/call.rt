@@ -1,3 +1,4 @@
+//! A call, and the line that says it.
 ghost use Rattle.std.specs.Prelude.{◌≡◌, IfOk, All, ◌≢◌, option_map};
 ghost use Rattle.wsyntax.specs.Texts.Calls.{IsCall, call_text};
 ghost use Rattle.texts.specs.Reading.{IsReading};

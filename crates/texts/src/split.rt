@@ -1,3 +1,4 @@
+//! Bytes between marks.
 ghost use Rattle.std.specs.Prelude.{◌≡◌, count_by};
 ghost use Rattle.texts.specs.Reading.{SplitsBefore, is_mark};
 

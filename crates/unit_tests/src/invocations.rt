@@ -84,7 +84,7 @@ fn call<R: Threads + Wait + Abort + Sync>(
     call_on(rt, alloc, &accepted, function, args, limit, frames)
 }
 
-/// Calls an instance that has failed.
+// Calls an instance that has failed.
 fn call_failed<R: Abort>(rt: &R, alloc: Global, accepted: &Accepted<'_>) {
     let mut instance = instance(rt, alloc, accepted);
     let mut fuel = Fuel::new(10).expect(rt, "fuel");

@@ -1,3 +1,4 @@
+//! Element segments (3.4.5).
 ghost use Rattle.std.specs.Prelude.{◌↔◌, IsTrue, All};
 ghost use Rattle.wsyntax.specs.Elements.{element_of};
 ghost use Rattle.wcontext.specs.Segments.{IsElementValid};

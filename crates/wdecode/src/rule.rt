@@ -1,3 +1,4 @@
+//! Data segments, asked one by one and not kept.
 ghost use Rattle.std.specs.Prelude.{◌≡◌, ◌↔◌, IsTrue, IsErrOf, IfOk, List, Some, None, All};
 ghost use Rattle.wsyntax.specs.Modules.{DataShape, data_shape};
 ghost use Rattle.wsyntax.specs.Binary.Production.{whole_at};

@@ -1,3 +1,4 @@
+//! Why there is no instance (4.5.4).
 use memory::CleanMem;
 use thiserror::Error;
 use wsyntax::StartRefusal;

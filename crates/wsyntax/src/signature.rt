@@ -1,3 +1,4 @@
+//! Operand and result types of an instruction, as lists.
 ghost use Rattle.std.specs.Prelude.{◌≡◌, [], ◌∷◌};
 ghost use Rattle.wsyntax.specs.Row.{operands_in, results_in};
 

@@ -1,3 +1,5 @@
+//! Value types, limits and global types (2.3).
+
 /// A value type (2.3.1).
 #[derive(Clone, Copy, Debug, PartialEq, Eq)]
 pub enum ValType {

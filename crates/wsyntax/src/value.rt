@@ -1,3 +1,4 @@
+//! Values and traps (4.2.1, 4.2.2).
 use wnum::NumTrap;
 
 /// A value of an integer type (4.2.1), as the word that stands for it. Values of float types are never met.
