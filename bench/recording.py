@@ -70,7 +70,7 @@ class Recorder:
 
     def write(self):
         with open(self.path, 'w') as file:
-            file.writelines(f'# {name}: {text}\n' for name, text in self.head.items())
+            file.writelines(f'# {name}: {text}'.rstrip() + '\n' for name, text in self.head.items())
             file.writelines('\t'.join(row) + '\n' for row in [self.columns] + self.rows)
 
 
@@ -80,8 +80,8 @@ class Results:
     def __init__(self, path):
         with open(path) as file:
             lines = file.read().splitlines()
-        notes = [line[2:].split(': ', 1) for line in lines if line.startswith('# ')]
-        self.head = {note[0]: note[1] if len(note) > 1 else '' for note in notes}
+        notes = [line[2:].partition(':') for line in lines if line.startswith('# ')]
+        self.head = {name: text.strip() for name, _, text in notes}
         table = [line.split('\t') for line in lines if line and not line.startswith('#')]
         self.rows = [dict(zip(table[0], row)) for row in table[1:]]
         wrong = [name for name in HEAD if name not in self.head] + [row for row in table if len(row) != len(table[0])]

@@ -54,8 +54,8 @@ def check_rows():
         label = f'{row["module"]}, {row["megabytes"]} MB'
         _, speeds, memory = modules.setdefault(label, (row['kind'], {}, []))
         speeds[row['engine'], row['workers']] = number(row, 'median')
-        memory += [row['memory_lengths']] if row['memory_lengths'] else []
-    return [(label, kind, speeds, (memory or ['-'])[0]) for label, (kind, speeds, memory) in modules.items()]
+        memory += [number(row, 'memory_lengths')] if row['memory_lengths'] else []
+    return [(label, kind, speeds, max(memory, default=None)) for label, (kind, speeds, memory) in modules.items()]
 
 
 def beside(speeds, engine, other):
@@ -74,7 +74,7 @@ def check_table():
         ratios = [beside(speeds, ('gate', '1'), ('V8', '1')), beside(speeds, ('gate', '1'), ('C', '1')),
                   beside(speeds, ('gate process', '1'), ('wabt process', '1')), beside(speeds, ('gate', '4'), ('gate', '1')),
                   beside(speeds, ('gate', '4'), ('V8', 'all'))]
-        rows.append([label, cell(speeds[('gate', '1')], '.0f')] + [cell(ratio, '.2f') for ratio in ratios] + [memory])
+        rows.append([label, cell(speeds[('gate', '1')], '.0f')] + [cell(ratio, '.2f') for ratio in ratios] + [cell(memory, '.1f')])
     return table(['module', 'MB/s', 'to V8', 'to C', 'to wabt', '4 workers', 'to V8, all threads', 'memory'], rows)
 
 
@@ -153,13 +153,13 @@ def small_calls():
 # Modules that are made to cost much.
 
 def families():
-    """Of each family in the first of the files: its form, the times of ordinary code by size, the most ns a byte, the most memory."""
+    """Of each family: its form, how many times ordinary code it takes and its ns a byte by size, and its memory past one megabyte."""
     found = {}
     for row in rows_of('families', measure='check'):
         if not row['name'].startswith(('a hot loop', 'generated code')) and row['times_ordinary']:
-            _, times, costs, memory = found.setdefault(row['name'], (row['form'], {}, [], []))
+            _, times, costs, memory = found.setdefault(row['name'], (row['form'], {}, {}, []))
             times[float(row['megabytes'])] = number(row, 'times_ordinary')
-            costs += [number(row, 'ns_a_byte')] if row['ns_a_byte'] else []
+            costs[float(row['megabytes'])] = number(row, 'ns_a_byte')
             memory += [number(row, 'memory_lengths')] if row['memory_lengths'] and float(row['megabytes']) >= 2 else []
     return sorted(found.items(), key=lambda it: -max(it[1][1].values()))
 
@@ -169,13 +169,19 @@ def seconds(ns_a_byte):
     return ns_a_byte * LONGEST_MODULE / 1e9
 
 
-def most(pattern, column, **fields):
-    """The most in a column over the rows of these files; 0 where none has it."""
-    return max((number(row, column) for row in rows_of(pattern, **fields) if row.get(column)), default=0)
+def most(pattern, column, measure):
+    """The most in a column over the rows of these files that are of the check, or of judging; 0 where none has it."""
+    return max((number(row, column) for row in rows_of(pattern, measure=measure) if row.get(column)), default=0)
+
+
+def most_seconds(pattern, measure):
+    """The same of the seconds that the longest module takes, by modules that are nearly as long, where the file has their length."""
+    rows = [row for row in rows_of(pattern, measure=measure) if row['ns_a_byte'] and float(row['megabytes'] or 16) >= 10]
+    return seconds(max((number(row, 'ns_a_byte') for row in rows), default=0))
 
 
 def worst_table():
-    rows = [[name, form, f'{max(times.values()):.1f}', f'{seconds(max(costs)):.1f}', f'{max(memory):.1f}']
+    rows = [[name, form, f'{max(times.values()):.1f}', f'{seconds(costs[max(costs)]):.1f}', cell(max(memory, default=None), '.1f')]
             for name, (form, times, costs, memory) in families()[:WORST]]
     return table(['family', 'form', 'times ordinary code', 's for 16 MB', 'memory in lengths'], rows)
 
@@ -188,24 +194,24 @@ def families_plot():
 
 
 def judging_plot():
-    rows = []
-    for row in rows_of('judging', measure='judging'):
-        if float(row['megabytes']) >= 10 and row['times_check']:
-            rows.append((row['name'] + (', dead' if 'dead' in row['form'] else ''), number(row, 'ns_a_byte'), number(row, 'times_check')))
+    measured = [row for row in rows_of('judging', measure='judging') if row['times_check']]
+    size = max(number(row, 'megabytes') for row in measured)
+    rows = [(row['name'] + (', dead' if 'dead' in row['form'] else ''), number(row, 'ns_a_byte'), number(row, 'times_check'))
+            for row in measured if number(row, 'megabytes') == size]
     kinds = [row for row in rows if row[0].startswith('generated')]
     others = sorted((row for row in rows if not row[0].startswith('generated')), key=lambda row: -row[1])[:DRAWN - len(kinds)]
-    return Plot('Judging for gate run, which keeps the bodies, beside the check', 'ns a byte at 16 MB, one worker (logarithmic)',
+    return Plot('Judging for gate run, which keeps the bodies, beside the check', f'ns a byte at {size:g} MB, one worker (logarithmic)',
                 [(GATE, 'gate run, nothing called'), (OTHER, 'gate check')],
                 [(name, [took, took / times]) for name, took, times in kinds + others], True, None, 'run')
 
 
 def judging_list():
     generated = [number(row, 'times_check') for row in rows_of('judging', measure='judging') if row['name'].startswith('generated')]
-    worst = most('judging*', 'ns_a_byte', measure='judging')
+    worst = most_seconds('judging*', 'judging')
     return '\n'.join([
         f'- Generated code: {min(generated):.1f} to {max(generated):.1f} times as long as its check.',
-        f'- Most time: {worst:.0f} ns a byte, {seconds(worst):.1f} s for 16 MB.',
-        f'- Most memory: {most("judging*", "memory_lengths", measure="judging"):.0f} lengths of the module.'])
+        f'- Most time: {worst:.1f} s for 16 MB.',
+        f'- Most memory: {most("judging*", "memory_lengths", "judging"):.0f} lengths of the module.'])
 
 
 def large_pages():
@@ -238,8 +244,8 @@ def summary():
         f'- **Check, four workers**: {mean_beside(("gate", "4"), ("V8", "all")):.2f} times as fast as V8 with all its threads.',
         f'- **Calls**: JavaScriptCore\'s interpreter takes {mean_kernel("JavaScriptCore"):.2f} times as long, '
         f'wabt\'s {mean_kernel("wabt"):.1f} times.',
-        f'- **Hostile modules**: {seconds(most("families*", "ns_a_byte", measure="check")):.1f} s for 16 MB at worst, '
-        f'{most("families*", "times_ordinary", measure="check"):.0f} times ordinary code.'])
+        f'- **Hostile modules**: {most_seconds("families*", "check"):.1f} s for 16 MB at worst, '
+        f'{most("families*", "times_ordinary", "check"):.0f} times ordinary code.'])
 
 
 def readme_speed():
@@ -248,8 +254,8 @@ def readme_speed():
         f'- One worker checks real programs {mean_beside(("gate", "1"), ("V8", "1")):.2f} times as fast as V8.',
         f'- Four workers check them {mean_beside(("gate", "4"), ("V8", "all")):.2f} times as fast as V8 with all its threads.',
         f'- JavaScriptCore\'s interpreter takes {mean_kernel("JavaScriptCore"):.2f} times as long on the kernels.',
-        f'- The worst hostile module known takes {seconds(most("families*", "ns_a_byte", measure="check")):.1f} s for 16 MB, '
-        f'{most("families*", "times_ordinary", measure="check"):.0f} times ordinary code.', '',
+        f'- The worst hostile module known takes {most_seconds("families*", "check"):.1f} s for 16 MB, '
+        f'{most("families*", "times_ordinary", "check"):.0f} times ordinary code.', '',
         '[SPEED](docs/SPEED.md) has the tables.'])
 
 
@@ -303,12 +309,11 @@ def advice(row, unit):
 
 def advised():
     """What is held to what: in words, the most that was measured, the row of docs/SECURITY.md and the unit there."""
-    of_check, of_judging = {'measure': 'check'}, {'measure': 'judging'}
-    return [('times ordinary code', most('families*', 'times_ordinary', **of_check), 'check: time', r'times\b'),
-            ('s for 16 MB', seconds(most('families*', 'ns_a_byte', **of_check)), 'check: time', r's(?:econds)?\b'),
-            ('lengths', most('families*', 'memory_lengths', **of_check), 'check: memory', r'(?:lengths\b|times\b)'),
-            ('s for 16 MB', seconds(most('judging*', 'ns_a_byte', **of_judging)), 'judging: time', r's(?:econds)?\b'),
-            ('lengths', most('judging*', 'memory_lengths', **of_judging), 'judging: memory', r'(?:lengths\b|times\b)')]
+    return [('times ordinary code', most('families*', 'times_ordinary', 'check'), 'check: time', r'times\b'),
+            ('s for 16 MB', most_seconds('families*', 'check'), 'check: time', r's(?:econds)?\b'),
+            ('lengths', most('families*', 'memory_lengths', 'check'), 'check: memory', r'(?:lengths\b|times\b)'),
+            ('s for 16 MB', most_seconds('judging*', 'judging'), 'judging: time', r's(?:econds)?\b'),
+            ('lengths', most('judging*', 'memory_lengths', 'judging'), 'judging: memory', r'(?:lengths\b|times\b)')]
 
 
 def faults():

@@ -35,6 +35,8 @@ REFERENCES = re.compile(r'\b(?:Core(?: Specification)?|[Cc]hapters?|[Ss]ections?
                         r'\s+\d[\d.]*(?:(?:,|,?\s+(?:and|or|to))\s+\d[\d.]*)*|\d+\.\d+\.\d[\d.]*'
                         r'|\(\d\.\d+(?:(?:,|\s+and|\s+to)\s+\d\.\d+)*(?=[),;])')
 NUMBER = re.compile(r'(?<![\w.^/-])\d[\d,]*(?:\.\d+)?(?:\^\d+)?(?![\w^]|-[a-z])')
+# A path that stands in the text as it is.
+PATH = re.compile(r'(?<![\w./-])[\w-]+(?:/[\w*-]+)+(?:\.\w+)*')
 # Names that are held to stand for files, wherever the file lies; and folders that are made, whose files are not looked for.
 EXTENSIONS = ('.py', '.rt', '.antt', '.md', '.tsv', '.svg', '.sh')
 MADE = ('out', 'target')
@@ -203,9 +205,12 @@ class Files:
 def missing_files(document, files, folder):
     for stretch in document.stretches:
         if stretch.kind in ('paragraph', 'table'):
-            for code in CODE.finditer(stretch.text):
-                if files.lacks(code[2], folder):
-                    yield stretch.line + stretch.text[:code.start()].count('\n'), f'`{code[2]}`: no file of the repository has this name'
+            plain = LINK.sub(kept_lines('LINK'), CODE.sub(kept_lines('CODE'), stretch.text))
+            named = [(stretch.text, code.start(), code[2]) for code in CODE.finditer(stretch.text)]
+            named += [(plain, path.start(), path[0]) for path in PATH.finditer(plain)]
+            for text, begin, name in named:
+                if files.lacks(name, folder):
+                    yield stretch.line + text[:begin].count('\n'), f'{name}: no file of the repository has this name'
 
 
 def typed_figures(document):
