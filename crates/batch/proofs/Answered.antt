@@ -1,15 +1,15 @@
 -- The answer, from what its parts say.
-use Rattle.std.proofs.Common.{◌≡◌, ℕ, suc, ◌^◌, ◌<◌, false, List, [], ◌∷◌, ◌++◌, Option, Some, IsSomeAnd, Err, length, refl, sym, ap, subst, ◌∙◌, arith}
+use Rattle.std.proofs.Common.{◌≡◌, ℕ, suc, ◌^◌, ◌<◌, false, List, [], ◌∷◌, ◌++◌, IsTrue, Option, Some, IsSomeAnd, Err, length, refl, sym, ap, subst, ◌∙◌, arith}
 use Rattle.std.specs.Prelude.{slice_get, map, IfSome}
 use Rattle.std.proofs.lemmas.List.{length-map}
 use Rattle.std.proofs.lemmas.Option.{same_Some}
-use Rattle.wsyntax.specs.Modules.{BodyShape, module_shape, body_shape}
+use Rattle.wsyntax.specs.Modules.{ModuleShape, BodyShape, module_shape, body_shape}
 use Rattle.wsyntax.specs.Binary.Shell.{SpellsBody, SpellsBodies, Spells}
 use Rattle.wsyntax.specs.Validation.Verdict.{IsVerdict, Accepted, TooLarge, Malformed, RuleBroken, BodyRefused}
-use Rattle.wsyntax.specs.Texts.Calls.{TooLong, BadLine, Good, IsCalls}
+use Rattle.wsyntax.specs.Texts.Calls.{CallsText, TooLong, BadLine, Good, IsCalls}
 use Rattle.wsyntax.specs.Texts.Lines.{verdict_line}
 use Rattle.wsyntax.specs.Texts.Report.{CallEnd, report_text}
-use Rattle.wsyntax.specs.Texts.Answer.{Limits, IsAnswer, calls_line}
+use Rattle.wsyntax.specs.Texts.Answer.{Limits, IsAnswer, AnswerOn, calls_line}
 use Rattle.texts.specs.Calls.{ReadsCalls, calls_of}
 use Rattle.texts.specs.Ends.{end_of, ends_of}
 use Rattle.texts.specs.Parts.{AreParts, parts_text}
@@ -28,7 +28,7 @@ use Rattle.wstore.specs.declared.settings.Settings.{Settings}
 use Rattle.wstore.specs.CallLimits.{limits_of}
 use Rattle.batch.specs.Ends.{is_short, AreEnds}
 use Rattle.batch.specs.Groups.{GiveLines, GiveParts}
-use Rattle.batch.specs.Answers.{Answers, IsSomeAnswer, refused_text}
+use Rattle.batch.specs.Answers.{Answers, AnswersText, IsAnswerFrom, IsAnswerOn, IsSomeAnswer, refused_text}
 use Rattle.batch.specs.Output.{AppendsLess, FallsShort}
 use Rattle.batch.specs.declared.status.AnswerFault.TheVariants.{Write}
 use Rattle.batch.proofs.Batches.{ends_given}
@@ -67,12 +67,22 @@ refused_module bytes text l (refusal.Rule k) out v e = ((λ n. false), (RuleBrok
 refused_module bytes text l (refusal.Body f c) out v e = ((λ n. false), (BodyRefused f (fault_of c), v, e))
 refused_module bytes text l refusal.Memory out v e = absurd e
 
--- on calls that are refused
-pub refused_calls : (bytes text : List ℕ) (l : Limits) (f : CallsFault) (out : List ℕ) → IsVerdict bytes Accepted → ReadsCalls text (Err f) → IsSomeAnd (refused_text f) (λ c. out ≡ verdict_line Accepted ++ calls_line c) → IsSomeAnswer bytes text l out
+-- that by what an accepted module holds, of whatever bytes spell the module
+answers_bytes : (bytes : List ℕ) (m : ModuleShape) (bodies : List BodyShape) (c : CallsText) (l : Limits) (short : ℕ → Type 0) (out : List ℕ) → Spells bytes m bodies → AnswersText m bodies c l short out → AnswerOn bytes c l short out
+answers_bytes bytes m bodies TooLong l short out spells h = h
+answers_bytes bytes m bodies (BadLine k) l short out spells h = h
+answers_bytes bytes m bodies (Good calls) l short out spells (ends, each, text) = (m, bodies, ends, spells, each, text)
+
+pub on_bytes : (a : AcceptedModule) (text : List ℕ) (l : Limits) (out : List ℕ) → IsAnswerFrom a text l out → IsAnswerOn a text l out
 unfolding IsAnswer
-refused_calls bytes text l fault.TooLarge out v said e = ((λ n. false), (Accepted, v, (TooLong, said, e)))
-refused_calls bytes text l (fault.Line k) out v said e = ((λ n. false), (Accepted, v, (BadLine k, said, e)))
-refused_calls bytes text l fault.Memory out v said e = absurd e
+on_bytes a text l out (short, c, said, h) bytes v spells =
+    (short, (Accepted, v, (c, said, answers_bytes bytes (module_shape a.«module») (shapes_of a.bodies.items) c l (λ n. IsTrue (short n)) out spells h)))
+
+-- on calls that are refused
+pub refused_calls : (a : AcceptedModule) (text : List ℕ) (l : Limits) (f : CallsFault) (out : List ℕ) → ReadsCalls text (Err f) → IsSomeAnd (refused_text f) (λ c. out ≡ verdict_line Accepted ++ calls_line c) → IsAnswerFrom a text l out
+refused_calls a text l fault.TooLarge out said e = ((λ n. false), TooLong, said, e)
+refused_calls a text l (fault.Line k) out said e = ((λ n. false), BadLine k, said, e)
+refused_calls a text l fault.Memory out said e = absurd e
 
 -- there is room for a count of the calls
 pub few_ends : (a : AcceptedModule) (s : Settings) (calls : List Call) (parts written : List Part) → length calls < 2 ^ 32 → GiveParts a s calls parts → written ≡ parts → (ends : List CallEnd) × AreParts 0 ends written × (length ends < 2 ^ 64)
@@ -81,28 +91,26 @@ few_ends a s calls parts written few (lines, gives, are) same =
     (ends_of lines, subst (AreParts 0 (ends_of lines)) (sym same) are, omega arith)
 
 -- on calls that were run, whose report is one text
-pub report_on : (bytes text : List ℕ) (a : AcceptedModule) (s : Settings) (calls given : List Call) (lines written : List Line) (out : List ℕ)
-    → IsVerdict bytes Accepted → Spells bytes (module_shape a.«module») (shapes_of a.bodies.items) → IsCalls text (Good (calls_of calls)) → given ≡ calls → GiveLines a s given lines
-    → written ≡ lines → out ≡ report_text (ends_of written) → IsSomeAnswer bytes text (limits_of s) out
-unfolding IsAnswer
-report_on bytes text a s calls given lines written out v spells said same gives wrote whole =
+pub report_on : (a : AcceptedModule) (text : List ℕ) (s : Settings) (calls given : List Call) (lines written : List Line) (out : List ℕ)
+    → IsCalls text (Good (calls_of calls)) → given ≡ calls → GiveLines a s given lines → written ≡ lines → out ≡ report_text (ends_of written) → IsAnswerFrom a text (limits_of s) out
+report_on a text s calls given lines written out said same gives wrote whole =
     let ends' : AreEnds a s calls lines = subst (λ (x : List Call). AreEnds a s x lines) same (ends_given a s given lines gives) in
     let text' : out ≡ report_text (ends_of lines) = whole ∙ ap (λ (l : List Line). report_text (ends_of l)) wrote in
-    ((λ n. is_short (slice_get lines n)), (Accepted, v, (Good (calls_of calls), said, (module_shape a.«module», shapes_of a.bodies.items, ends_of lines, spells, ends', text'))))
+    ((λ n. is_short (slice_get lines n)), Good (calls_of calls), said, (ends_of lines, ends', text'))
 
 -- whose report lies in parts
-pub report_is : (bytes text : List ℕ) (a : AcceptedModule) (s : Settings) (calls given : List Call) (parts written : List Part) (last : List ℕ)
-    → IsVerdict bytes Accepted → Spells bytes (module_shape a.«module») (shapes_of a.bodies.items) → IsCalls text (Good (calls_of calls)) → given ≡ calls → GiveParts a s given parts
-    → written ≡ parts → ((ends : List CallEnd) → AreParts 0 ends written → parts_text written ++ last ≡ report_text ends) → IsSomeAnswer bytes text (limits_of s) (parts_text parts ++ last)
-report_is bytes text a s calls given parts written last v spells said same (lines, gives, are) wrote whole =
+pub report_is : (a : AcceptedModule) (text : List ℕ) (s : Settings) (calls : List Call) (parts written : List Part) (last : List ℕ)
+    → IsCalls text (Good (calls_of calls)) → GiveParts a s calls parts → written ≡ parts → ((ends : List CallEnd) → AreParts 0 ends written → parts_text written ++ last ≡ report_text ends)
+    → IsAnswerFrom a text (limits_of s) (parts_text parts ++ last)
+report_is a text s calls parts written last said (lines, gives, are) wrote whole =
     let text' : parts_text parts ++ last ≡ report_text (ends_of lines) = ap (λ (l : List Part). parts_text l ++ last) (sym wrote) ∙ whole (ends_of lines) (subst (AreParts 0 (ends_of lines)) (sym wrote) are) in
-    report_on bytes text a s calls given lines lines (parts_text parts ++ last) v spells said same gives refl text'
+    report_on a text s calls calls lines lines (parts_text parts ++ last) said refl gives refl text'
 
 -- ---- a line alone
 
 -- where there are no parts the last line is all that is written
-pub line_alone : (bytes text : List ℕ) (l : Limits) (parts : List Part) (last : List ℕ) → parts ≡ [] → IsSomeAnswer bytes text l last → IsSomeAnswer bytes text l (parts_text parts ++ last)
-line_alone bytes text l parts last none h = subst (λ (p : List Part). IsSomeAnswer bytes text l (parts_text p ++ last)) (sym none) h
+pub line_alone : (P : List ℕ → Type 0) (parts : List Part) (last : List ℕ) → parts ≡ [] → P last → P (parts_text parts ++ last)
+line_alone P parts last none h = subst (λ (p : List Part). P (parts_text p ++ last)) (sym none) h
 
 -- ---- a write that failed
 

@@ -56,9 +56,9 @@ are_both : (n m : ℕ) (calls others : List Call) (groups more : List Group) →
 are_both n m calls others [] more h at g =
     let same : m ≡ n = omega (arith, at, ap length h) in
     subst (λ (l : List Call). AreGroups n (l ++ others) more) (sym h) (subst (λ (k : ℕ). AreGroups k others more) same g)
-are_both n m calls others (p ∷ ps) more (first, (rest, both, are)) at g =
+are_both n m calls others (p ∷ ps) more (first, some, (rest, both, are)) at g =
     let far : m ≡ n + length p.calls.now + length rest = omega (arith, at, ap length both, length-append p.calls.now rest) in
-    (first, (rest ++ others, ap (λ (l : List Call). l ++ others) both ∙ append_assoc p.calls.now rest others, are_both (n + length p.calls.now) m rest others ps more are far g))
+    (first, some, (rest ++ others, ap (λ (l : List Call). l ++ others) both ∙ append_assoc p.calls.now rest others, are_both (n + length p.calls.now) m rest others ps more are far g))
 
 -- groups are added after those that were added
 pub adds_both : (n m : ℕ) (calls others : List Call) (old groups new : List Group) → AddsGroups n calls old groups → m ≡ n + length calls → AddsGroups m others groups new → AddsGroups n (calls ++ others) old new
@@ -66,15 +66,23 @@ adds_both n m calls others old groups new (front, added, are) at (more, then', o
     (front ++ more, then' ∙ ap (λ (l : List Group). l ++ more) added ∙ append_assoc old front more, are_both n m calls others front more are at others')
 
 -- one group more, of the calls from one place to another
-pub adds_one : (n : ℕ) (calls : List Call) (from to : ℕ) (old groups : List Group) (g : Group) → from ≤ to → to ≤ length calls → AddsGroups n (take from calls) old groups → g.first ≡ n + from → g.calls.now ≡ take (to - from) (drop from calls)
+pub adds_one : (n : ℕ) (calls : List Call) (from to : ℕ) (old groups : List Group) (g : Group) → from < to → to ≤ length calls → AddsGroups n (take from calls) old groups → g.first ≡ n + from → g.calls.now ≡ take (to - from) (drop from calls)
     → AddsGroups n (take to calls) old (groups ++ g ∷ [])
 adds_one n calls from to old groups g order within h first is =
     let count : length (take from calls) ≡ from = simp length-take (omega arith) in
     let sum : from + (to - from) ≡ to = omega arith in
     let both : take from calls ++ g.calls.now ≡ take to calls = ap (λ (l : List Call). take from calls ++ l) is ∙ sym (take-add from (to - from) calls) ∙ ap (λ (k : ℕ). take k calls) sum in
-    let one : AddsGroups g.first g.calls.now groups (groups ++ g ∷ []) = (g ∷ [], refl, (refl, ([], sym (append-nil g.calls.now), refl))) in
+    let count' : length (take to calls) ≡ to = simp length-take (omega arith) in
+    let some : 0 < length g.calls.now = omega (arith, order, count, count', ap length both, length-append (take from calls) g.calls.now) in
+    let one : AddsGroups g.first g.calls.now groups (groups ++ g ∷ []) = (g ∷ [], refl, (refl, some, ([], sym (append-nil g.calls.now), refl))) in
     subst (λ (l : List Call). AddsGroups n l old (groups ++ g ∷ [])) both
     (adds_both n g.first (take from calls) g.calls.now old groups (groups ++ g ∷ []) h (first ∙ ap (λ (k : ℕ). n + k) (sym count)) one)
+
+-- no more groups than calls
+pub few_groups : (n : ℕ) (calls : List Call) (groups : List Group) → AreGroups n calls groups → length groups ≤ length calls
+few_groups n calls [] h = omega arith
+few_groups n calls (g ∷ gs) (first, some, (rest, both, are)) =
+    omega (arith, some, few_groups (n + length g.calls.now) rest gs are, ap length both, length-append g.calls.now rest)
 
 -- ---- slices
 
@@ -106,7 +114,7 @@ parts_from : (a : Accepted) (s : Settings) (n : ℕ) (calls : List Call) (groups
 parts_from a s n calls [] [] count are each = ([], subst (λ (l : List Call). GiveLines a s l []) (sym are) tt, refl)
 parts_from a s n calls [] (p ∷ ps) count are each = absurd (omega (arith, count))
 parts_from a s n calls (g ∷ gs) [] count are each = absurd (omega (arith, count))
-parts_from a s n calls (g ∷ gs) (p ∷ ps) count (first, (rest, both, are)) each =
+parts_from a s n calls (g ∷ gs) (p ∷ ps) count (first, some, (rest, both, are)) each =
     let (h, at, (front, gives, part)) = each 0 p refl in
     let same : h ≡ g = sym (same_Some g h at) in
     let gives' : GiveLines a s g.calls.now front = subst (λ (x : Group). GiveLines a s x.calls.now front) same gives in

@@ -1,4 +1,3 @@
-pub mod Alone
 pub mod CallEnds
 pub mod Trees
 pub mod Instance

@@ -1,27 +1,25 @@
 -- Answers are safe, by the laws on the execution of judged modules.
-use Rattle.std.proofs.Common.{◌≡◌, ℕ, zero, suc, ◌<◌, List, [], ◌∷◌, Option, Some, None, length, get_or, refl, sym, ap, subst, ◌∙◌}
+use Rattle.std.proofs.Common.{◌≡◌, ℕ, zero, suc, ◌<◌, List, [], ◌∷◌, Option, Some, None, length, get_or, refl, ap, subst, ◌∙◌}
 use Rattle.std.specs.Prelude.{IsTrue, slice_get}
 use Rattle.std.proofs.lemmas.Option.{same_Some, slice_get_within}
-use Rattle.wsyntax.specs.Types.{FuncType}
 use Rattle.wsyntax.specs.Modules.{ModuleShape, BodyShape}
 use Rattle.wsyntax.specs.Binary.Shell.{Shell, SpellsBody, SpellsBodies, Spells}
 use Rattle.wsyntax.specs.Validation.ModuleContext.{module_context, function_context, empty_type}
 use Rattle.wsyntax.specs.Validation.Rules.{NoneBroken}
 use Rattle.wsyntax.specs.Validation.Typing.{BodyTyped}
-use Rattle.wsyntax.specs.Validation.Verdict.{Accepted, IsVerdict, IsAccepted, AcceptedBefore, IsModule, function_at, result_of}
-use Rattle.wsyntax.specs.Execution.Values.{AreWords, types}
+use Rattle.wsyntax.specs.Validation.Verdict.{Accepted, IsVerdict, IsAccepted, AcceptedBefore, function_at, result_of}
+use Rattle.wsyntax.specs.Execution.Values.{AreWords}
 use Rattle.wsyntax.specs.Execution.Store.{Module, Store}
-use Rattle.wsyntax.specs.Execution.Ends.{Outcome, Values, Trapped, OutOfFuel, OutOfFrames}
+use Rattle.wsyntax.specs.Execution.Ends.{Values, Trapped, OutOfFuel, OutOfFrames}
 use Rattle.wsyntax.specs.Execution.ConfigTyped.{ValuesTyped}
 use Rattle.wsyntax.specs.Execution.Laws as laws
 use Rattle.wsyntax.specs.Execution.Start.{InstanceOf, start_refusal, fresh_store}
 use Rattle.wsyntax.specs.Texts.Calls.{Call, Good, IsCalls, TextLine, Ended, Unended, Says, SayAll, lines_of}
 use Rattle.wsyntax.specs.Texts.Report.{CallEnd, Ran, NoExport, NotAFunction, BadArguments, NotStarted, NoMemory}
-use Rattle.wsyntax.specs.Texts.Answer.{Limits, Names, Started, EndOf, EndsOf, ran}
-use Rattle.soundness.specs.Instances.{Judged, TypedAt, SegmentsAreBytes, Instantiated, StartIsPlain, CallsTyped, CallsAreSafe}
+use Rattle.wsyntax.specs.Texts.Answer.{Limits, Started, EndOf, EndsOf, ran}
+use Rattle.soundness.specs.Instances.{Judged, TypedAt, Instantiated, StartIsPlain, CallsTyped, CallsAreSafe}
 use Rattle.verdict.specs.Laws.{SegmentsHoldBytes}
-use Rattle.batch.specs.Ends.{IsCallee}
-use Rattle.batch.specs.Safe.{IsRun, NoneStuck, NeverStuck, GivesTyped, EachGivesTyped, ValuesAreTyped, IsSafe}
+use Rattle.batch.specs.Safe.{IsRun, NoneStuck, GivesTyped, EachGivesTyped, ValuesAreTyped, IsSafe}
 
 -- ---- what crates below promise
 

@@ -1,13 +1,16 @@
 -- The calls of a text, from those of its slices.
 use denote.Ref.{Bor}
-use Rattle.std.proofs.Common.{◌≡◌, ℕ, suc, ◌≤◌, List, [], ◌∷◌, Some, Ok, Vec, length, flat_map, refl, sym, subst, ◌∙◌, arith}
+use Rattle.std.proofs.Common.{◌≡◌, ℕ, suc, ◌+◌, ◌≤◌, List, [], ◌∷◌, ◌++◌, Some, Ok, Vec, length, flat_map, length-append, refl, sym, ap, subst, ◌∙◌, arith}
 use Rattle.std.specs.Prelude.{slice_get}
 use Rattle.std.specs.declared.alloc.Global.{Global}
+use Rattle.std.proofs.lemmas.Grind.{flat_map-append}
+use Rattle.std.proofs.lemmas.List.{length-map}
 use Rattle.std.proofs.lemmas.Option.{same_Some}
+use Rattle.wsyntax.specs.Texts.Words.{newline}
 use Rattle.wsyntax.specs.Texts.Calls.{Good, IsCalls, calls_limit, line_limit}
 use Rattle.pieces.specs.TryAll.{AllPass}
 use Rattle.texts.specs.Calls.{ReadsCalls, calls_of}
-use Rattle.texts.specs.Slices.{slices_of, CutsLines, EachRead, CountsCalls, joined_calls}
+use Rattle.texts.specs.Slices.{slices_of, EachEndsLine, CutsLines, EachRead, CountsCalls, joined_calls}
 use Rattle.texts.specs.declared.call.Call.{Call}
 use Rattle.batch.specs.Slices.{SaysCalls, GivesCalls, SayTogether}
 
@@ -29,3 +32,27 @@ text_read text size n count slices given read counted small cuts same many all i
     let fits : length (flat_map (λ s. s) (slices_of slices)) ≤ calls_limit = subst (λ (l : List ℕ). length l ≤ calls_limit) cuts.joined small in
     let (sum, few, say) = subst (λ (l : List (Vec Call Global)). CountsCalls l (Some count)) is counts in
     (subst (λ (l : List ℕ). IsCalls l (Good (calls_of (joined_calls read)))) (sym cuts.joined) (say (slices_of slices) each fits), subst (λ (k : ℕ). k ≤ line_limit) sum few)
+
+-- ---- how many slices there are
+
+-- each of them has a byte
+front_bytes : (size : ℕ) (fronts : List (List ℕ)) → EachEndsLine size fronts → length fronts ≤ length (flat_map (λ s. s) fronts)
+front_bytes size [] h = omega arith
+front_bytes size (f ∷ fs) ((front, is, far), rest) =
+    omega (arith, front_bytes size fs rest, ap length is, length-append front newline, length-append f (flat_map (λ s. s) fs))
+
+-- no more than bytes, and the last
+pub few_slices : (size : ℕ) (text : List ℕ) (slices : List (Bor (List ℕ))) → CutsLines size text (slices_of slices) → length slices ≤ length text + 1
+few_slices size text slices cuts =
+    let both : flat_map (λ s. s) (slices_of slices) ≡ flat_map (λ s. s) cuts.fronts ++ flat_map (λ s. s) (cuts.last ∷ []) =
+    ap (flat_map (λ s. s)) cuts.all ∙ flat_map-append (λ (s : List ℕ). s) cuts.fronts (cuts.last ∷ []) in
+    omega (
+      arith,
+      front_bytes size cuts.fronts cuts.ended,
+      ap length cuts.all,
+      length-map slices (λ s. s.now),
+      length-append cuts.fronts (cuts.last ∷ []),
+      ap length cuts.joined,
+      ap length both,
+      length-append (flat_map (λ s. s) cuts.fronts) (flat_map (λ s. s) (cuts.last ∷ [])),
+    )

@@ -1,12 +1,13 @@
 -- What is left behind for a module and a text of calls.
 use Rattle.std.specs.Prelude.{◌≡◌, ◌++◌, ℕ, Bool, IsTrue, List, Option, Some, None, Result, Ok, Err, IsSomeAnd}
 use Rattle.std.specs.Io.KnownBytes.{Keeps, Appends}
-use Rattle.wsyntax.specs.Modules.{module_shape}
+use Rattle.wsyntax.specs.Modules.{ModuleShape, BodyShape, module_shape}
 use Rattle.wsyntax.specs.Binary.Shell.{Spells}
 use Rattle.wsyntax.specs.Validation.Verdict.{Verdict, Accepted, IsVerdict}
 use Rattle.wsyntax.specs.Texts.Lines.{verdict_line}
 use Rattle.wsyntax.specs.Texts.Calls.{CallsText, TooLong, BadLine, Good as GoodCalls, IsCalls}
-use Rattle.wsyntax.specs.Texts.Answer.{Limits, IsAnswer, calls_line}
+use Rattle.wsyntax.specs.Texts.Report.{CallEnd, report_text}
+use Rattle.wsyntax.specs.Texts.Answer.{Limits, EndsOf, IsAnswer, calls_line}
 use Rattle.accepted.specs.declared.accepted.Accepted.{Accepted as AcceptedModule}
 use Rattle.accepted.specs.Judgement.{shapes_of}
 use Rattle.texts.specs.declared.fault.CallsFault.{CallsFault}
@@ -21,7 +22,17 @@ use Rattle.batch.specs.declared.status.AnswerFault.TheVariants.{Memory, Write}
 abbrev pub IsSomeAnswer : List ℕ → List ℕ → Limits → List ℕ → Type 0
 IsSomeAnswer bytes text l out = (short : ℕ → Bool) × IsAnswer bytes text l (λ n. IsTrue (short n)) out
 
--- the answer to an accepted module that these bytes spell, whichever spell it, where some of the calls ran out of memory
+-- the answer on an accepted module with these bodies, by what the text of calls is
+abbrev pub AnswersText : ModuleShape → List BodyShape → CallsText → Limits → (ℕ → Type 0) → List ℕ → Type 0
+AnswersText m bodies (GoodCalls calls) l short out = (ends : List CallEnd) × EndsOf m bodies l short 0 calls ends × (out ≡ report_text ends)
+AnswersText m bodies bad l short out = out ≡ verdict_line Accepted ++ calls_line bad
+
+-- the answer by what an accepted module holds, whether bytes spell it or not, where some of the calls ran out of memory
+abbrev pub IsAnswerFrom : AcceptedModule → List ℕ → Limits → List ℕ → Type 0
+IsAnswerFrom a text l out =
+    (short : ℕ → Bool) × (c : CallsText) × IsCalls text c × AnswersText (module_shape a.«module») (shapes_of a.bodies.items) c l (λ n. IsTrue (short n)) out
+
+-- the answer to whatever bytes are accepted and spell this module, where some of the calls ran out of memory
 abbrev pub IsAnswerOn : AcceptedModule → List ℕ → Limits → List ℕ → Type 0
 IsAnswerOn a text l out = (bytes : List ℕ) → IsVerdict bytes Accepted → Spells bytes (module_shape a.«module») (shapes_of a.bodies.items) → IsSomeAnswer bytes text l out
 

@@ -1,18 +1,14 @@
 -- How the calls of a batch end.
-use Rattle.std.specs.Prelude.{◌≡◌, ◌≢◌, ℕ, ◌+◌, Bool, true, false, IsTrue, List, [], Option, Some, None, slice_get}
+use Rattle.std.specs.Prelude.{◌≡◌, ℕ, Bool, true, false, IsTrue, List, Option, Some, None, slice_get}
 use Rattle.wsyntax.specs.Modules.{ModuleShape, BodyShape, module_shape}
 use Rattle.wsyntax.specs.Types.{FuncType}
 use Rattle.wsyntax.specs.declared.value.Value.{Value}
 use Rattle.wsyntax.specs.Execution.Values.{types}
-use Rattle.wsyntax.specs.Execution.Store.{Module, Store}
-use Rattle.wsyntax.specs.Execution.Ends as meant
-use Rattle.wsyntax.specs.Execution.Ends.{Ends}
-use Rattle.wsyntax.specs.Execution.Start.{InstanceOf, start_refusal, fresh_store}
+use Rattle.wsyntax.specs.Execution.Start.{start_refusal}
 use Rattle.wsyntax.specs.Texts.Calls.{Call as Meant}
-use Rattle.wsyntax.specs.Texts.Answer.{Limits, Names, Started, EndsOn, EndOf, EndsOf}
+use Rattle.wsyntax.specs.Texts.Answer.{Limits, Names, EndOf, EndsOf}
 use Rattle.wsyntax.specs.Outcomes.{outcome_of}
 use Rattle.wsyntax.specs.StartRefusals.{refusal_of}
-use Rattle.wsyntax.specs.declared.outcome.Outcome.{Outcome}
 use Rattle.texts.specs.Calls.{call_of, calls_of}
 use Rattle.texts.specs.Ends.{end_of, ends_of}
 use Rattle.texts.specs.declared.call.Call.{Call}
@@ -22,29 +18,15 @@ use Rattle.accepted.specs.declared.accepted.Accepted.{Accepted}
 use Rattle.accepted.specs.Judgement.{shapes_of}
 use Rattle.wstore.specs.declared.settings.Settings.{Settings}
 use Rattle.wstore.specs.CallLimits.{limits_of}
+use Rattle.wmachine.specs.Starts.{EndsOnEach}
 
 -- ---- one call, alone
 
--- 4.5.4 the start function was run, where there is one: it left store s and some fuel; or it ended otherwise than in no values
-abbrev pub StartEnds : ModuleShape → Module → Limits → Store → ℕ → Option Outcome → Type 0
-StartEnds m i l s left None = (k : ℕ) × Started m i l s k × (l.fuel ≡ k + left)
-StartEnds m i l s left (Some o) =
-    (g : ℕ) × (k : ℕ) × (m.start ≡ Some g) × Ends i (fresh_store l.pages m) g [] l.fuel l.frames (outcome_of o) k s × (outcome_of o ≢ meant.Values []) × (l.fuel ≡ k + left)
-
--- the same on each instance of the module
-abbrev pub StartEndsOnEach : ModuleShape → List BodyShape → Limits → Store → ℕ → Option Outcome → Type 0
-StartEndsOnEach m bodies l s left end = (i : Module) → InstanceOf m bodies i → StartEnds m i l s left end
-
--- 4.5.5 the line says how the call of function f ends on each instance of the module
-abbrev pub RanAlone : ModuleShape → List BodyShape → Limits → ℕ → List Value → Line → Type 0
-RanAlone m bodies l f args (Ran o k) = (i : Module) → InstanceOf m bodies i → EndsOn m i l f args (outcome_of o) k
-RanAlone m bodies l f args _ = ⊥
-
--- it says why there is no instance; or that memory ran out, where nothing refuses the instance; or how the call ends
+-- the line says why there is no instance; or that memory ran out, where nothing refuses the instance; or how the call of function f ends
 abbrev pub EndsAlone : ModuleShape → List BodyShape → Limits → ℕ → List Value → Line → Type 0
 EndsAlone m bodies l f args (NotStarted r) = start_refusal l.pages m bodies ≡ Some (refusal_of r)
 EndsAlone m bodies l f args NoMemory = start_refusal l.pages m bodies ≡ None
-EndsAlone m bodies l f args (Ran o k) = (start_refusal l.pages m bodies ≡ None) × RanAlone m bodies l f args (Ran o k)
+EndsAlone m bodies l f args (Ran o k) = (start_refusal l.pages m bodies ≡ None) × EndsOnEach m bodies l f args (outcome_of o) k
 EndsAlone m bodies l f args NoExport = ⊥
 EndsAlone m bodies l f args NotAFunction = ⊥
 EndsAlone m bodies l f args BadArguments = ⊥

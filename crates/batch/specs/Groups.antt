@@ -1,5 +1,5 @@
 -- The calls of a batch in groups of consecutive ones.
-use Rattle.std.specs.Prelude.{◌≡◌, ℕ, ◌+◌, List, [], ◌∷◌, ◌++◌, Some, length, slice_get}
+use Rattle.std.specs.Prelude.{◌≡◌, ℕ, ◌+◌, ◌<◌, List, [], ◌∷◌, ◌++◌, Some, length, slice_get}
 use Rattle.texts.specs.Ends.{ends_of}
 use Rattle.texts.specs.Parts.{IsPart, AreParts}
 use Rattle.texts.specs.declared.call.Call.{Call}
@@ -10,10 +10,11 @@ use Rattle.wstore.specs.declared.settings.Settings.{Settings}
 use Rattle.batch.specs.Ends.{GivesLine}
 use Rattle.batch.specs.declared.group.Group.{Group}
 
--- the groups have these calls, from number n on: the first group has those in front, and the others have the rest
+-- the groups have these calls, from number n on: the first group has those in front, one at least, and the others have the rest
 abbrev pub AreGroups : ℕ → List Call → List Group → Type 0
 AreGroups n calls [] = calls ≡ []
-AreGroups n calls (g ∷ gs) = (g.first ≡ n) × ((rest : List Call) × (calls ≡ g.calls.now ++ rest) × AreGroups (n + length g.calls.now) rest gs)
+AreGroups n calls (g ∷ gs) =
+    (g.first ≡ n) × (0 < length g.calls.now) × ((rest : List Call) × (calls ≡ g.calls.now ++ rest) × AreGroups (n + length g.calls.now) rest gs)
 
 -- groups of these calls, from number n on, stand after the old ones
 abbrev pub AddsGroups : ℕ → List Call → List Group → List Group → Type 0

@@ -7,6 +7,7 @@ use Rattle.texts.specs.Calls.{ReadsCalls, calls_of}
 use Rattle.texts.specs.Slices.{joined_calls}
 use Rattle.texts.specs.declared.call.Call.{Call}
 use Rattle.texts.specs.declared.fault.CallsFault.{CallsFault}
+use Rattle.batch.specs.declared.sliced.SlicedCalls.{SlicedCalls}
 
 -- slice i says calls
 abbrev pub SaysCalls : List (Bor (List ℕ)) → ℕ → Type 0
@@ -21,6 +22,6 @@ abbrev pub SayTogether : List ℕ → List (Vec Call Global) → Type 0
 SayTogether text slices = IsCalls text (Good (calls_of (joined_calls slices))) × (length (joined_calls slices) ≤ line_limit)
 
 -- what reading a text in slices gives: their calls, or what is wrong with the text
-abbrev pub ReadsSlices : List ℕ → Result (Vec (Vec Call Global) Global) CallsFault → Type 0
-ReadsSlices text (Ok slices) = SayTogether text slices.items
+abbrev pub ReadsSlices : List ℕ → Result SlicedCalls CallsFault → Type 0
+ReadsSlices text (Ok sliced) = SayTogether text sliced.slices.items
 ReadsSlices text (Err fault) = ReadsCalls text (Err fault)

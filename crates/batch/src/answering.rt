@@ -3,7 +3,7 @@
 ghost use Rattle.std.specs.Prelude.{IfErr, IfOk, string_bytes};
 ghost use Rattle.wsyntax.specs.Validation.Verdict.{Accepted as accepted_verdict};
 ghost use Rattle.wstore.specs.CallLimits.{limits_of};
-ghost use Rattle.batch.specs.Answers.{Answers, HasStatus, IsAnswerOn, IsSomeAnswer, SaysRefused, StatusBy};
+ghost use Rattle.batch.specs.Answers.{Answers, HasStatus, IsAnswerFrom, IsSomeAnswer, SaysRefused, StatusBy};
 ghost use Rattle.batch.specs.Output.{FallsShort};
 ghost use Rattle.batch.specs.Whole.{text_of};
 ghost use Rattle.batch.specs.Safe.{NeverStuck, ValuesAreTyped};
@@ -23,7 +23,7 @@ use texts::{CallsFault, Part, last_line};
 use verdict::{Accepted, judge};
 use wstore::Settings;
 
-/// What is written, the texts of some parts and a last line after them, and what it is.
+/// An answer: the texts of its parts, the line after them, and its status.
 #[derive(Drop)]
 struct Written {
     parts: Vec<Part>,
@@ -52,11 +52,11 @@ fn answer_on<R: Threads + Wait + Sync, W: Watch + Sync>(
     plan: Plan,
     watch: &W,
 ) -> Result<Written, AllocError>
-    ensures answer { IfOk result (λ a. IsAnswerOn accepted.now calls.now (limits_of settings) (text_of a)) }
+    ensures answer { IfOk result (λ a. IsAnswerFrom accepted.now calls.now (limits_of settings) (text_of a)) }
     ensures status { IfOk result (λ a. StatusBy calls.now accepted_verdict a.status) }
 {
-    let slices = match read_by_workers(rt, alloc, calls, plan) {
-        Ok(slices) => slices,
+    let sliced = match read_by_workers(rt, alloc, calls, plan) {
+        Ok(sliced) => sliced,
         Err(fault) => {
             return Ok(Written {
                 parts: Vec::new(alloc),
@@ -65,7 +65,7 @@ fn answer_on<R: Threads + Wait + Sync, W: Watch + Sync>(
             });
         }
     };
-    let parts = run_groups(rt, alloc, accepted, &slices, settings, plan, watch)?;
+    let parts = run_groups(rt, alloc, accepted, &sliced, settings, plan, watch)?;
     let last = last_line(alloc, &parts)?;
     Ok(Written {
         parts,

@@ -1,6 +1,6 @@
 //! The calls of a batch in groups.
 
-ghost use Rattle.std.specs.Prelude.{◌<◌, ◌+◌, ◌^◌, IfOk, OnOk, length};
+ghost use Rattle.std.specs.Prelude.{◌<◌, ◌≤◌, ◌+◌, ◌^◌, IfOk, OnOk, length};
 ghost use Rattle.texts.specs.Slices.{joined_calls};
 ghost use Rattle.batch.specs.Groups.{AreGroups, AddsGroups};
 
@@ -43,7 +43,8 @@ pub(crate) fn groups_of<'s, 't>(
 ) -> Result<Vec<Group<'s, 't>>, AllocError>
     requires few { length (joined_calls slices.now) < 2 ^ 32 }
     requires some { 0 < size }
-    ensures { IfOk result (λ groups. AreGroups 0 (joined_calls slices.now) groups.items) }
+    ensures groups { IfOk result (λ groups. AreGroups 0 (joined_calls slices.now) groups.items) }
+    ensures few { IfOk result (λ groups. length groups.items ≤ length (joined_calls slices.now)) }
 {
     let mut groups = Vec::new(alloc);
     let mut first = 0;

@@ -14,8 +14,12 @@ mod report;
 mod runner;
 mod running;
 mod sequential;
+mod sliced;
 mod slices;
 mod status;
+#[cfg(test)]
+mod tests;
+mod tuning;
 
 pub use answering::answer;
 pub use laws::{answers_are_safe, one_answer};
@@ -30,7 +34,3 @@ pub use sequential::{Answer, answer_alone, answer_on_alone};
 pub use status::{AnswerFault, Status};
 pub use texts::{Call, CallsFault, Line, read_calls};
 pub use wstore::Settings;
-
-#[cfg(test)]
-mod tests;
-mod tuning;

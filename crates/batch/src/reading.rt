@@ -3,6 +3,7 @@
 ghost use Rattle.std.specs.Prelude.{◌≤◌, IfOk, IfSome, length};
 ghost use Rattle.batch.specs.Slices.{ReadsSlices, SayTogether};
 
+use crate::sliced::SlicedCalls;
 use crate::slices::Slices;
 use crate::tuning::{SHORT_TEXT, SLICES_EACH};
 use pieces::{Plan, TryFault, try_all};
@@ -18,15 +19,14 @@ fn read_slices<'t, R: Threads + Wait + Sync>(
     alloc: Global,
     text: &'t [u8],
     plan: Plan,
-) -> Result<Option<Vec<Vec<Call<'t>>>>, AllocError>
+) -> Result<Option<SlicedCalls<'t>>, AllocError>
     requires { length text.now ≤ CALLS_LIMIT }
-    ensures { IfOk result (λ read. IfSome read (λ slices. SayTogether text.now slices.items)) }
+    ensures { IfOk result (λ read. IfSome read (λ sliced. SayTogether text.now sliced.slices.items)) }
 {
     let workers = plan.workers() as usize;
     let slices = cut_lines(alloc, text, text.len() / (SLICES_EACH * workers))?;
-    let Ok(count) = u32::try_from(slices.len()) else {
-        return Err(AllocError);
-    };
+    // Each slice but the last has a byte at least.
+    let count = slices.len() as u32;
     let locals = vec![in alloc; (); workers]?;
     let job = Slices {
         alloc,
@@ -34,7 +34,10 @@ fn read_slices<'t, R: Threads + Wait + Sync>(
     };
     match try_all(rt, alloc, &job, locals, count, plan.one_group_each()) {
         Ok(read) => match count_calls(&read) {
-            Some(_) => Ok(Some(read)),
+            Some(all) => Ok(Some(SlicedCalls {
+                slices: read,
+                count: all as u32,
+            })),
             None => Ok(None),
         },
         Err(TryFault::Stopped { .. }) => Ok(None),
@@ -43,13 +46,14 @@ fn read_slices<'t, R: Threads + Wait + Sync>(
 }
 
 /// All calls of a text as those of one slice.
-fn read_at_once<'t>(alloc: Global, text: &'t [u8]) -> Result<Vec<Vec<Call<'t>>>, CallsFault>
+fn read_at_once<'t>(alloc: Global, text: &'t [u8]) -> Result<SlicedCalls<'t>, CallsFault>
     ensures { ReadsSlices text.now result }
 {
     let calls = read_calls(alloc, text)?;
+    let count = calls.len() as u32;
     let mut slices = Vec::with_capacity(alloc, 1)?;
     slices.push(calls)?;
-    Ok(slices)
+    Ok(SlicedCalls { slices, count })
 }
 
 /// Reads a text of calls as `read_calls` does, a long one in slices by the workers. Where these do not say calls, one thread
@@ -59,14 +63,14 @@ pub(crate) fn read_by_workers<'t, R: Threads + Wait + Sync>(
     alloc: Global,
     text: &'t [u8],
     plan: Plan,
-) -> Result<Vec<Vec<Call<'t>>>, CallsFault>
+) -> Result<SlicedCalls<'t>, CallsFault>
     ensures { ReadsSlices text.now result }
 {
     if plan.workers() == 1 || text.len() < SHORT_TEXT || text.len() > CALLS_LIMIT {
         return read_at_once(alloc, text);
     }
     match read_slices(rt, alloc, text, plan)? {
-        Some(slices) => Ok(slices),
+        Some(sliced) => Ok(sliced),
         None => read_at_once(alloc, text),
     }
 }

@@ -31,7 +31,7 @@ pub fn report_verdict<R: Threads + Wait + Sync, W: Watch + Sync, O: Write>(
     write_verdict(alloc, judged, out)
 }
 
-// Writes the line of the verdict that the judge gave.
+/// Writes the line of the verdict that the judge gave.
 pub(crate) fn write_verdict<O: Write>(
     alloc: Global,
     judged: Result<(), Refusal>,
@@ -49,7 +49,7 @@ pub(crate) fn write_verdict<O: Write>(
     }
 }
 
-// Good exactly where the judge refused nothing.
+/// Good exactly where the judge refused nothing.
 fn status(judged: Result<(), Refusal>) -> Status
     ensures { (v : Verdict) → given_verdict judged ≡ Some v → result ≡ status_of v }
 {

@@ -3,7 +3,7 @@
 ghost use Rattle.std.specs.Prelude.{IfOk, string_bytes};
 ghost use Rattle.wsyntax.specs.Validation.Verdict.{Accepted as accepted_verdict};
 ghost use Rattle.wstore.specs.CallLimits.{limits_of};
-ghost use Rattle.batch.specs.Answers.{HasStatus, IsAnswerOn, IsSomeAnswer, StatusBy};
+ghost use Rattle.batch.specs.Answers.{HasStatus, IsAnswerFrom, IsAnswerOn, IsSomeAnswer, StatusBy};
 ghost use Rattle.batch.specs.Safe.{NeverStuck, ValuesAreTyped};
 ghost use Rattle.batch.specs.Groups.{GiveLines};
 
@@ -18,7 +18,7 @@ use texts::{Call, Line, read_calls, report};
 use verdict::{Accepted, judge_alone};
 use wstore::Settings;
 
-/// The text of an answer, and what it is.
+/// The text of an answer, and its status.
 #[derive(Drop)]
 pub struct Answer {
     pub text: String,
@@ -44,15 +44,16 @@ fn lines_alone(
     Ok(lines)
 }
 
-/// The answer on a module that is judged already: as `answer` on its bytes, on the calling thread alone. The calls have one
-/// memory in turn. Out of memory is an error only where no line can say it: where the text of calls is read, or the answer
-/// is made.
+/// The answer on a module that is judged already, on the calling thread alone: by what `accepted` holds (`held`), so that of
+/// `answer` on the bytes that it was judged from (`answer`). The calls have one memory in turn. Out of memory is an error only
+/// where no line can say it: where the text of calls is read, or the answer is made.
 pub fn answer_on_alone(
     alloc: Global,
     accepted: &Accepted<'_>,
     calls: &[u8],
     settings: Settings,
 ) -> Result<Answer, AllocError>
+    ensures held { IfOk result (λ a. IsAnswerFrom accepted.now calls.now (limits_of settings) (string_bytes a.text)) }
     ensures answer { IfOk result (λ a. IsAnswerOn accepted.now calls.now (limits_of settings) (string_bytes a.text)) }
     ensures status { IfOk result (λ a. StatusBy calls.now accepted_verdict a.status) }
 {

@@ -1,5 +1,5 @@
-// The lines word by word, writers that fail, take a byte at a time, or take none, and whole answers, by workers and by one
-// thread alone.
+//! The lines word by word, writers that fail, take a byte at a time, or take none, and whole answers, by workers and by one
+//! thread alone.
 use crate::answering::answer;
 use crate::line::verdict_line;
 use crate::report::write_verdict;
@@ -19,7 +19,7 @@ use texts::{read_calls, report};
 use verdict::{BodyRefusal, Refusal, judge_alone};
 use wstore::Settings;
 
-// Holds what it takes: `at_once` bytes a write, `room` in all. Then it fails, or takes no byte.
+/// Holds what it takes: `at_once` bytes a write, `room` in all. Then it fails, or takes no byte.
 #[derive(Drop)]
 struct Narrow {
     held: Vec<u8>,
@@ -131,14 +131,14 @@ fn without_memory_nothing_is_written(rt: HostRuntime) {
     assert!(rt; out.held.is_empty());
 }
 
-// (func (export "add") (param i32 i32) (result i32) (i32.add (local.get 0) (local.get 1)))
+/// (func (export "add") (param i32 i32) (result i32) (i32.add (local.get 0) (local.get 1)))
 const ADD: &[u8] = b"\0asm\x01\0\0\0\
     \x01\x07\x01\x60\x02\x7f\x7f\x01\x7f\
     \x03\x02\x01\0\
     \x07\x07\x01\x03add\0\0\
     \x0a\x09\x01\x07\0\x20\0\x20\x01\x6a\x0b";
 
-// A global that the start function sets to 7, and functions that read it, trap, and go round a loop.
+/// A global that the start function sets to 7, and functions that read it, trap, and go round a loop.
 const STARTED: &[u8] = b"\0asm\x01\0\0\0\
     \x01\x08\x02\x60\0\0\x60\0\x01\x7f\
     \x03\x05\x04\0\x01\0\0\
@@ -147,7 +147,7 @@ const STARTED: &[u8] = b"\0asm\x01\0\0\0\
     \x08\x01\0\
     \x0a\x19\x04\x06\0\x41\x07\x24\0\x0b\x04\0\x23\0\x0b\x03\0\0\x0b\x07\0\x03\x40\x0c\0\x0b\x0b";
 
-// What is written for a module and calls, and its status. One thread alone has to give the same.
+/// What is written for a module and calls, and its status. One thread alone has to give the same.
 fn answered<R: AllocGlobal + Threads + Wait + Abort + Sync>(
     rt: &R,
     module: &[u8],
@@ -222,9 +222,9 @@ fn refusals_are_answered(rt: HostRuntime) -> Result<(), Fail> {
     Ok(())
 }
 
-// (memory 1)
-// (func (export "next") (result i32)
-//   (i32.store (i32.const 0) (i32.add (i32.load (i32.const 0)) (i32.const 1))) (i32.load (i32.const 0)))
+/// (memory 1)
+/// (func (export "next") (result i32)
+///   (i32.store (i32.const 0) (i32.add (i32.load (i32.const 0)) (i32.const 1))) (i32.load (i32.const 0)))
 const COUNTING: &[u8] = b"\0asm\x01\0\0\0\
     \x01\x05\x01\x60\0\x01\x7f\
     \x03\x02\x01\0\
@@ -232,7 +232,7 @@ const COUNTING: &[u8] = b"\0asm\x01\0\0\0\
     \x07\x08\x01\x04next\0\0\
     \x0a\x16\x01\x14\0\x41\0\x41\0\x28\x02\0\x41\x01\x6a\x36\x02\0\x41\0\x28\x02\0\x0b";
 
-// The second call has the memory of the first, clean.
+/// The second call has the memory of the first, clean.
 #[test]
 fn calls_alone_have_one_memory_in_turn(rt: HostRuntime) -> Result<(), Fail> {
     let alloc = rt.alloc();
@@ -256,7 +256,7 @@ fn calls_alone_have_one_memory_in_turn(rt: HostRuntime) -> Result<(), Fail> {
     Ok(())
 }
 
-// Texts that are long enough for several workers.
+/// Texts that are long enough for several workers.
 #[test]
 fn long_texts_are_answered(rt: HostRuntime) -> Result<(), Fail> {
     let alloc = rt.alloc();
@@ -299,7 +299,7 @@ fn long_texts_are_answered(rt: HostRuntime) -> Result<(), Fail> {
     Ok(())
 }
 
-// The answer to the call of `add` on 1 and 2.
+/// The answer to the call of `add` on 1 and 2.
 const SUM: &[u8] = b"0 values i32:3 fuel 1\n\
     total 1 values 1 traps 0 exhausted 0 refused 0 no-memory 0 fuel 1\n";
 

@@ -1,6 +1,6 @@
 //! Sizes that were chosen by measuring. No promise depends on one of them; bench/LAB.md has what was measured.
 
-/// The bytes of a text that one thread reads before others have started.
+/// One thread reads a text of fewer bytes before others have started.
 pub(crate) const SHORT_TEXT: usize = 65_536;
 
 /// How many slices there are for each worker, so that one that comes late is not waited for long.

@@ -4,7 +4,7 @@ use memory::CleanMem;
 use std::alloc::Global;
 use thiserror::Error;
 use verdict::Accepted;
-use wmachine::{Fuel, Outcome, fits, invoke};
+use wmachine::{Outcome, fits, start_and_invoke};
 use wstore::{NotStarted, Settings, StartFault, instantiate};
 use wsyntax::{ExportKind, Value};
 
@@ -17,14 +17,12 @@ pub enum CallFault {
     BadArguments,
     #[error("no instance: {0}")]
     NotStarted(StartFault),
-    #[error("the start function did not end in values")]
-    StartEnded,
     #[error("no memory")]
     Memory,
 }
 
-/// Calls an export on a fresh instance, after the module's start function. What it does to its memory nobody sees
-/// afterwards.
+/// Calls an export on a fresh instance, after the module's start function. Where that does not end in values, its end is that
+/// of the call. What the call does to its memory nobody sees afterwards.
 pub fn call(
     alloc: Global,
     accepted: &Accepted<'_>,
@@ -42,32 +40,8 @@ pub fn call(
         Ok(instance) => instance,
         Err(NotStarted { fault, clean: _ }) => return Err(CallFault::NotStarted(fault)),
     };
-    settings.in_range();
-    let Some(mut fuel) = Fuel::new(settings.fuel()) else {
-        unreachable!()
-    };
-    accepted.start_is_plain();
-    if let Some(start) = accepted.module().start {
-        match invoke(
-            alloc,
-            &mut instance,
-            start,
-            &[],
-            &mut fuel,
-            settings.frames(),
-        ) {
-            Ok(Outcome::Values(_)) => {}
-            Ok(_) => return Err(CallFault::StartEnded),
-            Err(_) => return Err(CallFault::Memory),
-        }
+    match start_and_invoke(alloc, &mut instance, function, args, settings) {
+        Ok(ended) => Ok(ended.outcome),
+        Err(_) => Err(CallFault::Memory),
     }
-    invoke(
-        alloc,
-        &mut instance,
-        function,
-        args,
-        &mut fuel,
-        settings.frames(),
-    )
-    .map_err(|_| CallFault::Memory)
 }

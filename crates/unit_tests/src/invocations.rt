@@ -9,7 +9,7 @@ use std::sync::Wait;
 use std::test::Fail;
 use std::thread::Threads;
 use verdict::{Accepted, judge};
-use wmachine::{Fuel, Outcome, fits, invoke};
+use wmachine::{Ended, Fuel, Outcome, fits, invoke, start_and_invoke};
 use wstore::{Instance, Settings, instantiate};
 use wsyntax::{Trap, Value};
 
@@ -31,6 +31,23 @@ static SUM: [u8; 56] = [
     0x03, 0x02, 0x01, 0x00, 0x07, 0x05, 0x01, 0x01, 0x66, 0x00, 0x00, 0x0A, 0x1B, 0x01, 0x19, 0x01,
     0x01, 0x7F, 0x03, 0x40, 0x20, 0x01, 0x20, 0x00, 0x6A, 0x21, 0x01, 0x20, 0x00, 0x41, 0x01, 0x6B,
     0x22, 0x00, 0x0D, 0x00, 0x0B, 0x20, 0x01, 0x0B,
+];
+
+// (module (global (mut i32) (i32.const 1))
+//   (func $start (global.set 0 (i32.const 41)))
+//   (func (param i32) (result i32) (i32.add (global.get 0) (local.get 0)))
+//   (start $start))
+static STARTS: [u8; 53] = [
+    0x00, 0x61, 0x73, 0x6D, 0x01, 0x00, 0x00, 0x00, 0x01, 0x09, 0x02, 0x60, 0x00, 0x00, 0x60, 0x01,
+    0x7F, 0x01, 0x7F, 0x03, 0x03, 0x02, 0x00, 0x01, 0x06, 0x06, 0x01, 0x7F, 0x01, 0x41, 0x01, 0x0B,
+    0x08, 0x01, 0x00, 0x0A, 0x10, 0x02, 0x06, 0x00, 0x41, 0x29, 0x24, 0x00, 0x0B, 0x07, 0x00, 0x23,
+    0x00, 0x20, 0x00, 0x6A, 0x0B,
+];
+
+// (module (func $start unreachable) (func) (start $start))
+static START_TRAPS: [u8; 32] = [
+    0x00, 0x61, 0x73, 0x6D, 0x01, 0x00, 0x00, 0x00, 0x01, 0x04, 0x01, 0x60, 0x00, 0x00, 0x03, 0x03,
+    0x02, 0x00, 0x00, 0x08, 0x01, 0x00, 0x0A, 0x08, 0x02, 0x03, 0x00, 0x00, 0x0B, 0x02, 0x00, 0x0B,
 ];
 
 fn accepted<'a, R: Threads + Wait + Abort + Sync>(
@@ -82,6 +99,24 @@ fn call<R: Threads + Wait + Abort + Sync>(
 ) -> (Outcome, u32, u64) {
     let accepted = accepted(rt, alloc, bytes);
     call_on(rt, alloc, &accepted, function, args, limit, frames)
+}
+
+// How a call on a fresh instance ends, after the start function.
+fn call_after_start<R: Threads + Wait + Abort + Sync>(
+    rt: &R,
+    alloc: Global,
+    bytes: &[u8],
+    function: u32,
+    args: &[Value],
+    limit: u32,
+) -> Ended {
+    let accepted = accepted(rt, alloc, bytes);
+    let settings = Settings::new(limit, 1, 0).expect(rt, "settings");
+    let Ok(mut instance) = instantiate(alloc, &accepted, settings, CleanMem::empty(alloc)) else {
+        panic!(rt; "no instance")
+    };
+    assert!(rt; fits(&accepted, function, args));
+    start_and_invoke(alloc, &mut instance, function, args, settings).expect(rt, "memory")
 }
 
 // Calls an instance that has failed.
@@ -153,4 +188,39 @@ fn dispatches_each_turn_of_a_loop(rt: HostRuntime) -> Result<(), Fail> {
 fn stays_failed_once_memory_was_refused(rt: HostRuntime) {
     let accepted = accepted(&rt, rt.alloc(), &SMALL);
     call_failed(&rt, rt.alloc(), &accepted);
+}
+
+#[test]
+fn calls_after_the_start_function(rt: HostRuntime) -> Result<(), Fail> {
+    let args = [Value::I32(1)];
+    let ended = call_after_start(&rt, rt.alloc(), &STARTS, 1, &args, 2);
+    let outcome = Outcome::Values(vec![in rt.alloc(); Value::I32(42)]?);
+    assert_eq!(rt; ended, Ended { outcome, fuel: 2 });
+    Ok(())
+}
+
+#[test]
+fn calls_without_a_start_function(rt: HostRuntime) -> Result<(), Fail> {
+    let args = [Value::I32(2), Value::I32(40)];
+    let ended = call_after_start(&rt, rt.alloc(), &SMALL, 0, &args, 10);
+    let outcome = Outcome::Values(vec![in rt.alloc(); Value::I32(42)]?);
+    assert_eq!(rt; ended, Ended { outcome, fuel: 1 });
+    Ok(())
+}
+
+#[test]
+fn ends_as_the_start_function_where_that_gives_no_values(rt: HostRuntime) {
+    let ended = call_after_start(&rt, rt.alloc(), &START_TRAPS, 1, &[], 10);
+    let outcome = Outcome::Trapped(Trap::Unreachable);
+    assert_eq!(rt; ended, Ended { outcome, fuel: 1 });
+    let ended = call_after_start(&rt, rt.alloc(), &STARTS, 1, &[Value::I32(1)], 0);
+    let outcome = Outcome::OutOfFuel;
+    assert_eq!(rt; ended, Ended { outcome, fuel: 0 });
+}
+
+#[test]
+fn takes_the_fuel_of_the_call_from_what_the_start_function_left(rt: HostRuntime) {
+    let ended = call_after_start(&rt, rt.alloc(), &STARTS, 1, &[Value::I32(1)], 1);
+    let outcome = Outcome::OutOfFuel;
+    assert_eq!(rt; ended, Ended { outcome, fuel: 1 });
 }

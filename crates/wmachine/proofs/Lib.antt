@@ -3,3 +3,4 @@ pub mod Words
 pub mod Fitting
 pub mod Calling
 pub mod GivingUp
+pub mod AfterStart

@@ -1,3 +1,4 @@
 pub mod Arguments
 pub mod Fuel
 pub mod Calls
+pub mod Starts

@@ -1,8 +1,9 @@
-use Rattle.std.proofs.Common.{[], length, List, length-append, take, sym, ap, subst, arith}
+use Rattle.std.proofs.Common.{◌≡◌, [], length, List, length-append, take, sym, ap, subst, arith}
+use Rattle.std.proofs.lemmas.List.{take_all}
 use Rattle.texts.specs.Slices.{joined_calls}
 use Rattle.texts.specs.declared.call.Call.{Call}
 use Rattle.batch.specs.Groups.{AddsGroups}
-use Rattle.batch.proofs.GroupedLines.{adds_both, slice_more, slice_fits}
+use Rattle.batch.proofs.GroupedLines.{adds_both, few_groups, slice_more, slice_fits}
 use Rattle.batch.proofs.groups.groups_of.Goals as goal
 
 pub push_groups-requires-clause-few : goal.push_groups-requires-clause-few
@@ -30,3 +31,10 @@ loop-calls-preserved c =
       added = subst (λ (l : List Call). AddsGroups 0 l [] c.push_groups.new.groups.items) (sym more) (adds_both 0 c.loop-calls.first (joined_calls (take i slices)) c.calls-item.result.items [] c.loop-calls.groups.items c.push_groups.new.groups.items c.loop-calls.invariant.added (omega (arith, c.loop-calls.invariant.counted)) added);
       counted = omega (arith, c.loop-calls.invariant.counted, c.len.ensures, ap length more, length-append (joined_calls (take i slices)) c.calls-item.result.items);
     }
+
+pub returns-clause-few : goal.returns-clause-few
+returns-clause-few c =
+    let (more, now, are) = c.loop-calls.invariant.added in
+    let many : length c.loop-calls.groups.items ≡ length more = ap length now in
+    let all = take_all c.loop-calls.calls-index c.args.slices.now c.loop-calls-test.false in
+    omega (arith, few_groups 0 (joined_calls (take c.loop-calls.calls-index c.args.slices.now)) more are, many, ap (λ l. length (joined_calls l)) all)

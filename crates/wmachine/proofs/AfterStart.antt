@@ -1,4 +1,4 @@
--- How a call runs alone: the start function first, and then the function with the fuel that is left.
+-- How a call runs on a fresh instance: the start function first, and then the function with the fuel that is left.
 use Rattle.std.proofs.Common.{◌≡◌, ℕ, ◌+◌, ◌-◌, ◌≤◌, List, [], ◌∷◌, Some, None, refl, sym, ap, subst, ◌∙◌, arith}
 use Rattle.std.specs.Prelude.{slice_get}
 use Rattle.std.proofs.lemmas.Option.{same_Some}
@@ -18,7 +18,7 @@ use Rattle.wsyntax.specs.Outcomes.{outcome_of}
 use Rattle.wstore.specs.Runs.{Runs}
 use Rattle.wmachine.specs.Calls.{HasParams, GivesTyped}
 use Rattle.wmachine.specs.Fuel.{limit_in_range}
-use Rattle.batch.specs.Ends.{StartEnds}
+use Rattle.wmachine.specs.Starts.{StartEnds}
 
 -- ---- the start function
 

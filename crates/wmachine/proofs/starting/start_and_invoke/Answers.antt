@@ -6,8 +6,8 @@ use Rattle.wsyntax.specs.Execution.Store.{Store}
 use Rattle.accepted.specs.declared.accepted.Accepted.{Accepted}
 use Rattle.accepted.specs.Judgement.{shapes_of}
 use Rattle.wstore.specs.Runs.{Runs}
-use Rattle.batch.proofs.Alone.{ends_in_start, ends_in_call, fuel_is}
-use Rattle.batch.proofs.call.start_and_call.Goals as goal
+use Rattle.wmachine.proofs.AfterStart.{ends_in_start, ends_in_call, fuel_is}
+use Rattle.wmachine.proofs.starting.start_and_invoke.Goals as goal
 
 -- what is spent of the fuel of the settings
 spent_of : (limit now fuel given left n : ℕ) → n ≡ now - left → now ≡ limit → limit ≡ given → given ≡ fuel → n ≡ fuel - left
@@ -18,15 +18,15 @@ runs_of : (a b : Accepted) (s : Store) (f : ℕ) (args : List Value) (fuel frame
     → Runs (module_shape b.«module») (shapes_of b.bodies.items) s f args fuel frames o s' left d → Runs (module_shape a.«module») (shapes_of a.bodies.items) s f args fuel frames o s' left d
 runs_of a b s f args fuel frames o s' left d same r = subst (λ (x : Accepted). Runs (module_shape x.«module») (shapes_of x.bodies.items) s f args fuel frames o s' left d) same r
 
-pub returns-in-Some-2 : goal.returns-in-Some-2
-returns-in-Some-2 c i inst =
+pub returns-in-Some-2-clause-ends : goal.returns-in-Some-2-clause-ends
+returns-in-Some-2-clause-ends c i inst =
     let fuel : c.in-Some.fuel.limit ≡ c.fuel.result = fuel_is _ _ (rw c.fuel.ensures c.in_range.ensures.fuel') c.in-Some.ensures.limit in
     let spent : c.spent.result ≡ c.args.settings.fuel - c.run_start.new.fuel.left = spent_of _ _ _ _ _ _ c.spent.ensures c.run_start.ensures.limit fuel c.fuel.ensures in
     let ended = rw c.in-Some-2.is at (c.in_ok-outcome.ensures.ends i inst) in
     ends_in_start _ i _ _ _ _ _ _ _ ended spent
 
-pub returns : goal.returns
-returns c i inst =
+pub returns-clause-ends : goal.returns-clause-ends
+returns-clause-ends c i inst =
     let fuel : c.in-Some.fuel.limit ≡ c.fuel.result = fuel_is _ _ (rw c.fuel.ensures c.in_range.ensures.fuel') c.in-Some.ensures.limit in
     let spent : c.spent-2.result ≡ c.args.settings.fuel - c.invoke.new.fuel.left = spent_of _ _ _ _ _ _ c.spent-2.ensures (c.invoke.ensures.limit ∙ c.run_start.ensures.limit) fuel c.fuel.ensures in
     let started = rw c.in_default-2.is at (c.in_ok-outcome.ensures.ends i inst) in

@@ -8,8 +8,8 @@ use Rattle.wsyntax.specs.Outcomes.{outcome_of}
 use Rattle.accepted.specs.declared.accepted.Accepted.{Accepted}
 use Rattle.wmachine.specs.Calls.{GivesTyped}
 use Rattle.wstore.specs.Views.{context_in}
-use Rattle.batch.proofs.Alone.{takes_no_arguments, gives_no_values, not_there, ended_well}
-use Rattle.batch.proofs.call.run_start.Goals as goal
+use Rattle.wmachine.proofs.AfterStart.{takes_no_arguments, gives_no_values, not_there, ended_well}
+use Rattle.wmachine.proofs.starting.run_start.Goals as goal
 
 -- the start function of the instance's module
 start_of : (a b : Accepted) (m : Module) (found : Option ℕ) → b ≡ a → m ≡ b.«module» → m.start ≡ found → a.«module».start ≡ found
