@@ -1,4 +1,7 @@
 //! What is written for a module and a text of calls.
+//!
+//! Proved: `answer` writes exactly the answer of the definition (`answer`, `status`, `never_stuck`, `typed`), and there is
+//! one (`one_answer`). `answer_alone`, `answer_on_alone`, `run_batch` and `call_alone` promise their part of it.
 #![tactic(auto)]
 
 mod answering;

@@ -1,5 +1,9 @@
 //! Calls on an instance (Core 1.0, 4.5.4, 4.5.5): whether arguments fit, the fuel, and how a call ends, alone and after the start
 //! function.
+//!
+//! Proved: `fits` is true exactly where the function exists and the arguments are of its types. `invoke` ends a call as the
+//! reduction does, with the exact fuel and store, and is never stuck. `start_and_invoke` ends as a line of the report says.
+//! Out of memory comes only with fuel and a frame left, or on an instance that had failed.
 #![tactic(auto)]
 
 mod arguments;
