@@ -4,7 +4,9 @@
  *
  * Answers  What a function writes is the answer of the program `gate` to the same bytes, texts and limits.
  * Memory   It takes memory by malloc and realloc and gives it back by free, and wants nothing else of the C library but memcpy, memmove
- *          and memset. Where malloc or realloc answers NULL, the function answers GATE_NO_MEMORY, writes nothing and keeps no block.
+ *          and memset. Where malloc or realloc answers NULL, a function goes on without that block if it can. If it cannot, it answers
+ *          GATE_NO_MEMORY and writes nothing. A call of a module that runs short ends by itself, and the function answers GATE_OK: the
+ *          text has its line `no-memory`, a gate_call has GATE_CALL_NO_MEMORY. Only the blocks of handles stay behind.
  *          Nothing of a caller's bytes is kept after a call; gate_module_new alone has them read later too.
  * State    It has none: no variable that is written, no thread, no lock, no file, no signal handler, no output. It never ends the
  *          process, and never jumps out of a call.
@@ -15,24 +17,28 @@
  * Read     Bytes and `args` are a pointer and a length, which counts elements: readable for the whole call, and written by nobody
  *          meanwhile, in this process or in another one (of a mapped file). A length is below 2^63 bytes. A null pointer is allowed
  *          with length 0 only. `verdict` of gate_verdict_line and `settings` are never null.
- * Written  `out` and `results` have room for as many elements as their room says, and are null with room 0 only; `verdict`, `length`,
- *          `kept`, `module`, `other` and `ended` are never null. None of them overlaps another one, or anything that the call reads.
- *          All pointers are aligned as their types ask.
+ * Written  `out` and `results` have room for as many elements as their room says, and are null with room 0 only. A room, too, is below
+ *          2^63 bytes. `verdict`, `length`, `kept`, `module`, `other` and `ended` are never null. None of them overlaps another one, or
+ *          anything that the call reads. All pointers are aligned as their types ask.
  * Handles  A gate_report or gate_module is one that the library wrote and that is not freed yet: { NULL } is none. Who got it, frees it,
  *          once; a copy of the struct is the same handle. Its `at` is the library's.
- * Threads  A handle is in one call at a time; any thread may make that call. gate_module_share gives another thread a handle of its own
- *          of the same module. Else all calls may run at once, on the same bytes too.
+ * Threads  A handle is in one call at a time; any thread may make that call. It goes from thread to thread by a lock, by the start or
+ *          the join of a thread, or by a sequentially consistent atomic, so that each call happens before the next one.
+ *          gate_module_share gives another thread a handle of its own of the same module. Else all calls may run at once, on the same
+ *          bytes too.
+ * Heap     malloc, realloc and free are of one allocator, and neither throw nor jump out of a call. A block is aligned to each power of
+ *          two up to 16 that divides its size, as to 8 for 24 bytes.
  * Signals  No call from a signal handler, and none in the child of a fork of a process with several threads before it calls exec, since
  *          malloc may be held there. In the child of a process with one thread all goes on as before.
- * Unwind   malloc, realloc and free of the host's own neither throw nor jump out of a call.
  * Machine  An x86-64 processor of level v2 (SSE4.2, POPCNT). Nothing asks for it: on an older one a call ends in SIGILL.
  * Time     No call has a limit of time, and none can be stopped. A check takes time in proportion to the module's length, for some
  *          modules many times as much as for ordinary ones; fuel bounds a call. A host that needs a limit gives the call a process.
  *
  * What stays
  *
- * Functions, structs, their sizes and all numbers here stay as they are for as long as gate_version answers 1 and the shared library
- * is libgate.so.1. A struct grows, and an enum gets a new number, only with a new function under a new name.
+ * Functions, structs, their sizes and the numbers of all codes stay as they are for as long as gate_version answers 1 and the shared
+ * library is libgate.so.1. The upper limit of a range, as 1,024 pages, may grow, and never shrinks. A struct grows, and an enum gets a
+ * new number, only with a new function under a new name.
  */
 #ifndef GATE_H
 #define GATE_H
@@ -56,7 +62,7 @@ enum gate_status {
     GATE_MODULE_REFUSED = 2,  /* the module is refused, and verdict or text say why */
     GATE_CALLS_REFUSED = 3,   /* the text of calls is refused, and the text says why */
     GATE_BAD_ARGUMENT = 64,   /* a limit is out of its range, or numbers are of no verdict or value; nothing is written */
-    GATE_NO_MEMORY = 70,      /* malloc or realloc answered NULL; nothing is written */
+    GATE_NO_MEMORY = 70,      /* a block was refused that the function cannot do without; nothing is written */
     GATE_SHORT_BUFFER = 75    /* *length bytes are wanted; out is as it was */
 };
 
@@ -192,24 +198,31 @@ uint32_t gate_module_share(gate_module module, gate_module *other);
 /* Frees a handle, and with the last one the module. */
 void gate_module_free(gate_module module);
 
-/* The layouts that the library was made with. C99 has nothing to say so. */
+/* The layouts that the library was made with: sizes and alignments are proved of its structs. C99 has nothing to say so. */
 #if defined __cplusplus && __cplusplus >= 201103L
 #define GATE_HOLDS(what) static_assert(what, #what)
+#define GATE_IS(type, size, alignment) GATE_HOLDS(sizeof(type) == (size) && alignof(type) == (alignment))
 #elif !defined __cplusplus && defined __STDC_VERSION__ && __STDC_VERSION__ >= 201112L
 #define GATE_HOLDS(what) _Static_assert(what, #what)
+#define GATE_IS(type, size, alignment) GATE_HOLDS(sizeof(type) == (size) && _Alignof(type) == (alignment))
 #endif
 #ifdef GATE_HOLDS
-GATE_HOLDS(sizeof(size_t) == 8 && sizeof(void *) == 8);
-GATE_HOLDS(sizeof(gate_verdict) == 24 && offsetof(gate_verdict, kind) == 0 && offsetof(gate_verdict, rule) == 4);
+GATE_IS(size_t, 8, 8);
+GATE_IS(void *, 8, 8);
+GATE_IS(gate_verdict, 24, 8);
+GATE_HOLDS(offsetof(gate_verdict, kind) == 0 && offsetof(gate_verdict, rule) == 4);
 GATE_HOLDS(offsetof(gate_verdict, function) == 8 && offsetof(gate_verdict, token) == 16);
-GATE_HOLDS(sizeof(gate_settings) == 12 && offsetof(gate_settings, fuel) == 0 && offsetof(gate_settings, frames) == 4);
-GATE_HOLDS(offsetof(gate_settings, pages) == 8);
-GATE_HOLDS(sizeof(gate_value) == 16 && offsetof(gate_value, width) == 0 && offsetof(gate_value, bits) == 8);
-GATE_HOLDS(sizeof(gate_call) == 24 && offsetof(gate_call, end) == 0 && offsetof(gate_call, reason) == 4);
-GATE_HOLDS(offsetof(gate_call, place) == 8 && offsetof(gate_call, fuel) == 12 && offsetof(gate_call, results) == 16);
-GATE_HOLDS(sizeof(gate_report) == 8 && offsetof(gate_report, at) == 0);
-GATE_HOLDS(sizeof(gate_module) == 8 && offsetof(gate_module, at) == 0);
+GATE_IS(gate_settings, 12, 4);
+GATE_HOLDS(offsetof(gate_settings, fuel) == 0 && offsetof(gate_settings, frames) == 4 && offsetof(gate_settings, pages) == 8);
+GATE_IS(gate_value, 16, 8);
+GATE_HOLDS(offsetof(gate_value, width) == 0 && offsetof(gate_value, bits) == 8);
+GATE_IS(gate_call, 24, 8);
+GATE_HOLDS(offsetof(gate_call, end) == 0 && offsetof(gate_call, reason) == 4 && offsetof(gate_call, place) == 8);
+GATE_HOLDS(offsetof(gate_call, fuel) == 12 && offsetof(gate_call, results) == 16);
+GATE_IS(gate_report, 8, 8);
+GATE_IS(gate_module, 8, 8);
 #undef GATE_HOLDS
+#undef GATE_IS
 #endif
 
 #ifdef __cplusplus

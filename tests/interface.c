@@ -117,6 +117,29 @@ static void lines(void) {
     no_line((gate_verdict){ GATE_BODY_ILL_TYPED, 2, 1, 1 });
 }
 
+/* Whether some verdict has these numbers, by what gate.h says of each kind. */
+static bool is_of_a_verdict(gate_verdict it) {
+    bool has_function = it.kind == GATE_BODY_MALFORMED || it.kind == GATE_BODY_TOO_MANY_LOCALS || it.kind == GATE_BODY_ILL_TYPED;
+    bool is_rule = it.kind == GATE_RULE ? it.rule >= 2 && it.rule <= 13 : !it.rule;
+    return it.kind <= 6 && is_rule && (has_function || !it.function) && (it.kind == GATE_BODY_ILL_TYPED || !it.token);
+}
+
+/* GATE_BAD_ARGUMENT exactly for numbers that are of no verdict. */
+static void numbers(void) {
+    static const uint32_t rules[] = { 0, 1, 2, 3, 12, 13, 14, UINT32_MAX }, functions[] = { 0, 1, UINT32_MAX };
+    static const uint64_t tokens[] = { 0, 1, UINT64_C(1) << 32, UINT64_MAX };
+    for (uint32_t kind = 0; kind <= 8; kind++)
+        for (size_t i = 0; i < sizeof rules / sizeof *rules; i++)
+            for (size_t j = 0; j < sizeof functions / sizeof *functions; j++)
+                for (size_t k = 0; k < sizeof tokens / sizeof *tokens; k++) {
+                    gate_verdict it = { kind, rules[i], functions[j], tokens[k] };
+                    uint8_t out[ROOM];
+                    size_t length = 77;
+                    uint32_t status = gate_verdict_line(&it, out, ROOM, &length);
+                    HOLDS(is_of_a_verdict(it) ? status == GATE_OK && length <= 64 : status == GATE_BAD_ARGUMENT && length == 77);
+                }
+}
+
 /* An answer that is kept, read in each room from none to all, and once more. */
 static void kept_answer(gate_report kept, uint32_t status, const char *words) {
     for (size_t room = 0; room <= strlen(words) + 1; room++) {
@@ -291,6 +314,7 @@ static void threads(long rounds) {
 int main(int count, char **words) {
     checks();
     lines();
+    numbers();
     answer(NULL, NONE, NONE, GATE_MODULE_REFUSED, "refused malformed\n");
     answer(NULL, ILL_TYPED, said("f\n"), GATE_MODULE_REFUSED, "refused body 0 ill-typed at 1\n");
     answers(NULL);

@@ -1,4 +1,5 @@
 pub mod Values
+pub mod LooseForm
 pub mod ModuleValues
 pub mod ReportValues
 pub mod Spelled

@@ -1,13 +1,14 @@
--- The machine values of a `GateModule`, which is laid out as a `Loose` of the heap. Assumes `Logic`.
-use Rattle.std.proofs.Common.{◌≡◌, ℕ, List, [], ◌∷◌, ◌++◌, Some, refl, subst}
+-- The machine values of a `GateModule`, which is laid out as a `Loose` of the heap, and of a `ModuleSlot` and a `ModuleStatus`. Assumes `Logic`.
+use Rattle.std.proofs.Common.{◌≡◌, ℕ, ◌<◌, ◌^◌, List, [], ◌∷◌, ◌++◌, Some, refl, subst}
 use seplogic.Ra.Ura.{Ura}
 use mir.Raw.{raw as bare}
-use mir.Val.{Val, vptr, vstruct, of_list}
+use mir.Syntax.{w32}
+use mir.Val.{Val, vint, vptr, vstruct, of_list}
 use base.Logic.{never, fst∗}
 use types.Logic.{Logic, sem}
-use types.Kit.{Item, Goal, Seq, Step, step, ‵, ◌$◌, move, drop, fsplit, fjoin, fpick, fpack, feq_i, feq_l}
+use types.Kit.{Item, Goal, Seq, Step, step, ‵, ◌$◌, move, drop, fsplit, fjoin, fpick, fpack, feq_i, feq_l, flt_i}
 use denote.RattleType.{Valss}
-use denote.Builtin.{RawPtr}
+use denote.Builtin.{RawPtr, u32}
 use denote.Memory.{lone}
 use denote.RawPtr.{Ptr, block_ptr, null_ptr, ptr_val, in_a_block}
 use denote.Steps.{nothing}
@@ -23,6 +24,7 @@ use Rattle.gate_c.proofs.Values.{both, the_heap_al}
 use Rattle.gate_c.specs.contracts.held.Held as kept
 use Rattle.gate_c.specs.contracts.module.GateModule as handle
 use Rattle.gate_c.specs.contracts.module.ModuleSlot as slot
+use Rattle.gate_c.specs.contracts.module.ModuleStatus as status
 
 module _ {M : Type 1} {𝓤 : Ura M} {𝓛 : Logic 𝓤} {K : Type 0} {Γ : List (Item 𝓤)} {G : Goal 𝓤 𝓛.H} where
   pub handle_out : K → (d : (handle.the_row).Denot) (vs : List Val)
@@ -40,3 +42,10 @@ module _ {M : Type 1} {𝓤 : Ura M} {𝓛 : Logic 𝓤} {K : Type 0} {Γ : List
   slot_in t b o h a x = step (λ s. let v : Val = both (vptr b o) h in let d : (slot.the_row).Denot = record { at = block_ptr b o; alloc = a; value = Some x } in
       nothing t $ move t (2 ∷ 0 ∷ []) $ fjoin t $ feq_i t (List Val) (vptr b o ∷ []) (vptr b o ∷ []) refl $ fjoin t $ feq_i t (List Val) (v ∷ []) (v ∷ []) refl $ fjoin t $
       fpack t (Valss (RawPtr ∷ heap.the_row ∷ [])) (within (shape slot.the_type) (to slot.the_type d) (v ∷ [])) (vptr b o ∷ [], (h ∷ [], tt)) $ fjoin t $ s)
+
+  pub status_in : K → (n : ℕ) → n < 2 ^ 32 → (b o : ℕ) (h : Val) (a : (heap.the_row).Denot) (x : (kept.the_row).Denot)
+      → Step K 𝓛 (‵ ((status.the_row).own_val (record { status = n; alloc = a; at = block_ptr b o; value = x }) (both (vint w32 n) h ∷ [])) ∷ Γ) G
+      (‵ (box_owns (ghosts.dealloc_token a) kept.the_row (block_ptr b o) x) ∷ ‵ ((heap.the_row).own_val a (h ∷ [])) ∷ Γ) G
+  status_in t n small b o h a x = step (λ s. let v : Val = both (vint w32 n) h in let d : (status.the_row).Denot = record { status = n; alloc = a; at = block_ptr b o; value = x } in
+      nothing t $ move t (2 ∷ 0 ∷ []) $ fjoin t $ flt_i t n (2 ^ 32) small $ feq_i t (List Val) (vint w32 n ∷ []) (vint w32 n ∷ []) refl $ fjoin t $ fjoin t $ feq_i t (List Val) (v ∷ []) (v ∷ []) refl $ fjoin t $
+      fpack t (Valss (u32 ∷ heap.the_row ∷ [])) (within (shape status.the_type) (to status.the_type d) (v ∷ [])) (vint w32 n ∷ [], (h ∷ [], tt)) $ fjoin t $ s)

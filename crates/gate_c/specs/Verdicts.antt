@@ -45,9 +45,9 @@ IsNamed v = Unit {0}
 abbrev pub IsNoVerdict : GateVerdict → Type 0
 IsNoVerdict numbers = (v : Verdict) → IsNamed v → numbers ≡ numbers_of v → ⊥
 
--- the line of the verdict with these numbers
+-- the line of the verdict with these numbers, whose rule has a number from 2 to 13
 abbrev pub IsLineOf : GateVerdict → List ℕ → Type 0
-IsLineOf numbers line = (v : Verdict) × (numbers ≡ numbers_of v) × (line ≡ verdict_line v)
+IsLineOf numbers line = (v : Verdict) × IsNamed v × (numbers ≡ numbers_of v) × (line ≡ verdict_line v)
 
 -- the numbers are of no verdict, or memory was refused, and nothing is written; or that line is handed out
 abbrev pub HandsLine : GateVerdict → List ℕ → List ℕ → ℕ → ℕ → ℕ → Type 0

@@ -25,6 +25,8 @@ pub struct GateCall {
     pub results: u64,
 }
 
+const _: () = prove!(size_of::<GateCall>() == 24 && align_of::<GateCall>() == 8);
+
 /// The number of a trap, as `gate_trap` of gate.h has it.
 fn number_of_trap(trap: Trap) -> u32
     ensures { result ≡ trap_number trap }

@@ -17,8 +17,8 @@ use crate::ending::GateCall;
 use crate::handing::hand_out;
 use crate::held::Held;
 use crate::judged::GateVerdict;
-use crate::module::{GateModule, ModuleSlot};
-use crate::report::{GateReport, ReportSlot};
+use crate::module::{GateModule, ModuleSlot, ModuleStatus};
+use crate::report::{GateReport, ReportSlot, ReportStatus};
 use crate::settings::GateSettings;
 use crate::status::{BAD_ARGUMENT, MODULE_REFUSED, NO_MEMORY, OK};
 use crate::text::hand_text;
@@ -109,14 +109,19 @@ pub extern "C" fn gate_run(
 /// Writes an answer that was kept. 0, 2, 3: it is written, and its length; 75: it has `length` bytes, and there is no room for
 /// it. It stays kept either way.
 #[unsafe(no_mangle)]
-pub extern "C" fn gate_report_read(report: GateReport, out: &mut [u8], length: &mut usize) -> u32
-    ensures text { Hands (string_bytes report.value.answer.text) (number_of report.value.answer.status) out.old out.new length.new result }
+pub extern "C" fn gate_report_read(
+    report: GateReport,
+    out: &mut [u8],
+    length: &mut usize,
+) -> ReportStatus
+    ensures text { Hands (string_bytes report.value.answer.text) (number_of report.value.answer.status) out.old out.new length.new result.status }
     ensures answered { ∥ IsAnswered (string_bytes report.value.answer.text) report.value.answer.status ∥₁ }
+    ensures handle { result.at ≡ report.at }
+    ensures alive { result.value ≡ report.value }
 {
-    let kept = report.into_box();
-    let status = kept.read(out, length);
-    let _same = Box::into_raw(kept);
-    status
+    let kept = report.loose();
+    let status = kept.as_ref().read(out, length);
+    ReportStatus::of(status, kept)
 }
 
 /// Frees an answer that was kept.
@@ -159,17 +164,18 @@ pub extern "C" fn gate_module_run(
     out: &mut [u8],
     length: &mut usize,
     kept: &mut ReportSlot,
-) -> u32
-    ensures { HandsAnswer settings.now (IsAnswerOf «module».value.accepted.value calls.now settings.now)
-        out.old out.new length.old length.new kept.old kept.new result }
+) -> ModuleStatus
+    ensures answer { HandsAnswer settings.now (IsAnswerOf «module».value.accepted.value calls.now settings.now)
+        out.old out.new length.old length.new kept.old kept.new result.status }
+    ensures handle { result.at ≡ «module».at }
+    ensures alive { result.value ≡ «module».value }
 {
-    let held = module.into_box();
-    let status = run_on(alloc, &held, calls, settings, out, length, kept);
-    let _same = Box::into_raw(held);
-    status
+    let held = module.loose();
+    let status = run_on(alloc, held.as_ref(), calls, settings, out, length, kept);
+    ModuleStatus::of(status, held)
 }
 
-/// The same on what the handle holds.
+/// Runs the calls on what the handle holds. As `gate_run`.
 fn run_on(
     alloc: Global,
     held: &Held,
@@ -202,20 +208,21 @@ pub extern "C" fn gate_module_call(
     settings: &GateSettings,
     results: &mut [GateValue],
     ended: &mut GateCall,
-) -> u32
-    ensures { AnswersCall settings.now args.now (EndsCall «module».value.accepted.value name.now args.now settings.now)
-        results.old results.new ended.old ended.new result }
+) -> ModuleStatus
+    ensures answer { AnswersCall settings.now args.now (EndsCall «module».value.accepted.value name.now args.now settings.now)
+        results.old results.new ended.old ended.new result.status }
+    ensures handle { result.at ≡ «module».at }
+    ensures alive { result.value ≡ «module».value }
 {
-    let held = module.into_box();
-    let status = match call(alloc, &held.accepted, name, args, settings) {
+    let held = module.loose();
+    let status = match call(alloc, &held.as_ref().accepted, name, args, settings) {
         Ok(line) => {
             tell_end(&line, results, ended);
             OK
         }
         Err(status) => status,
     };
-    let _same = Box::into_raw(held);
-    status
+    ModuleStatus::of(status, held)
 }
 
 /// Another handle of the same module, for another thread. 0: it is written; 70: nothing is written.
@@ -224,20 +231,21 @@ pub extern "C" fn gate_module_share(
     alloc: Global,
     module: GateModule,
     other: &mut ModuleSlot,
-) -> u32
-    ensures status { (result ≡ 0) ⊎ (result ≡ 70) }
-    ensures handle { HandsModule (λ a. a ≡ «module».value.accepted.value) other.old other.new result }
+) -> ModuleStatus
+    ensures status { (result.status ≡ 0) ⊎ (result.status ≡ 70) }
+    ensures shared { HandsModule (λ a. a ≡ «module».value.accepted.value) other.old other.new result.status }
+    ensures handle { result.at ≡ «module».at }
+    ensures alive { result.value ≡ «module».value }
 {
-    let held = module.into_box();
-    let status = match held.another(alloc) {
+    let held = module.loose();
+    let status = match held.as_ref().another(alloc) {
         Some(shared) => {
             *other = ModuleSlot::of(shared);
             OK
         }
         None => NO_MEMORY,
     };
-    let _same = Box::into_raw(held);
-    status
+    ModuleStatus::of(status, held)
 }
 
 /// Frees a module.

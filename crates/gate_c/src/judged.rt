@@ -23,6 +23,8 @@ pub struct GateVerdict {
     pub token: u64,
 }
 
+const _: () = prove!(size_of::<GateVerdict>() == 24 && align_of::<GateVerdict>() == 8);
+
 impl GateVerdict {
     /// A verdict of that kind alone.
     fn plain(kind: u32) -> GateVerdict
@@ -93,8 +95,9 @@ impl GateVerdict {
     /// The refusal of that kind with these numbers, of which those that do not belong to the kind are not read. `None` where there
     /// is none, as where a rule has no such number.
     fn refusal(&self) -> Option<Refusal>
-        ensures { (v : Verdict) → IsNamed v → self.now ≡ numbers_of v → v ≢ Accepted →
+        ensures found { (v : Verdict) → IsNamed v → self.now ≡ numbers_of v → v ≢ Accepted →
             IsSomeAnd result (λ r. verdict_of r ≡ Some v) }
+        ensures named { IfSome result (λ r. IfSome (verdict_of r) IsNamed) }
     {
         let refusal = match self.kind {
             1 => return Some(Refusal::TooLarge),
@@ -115,7 +118,7 @@ impl GateVerdict {
 
     /// What the judge found that these are the numbers of; `None` where they are of no verdict.
     pub(crate) fn judged(&self) -> Option<Result<(), Refusal>>
-        ensures some { IfSome result (λ judged. IsSomeAnd (given_verdict judged) (λ v. self.now ≡ numbers_of v)) }
+        ensures some { IfSome result (λ judged. IsSomeAnd (given_verdict judged) (λ v. IsNamed v × (self.now ≡ numbers_of v))) }
         ensures none { IfNone result (IsNoVerdict self.now) }
     {
         if *self == GateVerdict::accepted() {

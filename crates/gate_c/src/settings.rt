@@ -18,6 +18,8 @@ pub struct GateSettings {
     pub pages: u32,
 }
 
+const _: () = prove!(size_of::<GateSettings>() == 12 && align_of::<GateSettings>() == 4);
+
 impl GateSettings {
     /// The settings of these limits; `None` where one of them is out of its range.
     pub(crate) fn settings(&self) -> Option<Settings>

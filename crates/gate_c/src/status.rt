@@ -13,7 +13,7 @@ pub(crate) const MODULE_REFUSED: u32 = 2;
 pub(crate) const CALLS_REFUSED: u32 = 3;
 /// A limit is out of its range, or numbers are of no verdict or value.
 pub(crate) const BAD_ARGUMENT: u32 = 64;
-/// An allocation was refused.
+/// An allocation was refused that the function cannot do without.
 pub(crate) const NO_MEMORY: u32 = 70;
 /// The buffer is shorter than the text.
 pub(crate) const SHORT_BUFFER: u32 = 75;

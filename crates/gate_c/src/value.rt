@@ -16,6 +16,8 @@ pub struct GateValue {
     pub bits: u64,
 }
 
+const _: () = prove!(size_of::<GateValue>() == 16 && align_of::<GateValue>() == 8);
+
 impl GateValue {
     /// The numbers of a value.
     pub(crate) fn of(value: Value) -> GateValue

@@ -10,5 +10,5 @@ both P Q (Some v) p q = (v, p, q)
 
 pub returns : goal.returns
 returns c =
-    let (v, numbers, line) = both _ _ (given_verdict c.in-Some.judged) c.in-Some.ensures.some c.in-Ok.ensures in
-    inr (c.as_bytes.result.now, (v, numbers, c.as_bytes.ensures.value ∙ line), c.hand_text.ensures)
+    let (v, of, line) = both _ _ (given_verdict c.in-Some.judged) c.in-Some.ensures.some c.in-Ok.ensures in
+    inr (c.as_bytes.result.now, (v, of.0, of.1, c.as_bytes.ensures.value ∙ line), c.hand_text.ensures)
