@@ -6,6 +6,7 @@
 #![tactic(auto)]
 
 mod judges;
+mod longer;
 mod rows;
 mod runs;
 mod spelled;

@@ -1,5 +1,6 @@
 //! The rows of a table of verdicts.
 use crate::judges::verdict_line;
+use crate::longer::lengthened;
 use crate::spelled::read_bytes;
 use anyhow::{Context, Result, anyhow, bail, ensure};
 use batch::{Plan, Status};
@@ -8,6 +9,9 @@ use std::thread::Threads;
 
 /// The numbers of workers and the sizes of pieces that each row is judged with.
 const PLANS: [(u32, u32); 3] = [(1, 1), (4, 16), (64, 65_535)];
+
+/// A module of fewer bytes than this gets few workers.
+const SHORT: usize = 65_536;
 
 /// A row of a table of verdicts.
 #[derive(Clone, Copy)]
@@ -30,13 +34,18 @@ fn read_row(line: &str) -> Option<Row<'_>> {
     })
 }
 
-/// Judges the module of a row.
+/// Judges the module of a row, and where it is short and spelled, once more with a custom section that lets many workers start.
 pub fn judge_row<R: AllocGlobal + Threads + Wait + Sync>(rt: &R, line: &str) -> Result<()> {
     let row = read_row(line).ok_or_else(|| anyhow!("no row: {line}"))?;
     let bytes = read_bytes(rt.alloc(), row.spelled)?;
     for (workers, piece) in PLANS {
         let plan = Plan::new(workers, piece).ok_or_else(|| anyhow!("no plan"))?;
         judge_with(rt, &row, &bytes, plan).context(format_args!("{}", row.name))?;
+    }
+    if bytes.len() < SHORT && row.line != "refused malformed" {
+        let long = lengthened(rt.alloc(), &bytes)?;
+        let plan = Plan::new(64, 1).ok_or_else(|| anyhow!("no plan"))?;
+        judge_with(rt, &row, &long, plan).context(format_args!("{}, lengthened", row.name))?;
     }
     Ok(())
 }

@@ -1,6 +1,6 @@
 //! Bodies as the checker takes them, token by token.
 ghost use Rattle.std.specs.List.{list_all};
-ghost use Rattle.std.specs.Prelude.{◌≡◌, ◌<◌, [], IfOk, IsTrue, length};
+ghost use Rattle.std.specs.Prelude.{◌≡◌, ◌<◌, ◌^◌, [], IfOk, IsTrue, length};
 ghost use Rattle.wsyntax.specs.BranchTables.{FollowAll};
 ghost use Rattle.wsyntax.specs.Brackets.{closes, lies_within};
 
@@ -597,6 +597,7 @@ fn table_of(
 ) -> Option<(Branch, usize, usize)>
     requires closed { IsTrue (closes [] tokens.now) }
     requires within { IsTrue (list_all (lies_within 0) tokens.now) }
+    requires few { length tokens.now < 2 ^ 31 }
     requires follow { FollowAll 0 tokens.now 0 }
 {
     let context = check_module(alloc, module).ok()?;

@@ -11,7 +11,7 @@ use Rattle.pieces.specs.TryAll.{AllPass, StopsAt}
 use Rattle.pieces.specs.declared.trying.TryFault.{TryFault}
 use Rattle.pieces.specs.declared.trying.TryFault.TheVariants.{Stopped}
 use Rattle.wsyntax.specs.Modules.{ModuleShape, module_shape}
-use Rattle.wsyntax.specs.Binary.Shell.{Shell}
+use Rattle.wsyntax.specs.Binary.Shell.{Shell, module_limit}
 use Rattle.wsyntax.specs.Validation.ModuleContext.{IndexedContext, indexed_context, imported_functions, functions_of, type_at}
 use Rattle.std.proofs.lemmas.List.{length-map, length-append}
 use Rattle.wsyntax.specs.Validation.Rules.{NoneBroken, LeastBroken}
@@ -36,6 +36,7 @@ use Rattle.verdict.specs.Refusals.{verdict_of, of_rules}
 use Rattle.verdict.proofs.Firsts.{each_passes, judged}
 use Rattle.verdict.proofs.Groups.{refusal_there, groups_pass, pass_before}
 use Rattle.verdict.proofs.Rests.{least_of_whole}
+use Rattle.verdict.proofs.Sizes.{functions_within}
 
 -- ---- one part
 
@@ -215,6 +216,22 @@ each_has_type m x is paired =
     let typed : length x.context.functions ≡ length (functions_of m) = ap (λ (y : IndexedContext). length y.context.functions) is ∙ length-map (functions_of m) (type_at m.types) in
     let both : length (functions_of m) ≡ length (imported_functions m) + length m.functions = length-append (imported_functions m) m.functions in
     omega arith
+
+-- bytes that are fewer spell no module
+pub no_module : (bytes : List ℕ) (f : Front) (x : IndexedContext) (count : ℕ) → ((m : ModuleShape) → Shell bytes m ↔ IsWhole f m) → x ≡ indexed_context (module_shape f.«module») → length (module_shape f.«module»).functions ≡ length (module_shape f.«module»).bodies → count ≡ length x.context.functions → length bytes < count → (m : ModuleShape) → Shell bytes m → ⊥
+no_module bytes f x count whole is paired functions few m s =
+    let front = module_shape f.«module» in
+    let w : IsWhole f m = (whole m).0 s in
+    let all : x.imported + length front.bodies ≡ length x.context.functions = each_has_type front x is paired in
+    let imported : x.imported ≡ length (imported_functions front) = ap (λ (y : IndexedContext). y.imported) is in
+    let same_imports : length (imported_functions m) ≡ length (imported_functions front) = ap (λ (n : ModuleShape). length (imported_functions n)) w.2 in
+    let same_bodies : length m.bodies ≡ length front.bodies = ap (λ (n : ModuleShape). length n.bodies) w.2 in
+    let within : length (imported_functions m) + length m.bodies ≤ length bytes = functions_within bytes m s in
+    absurd (omega (arith, few))
+
+pub none_spelled : (bytes : List ℕ) → length bytes ≤ module_limit → ((m : ModuleShape) → Shell bytes m → ⊥) → IfSome (verdict_of Malformed) (IsVerdict bytes)
+unfolding IsVerdict
+none_spelled bytes small none = (small, none)
 
 -- so these are fewer than a number that the functions of the context are below
 pub fewer : (m : ModuleShape) (x : IndexedContext) (count most : ℕ) → x ≡ indexed_context m → length m.functions ≡ length m.bodies → count ≡ length x.context.functions → count < most → x.imported + length m.bodies < most

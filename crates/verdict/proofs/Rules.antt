@@ -1,9 +1,10 @@
 -- From what judging found of the bodies of a module that keeps all rules to the verdict on it.
-use Rattle.std.proofs.Common.{Bor, ◌≡◌, ℕ, ◌+◌, ◌<◌, List, length, map, Vec, Global, sym, ap, ◌∙◌, arith}
-use Rattle.std.specs.Prelude.{Result, MatchResult, IfSome}
+use Rattle.std.proofs.Common.{Bor, ◌≡◌, ℕ, ◌+◌, ◌<◌, ◌≤◌, List, length, map, get_or, Some, Vec, Global, sym, ap, subst, ◌∙◌, arith}
+use Rattle.std.specs.Prelude.{Result, MatchResult, IfSome, All, slice_get}
 use Rattle.std.proofs.lemmas.List.{length-map}
 use Rattle.wsyntax.specs.declared.module.Module.{Module}
 use Rattle.wsyntax.specs.Modules.{module_shape}
+use Rattle.wsyntax.specs.Binary.Shell.{module_limit}
 use Rattle.wsyntax.specs.Validation.ModuleContext.{IndexedContext}
 use Rattle.wsyntax.specs.Validation.Verdict.{IsVerdict, Accepted as accepted_verdict}
 use Rattle.checked.specs.declared.body.CheckedBody.{CheckedBody}
@@ -16,8 +17,10 @@ use Rattle.verdict.specs.Judged.{PassBefore, IsFirstBody}
 use Rattle.verdict.specs.Refusals.{verdict_of}
 use Rattle.verdict.specs.Rules.{KeepsRules}
 use Rattle.verdict.proofs.Firsts.{judged, indices_fit}
+use Rattle.verdict.proofs.Groups.{bytes_there}
 use Rattle.verdict.proofs.Judgements.{is_judged, accepted_from}
 use Rattle.verdict.proofs.Parts.{each_has_type}
+use Rattle.verdict.proofs.Sizes.{body_fits}
 use Rattle.verdict.proofs.Smallness.{is_small}
 
 -- ---- the bodies that are judged are those of the module
@@ -33,6 +36,13 @@ each_typed bytes m x bodies keeps same =
 
 pub few_functions : (bytes : List ℕ) (m : Module) (x : IndexedContext) (bodies : List (Bor (List ℕ))) → KeepsRules bytes m x → bodies ≡ m.bodies.items → x.imported + length bodies < 4294967296
 few_functions bytes m x bodies keeps same = indices_fit bytes (module_shape m) x (length bodies) keeps.known.whole keeps.context (as_many m bodies same)
+
+pub short_bodies : (bytes : List ℕ) (m : Module) (x : IndexedContext) (bodies : List (Bor (List ℕ))) → KeepsRules bytes m x → bodies ≡ m.bodies.items → All (λ b. length b.now < 2147483648) bodies
+short_bodies bytes m x bodies keeps same k d lt =
+    let b = (get_or bodies k d).now in
+    let stands : slice_get (module_shape m).bodies k ≡ Some b = subst (λ (bs : List (List ℕ)). slice_get bs k ≡ Some b) (ap (map (λ b. b.now)) same) (bytes_there bodies k d lt) in
+    let within : length b ≤ module_limit = body_fits bytes (module_shape m) k b keeps.known.whole stands in
+    omega arith
 
 -- ---- what judging them found
 

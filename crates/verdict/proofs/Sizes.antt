@@ -210,12 +210,18 @@ weight_of (a ∷ more) (suc k) b e =
     let others : length b ≤ weight more = weight_of more k b e in
     omega arith
 
--- the imported functions and the bodies of a module within the limit
-pub functions_fit : (bytes : List ℕ) (m : ModuleShape) → IsModule bytes m → length (imported_functions m) + length m.bodies ≤ module_limit
-functions_fit bytes m s =
-    let all : total m ≤ length bytes = shell_holds bytes m s.shell in
+-- the imported functions and the bodies of a module
+pub functions_within : (bytes : List ℕ) (m : ModuleShape) → Shell bytes m → length (imported_functions m) + length m.bodies ≤ length bytes
+functions_within bytes m s =
+    let all : total m ≤ length bytes = shell_holds bytes m s in
     let imports : length (imported_functions m) ≤ length m.imports = filtered _ m.imports in
     let bodies : length m.bodies ≤ weight m.bodies = weight_counts m.bodies in
+    omega arith
+
+-- the same of a module within the limit
+pub functions_fit : (bytes : List ℕ) (m : ModuleShape) → IsModule bytes m → length (imported_functions m) + length m.bodies ≤ module_limit
+functions_fit bytes m s =
+    let all : length (imported_functions m) + length m.bodies ≤ length bytes = functions_within bytes m s.shell in
     let small : length bytes ≤ module_limit = s.small in
     omega arith
 

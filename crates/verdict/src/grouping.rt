@@ -1,32 +1,42 @@
-//! How many bodies workers judge in one go.
-ghost use Rattle.std.specs.Prelude.{◌≡◌, ◌+◌, ◌*◌, ◌-◌, ◌<◌, min};
+//! How many bodies workers judge in one go, and how many workers do.
+ghost use Rattle.std.specs.Prelude.{◌≡◌, ◌+◌, ◌*◌, ◌-◌, ◌/◌, ◌<◌, ◌≤◌, min, max};
 ghost use Rattle.std.specs.Int.{div_ceil};
+ghost use Rattle.verdict.specs.declared.tuning.TheConstants.{SHORTEST_GROUP};
 
 use crate::tuning::{FEWEST_GROUPS, SHORTEST_GROUP};
 use pieces::Plan;
 
+/// The plan with `most` workers where it has more, but with one at least.
+fn narrowed(plan: Plan, most: usize) -> Plan
+    ensures { result.workers ≤ max 1 most }
+{
+    let workers = most.max(1).min(plan.workers() as usize) as u32;
+    match Plan::new(workers, plan.piece()) {
+        Some(fewer) => fewer,
+        None => unreachable!(),
+    }
+}
+
 /// The plan whose pieces are the groups of `bodies` bodies in a module of `bytes` bytes.
-fn grouping(plan: Plan, bodies: u32, bytes: usize) -> Plan {
+fn grouping(plan: Plan, bodies: u32, bytes: usize) -> Plan
+    ensures { result.workers ≡ plan.workers }
+{
     let wanted = plan.workers().saturating_mul(FEWEST_GROUPS) as usize;
     plan.grouping(bodies, wanted.min(bytes / SHORTEST_GROUP) as u32)
 }
 
-/// The plan itself, or that of one worker where there is one group at most: to start threads for less takes longer.
-fn narrowed(plan: Plan, groups: u32) -> Plan {
-    match Plan::new(1, 1) {
-        Some(alone) if groups < 2 => alone,
-        _ => plan,
-    }
-}
-
 /// The size of the groups of `bodies` bodies in a module of `bytes` bytes, and the plan of those who judge one group after
-/// the other.
+/// the other. To start a thread for less than `SHORTEST_GROUP` bytes, or for no second group, takes longer.
 pub(crate) fn groups_for(bodies: u32, bytes: usize, plan: Plan) -> (u32, Plan)
-    ensures { 0 < result.0 }
+    ensures sized { 0 < result.0 }
+    ensures few { result.1.workers ≤ max 1 (bytes / SHORTEST_GROUP) }
 {
-    let plan = grouping(plan, bodies, bytes);
-    let groups = plan.count_groups(bodies);
-    (plan.piece(), narrowed(plan.one_group_each(), groups))
+    let plan = grouping(narrowed(plan, bytes / SHORTEST_GROUP), bodies, bytes);
+    let each = plan.one_group_each();
+    if plan.count_groups(bodies) < 2 {
+        return (plan.piece(), narrowed(each, 1));
+    }
+    (plan.piece(), each)
 }
 
 /// The places of the bodies of a group, of `bodies` in all: the first, and that after the last.

@@ -28,9 +28,6 @@ pub(crate) struct Head<'a> {
     ghost few: { context.imported + length (module_shape front.module).bodies < 2 ^ 31 },
 }
 
-/// More functions than any module has that is not too large.
-const MOST_FUNCTIONS: usize = 1 << 31;
-
 /// The refusal of a module that breaks an early rule. That its bytes spell no module goes before.
 fn refused_early(alloc: Global, front: Front<'_>, fault: ModuleFault) -> Refusal
     ensures { IsEarlyRefusal front.entry fault result }
@@ -58,8 +55,9 @@ impl<'a> Head<'a> {
             Ok(both) => both,
             Err(fault) => return Err(refused_early(alloc, front, fault)),
         };
-        if context.function_count() >= MOST_FUNCTIONS {
-            return Err(Refusal::Memory);
+        // A function takes a byte at least. So fewer bytes spell no module.
+        if context.function_count() > bytes.len() {
+            return Err(Refusal::Malformed);
         }
         Ok(Head {
             bytes,

@@ -85,6 +85,7 @@ fn judge_bodies<R: Threads + Wait + Sync, W: Watch + Sync>(
 ) -> Result<Vec<CheckedBody>, Refusal>
     requires each_has_type { context.now.imported + length bodies.now ≡ length context.now.context.functions }
     requires few { context.now.imported + length bodies.now < 2 ^ 32 }
+    requires short { All (λ b. length b.now < 2 ^ 31) bodies.now }
     ensures verdict { MatchResult result
         (λ _. PassBefore context.now.context context.now.imported (map (λ b. b.now) bodies.now) (length bodies.now))
         (IsFirstBody context.now.context context.now.imported (map (λ b. b.now) bodies.now)) }
@@ -123,6 +124,7 @@ fn judge_bodies_alone<W: Watch>(
 ) -> Result<Vec<CheckedBody>, Refusal>
     requires each_has_type { context.now.imported + length bodies.now ≡ length context.now.context.functions }
     requires few { context.now.imported + length bodies.now < 2 ^ 32 }
+    requires short { All (λ b. length b.now < 2 ^ 31) bodies.now }
     ensures verdict { MatchResult result
         (λ _. PassBefore context.now.context context.now.imported (map (λ b. b.now) bodies.now) (length bodies.now))
         (IsFirstBody context.now.context context.now.imported (map (λ b. b.now) bodies.now)) }

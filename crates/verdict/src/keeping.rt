@@ -11,14 +11,15 @@ use std::alloc::Global;
 use wcheck::{CheckFault, Checker, check_body};
 use wdecode::{BodyFault, decode_body, grammar_is_read};
 
-/// The body of the function of that index, imported ones counted, decoded and checked.
+/// The body of the function of that index, imported ones counted, decoded and checked. It has no more tokens than bytes.
 pub(crate) fn checked_body(
     alloc: Global,
     checker: &mut Checker<'_>,
     func: u32,
     bytes: &[u8],
 ) -> Result<CheckedBody, JobFault<BodyRefusal>>
-    requires { func < length checker.old.outside.functions }
+    requires func { func < length checker.old.outside.functions }
+    requires short { length bytes.now < 2 ^ 31 }
     ensures outside { checker.new.outside ≡ checker.old.outside }
     ensures verdict { MatchResult result
         (λ checked. (body_refusal_of checker.old.outside func bytes.now ≡ None)

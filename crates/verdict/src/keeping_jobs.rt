@@ -1,4 +1,4 @@
-ghost use Rattle.std.specs.Prelude.{◌≡◌, ◌+◌, ◌<◌, ◌^◌, Some, None, MatchResult, length, map};
+ghost use Rattle.std.specs.Prelude.{◌≡◌, ◌+◌, ◌<◌, ◌^◌, Some, None, MatchResult, All, length, map};
 ghost use Rattle.pieces.specs.Faults.{AllowsFault};
 ghost use Rattle.accepted.specs.Judgement.{IsCheckedAt};
 ghost use Rattle.verdict.specs.Judged.{body_refusal_at};
@@ -27,6 +27,7 @@ pub(crate) struct KeptBodies<'a, W> {
     pub(crate) watch: &'a W,
     ghost each_has_type: { imported + length bodies.now ≡ length context.now.context.functions },
     ghost few: { imported + length bodies.now < 2 ^ 32 },
+    ghost short: { All (λ b. length b.now < 2 ^ 31) bodies.now },
     ghost sized: { 0 < size },
 }
 

@@ -6,7 +6,7 @@
 //! opcode byte    frequent_passes, access_passes, number_passes    which reader, and whether the operands may be known
 //! opcode byte    wdecode::frequent: load_at, variable_at, ..      the Token, with its immediates
 //! Token          wcheck::rule: rule_of_token                      the OperandRule; frames, branches and calls have their own
-//! OperandRule    wcheck::apply: apply_known, apply                 which methods of the operands
+//! OperandRule    wcheck::apply: apply_known, apply_rule            which methods of the operands
 //! Entry          wcheck::operand_stack, operand_rules              whether the types on top are those that are taken
 //! ```
 //!

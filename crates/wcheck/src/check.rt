@@ -23,8 +23,7 @@ pub enum CheckFault {
     /// It has no type. `at` is the number of the first token that no completion can save, from 0.
     #[error("ill-typed at {at}")]
     IllTyped { at: usize },
-    /// A growth of memory was refused, or the body has 2^31 tokens or more, for whose places the side table has no room;
-    /// nothing is said of the body.
+    /// A growth of memory was refused. Nothing is said of the body.
     #[error("no memory")]
     Memory,
 }
@@ -59,9 +58,17 @@ fn written(alloc: Global, body: Body, builder: TableBuilder) -> Result<WrittenBo
 }
 
 /// Checks the body of the function of that index, imported ones counted: it is taken exactly where it is typed, and
-/// else its first fault is named. Of a body that is taken nothing changes but where its tokens go on. The branch tables of the
-/// body follow one another in the list of targets. Time and memory are linear in the tokens and the targets, and in the types of
-/// operands that the body itself puts. The checker may have checked other bodies of the module before, and may check more.
+/// else its first fault is named. Of a body that is taken nothing changes but where its tokens go on. Time and memory are
+/// linear in the tokens and the targets, and in the types of operands that the body itself puts.
+///
+/// It asks more of its caller than the index of a function of the module:
+/// - `follow`: each branch table begins in the list of targets where the one before it ends, as `decode_body` promises.
+/// - `few`: the side table has room for the places of fewer than 2^31 tokens. A token takes a byte at least, so each body of
+///   a module within its limit has fewer.
+/// - A checker stands in place of the module's context. It may have checked other bodies of the module before, and may check
+///   more, in the memory that it has.
+///
+/// A `Body` that is made by hand may break `follow` and `few`.
 pub fn check_body(
     alloc: Global,
     checker: &mut Checker<'_>,
@@ -69,6 +76,7 @@ pub fn check_body(
     body: Body,
 ) -> Result<CheckedBody, CheckFault>
     requires func { func < length checker.old.outside.functions }
+    requires few { length body.code.tokens.items < 2 ^ 31 }
     requires follow { FollowAll 0 body.code.tokens.items (length body.code.targets.items) }
     ensures kept { IfOk result (λ c. body_shape c.body ≡ body_shape body) }
     ensures unchecked { IfOk result (λ c. KeepsBody body c.body) }

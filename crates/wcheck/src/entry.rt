@@ -90,7 +90,7 @@ pub(crate) fn types_of_front(context: &Context, front: Front) -> &[ValType]
     first_of(context.list(front.list), front.count as usize)
 }
 
-/// The types of the run of the topmost entry.
+/// The types of the run of the topmost entry; `None` where that is one operand.
 #[inline]
 pub(crate) fn top_run<'a>(
     context: &'a Context,
@@ -111,7 +111,8 @@ pub(crate) fn top_run<'a>(
     }
 }
 
-/// How many types the shorter of two fronts has, where these surely are the last types of the longer one too.
+/// The length of the shorter of two fronts, where its types are known to be the last types of the longer one. `None` says
+/// nothing.
 #[inline(always)]
 pub(crate) fn shared_end(context: &Context, one: Front, other: Front) -> Option<usize>
     requires whole { one.count ≡ length (front_of context.now.context.types one) }

@@ -1,5 +1,16 @@
 //! The typing of function bodies (Core 1.0, 3.3 and 3.4.1): the checker, a token at a time (7.3), and the check of a whole body,
 //! which joins it to the maker of the side table (`side_table`).
+//!
+//! The general way of a token, from `Checker::step` down (`verdict::passing` has the quick one):
+//!
+//! ```text
+//! checker::Checker::step            counts the looks past the locals that are written out first
+//! control::step_control             opens, switches and closes frames; any other token is an instruction for act
+//! control::act                      asks for the rule, and applies it to the operands of the innermost frame
+//! rule::rule_of_token               the OperandRule: what is taken and put, where all that the token names is there
+//! apply::apply_rule                 which methods of the operands
+//! operand_rules, operand_stack      whether the types on top fit, and what lies there then
+//! ```
 #![tactic(auto)]
 
 mod apply;

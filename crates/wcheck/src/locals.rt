@@ -8,7 +8,7 @@ use std::alloc::{AllocError, Global};
 use std::marker::Model;
 use wsyntax::{LOCAL_LIMIT, LocalRun, ValType};
 
-/// A run of declared locals, and how many declared locals there are up to its end, or the greatest number.
+/// A run of declared locals, and how many declared locals there are up to its end, at most `usize::MAX`.
 #[derive(Clone, Copy)]
 pub(crate) struct EndedRun {
     pub(crate) run: LocalRun,
@@ -21,11 +21,11 @@ pub(crate) struct EndedRun {
 pub(crate) struct Locals<'a> {
     params: &'a [ValType],
     runs: Vec<EndedRun>,
-    /// The first of them all, written out.
+    /// The types of the first `EXPANDED` locals, parameters before declared ones.
     expanded: Vec<ValType>,
-    /// The declared ones, written out; none before the body has often looked past the first of them.
+    /// The types of the declared locals; none before the body has often looked past `expanded`.
     written: Vec<ValType>,
-    /// How often it has.
+    /// How often the body has looked past `expanded`.
     looks_past_expanded: usize,
 }
 
@@ -45,7 +45,7 @@ impl<'a> Model for Locals<'a> {
         × AreFirst l.written.items (declared (map run_of l.runs.items)) };
 }
 
-/// A sum, or the greatest number where there is none.
+/// The sum, or `usize::MAX` where it is greater.
 #[inline]
 fn capped(a: usize, count: u32) -> usize
     ensures { result ≡ min (a + count) usize.MAX }
@@ -72,7 +72,7 @@ fn end_runs(ended: &mut Vec<EndedRun>, runs: &[LocalRun]) -> Result<(), AllocErr
     Ok(())
 }
 
-/// Writes out the first of the locals.
+/// Writes out the types of the first `EXPANDED` locals, or of all where there are fewer.
 #[tactic(auto, using(crate::proofs::FirstLocals::none_first, crate::proofs::FirstLocals::some_first, crate::proofs::FirstLocals::so_far_first, crate::proofs::FirstLocals::part_first, crate::proofs::FirstLocals::next_first))]
 fn write_first(
     expanded: &mut Vec<ValType>,
@@ -138,7 +138,7 @@ fn declared_local(runs: &[EndedRun], x: usize) -> Option<ValType>
     }
 }
 
-/// The type of a local that need not be written out.
+/// The type of any local, found without those that are written out first.
 #[inline(never)]
 fn local_past_expanded(
     params: &[ValType],
@@ -176,7 +176,7 @@ impl<'a> Locals<'a> {
         }
     }
 
-    /// Makes room for all that are written out, and for `more` runs.
+    /// Makes room for the locals that are written out first, and for `runs` more runs.
     pub(crate) fn reserve(&mut self, runs: usize) -> Result<(), AllocError>
         ensures { self.new ≡ self.old }
     {

@@ -25,7 +25,7 @@ impl Model for OuterFrames {
     ghost view = { λ p. p.outermost.items ++ p.innermost.items };
 }
 
-/// Packs `frames` after others. `false`: one of them cannot be packed, or memory was refused.
+/// Packs `frames` after others. `false`: one of them does not fit, or memory was refused.
 fn pack_each(packed: &mut Vec<PackedFrame>, frames: &[OuterFrame]) -> bool
     ensures all { result ≡ true → packed.new.items ≡ packed.old.items ++ frames.now }
     ensures front { take (length packed.old.items) packed.new.items ≡ packed.old.items }
@@ -90,7 +90,7 @@ impl OuterFrames {
         self.innermost.clear();
     }
 
-    /// Packs those that are not, where they are many and all of them can be.
+    /// Packs the frames that are not packed, where they are many and each of them fits.
     fn pack(&mut self)
         ensures { self.new ≡ self.old }
     {

@@ -7,10 +7,10 @@ use std::mem::size_of;
 use wcontext::TypeList;
 use wsyntax::ValType;
 
-/// How many numbers a `u16` has.
+/// A `u16` holds the numbers below this.
 const U16_NUMBERS: u32 = 65_536;
 
-/// How many numbers a `u32` has.
+/// A `u32` holds the numbers below this.
 const U32_NUMBERS: usize = 4_294_967_296;
 
 /// The number of the first function type's parameters. Those of the others follow.
@@ -19,7 +19,7 @@ const FIRST_PARAMS: u32 = 5;
 /// The number of the first function type's results.
 const FIRST_RESULTS: u32 = 8_388_608;
 
-/// How many upper parts a height may have, of 13 bits. The marks of a frame stand above them.
+/// The upper part of a height is below this, in 13 bits. The marks of a frame stand above it.
 const UPPER_PARTS: u16 = 8_192;
 
 /// The mark of a loop.
@@ -120,7 +120,7 @@ fn list_of_parts(at: u16, above: u8) -> TypeList
     list_of(u32::from(at) + U16_NUMBERS * u32::from(above))
 }
 
-/// One where it is set, and else zero.
+/// 1 for `true`, and 0 for `false`.
 fn bit(is_set: bool) -> u16
     ensures bit { result < 2 }
     ensures set { (result == 1) ≡ is_set }

@@ -1,5 +1,6 @@
 // Two bodies and two calls are at work at once. Where one worker does both, or a loop without workers, none sees the
 // other come while it is there itself.
+use crate::longer::lengthened;
 use batch::{Call, Plan, Quiet, Settings, Status, Watch, answer, read_calls, run_batch};
 use pieces::Stage;
 use std::alloc::Global;
@@ -139,9 +140,10 @@ fn judged_bodies_meet<R: Threads + Wait + Abort + Sync>(
     verdict: Result<(), Refusal>,
 ) -> Result<(), Fail> {
     let plan = Plan::new(2, 1).ok_or("plan")?;
+    let module = lengthened(alloc, module)?;
     for _ in 0..TRIES {
         let meeting = Meeting::new();
-        let judged = match judge(rt, alloc, module, plan, &meeting) {
+        let judged = match judge(rt, alloc, &module, plan, &meeting) {
             Ok(_accepted) => Ok(()),
             Err(refusal) => Err(refusal),
         };
@@ -161,9 +163,10 @@ fn examined_bodies_meet<R: Threads + Wait + Abort + Sync>(
     verdict: Result<(), Refusal>,
 ) -> Result<(), Fail> {
     let plan = Plan::new(2, 1).ok_or("plan")?;
+    let module = lengthened(alloc, module)?;
     for _ in 0..TRIES {
         let meeting = Meeting::new();
-        assert_eq!(rt; examine(rt, alloc, module, plan, &meeting), verdict);
+        assert_eq!(rt; examine(rt, alloc, &module, plan, &meeting), verdict);
         if meeting.bodies.has_met() {
             return Ok(());
         }
@@ -187,6 +190,7 @@ fn two_bodies_are_examined_at_once(rt: HostRuntime) -> Result<(), Fail> {
 fn meeting_of_answer<R: Threads + Wait + Abort + Sync>(
     rt: &R,
     alloc: Global,
+    module: &[u8],
     piece: u32,
 ) -> Result<Meeting, Fail> {
     let plan = Plan::new(2, piece).ok_or("plan")?;
@@ -196,7 +200,7 @@ fn meeting_of_answer<R: Threads + Wait + Abort + Sync>(
     let status = answer(
         rt,
         alloc,
-        LOADS,
+        module,
         b"a\ti32:0\nb\ti32:1\n",
         settings,
         plan,
@@ -216,9 +220,10 @@ fn meeting_of_answer<R: Threads + Wait + Abort + Sync>(
 
 #[test]
 fn two_bodies_and_two_calls_of_an_answer_meet(rt: HostRuntime) -> Result<(), Fail> {
+    let module = lengthened(rt.alloc(), LOADS)?;
     let (mut bodies_met, mut calls_met) = (false, false);
     for _ in 0..TRIES {
-        let meeting = meeting_of_answer(&rt, rt.alloc(), 1)?;
+        let meeting = meeting_of_answer(&rt, rt.alloc(), &module, 1)?;
         bodies_met = bodies_met || meeting.bodies.has_met();
         calls_met = calls_met || meeting.calls.has_met();
         if bodies_met && calls_met {
@@ -232,7 +237,10 @@ fn two_bodies_and_two_calls_of_an_answer_meet(rt: HostRuntime) -> Result<(), Fai
 #[test]
 fn two_calls_of_one_piece_are_run_at_once(rt: HostRuntime) -> Result<(), Fail> {
     for _ in 0..TRIES {
-        if meeting_of_answer(&rt, rt.alloc(), 16)?.calls.has_met() {
+        if meeting_of_answer(&rt, rt.alloc(), LOADS, 16)?
+            .calls
+            .has_met()
+        {
             return Ok(());
         }
     }

@@ -1,6 +1,7 @@
 //! One or two bodies of a thousand are ill typed: the first is named, whoever judges, however long it is, and however the
 //! work is cut.
 use crate::judges::verdict_line;
+use crate::longer::lengthened;
 use batch::{Plan, Quiet, Status};
 use std::alloc::{AllocError, Global};
 use std::test::Fail;
@@ -53,7 +54,7 @@ fn thousand_bodies(
         };
         bytes.extend_from_slice(body)?;
     }
-    Ok(bytes)
+    lengthened(alloc, &bytes)
 }
 
 const THIRD: Refusal = Refusal::Body {

@@ -1,4 +1,5 @@
 // What a watch is told: each index of each stage once, and how much memory a call was lent.
+use crate::longer::lengthened;
 use batch::{Line, Plan, Quiet, Settings, Status, Watch, answer, read_calls, run_batch};
 use pieces::Stage;
 use std::alloc::{AllocError, Global};
@@ -19,7 +20,7 @@ fn hundred_bodies(alloc: Global) -> Result<Vec<u8>, AllocError> {
     for _ in 0..100 {
         bytes.extend_from_slice(b"\x02\0\x0b")?;
     }
-    Ok(bytes)
+    lengthened(alloc, &bytes)
 }
 
 fn hundred_calls(alloc: Global) -> Result<Vec<u8>, AllocError> {

@@ -1,6 +1,6 @@
 use Rattle.std.proofs.Common.{Ok, Err}
 use Rattle.verdict.proofs.Firsts.{refused_so}
-use Rattle.verdict.proofs.Rules.{each_typed, few_functions, verdict_so, judged_so, small_so, accepted_so}
+use Rattle.verdict.proofs.Rules.{each_typed, few_functions, short_bodies, verdict_so, judged_so, small_so, accepted_so}
 use Rattle.verdict.proofs.judging.judge_alone.Goals as goal
 
 pub returns-in_err-module-clause-verdict : goal.returns-in_err-module-clause-verdict
@@ -8,6 +8,9 @@ returns-in_err-module-clause-verdict c = refused_so _ _ _ c.in_err-module.field-
 
 pub judge_bodies_alone-requires-clause-each_has_type : goal.judge_bodies_alone-requires-clause-each_has_type
 judge_bodies_alone-requires-clause-each_has_type c κs = let m = c.in_ok-module in each_typed c.args.bytes.now m.module m.context c.deref.result.now m.ensures c.deref.ensures.value
+
+pub judge_bodies_alone-requires-clause-short : goal.judge_bodies_alone-requires-clause-short
+judge_bodies_alone-requires-clause-short c κs = let m = c.in_ok-module in short_bodies c.args.bytes.now m.module m.context c.deref.result.now m.ensures c.deref.ensures.value
 
 pub judge_bodies_alone-requires-clause-few : goal.judge_bodies_alone-requires-clause-few
 judge_bodies_alone-requires-clause-few c κs = let m = c.in_ok-module in few_functions c.args.bytes.now m.module m.context c.deref.result.now m.ensures c.deref.ensures.value

@@ -1,8 +1,10 @@
-use Rattle.std.proofs.Common.{Err, ap, sym, subst}
-use Rattle.wsyntax.specs.Modules.{BodyShape}
+use Rattle.std.proofs.Common.{Err, ap, sym, subst, arith}
+use Rattle.std.proofs.lemmas.List.{length-map}
+use Rattle.wsyntax.specs.Modules.{BodyShape, body_shape, seen}
 use Rattle.wsyntax.specs.Binary.Shell.{SpellsBody, FewLocals}
 use Rattle.verdict.proofs.Bodies.{refusal_malformed, refusal_too_many}
 use Rattle.verdict.proofs.Checks.{typed_refusal, faulty_refusal, checked_from}
+use Rattle.verdict.proofs.TokenCounts.{tokens_fit}
 use Rattle.verdict.proofs.keeping.checked_body.Goals as goal
 
 pub returns-in-Err-Malformed-clause-verdict : goal.returns-in-Err-Malformed-clause-verdict
@@ -12,6 +14,13 @@ pub returns-in-Err-TooManyLocals-clause-verdict : goal.returns-in-Err-TooManyLoc
 returns-in-Err-TooManyLocals-clause-verdict c =
     let b = c.in-Err-TooManyLocals.ensures.too_many (ap (λ e. Err e) c.in-Err-TooManyLocals.field-0-is) in
     refusal_too_many c.grammar_is_read.ensures.body _ _ _ b.0 b.1 b.2
+
+pub check_body-requires-clause-few : goal.check_body-requires-clause-few
+check_body-requires-clause-few c =
+    let b = c.in-Ok.body in
+    let within = tokens_fit c.args.bytes.now (body_shape b) c.in-Ok.ensures.found.0 in
+    let count = length-map b.code.tokens.items (seen b.code.targets.items) in
+    omega (arith, within, count, c.requires.short)
 
 pub returns-in-Ok-check_body-clause-verdict : goal.returns-in-Ok-check_body-clause-verdict
 returns-in-Ok-check_body-clause-verdict c =

@@ -2,7 +2,7 @@ use Rattle.std.proofs.Common.{arith}
 use Rattle.wsyntax.specs.Modules.{module_shape}
 use Rattle.verdict.specs.Refusals.{of_decoding}
 use Rattle.verdict.proofs.Firsts.{within_limit, not_decoded, refused_so}
-use Rattle.verdict.proofs.Parts.{is_early, one_whole, fewer}
+use Rattle.verdict.proofs.Parts.{is_early, one_whole, fewer, no_module, none_spelled}
 use Rattle.verdict.proofs.head.Head.of.Goals as goal
 
 pub returns-in_err-front : goal.returns-in_err-front
@@ -30,4 +30,10 @@ invariant_of-result-clause-one c = one_whole c.args.bytes.now c.in_ok-front.fron
 pub invariant_of-result-clause-few : goal.invariant_of-result-clause-few
 invariant_of-result-clause-few c =
     fewer (module_shape c.in_ok-front.front.«module») c.in-Ok.both.0 c.function_count.result 2147483648 c.in-Ok.ensures.context c.in_ok-front.ensures.paired c.function_count.ensures.functions
-    (omega (arith, c.if-function_count-ge-MOST_FUNCTIONS.false))
+    (let small = within_limit c.args.bytes.now c.in_ok-front.front c.in_ok-front.ensures.too_large in omega (arith, small, c.if-function_count-bytes.false))
+
+pub returns-then-function_count-bytes : goal.returns-then-function_count-bytes
+returns-then-function_count-bytes c =
+    let front = c.in_ok-front.front in
+    none_spelled c.args.bytes.now (within_limit _ front c.in_ok-front.ensures.too_large)
+    (no_module c.args.bytes.now front c.in-Ok.both.0 c.function_count.result c.in_ok-front.ensures.whole c.in-Ok.ensures.context c.in_ok-front.ensures.paired c.function_count.ensures.functions (omega (arith, c.if-function_count-bytes.true)))
