@@ -124,9 +124,9 @@ def needs_folder(name):
 
 
 def built(words, **settings):
-    _, status, error = started(words, **settings)
+    said, status, error = started(words, **settings)
     if status:
-        raise RuntimeError(f'{words}: {error.decode(errors="replace")}')
+        raise RuntimeError(f'{words}: {(error + said).decode(errors="replace")}')
 
 
 def compile_c(source, target, folder, more=()):
