@@ -9,8 +9,10 @@ hosts       Each host whose compiler is on the machine prints the verdicts of al
 header      gate.h by the compilers of C and C++, with all warnings; the shared library exports the functions of it and nothing else,
             and wants six functions of the C library.
 interface   interface.c calls each function, with short buffers, null pointers and numbers that are none, and on four threads.
+packages    the tests of the packages for Rust and Go.
 refused     refuse_through_c.c refuses each request for memory in turn.
 valgrind    where it is on the machine: no error and no leak in the hosts in C and in interface.c, and no race in the latter.
+What is left out, for want of a tool, is counted and named at the end; with --all nothing may be.
 """
 import argparse
 import os
@@ -122,9 +124,9 @@ def needs_folder(name):
 
 
 def built(words, **settings):
-    _, status, error = started(words, **settings)
+    said, status, error = started(words, **settings)
     if status:
-        raise RuntimeError(f'{words}: {error.decode(errors="replace")}')
+        raise RuntimeError(f'{words}: {(error + said).decode(errors="replace")}')
 
 
 def compile_c(source, target, folder, more=()):
@@ -151,11 +153,16 @@ def shared_host(folder, work):
     return c_host('C (shared)', folder, work, [f'LDLIBS=-L{folder} -lgate -Wl,-rpath,{folder} -pthread'])
 
 
-def rust_host(folder, work):
+def cargo(folder, work, *words):
+    """Runs cargo on the package; answers where it puts what it builds."""
     target = os.path.join(work, 'rust')
-    words = [needs('cargo'), 'build', '--quiet', '--release', '--offline', '--target-dir', target]
-    built(words, cwd=needs_folder('rust'), environment={'GATE_LIB_DIR': folder})
-    return by_words('Rust', [os.path.join(target, 'release', 'gate-host')])
+    options = ['--quiet', '--release', '--offline', '--target-dir', target]
+    built([needs('cargo'), *words, *options], cwd=needs_folder('rust'), environment={'GATE_LIB_DIR': folder})
+    return target
+
+
+def rust_host(folder, work):
+    return by_words('Rust', [os.path.join(cargo(folder, work, 'build'), 'release', 'gate-host')])
 
 
 def python_host(folder, work):
@@ -163,11 +170,27 @@ def python_host(folder, work):
     return by_words('Python', words, {'GATE_LIBRARY': os.path.join(folder, library.SHARED)})
 
 
+def go(folder, *words):
+    """Runs go on the package."""
+    tool = needs('go', os.environ.get('PATH', '') + ':' + GO_FOLDERS)
+    environment = {'CGO_LDFLAGS': f'-L{folder}', 'CGO_CFLAGS': f'-I{INCLUDE}', 'GOPROXY': 'off', 'LD_LIBRARY_PATH': folder}
+    built([tool, *words], cwd=needs_folder('go'), environment=environment)
+
+
 def go_host(folder, work):
-    source, target = needs_folder('go'), os.path.join(work, 'go-host')
-    words = [needs('go', os.environ.get('PATH', '') + ':' + GO_FOLDERS), 'build', '-o', target, './host']
-    built(words, cwd=source, environment={'CGO_LDFLAGS': f'-L{folder}', 'CGO_CFLAGS': f'-I{INCLUDE}', 'GOPROXY': 'off'})
+    target = os.path.join(work, 'go-host')
+    go(folder, 'build', '-o', target, './host')
     return by_words('Go', [target], {'LD_LIBRARY_PATH': folder})
+
+
+def tests_of_rust(tally, folder, work):
+    cargo(folder, work, 'test')
+    tally.expect(True, 'cargo test')
+
+
+def tests_of_go(tally, folder):
+    go(folder, 'test', '.')
+    tally.expect(True, 'go test')
 
 
 HOSTS = {'C': static_host, 'C (shared)': shared_host, 'Rust': rust_host, 'Python': python_host, 'Go': go_host}
@@ -388,6 +411,8 @@ def all_parts(tally, pool, program, folder, work):
     jobs.begin('interface', interface, checker, [], MANY_ROUNDS)
     jobs.begin('gate.h', header, folder, work)
     jobs.begin('exports', exports, folder)
+    jobs.begin('cargo test', tests_of_rust, folder, work)
+    jobs.begin('go test', tests_of_go, folder)
     if shutil.which('valgrind'):
         begin_valgrind(jobs, found, checker, modules, runs)
     else:
@@ -398,21 +423,22 @@ def all_parts(tally, pool, program, folder, work):
     return f'{names}: {len(modules)} verdicts and {len(runs)} reports each; {refused} requests refused; {held} statements on gate.h'
 
 
-def main(program, folder):
+def main(program, folder, wants_all):
     tally = Tally()
     with tempfile.TemporaryDirectory() as work, ThreadPoolExecutor(AT_ONCE) as pool:
         if not folder:
             folder = os.path.join(work, 'library')
             library.make(library.CRATE_OUT, folder)
         said = all_parts(tally, pool, program, os.path.abspath(folder), work)
-    left = f'; left out: {", ".join(tally.left)}' if tally.left else ''
-    print(f'hosts: {said}{left}; {tally.passed} passed, {tally.failed} failed')
-    return 1 if tally.failed or not tally.passed else 0
+    left = f'{len(tally.left)} left out' + (f': {", ".join(tally.left)}' if tally.left else '')
+    print(f'hosts: {said}; {tally.passed} passed, {tally.failed} failed, {left}')
+    return 1 if tally.failed or not tally.passed or wants_all and tally.left else 0
 
 
 if __name__ == '__main__':
     parser = argparse.ArgumentParser(description=__doc__, formatter_class=argparse.RawDescriptionHelpFormatter)
     parser.add_argument('program', metavar='PROGRAM', help='the proved program')
     parser.add_argument('--library', metavar='FOLDER', help='where library.py put the library (default: it is made)')
+    parser.add_argument('--all', action='store_true', help='nothing may be left out')
     chosen = parser.parse_args()
-    sys.exit(main(os.path.abspath(chosen.program), chosen.library))
+    sys.exit(main(os.path.abspath(chosen.program), chosen.library, chosen.all))

@@ -1,5 +1,5 @@
 #!/usr/bin/env python3
-"""usage: wrong_bodies.py [--all] [--tree FOLDER] [CRATE..]    shows that the prover refuses wrong bodies.
+"""usage: wrong_bodies.py [--all] [--names] [--tree FOLDER] [CRATE..]    shows that the prover refuses wrong bodies.
 
 A wrong body is an edit of one function, in a crate's must-fail/ or, where that has another one of the same function, in
 tests/wrong_bodies, in a folder of the crate's name. `rt must-fail` tries those of must-fail/ one by one, and each costs a
@@ -10,6 +10,9 @@ one of them; `rt must-fail` takes any refusal. What a round does not name, and w
 one check goes by what another kept, the last check of a crate is that of its own text, which has to be proved.
 
 With --all those of tests/wrong_bodies are tried too; without it is only seen that each can be applied.
+
+Where a proof by hand names what an edit took away, that proof is refused, whether the body is wrong or right. Such an edit has a line of
+its own; with --names it counts as one that is not refused. A wrong body that changes a value and keeps the names is none.
 
 The libraries that a crate stands on are taken as they lie in FOLDER, a tree that `rt ci` has proved (this one, where none is
 given).
@@ -35,6 +38,12 @@ MEMORY_OF_A_CHECK = 3_000_000
 # What a check says of a function, and what it may say of one that no wrong body turns.
 OF_FUNCTION = re.compile(r'fn (\S+): (.*)')
 EXCUSED = re.compile(r'proved|assumed|(no proof|not proved): it calls ')
+
+# What a check says of a proof that names what is gone, and of what cites that proof; of a goal that it shows to be false; and what
+# `rt must-fail` makes of the first.
+LOST_NAME = re.compile(r'has no field|is not in scope|has no `|was not admitted')
+SHOWN_FALSE = 'the facts known there allow values'
+BY_NAMES = 'only because a proof file names what the edit took away'
 
 HEADER = re.compile(r'^([ \t]*)(?:pub(?:\([a-z]+\))? )?(?:const |extern "C" )?fn (\w+)', re.M)
 
@@ -160,14 +169,26 @@ def names(line, function, lines):
     return bool(in_proof) and place[3].startswith('error')
 
 
+def naming(said, crate, bodies, body):
+    """Of each function that a body of a round turns the lines of the check that name it."""
+    spans = [(it, lines_in(it, bodies, crate.folder)) for it in body.functions]
+    return [[line for line in said if names(line, it, lines)] for it, lines in spans]
+
+
 def not_named(said, crate, bodies):
     """Of the bodies of a round those whose functions the check does not all name."""
-    missing = []
-    for body in bodies:
-        spans = [(it, lines_in(it, bodies, crate.folder)) for it in body.functions]
-        if not all(any(names(line, it, lines) for line in said) for it, lines in spans):
-            missing.append(body)
-    return missing
+    return [body for body in bodies if not all(naming(said, crate, bodies, body))]
+
+
+def is_by_names(lines):
+    """Whether these lines say of proofs only that they name what is gone. A goal that has another name then stays open."""
+    of_proofs = [it for it in lines if not it.startswith('note: ')]
+    return bool(of_proofs) and all(map(LOST_NAME.search, of_proofs)) and not any(SHOWN_FALSE in it for it in lines)
+
+
+def refused_by_names(said, crate, bodies):
+    """Of the bodies of a round those that are refused because proofs name what they took away."""
+    return [body for body in bodies if is_by_names(sum(naming(said, crate, bodies, body), []))]
 
 
 def named_beside(said, crate, bodies):
@@ -182,9 +203,10 @@ def named_beside(said, crate, bodies):
 
 
 def try_round(kit, crate, bodies, kept):
-    """Tries the bodies of a round at once; answers those whose functions are not all named, and what else the check does not prove."""
+    """Tries the bodies of a round at once; answers those whose functions are not all named, what else the check does not prove, and
+    those that are refused by names."""
     said = kit.checked(crate, texts_of(bodies, crate.folder), ['--jobs', '1'], kept).stdout.split('\n')
-    return not_named(said, crate, bodies), named_beside(said, crate, bodies)
+    return not_named(said, crate, bodies), named_beside(said, crate, bodies), refused_by_names(said, crate, bodies)
 
 
 def unreadable(kit, crate, edits):
@@ -193,8 +215,9 @@ def unreadable(kit, crate, edits):
     return {it: f'{crate.name}/{os.path.basename(it)}: BAD EDIT: {why}' for it, why in found if why}
 
 
-def try_crate(kit, crate, edits):
-    """Tries the wrong bodies of a crate; answers the lines to print, and how many were not refused."""
+def try_crate(kit, crate, edits, names_count):
+    """Tries the wrong bodies of a crate; answers the lines to print, and how many were not refused. Whether those count as refused that
+    are by names, is said by `names_count`."""
     started = time.monotonic()
     bad = unreadable(kit, crate, edits)
     lines, failed = list(bad.values()), len(bad)
@@ -203,14 +226,15 @@ def try_crate(kit, crate, edits):
     with tempfile.TemporaryDirectory() as kept:
         alone = [it for it in readable if not it.functions]
         for bodies in rounds:
-            missing, beside = try_round(kit, crate, bodies, kept)
+            missing, beside, lost = try_round(kit, crate, bodies, kept)
             alone += missing
             lines += [f'{crate.name}: {it} is not proved beside wrong bodies of others' for it in beside]
-            failed += len(beside)
+            lines += [f'{crate.name}/{it.name()}: refused where a proof file names what it took away' for it in lost]
+            failed += len(beside) + (0 if names_count else len(lost))
         for body in alone:
             tried, said = kit.must_fail(crate, body.path, ['--jobs', '1'], kept)
             lines.append(said)
-            failed += tried != kit.REFUSED
+            failed += tried != kit.REFUSED or BY_NAMES in said and not names_count
         if len(rounds) + len(alone) > 1 and kit.checked(crate, {}, ['--jobs', '1'], kept).returncode != 0:
             lines.append(f'{crate.name}: its own text is not proved over what these checks kept')
             failed += 1
@@ -233,11 +257,11 @@ def at_once():
     return max(1, min(os.cpu_count() or 1, memory // MEMORY_OF_A_CHECK))
 
 
-def try_all(kit, edits):
+def try_all(kit, edits, names_count):
     """Tries these edits, a list a crate, several crates side by side; answers how many were not refused."""
     failed = 0
     with ThreadPoolExecutor(at_once()) as pool:
-        for tried in [pool.submit(try_crate, kit, crate, edits[crate]) for crate in edits]:
+        for tried in [pool.submit(try_crate, kit, crate, edits[crate], names_count) for crate in edits]:
             lines, bad = tried.result()
             print(*lines, sep='\n', flush=True)
             failed += bad
@@ -247,6 +271,7 @@ def try_all(kit, edits):
 def main():
     parser = argparse.ArgumentParser(usage=__doc__)
     parser.add_argument('--all', action='store_true')
+    parser.add_argument('--names', action='store_true')
     parser.add_argument('--tree', default=root)
     parser.add_argument('crates', nargs='*')
     words = parser.parse_args()
@@ -259,7 +284,7 @@ def main():
     edits = {it: found for it, found in edits.items() if found}
     left = [why for it in crates for why in unreadable(kit, it, further(it.name)).values()]
     print(*left, sep='\n', end='\n' if left else '')
-    failed, count = try_all(kit, edits), sum(map(len, edits.values()))
+    failed, count = try_all(kit, edits, not words.names), sum(map(len, edits.values()))
     print(f'{count - failed} wrong bodies refused, {failed} not')
     return 1 if failed or left or count == 0 else 0
 

@@ -5,6 +5,8 @@ A must-fail edit reaches its own crate alone, while the definitions stand in `ws
 each edit here is applied to a copy of these crates, and the check of `soundness` must fail in a proof: the first error
 stands in a file of `proofs/`, not of `specs/`, where it would only say that the definition is no definition. An edit begins
 with the line `file:`, and has pairs of lines `old:` and `new:`; each old text stands exactly once in the file.
+
+With MINUTES not all may be tried: another commit begins with another one, those that are left are named, and more than half may not be.
 """
 import argparse
 import math
@@ -17,7 +19,11 @@ import tempfile
 import time
 
 root = os.path.join(os.path.dirname(os.path.abspath(__file__)), '..')
+EDITS = os.path.join(root, 'tests', 'wrong_definitions')
 CRATES = ['wnum', 'wsyntax', 'soundness']
+# Of the edits at most this part may be left for want of time.
+MOST_LEFT = 1 / 2
+SECONDS_OF_A_DAY = 86_400
 
 
 def read(path):
@@ -58,34 +64,54 @@ def first_error(output):
     return found.group(1) if found else 'nowhere'
 
 
+def beginning(count):
+    """The number of the edit to begin with, and by what it goes: the commit, or the day where there is none."""
+    ran = subprocess.run(['git', 'rev-parse', 'HEAD'], cwd=root, capture_output=True, text=True)
+    if ran.returncode == 0:
+        return int(ran.stdout, 16) % count, f'commit {ran.stdout[:12]}'
+    day = int(time.time()) // SECONDS_OF_A_DAY
+    return day % count, f'day {day}'
+
+
+def in_turn():
+    """The names of the edits, from the one on that it begins with."""
+    names = sorted(os.listdir(EDITS))
+    first, reason = beginning(len(names))
+    print(f'begins with {names[first]}, by the {reason}')
+    return names[first:] + names[:first]
+
+
+def is_refused(folder, name):
+    """Tries an edit in the copy, and says what came of it."""
+    edit = read(os.path.join(EDITS, name))
+    path = os.path.join(folder, re.match(r'file: (.*)', edit).group(1))
+    text = read(path)
+    write(path, applied(text, edit))
+    status, output = check(folder)
+    write(path, text)
+    place = first_error(output)
+    refused = status != 0 and '/proofs/' in place
+    print(f'{name}: refused in {place}' if refused else f'{name}: status {status}, the first error in {place}', flush=True)
+    return refused
+
+
 def main(minutes):
-    end = time.time() + minutes * 60
-    folder_of_edits = os.path.join(root, 'tests', 'wrong_definitions')
-    passed = failed = 0
+    names = in_turn()
     with tempfile.TemporaryDirectory() as top:
         folder = os.path.join(top, 'copy')
         copy_into(folder)
         if check(folder)[0] != 0:
             sys.exit('soundness is not proved as it stands')
-        for name in sorted(os.listdir(folder_of_edits)):
-            if time.time() > end:
-                print(f'{name}: not tried, for want of time')
-                continue
-            edit = read(os.path.join(folder_of_edits, name))
-            path = os.path.join(folder, re.match(r'file: (.*)', edit).group(1))
-            text = read(path)
-            write(path, applied(text, edit))
-            status, output = check(folder)
-            write(path, text)
-            place = first_error(output)
-            if status != 0 and '/proofs/' in place:
-                passed += 1
-                print(f'{name}: refused in {place}', flush=True)
-            else:
-                failed += 1
-                print(f'{name}: status {status}, the first error in {place}', flush=True)
-    print(f'{passed} wrong definitions refused, {failed} not')
-    return 1 if failed or not passed else 0
+        refused, end = [], time.monotonic() + minutes * 60
+        while len(refused) < len(names) and time.monotonic() < end:
+            refused.append(is_refused(folder, names[len(refused)]))
+    left = names[len(refused):]
+    print(*(f'{name}: not tried, for want of time' for name in left), sep='\n', end='\n' if left else '')
+    failed = refused.count(False)
+    print(f'{len(refused) - failed} wrong definitions refused, {failed} not, {len(left)} not tried')
+    if len(left) > MOST_LEFT * len(names):
+        print(f'too many are not tried: more than {MOST_LEFT * len(names):.0f} of {len(names)}')
+    return 1 if failed or not refused or len(left) > MOST_LEFT * len(names) else 0
 
 
 if __name__ == '__main__':

@@ -1,5 +1,5 @@
 -- What the words of the command line ask for.
-use Rattle.std.specs.Prelude.{◌≡◌, ◌⊎◌, ℕ, List, [], ◌++◌, Contains, codes, slice_index_or}
+use Rattle.std.specs.Prelude.{◌≡◌, ◌⊎◌, ℕ, ◌<◌, List, [], ◌++◌, Contains, codes, length, slice_index_or}
 use Rattle.command.specs.Options.{SaysLimits, SaysPlan, option_words}
 use Rattle.command.specs.declared.request.Request.{Request}
 use Rattle.command.specs.declared.request.Request.TheVariants.{Check, Run, Text}
@@ -24,9 +24,21 @@ AsksHelp words = (first_word words ≡ codes "help") ⊎ (Contains (option_words
 abbrev pub AsksVersion : List (List ℕ) → Type 0
 AsksVersion words = (first_word words ≡ codes "--version") ⊎ BeginsWith (codes "-V") (first_word words)
 
--- the paths of a request are among the words, which say its numbers, and a text is given only where a word asks for one
+-- the word at this place is the text
+abbrev pub StandsAt : List (List ℕ) → ℕ → List ℕ → Type 0
+StandsAt words place text = (place < length words) × (slice_index_or words place [] ≡ text)
+
+-- the text is a word after the first one, the command's name
+abbrev pub IsOperand : List (List ℕ) → List ℕ → Type 0
+IsOperand words path = (i : ℕ) × (0 < i) × StandsAt words i path
+
+-- the first text is a word after the command's name, and the second one is a word after that
+abbrev pub AreOperands : List (List ℕ) → List ℕ → List ℕ → Type 0
+AreOperands words path calls = (i : ℕ) × (j : ℕ) × (0 < i) × (i < j) × StandsAt words i path × StandsAt words j calls
+
+-- the paths of a request are words after the command's name, the module's before that of the calls; the words say its numbers; and a text is given only where a word asks for one
 abbrev pub IsRequestOf : List (List ℕ) → Request → Type 0
-IsRequestOf words (Check path plan) = Contains words path.now × SaysPlan words plan.workers plan.piece
+IsRequestOf words (Check path plan) = IsOperand words path.now × SaysPlan words plan.workers plan.piece
 IsRequestOf words (Run path calls settings plan) =
-    Contains words path.now × (Contains words calls.now × (SaysLimits words settings.fuel settings.frames settings.pages × SaysPlan words plan.workers plan.piece))
+    AreOperands words path.now calls.now × (SaysLimits words settings.fuel settings.frames settings.pages × SaysPlan words plan.workers plan.piece)
 IsRequestOf words (Text text) = AsksHelp words ⊎ AsksVersion words

@@ -18,9 +18,12 @@ pub fn check_of<'a>(words: &'a [&'a str], matches: &ArgMatches<'a>) -> Option<Re
     ensures { IfSome result (IsRequestOf (map (λ w. w.now) words.now)) }
 {
     let matches = matches.subcommand_matches("check")?;
-    let path = find_word(words, matches.get_str("module")?)?;
+    let module = find_word(words, 1, matches.get_str("module")?)?;
     let plan = plan_of(words)?;
-    Some(Request::Check { path, plan })
+    Some(Request::Check {
+        path: words[module],
+        plan,
+    })
 }
 
 /// The files, the limits and the plan that `gate run` is given.
@@ -28,13 +31,13 @@ pub fn run_of<'a>(words: &'a [&'a str], matches: &ArgMatches<'a>) -> Option<Requ
     ensures { IfSome result (IsRequestOf (map (λ w. w.now) words.now)) }
 {
     let matches = matches.subcommand_matches("run")?;
-    let path = find_word(words, matches.get_str("module")?)?;
-    let calls = find_word(words, matches.get_str("calls")?)?;
+    let module = find_word(words, 1, matches.get_str("module")?)?;
+    let calls = find_word(words, module + 1, matches.get_str("calls")?)?;
     let settings = settings_of(words)?;
     let plan = plan_of(words)?;
     Some(Request::Run {
-        path,
-        calls,
+        path: words[module],
+        calls: words[calls],
         settings,
         plan,
     })

@@ -7,7 +7,7 @@ use crate::fault::{WordsFault, usage};
 use crate::matched::{check_of, run_of};
 use crate::request::Request;
 use crate::said::option_words;
-use crate::words::{begins_with, contains_front, find_word, first_word};
+use crate::words::{begins_with, contains_front, contains_word, first_word};
 use clap::error::ErrorKind;
 use clap::{ArgMatches, Error};
 use std::alloc::Global;
@@ -45,9 +45,7 @@ fn asks_help(words: &[&str]) -> bool
     ensures { IsTrue result → AsksHelp (map (λ w. w.now) words.now) }
 {
     let options = option_words(words);
-    first_word(words) == "help"
-        || find_word(options, "--help").is_some()
-        || contains_front(options, "-h")
+    first_word(words) == "help" || contains_word(options, "--help") || contains_front(options, "-h")
 }
 
 /// Whether the first word asks for the version.

@@ -1,6 +1,5 @@
 -- What stands after a status.
 use Rattle.std.proofs.Common.{◌≡◌, ℕ, List, [], ◌∷◌, Option, Ok, Bor, inl, inr, refl, sym, subst, ◌∙◌}
-use Rattle.std.specs.Prelude.{Contains}
 use Rattle.std.specs.Io.KnownBytes.{Appends}
 use Rattle.wsyntax.specs.Validation.Verdict.{Verdict, Accepted, TooLarge, Malformed, RuleBroken, BodyRefused}
 use Rattle.wsyntax.specs.Texts.Lines.{verdict_line}
@@ -10,7 +9,7 @@ use Rattle.batch.specs.Report.{status_of}
 use Rattle.batch.specs.declared.status.Status.{Status}
 use Rattle.batch.specs.declared.status.Status.TheVariants.{Good, ModuleRefused, CallsRefused}
 use Rattle.command.specs.Options.{SaysLimits}
-use Rattle.command.specs.Requests.{IsRequestOf}
+use Rattle.command.specs.Requests.{AreOperands, IsRequestOf}
 use Rattle.command.specs.declared.request.Request.{Request}
 use Rattle.command.specs.declared.request.Request.TheVariants.{Check, Run, Text}
 use Rattle.gate.specs.Sources.{ReadsPaths}
@@ -58,12 +57,11 @@ not_calls_refused s a b = let e : Good ≡ CallsRefused = sym a ∙ b in absurd 
 
 -- a run that ends with an answer
 answer : (words : List (List ℕ)) (path calls : Bor (List ℕ)) (settings : Settings) (holds : List ℕ → Option (List ℕ)) (asked asked' : Option (List (List ℕ))) (old new : Option (List ℕ)) (s t : Status)
-    → Contains words path.now → Contains words calls.now → SaysLimits words settings.fuel settings.frames settings.pages → RunsOn (holds path.now) (holds calls.now) (limits_of settings) old new (Ok s) → ReadsPaths asked asked' (path.now ∷ calls.now ∷ []) → s ≡ t → PrintsAnswer words holds asked asked' old new t
-answer words path calls settings holds asked asked' old new s t named calls_named said done order e = record {
+    → AreOperands words path.now calls.now → SaysLimits words settings.fuel settings.frames settings.pages → RunsOn (holds path.now) (holds calls.now) (limits_of settings) old new (Ok s) → ReadsPaths asked asked' (path.now ∷ calls.now ∷ []) → s ≡ t → PrintsAnswer words holds asked asked' old new t
+answer words path calls settings holds asked asked' old new s t named said done order e = record {
   path = path.now;
   calls = calls.now;
   named = named;
-  calls_named = calls_named;
   in_order = order;
   fuel = settings.fuel;
   frames = settings.frames;
@@ -83,20 +81,20 @@ good words (Check path plan) holds asked asked' old new s named (v, judged, is, 
       judged = subst (Judges (holds path.now)) same judged;
       written = subst (λ (x : Verdict). Appends old new (verdict_line x)) same written;
     })
-good words (Run path calls settings plan) holds asked asked' old new s (named, (calls_named, said)) done order e =
-    inr (inr (answer words path calls settings holds asked asked' old new s Good named calls_named said.0 done order (only_good s e)))
+good words (Run path calls settings plan) holds asked asked' old new s (named, said) done order e =
+    inr (inr (answer words path calls settings holds asked asked' old new s Good named said.0 done order (only_good s e)))
 good words (Text text) holds asked asked' old new s asks shown order e = inl asks
 
 pub refusal : (words : List (List ℕ)) (request : Request) (holds : List ℕ → Option (List ℕ)) (asked asked' : Option (List (List ℕ))) (old new : Option (List ℕ)) (s : Status) → IsRequestOf words request → AnswersRequest request holds old new (Ok s) → AsksFor request asked asked' (Ok s) → answer_status s ≡ 2 → PrintsRefusal words holds asked asked' old new
 refusal words (Check path plan) holds asked asked' old new s named (v, judged, is, written) order e =
     inl (v, sym is ∙ only_refused s e, record { path = path.now; named = named.0; only = order; judged = judged; written = written })
-refusal words (Run path calls settings plan) holds asked asked' old new s (named, (calls_named, said)) done order e =
-    inr (answer words path calls settings holds asked asked' old new s ModuleRefused named calls_named said.0 done order (only_refused s e))
+refusal words (Run path calls settings plan) holds asked asked' old new s (named, said) done order e =
+    inr (answer words path calls settings holds asked asked' old new s ModuleRefused named said.0 done order (only_refused s e))
 refusal words (Text text) holds asked asked' old new s asks shown order e = absurd (not_refused s shown.0 (only_refused s e))
 
 pub calls_refusal : (words : List (List ℕ)) (request : Request) (holds : List ℕ → Option (List ℕ)) (asked asked' : Option (List (List ℕ))) (old new : Option (List ℕ)) (s : Status) → IsRequestOf words request → AnswersRequest request holds old new (Ok s) → AsksFor request asked asked' (Ok s) → answer_status s ≡ 3 → PrintsCallsRefusal words holds asked asked' old new
 calls_refusal words (Check path plan) holds asked asked' old new s named (v, judged, is, written) order e =
     absurd (no_verdict v (sym is ∙ only_calls_refused s e))
-calls_refusal words (Run path calls settings plan) holds asked asked' old new s (named, (calls_named, said)) done order e =
-    answer words path calls settings holds asked asked' old new s CallsRefused named calls_named said.0 done order (only_calls_refused s e)
+calls_refusal words (Run path calls settings plan) holds asked asked' old new s (named, said) done order e =
+    answer words path calls settings holds asked asked' old new s CallsRefused named said.0 done order (only_calls_refused s e)
 calls_refusal words (Text text) holds asked asked' old new s asks shown order e = absurd (not_calls_refused s shown.0 (only_calls_refused s e))

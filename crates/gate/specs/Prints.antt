@@ -1,5 +1,5 @@
 -- What the program leaves of a request.
-use Rattle.std.specs.Prelude.{◌≡◌, ◌⊎◌, ℕ, List, [], ◌∷◌, Option, Result, Ok, Err, Contains, string_bytes}
+use Rattle.std.specs.Prelude.{◌≡◌, ◌⊎◌, ℕ, List, [], ◌∷◌, Option, Result, Ok, Err, string_bytes}
 use Rattle.std.specs.Io.KnownBytes.{Keeps, Appends}
 use Rattle.wsyntax.specs.Validation.Verdict.{Verdict, Accepted}
 use Rattle.wsyntax.specs.Texts.Lines.{verdict_line}
@@ -10,7 +10,7 @@ use Rattle.batch.specs.Report.{status_of}
 use Rattle.batch.specs.declared.status.Status.{Status}
 use Rattle.batch.specs.declared.status.Status.TheVariants.{Good, ModuleRefused, CallsRefused}
 use Rattle.command.specs.Options.{SaysLimits}
-use Rattle.command.specs.Requests.{AsksHelp, AsksVersion, IsRequestOf}
+use Rattle.command.specs.Requests.{AreOperands, AsksHelp, AsksVersion, IsOperand, IsRequestOf}
 use Rattle.command.specs.declared.request.Request.{Request}
 use Rattle.command.specs.declared.request.Request.TheVariants.{Check, Run, Text}
 use Rattle.gate.specs.Sources.{ReadsPaths}
@@ -49,20 +49,19 @@ AnswersWords words holds asked asked' old new status =
 
 -- By the status.
 
--- the verdict line of the module is written whose path stands among the words; it alone was asked for
+-- the verdict line of the module is written whose path is a word after the command's name; it alone was asked for
 pub record PrintsVerdict (words : List (List ℕ)) (holds : List ℕ → Option (List ℕ)) (asked asked' : Option (List (List ℕ))) (old new : Option (List ℕ)) (v : Verdict) : Type 0 where
   pub path : List ℕ
-  pub named : Contains words path
+  pub named : IsOperand words path
   pub only : ReadsPaths asked asked' (path ∷ [])
   pub judged : Judges (holds path) v
   pub written : Appends old new (verdict_line v)
 
--- the answer with this status is written to the module and the calls whose paths stand among the words, within the limits that the words say; the module was asked for first, and then the calls
+-- the answer with this status is written to the module whose path is a word after the command's name, and to the calls whose path is a word after that, within the limits that the words say; the module was asked for first, and then the calls
 pub record PrintsAnswer (words : List (List ℕ)) (holds : List ℕ → Option (List ℕ)) (asked asked' : Option (List (List ℕ))) (old new : Option (List ℕ)) (status : Status) : Type 0 where
   pub path : List ℕ
   pub calls : List ℕ
-  pub named : Contains words path
-  pub calls_named : Contains words calls
+  pub named : AreOperands words path calls
   pub in_order : ReadsPaths asked asked' (path ∷ calls ∷ [])
   pub fuel : ℕ
   pub frames : ℕ
