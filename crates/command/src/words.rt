@@ -1,4 +1,4 @@
-// Words among words.
+//! Words among words.
 ghost use Rattle.std.specs.Prelude.{◌≡◌, ◌<◌, ◌≤◌, Contains, IfSome, IsTrue, length, map};
 ghost use Rattle.command.specs.Requests.{BeginsWith, ContainsFront, StandsAt, first_word};
 

@@ -1,4 +1,8 @@
 //! Judging a module: the grammar, the module rules and every body, on many workers or on the calling thread alone.
+//!
+//! Proved: `examine` gives the verdict of the definition for every plan, and keeps nothing; `judge` gives the same, and of an
+//! accepted module its parts. The `_alone` forms promise the same on the calling thread. Bytes have one verdict at most
+//! (`one_verdict`).
 #![tactic(auto)]
 
 mod body;

@@ -11,6 +11,10 @@
 //! apply::apply_rule                 which methods of the operands
 //! operand_rules, operand_stack      whether the types on top fit, and what lies there then
 //! ```
+//!
+//! Proved: `check_body` takes exactly the bodies that the declarative typing rules type, else names the first fault. Of a
+//! body that it takes it changes nothing but where tokens go on; side table and height fit the typing. `Checker` is the
+//! algorithm, token by token.
 #![tactic(auto)]
 
 mod apply;

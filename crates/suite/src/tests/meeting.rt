@@ -1,5 +1,5 @@
-// Two bodies and two calls are at work at once. Where one worker does both, or a loop without workers, none sees the
-// other come while it is there itself.
+//! Two bodies and two calls are at work at once. Where one worker does both, or a loop without workers, none sees the
+//! other come while it is there itself.
 use crate::longer::lengthened;
 use batch::{Call, Plan, Quiet, Settings, Status, Watch, answer, read_calls, run_batch};
 use pieces::Stage;

@@ -1,4 +1,4 @@
-// What a watch is told: each index of each stage once, and how much memory a call was lent.
+//! What a watch is told: each index of each stage once, and how much memory a call was lent.
 use crate::longer::lengthened;
 use batch::{Line, Plan, Quiet, Settings, Status, Watch, answer, read_calls, run_batch};
 use pieces::Stage;
