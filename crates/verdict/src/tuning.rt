@@ -9,7 +9,7 @@ pub(crate) const LABELS: usize = 2_048;
 /// How many exports ordinary modules have, at most.
 pub(crate) const EXPORTS: usize = 4_096;
 
-/// A module of at least this many bytes makes a group worth its while.
+/// Fewer bytes than this are worth neither a group nor a worker of their own.
 pub(crate) const SHORTEST_GROUP: usize = 4_096;
 
 /// How many groups there are for each worker at least, where they are long enough.
