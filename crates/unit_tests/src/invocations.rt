@@ -1,5 +1,7 @@
 //! What no clause says: that calls come to an end, with the outcomes of small programs and the fuel that they spend.
 ghost use Rattle.std.specs.Prelude.{◌≡◌};
+ghost use Rattle.wsyntax.specs.Execution.Start.{fresh_store};
+ghost use Rattle.wstore.specs.Views.{module_in, store_in};
 
 use memory::CleanMem;
 use pieces::{Plan, Quiet};
@@ -59,14 +61,26 @@ fn accepted<'a, R: Threads + Wait + Abort + Sync>(
     judge(rt, alloc, bytes, plan, &Quiet).expect(rt, "accepted")
 }
 
-fn instance<'a, R: Abort>(rt: &R, alloc: Global, accepted: &'a Accepted<'a>) -> Instance<'a>
-    ensures { result.accepted.now ≡ accepted.now }
+fn instance_within<'a, R: Abort>(
+    rt: &R,
+    alloc: Global,
+    accepted: &'a Accepted<'a>,
+    settings: Settings,
+) -> Instance<'a>
+    ensures of { result.accepted.now ≡ accepted.now }
+    ensures fresh { store_in result ≡ fresh_store settings.pages (module_in result) }
 {
-    let settings = Settings::new(1_000_000_000, 4_096, 1_024).expect(rt, "settings");
     match instantiate(alloc, accepted, settings, CleanMem::empty(alloc)) {
         Ok(instance) => instance,
         Err(_) => panic!(rt; "no instance"),
     }
+}
+
+fn instance<'a, R: Abort>(rt: &R, alloc: Global, accepted: &'a Accepted<'a>) -> Instance<'a>
+    ensures { result.accepted.now ≡ accepted.now }
+{
+    let settings = Settings::new(1_000_000_000, 4_096, 1_024).expect(rt, "settings");
+    instance_within(rt, alloc, accepted, settings)
 }
 
 /// How a call on a fresh instance ends, the fuel that it spends and the instructions that it dispatches.
@@ -101,7 +115,20 @@ fn call<R: Threads + Wait + Abort + Sync>(
     call_on(rt, alloc, &accepted, function, args, limit, frames)
 }
 
-// How a call on a fresh instance ends, after the start function.
+/// How a call on a fresh instance ends, after the start function.
+fn end_after_start<R: Abort>(
+    rt: &R,
+    alloc: Global,
+    accepted: &Accepted<'_>,
+    function: u32,
+    args: &[Value],
+    settings: Settings,
+) -> Ended {
+    let mut instance = instance_within(rt, alloc, accepted, settings);
+    assert!(rt; fits(accepted, function, args));
+    start_and_invoke(alloc, &mut instance, function, args, settings).expect(rt, "memory")
+}
+
 fn call_after_start<R: Threads + Wait + Abort + Sync>(
     rt: &R,
     alloc: Global,
@@ -112,14 +139,10 @@ fn call_after_start<R: Threads + Wait + Abort + Sync>(
 ) -> Ended {
     let accepted = accepted(rt, alloc, bytes);
     let settings = Settings::new(limit, 1, 0).expect(rt, "settings");
-    let Ok(mut instance) = instantiate(alloc, &accepted, settings, CleanMem::empty(alloc)) else {
-        panic!(rt; "no instance")
-    };
-    assert!(rt; fits(&accepted, function, args));
-    start_and_invoke(alloc, &mut instance, function, args, settings).expect(rt, "memory")
+    end_after_start(rt, alloc, &accepted, function, args, settings)
 }
 
-// Calls an instance that has failed.
+/// Calls an instance that has failed.
 fn call_failed<R: Abort>(rt: &R, alloc: Global, accepted: &Accepted<'_>) {
     let mut instance = instance(rt, alloc, accepted);
     let mut fuel = Fuel::new(10).expect(rt, "fuel");
