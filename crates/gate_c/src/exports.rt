@@ -114,7 +114,8 @@ pub extern "C" fn gate_report_read(
     out: &mut [u8],
     length: &mut usize,
 ) -> ReportStatus
-    ensures text { Hands (string_bytes report.value.answer.text) (number_of report.value.answer.status) out.old out.new length.new result.status }
+    ensures text { Hands (string_bytes report.value.answer.text) (number_of report.value.answer.status)
+        out.old out.new length.new result.status }
     ensures answered { ∥ IsAnswered (string_bytes report.value.answer.text) report.value.answer.status ∥₁ }
     ensures handle { result.at ≡ report.at }
     ensures alive { result.value ≡ report.value }
