@@ -65,6 +65,8 @@ def beside(speeds, engine, other):
 def mean_beside(engine, other):
     """The geometric mean over the real programs of how many times as fast the one is as the other."""
     ratios = [beside(speeds, engine, other) for _, kind, speeds, _ in check_rows() if kind == 'program']
+    if not any(ratios):
+        sys.exit(f'check.tsv: no real program was measured with {engine} beside {other}; bench/check.py takes them as files')
     return geometric_mean([ratio for ratio in ratios if ratio])
 
 
