@@ -128,18 +128,24 @@ def open_blocks(depth):
     return whole(b'\x02\x7f' + b'\x02\x40' * depth + b'\x41\x01\x0c' + unsigned(depth) + b'\x0b' * depth + b'\x41\x01\x0b\x1a')
 
 
+def write_for(gate, module, workers, verdict):
+    # Long enough for as many workers, where bytes may follow.
+    may_follow = workers != '1' and not verdict.startswith('refused malformed')
+    rows.write(gate.module, rows.lengthened(module, int(workers)) if may_follow else module)
+
+
 def refused(gate):
     for name, spelled, line, status in named('check.tsv', CHECKED):
-        rows.write(gate.module, rows.bytes_of(spelled))
         for workers in ('1', '4'):
+            write_for(gate, rows.bytes_of(spelled), workers, line)
             gate.refuse_each(name, ['check', gate.module, '--workers', workers], line + '\n', int(status), lambda wanted, got: False)
     rows.write(gate.module, open_blocks(DEPTH))
     for workers in ('1', '4'):
         gate.refuse_each('deep blocks', ['check', gate.module, '--workers', workers], 'accepted\n', 0, lambda wanted, got: False)
     for name, spelled, calls, options, text, status in named('run.tsv', RAN):
-        rows.write(gate.module, rows.bytes_of(spelled))
         rows.write(gate.calls, rows.text_of(calls))
         for workers in ('1', '4'):
+            write_for(gate, rows.bytes_of(spelled), workers, text)
             words = ['run', gate.module, gate.calls, '--workers', workers, '--piece', '1'] + options.split()
             printed = gate.refuse_each(name, words, rows.text_of(text).decode(), int(status), may_report)
             if name == RAN[1] and workers == '1':

@@ -2,7 +2,7 @@
 """Runs the program on each row of the tables of modules, which the crate `suite` reads too.
 
 check.tsv    name, the module as bytes in hexadecimal, what `gate check` prints, its status; each is run with three plans,
-             and once more with stacks of 64 KiB, on 64 workers
+             and once more with stacks of 64 KiB, on 64 workers, with a custom section that makes it long enough for them
 run.tsv      name, the module, the calls, the options, what `gate run` prints, its status; each is run with twelve plans,
              and once more with stacks of 64 KiB, on 64 workers
 Bytes are in hexadecimal; `xNN*K` stands for K times the bytes NN. In calls and in what is printed \\t is a tab and \\n a
@@ -40,6 +40,12 @@ def rows(name):
                 yield line.rstrip('\n').split('\t')
 
 
+def lengthened(module, workers):
+    """The module with a custom section of zeros at its end, so that it has 4,096 bytes for each worker: fewer start for fewer bytes."""
+    size = workers * 4_096
+    return module + bytes([0x00, 0x80 | size & 0x7F, 0x80 | size >> 7 & 0x7F, size >> 14]) + bytes(size)
+
+
 def small_stack():
     # Also the size of the stacks of threads.
     resource.setrlimit(resource.RLIMIT_STACK, (64 * 1024, 64 * 1024))
@@ -69,6 +75,8 @@ def main(gate):
             write(path, bytes_of(module))
             for options in ([], ['--workers', '1', '--piece', '1'], ['--workers', '64', '--piece', '65535']):
                 expect(name, ['check', path] + options, line.encode() + b'\n', int(status))
+            if line not in ('refused malformed', 'refused too-large'):
+                write(path, lengthened(bytes_of(module), 64))
             expect(name, ['check', path] + many, line.encode() + b'\n', int(status), preexec_fn=small_stack, env={})
 
     def run(path, calls_path):
