@@ -88,7 +88,8 @@ def types(count):
 
 def segment(count, entries):
     """One element segment, in a table of so many entries."""
-    return whole(b'', sections={4: b'\x01\x70\x00' + unsigned(entries), 9: b'\x01\x00' + constant(0) + END + unsigned(count) + bytes(count)})
+    one = b'\x00' + constant(0) + END + unsigned(count) + bytes(count)
+    return whole(b'', sections={4: b'\x01\x70\x00' + unsigned(entries), 9: b'\x01' + one})
 
 
 def segments(count):
