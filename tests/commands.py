@@ -22,7 +22,7 @@ sys.path.insert(0, os.path.join(root, 'tests'))
 sys.dont_write_bytecode = True
 from prose import Document
 
-DOCUMENTS = ('README.md', 'CONTRIBUTING.md', 'docs/FORMATS.md', 'docs/HOSTS.md')
+DOCUMENTS = ('README.md', 'CONTRIBUTING.md', 'docs/FORMATS.md', 'docs/HOSTS.md', 'docs/GUESTS.md')
 LEFT_OUT = ('sudo', './install.sh', './test', './release', 'rt', 'duplicates', 'git', 'curl', 'wget', 'apt-get', 'sha256sum', 'tar',
             'cc', 'c++', 'cargo', 'rustc', 'go', 'pip', 'python3', 'man')
 # A shell has this status where a command is not found or cannot be started, and the program this one where its words are wrong.
