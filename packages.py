@@ -2,8 +2,8 @@
 """Makes the packages for Python, Rust and Go out of examples/: each gets the library in it, and builds nothing of it where it is used.
 
 Below FOLDER/examples stand afterwards python/gate-VERSION-py3-none-manylinux_2_17_x86_64.whl, with the shared library in it; the crates
-rust and rust/gate-sys, and the module go, with the archive in their `lib`. `./release` packs the same. The wheel has fixed times, and
-nothing in it is compressed, so that the same files give the same bytes by each version of Python.
+rust and rust/gate-sys, the latter with the archive in `lib`; and the module go with archive and header. `./release` packs the same. The
+wheel has fixed times, and nothing in it is compressed, so that the same files give the same bytes by each version of Python.
 """
 import argparse
 import base64
@@ -97,7 +97,8 @@ def added(files):
     named, archive = version(files), files[ARCHIVE]
     return {
         f'{PYTHON}/gate-{named}-{TAG}.whl': wheel(files, named), f'{RUST}/gate-sys/{ARCHIVE}': archive,
-        f'{GO}/{ARCHIVE}': archive, f'{GO}/{HEADER}': files[HEADER],
+        # Go takes along what lies beside its own files, and no folder without any.
+        f'{GO}/{library.ARCHIVE}': archive, f'{GO}/{os.path.basename(HEADER)}': files[HEADER],
     }
 
 

@@ -5,8 +5,9 @@ environment tells of a library.
 Python  The sums in the wheel hold, and its library wants no later glibc than its name says. pip installs it into a fresh environment;
         there all tests of the package pass, and mypy finds no fault, where it is there.
 Rust    The tests of the crate pass, and clippy finds no fault in both, where it is there. GATE_LIB_DIR comes before the library inside.
-Go      The tests of the module pass, and go vet finds no fault.
+Go      The tests of the module pass, and go vet finds no fault. A host that vendors the module is built too.
 Hosts   What docs/HOSTS.md of the release shows for each language, as a program outside the release, prints what it has to.
+Again   packages.py makes the same packages of the library in the release.
 What is left out, for want of a tool, is counted and named at the end; with --all nothing may be.
 """
 import argparse
@@ -208,8 +209,28 @@ def go(tally, release, work):
     write(os.path.join(consumer, 'main.go'), shown(release, 'go'))
     tally.ends('a host in Go', run([tool, 'build', '-o', 'host', '.'], consumer, **offline))
     tally.prints('the host in Go of HOSTS', run([os.path.join(consumer, 'host')], release), GO_PRINTS)
+    tally.ends('go mod vendor', run([tool, 'mod', 'vendor'], consumer, **offline))
+    vendored = {**offline, 'GOFLAGS': '-mod=vendor'}
+    tally.ends('a host in Go that vendors', run([tool, 'build', '-o', 'vendored', '.'], consumer, **vendored))
+    tally.prints('a host in Go that vendors', run([os.path.join(consumer, 'vendored')], release), GO_PRINTS)
     tally.ends('the tests of the module for Go', run([tool, 'test', './...'], folder, **offline))
     tally.ends('go vet', run([tool, 'vet', './...'], folder, **offline))
+
+
+def again(tally, release, work):
+    made = run([sys.executable, os.path.join(root, 'packages.py'), '--library', os.path.join(release, 'lib'), '--to', work], work)
+    tally.ends('packages.py', made)
+    paths = [os.path.relpath(os.path.join(at, name), work) for at, _, names in os.walk(work) for name in names]
+    others = [it for it in paths if read(os.path.join(work, it)) != read(os.path.join(release, it))]
+    tally.expect(paths and not others, 'what packages.py makes is in the release', others)
+
+
+def read(path):
+    """The bytes of a file; nothing where it is not there."""
+    if not os.path.exists(path):
+        return None
+    with open(path, 'rb') as file:
+        return file.read()
 
 
 def attempt(tally, name, part, *given):
@@ -233,7 +254,7 @@ def main(path, wants_all):
     tally = Tally()
     with tempfile.TemporaryDirectory() as work:
         release = unpacked(path, os.path.join(work, 'release'))
-        for name, part in (('Python', python), ('Rust', rust), ('Go', go)):
+        for name, part in (('Python', python), ('Rust', rust), ('Go', go), ('Again', again)):
             os.mkdir(os.path.join(work, name))
             attempt(tally, name, part, release, os.path.join(work, name))
     left = f'{len(tally.left)} left out' + (f': {", ".join(tally.left)}' if tally.left else '')

@@ -37,7 +37,6 @@ fn link(folder: &Path) {
 
 fn main() {
     println!("cargo:rerun-if-changed=build.rs");
-    println!("cargo:rerun-if-changed=lib");
     println!("cargo:rerun-if-env-changed=GATE_LIB_DIR");
     println!("cargo:rerun-if-env-changed=PKG_CONFIG_PATH");
     let named = env::var_os("GATE_LIB_DIR").map(PathBuf::from);
