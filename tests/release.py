@@ -6,7 +6,7 @@ packed     Two packings have the same bytes: of this tree, and of a copy of it i
 unpacked   `sha256sum -c` holds, and the program judges and runs the examples, and what gate.1, README.md and docs/FORMATS.md show.
            gate.3 names all functions of the header, and `man` has no warning, where it is there. What is written of the command line
            holds (manual.py). Each relative link of a document leads to something packed; what the user's pages name of the sources
-           is packed too, or the same line says that it is in the repository.
+           is packed too, or the same line says that it is in the repository. The packages install and work (packages.py).
 installed  `install.sh` below a DESTDIR: the example of gate.3 is compiled by what pkg-config says, for the shared library and for
            the static one, where `cc` and `pkg-config` are there, and says what the program says. What others have is not written
            over. An uninstall leaves what was there before.
@@ -109,6 +109,9 @@ def unpacked(count, folder, name):
     for page in PAGES:
         lost = list(missing(there, page))
         count.expect(not lost, f'what {page} names is packed, or said to be in the repository', lost)
+    ended = run(sys.executable, os.path.join(here, 'packages.py'), there)
+    print(ended[1], end='')
+    count.expect(ended[0] == 0, 'the packages')
     ended = run(sys.executable, os.path.join(here, 'manual.py'), os.path.join(there, 'bin', 'gate'))
     count.expect(ended[0] == 0, 'what is written of the command line', ended)
     return there

@@ -3,7 +3,11 @@ package gate
 // #include "gate.h"
 import "C"
 
-import "fmt"
+import (
+	"fmt"
+	"strconv"
+	"strings"
+)
 
 // Call is what a call gave and cost.
 type Call struct {
@@ -81,6 +85,36 @@ func (n NotStarted) Error() string {
 		return fmt.Sprintf("not-started %s %d", reasonTexts[n.Reason], n.Segment)
 	}
 	return "not-started " + reasonTexts[n.Reason]
+}
+
+// endOfWords is the error whose text a line of a report has; nil where it is none.
+func endOfWords(words string) error {
+	if words == "no-memory" {
+		return ErrNoMemory
+	}
+	for end, text := range endTexts {
+		if text == words {
+			return end
+		}
+	}
+	for trap := range trapTexts {
+		if Trap(trap).Error() == words {
+			return Trap(trap)
+		}
+	}
+	return notStartedOfWords(words)
+}
+
+func notStartedOfWords(words string) error {
+	place := words[strings.LastIndex(words, " ")+1:]
+	// Where no number stands at the end, it is 0, and belongs to no reason but the last two.
+	segment, _ := strconv.ParseUint(place, 10, 32)
+	for reason := range reasonTexts {
+		if start := (NotStarted{Reason(reason), uint32(segment)}); start.Error() == words {
+			return start
+		}
+	}
+	return nil
 }
 
 // endOf is how a call ended: nil where it gave values.

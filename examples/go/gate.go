@@ -17,8 +17,8 @@
 package gate
 
 /*
-#cgo CFLAGS: -I${SRCDIR}/../../include
-#cgo LDFLAGS: -l:libgate.a
+#cgo CFLAGS: -I${SRCDIR} -I${SRCDIR}/../../include
+#cgo LDFLAGS: -L${SRCDIR} -l:libgate.a
 #include "gate.h"
 */
 import "C"

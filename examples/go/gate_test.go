@@ -6,9 +6,11 @@ import (
 	"fmt"
 	"os"
 	"reflect"
+	"runtime"
 	"strings"
 	"sync"
 	"testing"
+	"time"
 )
 
 const header = "\x00asm\x01\x00\x00\x00"
@@ -108,6 +110,81 @@ func TestReportsOfTheExamples(t *testing.T) {
 		}
 		if got, err := opened(t, module).Run(calls, DefaultSettings()); err != nil || got != wanted {
 			t.Error(name, got, err)
+		}
+	}
+}
+
+// What Ends tells, in the words of a report, is its lines.
+func TestEndsOfReports(t *testing.T) {
+	for _, name := range []string{"fold", "primes"} {
+		report, err := Run(example(t, name+".wasm"), example(t, name+".calls"), DefaultSettings())
+		if err != nil {
+			t.Fatal(err)
+		}
+		wanted := strings.Split(string(example(t, name+".report")), "\n")
+		ends := report.Ends()
+		if len(ends) != len(wanted)-2 {
+			t.Fatal(name, len(ends))
+		}
+		for number, ended := range ends {
+			if line := fmt.Sprintf("%d %s", number, lineOf(ended)); line != wanted[number] {
+				t.Error(name, line, wanted[number])
+			}
+		}
+	}
+	for _, refused := range []Report{{"refused malformed\n", ModuleRefused}, {"accepted\ncalls line 2 refused\n", CallsRefused}} {
+		if ends := refused.Ends(); len(ends) != 0 {
+			t.Error(refused, ends)
+		}
+	}
+}
+
+// lineOf is a line of a report without its number.
+func lineOf(ended Ended) string {
+	var text string
+	switch why := ended.Err.(type) {
+	case nil:
+		var values []string
+		for _, value := range ended.Call.Results {
+			values = append(values, value.String())
+		}
+		text = strings.TrimSuffix("values "+strings.Join(values, ","), " ")
+	case NotStarted:
+		return why.Error()
+	case End:
+		if why != OutOfFuel && why != OutOfFrames {
+			return why.Error()
+		}
+		text = why.Error()
+	default:
+		text = why.Error()
+	}
+	return fmt.Sprintf("%s fuel %d", text, ended.Call.Fuel)
+}
+
+func TestLinesOfReports(t *testing.T) {
+	none := []Value{}
+	for line, wanted := range map[string]Ended{
+		"0 values fuel 3":               {Call{none, 3}, nil},
+		"17 values i32:-1,i64:2 fuel 4": {Call{[]Value{I32(-1), I64(2)}, 4}, nil},
+		"1 trap type-mismatch fuel 1":   {Call{none, 1}, TypeMismatch},
+		"2 out-of-fuel fuel 0":          {Call{none, 0}, OutOfFuel},
+		"3 out-of-frames fuel 9":        {Call{none, 9}, OutOfFrames},
+		"4 no-export":                   {Call{none, 0}, NoExport},
+		"5 not-a-function":              {Call{none, 0}, NotAFunction},
+		"6 bad-arguments":               {Call{none, 0}, BadArguments},
+		"7 not-started table-limit":     {Call{none, 0}, NotStarted{Reason: TableLimit}},
+		"8 not-started data-outside 3":  {Call{none, 0}, NotStarted{DataOutside, 3}},
+		"9 no-memory":                   {Call{none, 0}, ErrNoMemory},
+	} {
+		report := Report{line + "\ntotal 1\n", Reported}
+		if got := report.Ends(); len(got) != 1 || !reflect.DeepEqual(got[0], wanted) {
+			t.Error(line, got)
+		}
+	}
+	for _, line := range []string{"", "0", "0 values i32:x fuel 1", "0 trap boredom fuel 1", "0 not-started data-outside", "0 values fuel x"} {
+		if _, isLine := endedOf(line); isLine {
+			t.Error(line)
 		}
 	}
 }
@@ -279,6 +356,30 @@ func TestGoroutines(t *testing.T) {
 	same.Wait()
 	last.Close()
 	own.Wait()
+}
+
+// What nobody closes is freed by the collector: the bytes' count of handles comes down to that of the share that is left.
+func TestForgotten(t *testing.T) {
+	last, err := NewModule([]byte(header))
+	if err != nil {
+		t.Fatal(err)
+	}
+	for number := 0; number < 100; number++ {
+		if _, err := last.Share(); err != nil {
+			t.Fatal(err)
+		}
+	}
+	for turn := 0; turn < 500 && last.bytes.handles.Load() > 1; turn++ {
+		runtime.GC()
+		time.Sleep(10 * time.Millisecond)
+	}
+	if handles := last.bytes.handles.Load(); handles != 1 {
+		t.Error(handles)
+	}
+	if _, err := last.Call("none", DefaultSettings()); err != NoExport {
+		t.Error(err)
+	}
+	last.Close()
 }
 
 func TestClosed(t *testing.T) {

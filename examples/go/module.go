@@ -6,6 +6,7 @@ import "C"
 
 import (
 	"errors"
+	"runtime"
 	"sync"
 	"sync/atomic"
 	"unsafe"
@@ -24,7 +25,7 @@ const (
 // wrote.
 //
 // Calls of one Module wait for one another, since a call has its handle to itself; goroutines that call at the same time have one
-// each, by Share. What is not closed is never freed.
+// each, by Share. What is not closed is freed when the garbage collector finds it, which sees nothing of what it takes: Close it.
 type Module struct {
 	mutex  sync.Mutex
 	handle C.gate_module
@@ -53,7 +54,10 @@ func NewModule(module []byte) (*Module, error) {
 
 func moduleOf(handle C.gate_module, bytes *shared) *Module {
 	bytes.handles.Add(1)
-	return &Module{handle: handle, bytes: bytes, room: firstResults}
+	module := &Module{handle: handle, bytes: bytes, room: firstResults}
+	// A call is never cut off by it: each one unlocks its module's mutex after the library has answered.
+	runtime.SetFinalizer(module, (*Module).Close)
+	return module
 }
 
 // Call calls an export. The error is an End, a Trap, NotStarted, a SettingsError, ErrNoMemory or ErrClosed.
@@ -177,5 +181,6 @@ func (m *Module) Close() error {
 		C.free(m.bytes.at)
 	}
 	m.bytes = nil
+	runtime.SetFinalizer(m, nil)
 	return nil
 }

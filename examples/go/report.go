@@ -3,6 +3,11 @@ package gate
 // #include "gate.h"
 import "C"
 
+import (
+	"strconv"
+	"strings"
+)
+
 // Status is what the text of a Report is, and the exit status of `gate run`.
 type Status uint32
 
@@ -17,6 +22,61 @@ const (
 type Report struct {
 	Text   string // what `gate run` prints, byte by byte
 	Status Status
+}
+
+// Ended is how a call of a report ended: what Module.Call gives.
+type Ended struct {
+	Call Call
+	Err  error // nil where the call gave values; else an End, a Trap, NotStarted or ErrNoMemory
+}
+
+// Ends is how each call ended, in the order of the calls; nothing where the module or the calls are refused.
+func (r Report) Ends() []Ended {
+	if r.Status != Reported {
+		return nil
+	}
+	lines := strings.Split(strings.TrimSuffix(r.Text, "\n"), "\n")
+	var ends []Ended
+	for _, line := range lines[:len(lines)-1] {
+		ended, isLine := endedOf(line)
+		if !isLine {
+			panic("libgate answers the line " + strconv.Quote(line) + ", which interface 1 does not have")
+		}
+		ends = append(ends, ended)
+	}
+	return ends
+}
+
+// endedOf reads a line of a report, if it is one.
+func endedOf(line string) (Ended, bool) {
+	_, told, _ := strings.Cut(line, " ")
+	words, cost, hasCost := strings.Cut(told, " fuel ")
+	fuel, err := strconv.ParseUint(cost, 10, 32)
+	if hasCost && err != nil {
+		return Ended{}, false
+	}
+	ended := Ended{Call: Call{Results: []Value{}, Fuel: uint32(fuel)}}
+	kind, values, hasValues := strings.Cut(words, " ")
+	if kind != "values" {
+		ended.Err = endOfWords(words)
+		return ended, ended.Err != nil
+	}
+	if hasValues {
+		ended.Call.Results, err = parseValues(values)
+	}
+	return ended, hasCost && err == nil
+}
+
+func parseValues(words string) ([]Value, error) {
+	var values []Value
+	for _, word := range strings.Split(words, ",") {
+		value, err := ParseValue(word)
+		if err != nil {
+			return nil, err
+		}
+		values = append(values, value)
+	}
+	return values, nil
 }
 
 // firstRoom is room for every refusal and for the reports of some hundred calls.

@@ -16,5 +16,6 @@ from gate.settings import Settings
 from gate.values import I32, I64, Value, call_line, value_of
 from gate.verdict import ModuleRefused, Refusal, Verdict, check
 
+__version__ = '0.1.0'
 __all__ = ['End', 'EndKind', 'I32', 'I64', 'Module', 'ModuleRefused', 'NotStarted', 'Refusal', 'Report', 'Settings', 'Status', 'Trap',
-           'Value', 'Verdict', 'call_line', 'check', 'run', 'value_of']
+           'Value', 'Verdict', '__version__', 'call_line', 'check', 'run', 'value_of']

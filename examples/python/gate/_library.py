@@ -1,6 +1,7 @@
 """Finds libgate, and declares its functions as `gate.h` does.
 
-The library is the file that the environment names as `GATE_LIBRARY`, else the one that the linker finds as `gate`.
+The library is `libgate.so.1` beside this file, as a wheel has it; else the file that the environment names as `GATE_LIBRARY`; else
+the one that the linker finds as `gate`.
 """
 from __future__ import annotations
 
@@ -10,6 +11,7 @@ from ctypes import CDLL, POINTER, Structure, c_char_p, c_size_t, c_uint32, c_uin
 from typing import Union
 
 INTERFACE = 1
+BESIDE = os.path.join(os.path.dirname(os.path.abspath(__file__)), f'libgate.so.{INTERFACE}')
 
 OK = 0
 MODULE_REFUSED = 2
@@ -65,9 +67,14 @@ FUNCTIONS = {
 }
 
 
+def find() -> str | None:
+    """The path or the name of the library."""
+    return BESIDE if os.path.exists(BESIDE) else os.environ.get('GATE_LIBRARY') or ctypes.util.find_library('gate')
+
+
 def load() -> CDLL:
     """The library; an `ImportError` where there is none, or one of another interface."""
-    name = os.environ.get('GATE_LIBRARY') or ctypes.util.find_library('gate')
+    name = find()
     if name is None:
         raise ImportError('libgate is not found: install it, or set GATE_LIBRARY to the path of libgate.so.1')
     try:
@@ -94,6 +101,14 @@ def expect(status: int, *expected: int) -> int:
     if status == BAD_ARGUMENT:
         raise ValueError('gate: an argument is out of its range')
     raise RuntimeError(f'gate: unexpected status {status}')
+
+
+def whole_number(name: str, number: int, least: int, greatest: int) -> None:
+    """Raises where it is no whole number, or out of its range: ctypes would cut it, or refuse it later."""
+    if not isinstance(number, int):
+        raise TypeError(f'{name} is a whole number, and not {number!r}')
+    if not least <= number <= greatest:
+        raise ValueError(f'{name} is from {least} to {greatest}, and not {number}')
 
 
 def whole(data: Bytes) -> bytes:

@@ -13,7 +13,7 @@ from gate._library import MODULE_REFUSED, OK, Bytes, CCall, CModule, CValue, CVe
 from gate.ends import End, end_of
 from gate.report import Report, fetch
 from gate.settings import DEFAULT, Settings
-from gate.values import Value, name_bytes
+from gate.values import Value, name_bytes, values_only
 from gate.verdict import ModuleRefused, verdict_of
 
 # How many results a first call has room for, and any call before it asks for more.
@@ -63,6 +63,7 @@ class Module:
         Where there are more than 16 results, and more than any call of this object gave, or more than 1,024, the call is made
         once more, with room for all. It ends in the same way.
         """
+        values_only(values)
         data = name_bytes(name)
         args = (CValue * len(values))(*(value.to_c() for value in values))
         with self._open() as handle:

@@ -3,14 +3,15 @@ from __future__ import annotations
 
 from dataclasses import dataclass, fields
 
-from gate._library import CSettings
+from gate._library import CSettings, whole_number
 
 RANGES = {'fuel': (0, 1_000_000_000), 'frames': (1, 4_096), 'pages': (0, 1_024)}
 
 
 @dataclass(frozen=True)
 class Settings:
-    """The limits of each call; the defaults are those of `gate run`. A number out of its range is a `ValueError`."""
+    """The limits of each call; the defaults are those of `gate run`. A number out of its range is a `ValueError`, and one that
+    is not whole a `TypeError`."""
 
     fuel: int = 1_000_000
     """How many functions may be entered and loops begun, up to 1,000,000,000."""
@@ -20,11 +21,8 @@ class Settings:
     """How many pages of 65,536 bytes the memory may have, up to 1,024."""
 
     def __post_init__(self) -> None:
-        # ctypes would cut a greater number to 32 bits.
         for field in fields(self):
-            least, greatest = RANGES[field.name]
-            if not least <= getattr(self, field.name) <= greatest:
-                raise ValueError(f'{field.name} is from {least} to {greatest}, and not {getattr(self, field.name)}')
+            whole_number(field.name, getattr(self, field.name), *RANGES[field.name])
 
     def to_c(self) -> CSettings:
         return CSettings(self.fuel, self.frames, self.pages)

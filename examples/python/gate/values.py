@@ -3,6 +3,7 @@ from __future__ import annotations
 
 import operator
 import re
+from collections.abc import Sequence
 from dataclasses import dataclass
 from typing import ClassVar, Union
 
@@ -67,6 +68,13 @@ def value_of(word: str) -> Value:
     return KINDS[int(spelled[1][1:])](int(spelled[2]))
 
 
+def values_only(values: Sequence[object]) -> None:
+    """Raises where one is not an `I32` or an `I64`: a number does not say its width."""
+    for value in values:
+        if not isinstance(value, (I32, I64)):
+            raise TypeError(f'an argument is gate.I32(N) or gate.I64(N), and not {value!r}')
+
+
 def name_bytes(name: str | bytes) -> bytes:
     """The bytes of an export's name."""
     return name.encode() if isinstance(name, str) else name
@@ -74,6 +82,7 @@ def name_bytes(name: str | bytes) -> bytes:
 
 def call_line(name: str | bytes, *values: Value) -> bytes:
     """A line of a text of calls. A name with a tab or a newline has none, and is a `ValueError`."""
+    values_only(values)
     data = name_bytes(name)
     if b'\t' in data or b'\n' in data:
         raise ValueError(f'no line can name {name!r}')

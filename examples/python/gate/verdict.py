@@ -5,10 +5,12 @@ import ctypes
 import enum
 from dataclasses import dataclass
 
-from gate._library import MODULE_REFUSED, OK, Bytes, CVerdict, expect, library, whole
+from gate._library import MODULE_REFUSED, OK, Bytes, CVerdict, expect, library, whole, whole_number
 
 # As gate.h says, enough for every line.
 LINE_ROOM = 64
+# How wide the numbers of a verdict are.
+BITS = {'rule': 32, 'function': 32, 'token': 64}
 
 
 class Refusal(enum.Enum):
@@ -26,7 +28,8 @@ class Refusal(enum.Enum):
 class Verdict:
     """What the judge says: the first refusal, or None of an accepted module. Numbers that do not belong to it are 0.
 
-    A verdict is true exactly where the module is accepted; its text is the line of `gate check`.
+    A verdict is true exactly where the module is accepted; its text is the line of `gate check`. A number that has no place in
+    the struct of `gate.h` is a `ValueError`.
     """
 
     refusal: Refusal | None = None
@@ -36,6 +39,10 @@ class Verdict:
     """The function whose body is refused, imported ones counted first."""
     token: int = 0
     """The first token that no completion can save, from 0."""
+
+    def __post_init__(self) -> None:
+        for name, bits in BITS.items():
+            whole_number(name, getattr(self, name), 0, (1 << bits) - 1)
 
     @property
     def accepted(self) -> bool:

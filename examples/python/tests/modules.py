@@ -3,6 +3,7 @@ from __future__ import annotations
 
 import importlib.util
 import os
+import unittest
 from collections.abc import Iterator
 from types import ModuleType
 
@@ -29,7 +30,9 @@ def example(name: str) -> bytes:
 
 
 def tables() -> ModuleType:
-    """`tests/rows.py` of the project, which reads its tables of modules."""
+    """`tests/rows.py` of the project, which reads its tables of modules. No release has it."""
+    if not os.path.exists(os.path.join(ROOT, 'tests', 'rows.py')):
+        raise unittest.SkipTest('the tables stand in the repository')
     spec = importlib.util.spec_from_file_location('rows', os.path.join(ROOT, 'tests', 'rows.py'))
     assert spec is not None and spec.loader is not None
     rows = importlib.util.module_from_spec(spec)

@@ -31,6 +31,15 @@ class Check(unittest.TestCase):
             with self.assertRaises(TypeError):
                 gate.check(data)  # type: ignore[arg-type]
 
+    def test_numbers_past_their_width(self) -> None:
+        widest = gate.Verdict(gate.Refusal.BODY_ILL_TYPED, function=2 ** 32 - 1, token=2 ** 64 - 1)
+        self.assertEqual(str(widest), 'refused body 4294967295 ill-typed at 18446744073709551615')
+        for numbers in {'function': 2 ** 32 + 5}, {'rule': 2 ** 32}, {'token': 2 ** 64}, {'function': -1}, {'token': -1}:
+            with self.assertRaisesRegex(ValueError, f'{next(iter(numbers))} is from 0 to '):
+                gate.Verdict(gate.Refusal.BODY_ILL_TYPED, **numbers)
+        with self.assertRaisesRegex(TypeError, 'rule is a whole number'):
+            gate.Verdict(gate.Refusal.RULE, rule=5.0)  # type: ignore[arg-type]
+
     def test_line_of_no_verdict(self) -> None:
         with self.assertRaises(ValueError):
             str(gate.Verdict(function=1))

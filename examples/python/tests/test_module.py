@@ -65,8 +65,9 @@ class Calls(unittest.TestCase):
             for values in wrong:
                 self.assertEqual(module.call('add', *values), gate.End(gate.EndKind.BAD_ARGUMENTS))
             self.assertEqual(module.call('sub'), gate.End(gate.EndKind.NO_EXPORT))
-            with self.assertRaises(AttributeError):
-                module.call('add', 40, 2)  # type: ignore[arg-type]
+            for number in 40, 2.5, None, '40':
+                with self.assertRaisesRegex(TypeError, r'gate\.I32\(N\) or gate\.I64\(N\), and not '):
+                    module.call('add', I32(1), number)  # type: ignore[arg-type]
 
     def test_refused(self) -> None:
         with self.assertRaises(gate.ModuleRefused) as caught:

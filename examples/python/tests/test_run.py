@@ -50,3 +50,7 @@ class Run(unittest.TestCase):
         for limits in {'fuel': -1}, {'fuel': 1_000_000_001}, {'frames': 0}, {'frames': 4_097}, {'pages': 1_025}, {'fuel': 1 << 32}:
             with self.assertRaises(ValueError):
                 gate.Settings(**limits)
+        for name in 'fuel', 'frames', 'pages':
+            for number in 1.5, 1.0, '1', None:
+                with self.assertRaisesRegex(TypeError, f'{name} is a whole number'):
+                    gate.Settings(**{name: number})  # type: ignore[arg-type]

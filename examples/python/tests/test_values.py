@@ -28,6 +28,8 @@ class Values(unittest.TestCase):
     def test_lines(self) -> None:
         self.assertEqual(gate.call_line('add', I32(-1), I64(2)), b'add\ti32:-1\ti64:2\n')
         self.assertEqual(gate.call_line(b'\xff'), b'\xff\n')
+        with self.assertRaisesRegex(TypeError, 'and not 40'):
+            gate.call_line('add', 40)  # type: ignore[arg-type]
         with self.assertRaises(ValueError):
             gate.call_line('a\tb')
         with self.assertRaises(ValueError):

@@ -1,5 +1,7 @@
 //! How a call ends.
+use crate::error::beyond_interface;
 use crate::{ffi, NoMemory, Value};
+use std::error::Error;
 use std::fmt;
 
 /// How a call ended, and what it cost. It displays as its line of a report has it, after the number.
@@ -70,7 +72,7 @@ pub enum NotStarted {
 
 impl Call {
     /// The call that the numbers of the library tell.
-    pub(crate) fn of(ended: &ffi::Call, results: Vec<ffi::Value>) -> Result<Self, NoMemory> {
+    pub(crate) fn of(ended: &ffi::gate_call, results: Vec<ffi::gate_value>) -> Result<Self, NoMemory> {
         let end = match ended.end {
             0 => End::Values(results.into_iter().map(Value::of).collect()),
             1 => End::Trap(Trap::of(ended.reason)),
@@ -81,28 +83,105 @@ impl Call {
             6 => End::BadArguments,
             7 => End::NotStarted(NotStarted::of(ended.reason, ended.place)),
             8 => return Err(NoMemory),
-            end => ffi::beyond_interface("end", end),
+            end => beyond_interface("end", end),
         };
         Ok(Call { end, fuel: ended.fuel })
     }
-}
 
-impl Trap {
-    fn of(reason: u32) -> Self {
-        match reason {
-            0 => Trap::Unreachable,
-            1 => Trap::OutOfBounds,
-            2 => Trap::UndefinedElement,
-            3 => Trap::UninitializedElement,
-            4 => Trap::TypeMismatch,
-            5 => Trap::DivideByZero,
-            6 => Trap::IntegerOverflow,
-            reason => ffi::beyond_interface("trap", reason),
+    /// The call that a line of a report tells.
+    pub(crate) fn of_line(line: &str) -> Result<Self, NoMemory> {
+        match Words::of(line) {
+            Some(words) if words.kind == "no-memory" => Err(NoMemory),
+            Some(words) => match words.end() {
+                Some(end) => Ok(Call { end, fuel: words.fuel }),
+                None => beyond_interface("line", line),
+            },
+            None => beyond_interface("line", line),
         }
     }
 }
 
+/// The words of a line of a report, after its number and without its fuel.
+struct Words<'a> {
+    kind: &'a str,
+    rest: Option<&'a str>,
+    fuel: u32,
+}
+
+impl<'a> Words<'a> {
+    fn of(line: &'a str) -> Option<Self> {
+        let (_, told) = line.split_once(' ')?;
+        let (told, fuel) = match told.split_once(" fuel ") {
+            Some((told, fuel)) => (told, fuel.parse().ok()?),
+            None => (told, 0),
+        };
+        let (kind, rest) = match told.split_once(' ') {
+            Some((kind, rest)) => (kind, Some(rest)),
+            None => (told, None),
+        };
+        Some(Words { kind, rest, fuel })
+    }
+
+    /// The end that they tell, but for `no-memory`.
+    fn end(&self) -> Option<End> {
+        match (self.kind, self.rest) {
+            ("values", None) => Some(End::Values(Vec::new())),
+            ("values", Some(values)) => values.split(',').map(str::parse).collect::<Result<_, _>>().ok().map(End::Values),
+            ("trap", Some(reason)) => Trap::of_word(reason).map(End::Trap),
+            ("not-started", Some(reason)) => NotStarted::of_words(reason).map(End::NotStarted),
+            ("out-of-fuel", None) => Some(End::OutOfFuel),
+            ("out-of-frames", None) => Some(End::OutOfFrames),
+            ("no-export", None) => Some(End::NoExport),
+            ("not-a-function", None) => Some(End::NotAFunction),
+            ("bad-arguments", None) => Some(End::BadArguments),
+            _ => None,
+        }
+    }
+}
+
+impl Trap {
+    /// All of them, in the order of the library's numbers.
+    const ALL: [Trap; 7] = [
+        Trap::Unreachable,
+        Trap::OutOfBounds,
+        Trap::UndefinedElement,
+        Trap::UninitializedElement,
+        Trap::TypeMismatch,
+        Trap::DivideByZero,
+        Trap::IntegerOverflow,
+    ];
+
+    fn of(reason: u32) -> Self {
+        match Self::ALL.get(reason as usize) {
+            Some(trap) => *trap,
+            None => beyond_interface("trap", reason),
+        }
+    }
+
+    /// The one of that name in a report.
+    fn of_word(word: &str) -> Option<Self> {
+        Self::ALL.into_iter().find(|trap| trap.to_string() == word)
+    }
+}
+
 impl NotStarted {
+    /// The one that the words of a report name.
+    fn of_words(words: &str) -> Option<Self> {
+        match words.split_once(' ') {
+            None => [
+                NotStarted::Imports,
+                NotStarted::Floats,
+                NotStarted::TableLimit,
+                NotStarted::MemoryLimit,
+            ]
+            .into_iter()
+            .find(|reason| reason.to_string() == words),
+            Some(("element-outside", segment)) => segment.parse().ok().map(NotStarted::ElementOutside),
+            Some(("data-outside", segment)) => segment.parse().ok().map(NotStarted::DataOutside),
+            Some(_) => None,
+        }
+    }
+
     fn of(reason: u32, place: u32) -> Self {
         match reason {
             0 => NotStarted::Imports,
@@ -111,10 +190,14 @@ impl NotStarted {
             3 => NotStarted::MemoryLimit,
             4 => NotStarted::ElementOutside(place),
             5 => NotStarted::DataOutside(place),
-            reason => ffi::beyond_interface("reason not to start", reason),
+            reason => beyond_interface("reason not to start", reason),
         }
     }
 }
+
+impl Error for Trap {}
+
+impl Error for NotStarted {}
 
 impl fmt::Display for Call {
     fn fmt(&self, f: &mut fmt::Formatter<'_>) -> fmt::Result {
@@ -193,5 +276,34 @@ mod tests {
         assert_eq!(line(End::OutOfFuel, 0), "out-of-fuel fuel 0");
         assert_eq!(line(End::NoExport, 0), "no-export");
         assert_eq!(line(End::NotStarted(NotStarted::DataOutside(2)), 0), "not-started data-outside 2");
+    }
+
+    #[test]
+    fn lines_tell_calls() {
+        let told = |line: &str| Call::of_line(line).map(|call| (call.end, call.fuel));
+        let values = vec![Value::I32(-1), Value::I64(2)];
+        assert_eq!(told("0 values fuel 3"), Ok((End::Values(vec![]), 3)));
+        assert_eq!(
+            told("17 values i32:-1,i64:2 fuel 1000000000"),
+            Ok((End::Values(values), 1_000_000_000))
+        );
+        assert_eq!(told("1 trap type-mismatch fuel 1"), Ok((End::Trap(Trap::TypeMismatch), 1)));
+        assert_eq!(told("2 out-of-fuel fuel 0"), Ok((End::OutOfFuel, 0)));
+        assert_eq!(told("3 out-of-frames fuel 9"), Ok((End::OutOfFrames, 9)));
+        assert_eq!(told("4 no-export"), Ok((End::NoExport, 0)));
+        assert_eq!(told("5 not-a-function"), Ok((End::NotAFunction, 0)));
+        assert_eq!(told("6 bad-arguments"), Ok((End::BadArguments, 0)));
+        assert_eq!(told("7 not-started table-limit"), Ok((End::NotStarted(NotStarted::TableLimit), 0)));
+        assert_eq!(
+            told("8 not-started element-outside 3"),
+            Ok((End::NotStarted(NotStarted::ElementOutside(3)), 0))
+        );
+        assert_eq!(told("9 no-memory"), Err(NoMemory));
+    }
+
+    #[test]
+    #[should_panic(expected = "which interface 1 does not have")]
+    fn another_line_is_of_another_library() {
+        let _ = Call::of_line("0 trap boredom fuel 1");
     }
 }

@@ -22,6 +22,11 @@ pub(crate) fn room<T>(count: usize) -> Result<Vec<T>, NoMemory> {
     Ok(items)
 }
 
+/// Where the library answers what interface 1 does not have: another library was linked.
+pub(crate) fn beyond_interface(what: &str, told: impl fmt::Display) -> ! {
+    panic!("libgate answers the {what} {told}, which interface 1 does not have")
+}
+
 /// Why a module is not accepted.
 #[derive(Clone, Copy, Debug, PartialEq, Eq, Hash)]
 pub enum CheckError {

@@ -15,20 +15,21 @@
 //! ```
 //!
 //! The library is proved; this crate is not: its `unsafe` blocks say what they rest on. Every function may be called from many
-//! threads at once, and a [`Module`] is cloned for each. The library stops no process, and nothing unwinds out of it. Fuel and
-//! pages bound a call; a check has no limit but the module's length, and nothing interrupts either.
+//! threads at once, and a [`SharedModule`] gives each thread a [`Module`] of its own. The library stops no process, and nothing
+//! unwinds out of it. Fuel and pages bound a call; a check has no limit but the module's length, and nothing interrupts either.
 mod call;
 mod error;
-mod ffi;
 mod module;
 mod report;
 mod settings;
 mod value;
 mod verdict;
 
+use gate_sys as ffi;
+
 pub use call::{Call, End, NotStarted, Trap};
 pub use error::{CheckError, NoMemory};
-pub use module::Module;
+pub use module::{Module, SharedModule};
 pub use report::{run, Report, Status};
 pub use settings::{Settings, SettingsError};
 pub use value::{Value, ValueError};

@@ -1,11 +1,12 @@
 //! An accepted module: judged once, called often.
-use crate::{error, ffi};
+use crate::error::{self, beyond_interface};
+use crate::ffi;
 use crate::{Call, CheckError, NoMemory, Refusal, Report, Settings, Value};
 use std::cell::Cell;
 use std::marker::PhantomData;
 use std::ptr;
 use std::slice;
-use std::sync::Arc;
+use std::sync::{Arc, Mutex, PoisonError};
 
 /// The results that a first call has room for.
 const ROOM: usize = 16;
@@ -27,7 +28,7 @@ const MOST_ROOM: usize = 1024;
 /// ```
 ///
 /// A module may go to another thread, but two threads share none, since a call has its handle to itself. Each thread has one
-/// of its own, by [`Module::try_clone`]:
+/// of its own, by [`Module::try_clone`], or out of a [`SharedModule`]:
 ///
 /// ```
 /// # use gate::{End, Module, Settings, Value};
@@ -52,7 +53,7 @@ const MOST_ROOM: usize = 1024;
 /// ```
 #[derive(Debug)]
 pub struct Module<'a> {
-    handle: ffi::Module,
+    handle: ffi::gate_module,
     /// The results that the next call has room for: as many as any call gave, from `ROOM` to `MOST_ROOM`.
     room: Cell<usize>,
     /// The bytes, where the module owns them.
@@ -68,18 +69,18 @@ unsafe impl Send for Module<'_> {}
 impl<'a> Module<'a> {
     /// Judges a module, which borrows its bytes.
     pub fn new(bytes: &'a [u8]) -> Result<Self, CheckError> {
-        let mut verdict = ffi::Verdict::default();
-        let mut handle = ffi::Module { at: ptr::null_mut() };
+        let mut verdict = ffi::gate_verdict::default();
+        let mut handle = ffi::gate_module { at: ptr::null_mut() };
         // SAFETY: the bytes stay as they are until the handle is freed, since `Module` borrows them.
         match unsafe { ffi::gate_module_new(bytes.as_ptr(), bytes.len(), &mut verdict, &mut handle) } {
-            ffi::OK => Ok(Self::of(handle, None)),
-            ffi::MODULE_REFUSED => Err(Refusal::of(&verdict).into()),
-            ffi::NO_MEMORY => Err(CheckError::NoMemory),
-            status => ffi::beyond_interface("status", status),
+            ffi::GATE_OK => Ok(Self::of(handle, None)),
+            ffi::GATE_MODULE_REFUSED => Err(Refusal::of(&verdict).into()),
+            ffi::GATE_NO_MEMORY => Err(CheckError::NoMemory),
+            status => beyond_interface("status", status),
         }
     }
 
-    fn of(handle: ffi::Module, owned: Option<Arc<Vec<u8>>>) -> Self {
+    fn of(handle: ffi::gate_module, owned: Option<Arc<Vec<u8>>>) -> Self {
         Module {
             handle,
             room: Cell::new(ROOM),
@@ -113,12 +114,12 @@ impl<'a> Module<'a> {
     fn call_with_room(
         &self,
         name: &str,
-        args: &[ffi::Value],
-        settings: &ffi::Settings,
+        args: &[ffi::gate_value],
+        settings: &ffi::gate_settings,
         room: usize,
-    ) -> Result<(ffi::Call, Vec<ffi::Value>), NoMemory> {
-        let mut results: Vec<ffi::Value> = error::room(room)?;
-        let mut ended = ffi::Call::default();
+    ) -> Result<(ffi::gate_call, Vec<ffi::gate_value>), NoMemory> {
+        let mut results: Vec<ffi::gate_value> = error::room(room)?;
+        let mut ended = ffi::gate_call::default();
         // SAFETY: the handle is not freed, and no other call has it; the slices are borrowed for the call, and `results` has
         // the room that is told.
         let status = unsafe {
@@ -135,9 +136,9 @@ impl<'a> Module<'a> {
             )
         };
         match status {
-            ffi::OK => {}
-            ffi::NO_MEMORY => return Err(NoMemory),
-            status => ffi::beyond_interface("status", status),
+            ffi::GATE_OK => {}
+            ffi::GATE_NO_MEMORY => return Err(NoMemory),
+            status => beyond_interface("status", status),
         }
         let written = usize::try_from(ended.results).map_or(room, |count| count.min(room));
         // SAFETY: the library has written as many results as there are and there is room for.
@@ -148,7 +149,7 @@ impl<'a> Module<'a> {
     /// Runs the calls of a text, as [`run`](crate::run) does.
     pub fn run(&self, calls: &[u8], settings: Settings) -> Result<Report, NoMemory> {
         let settings = settings.to_c();
-        let write = |out, room, length: &mut usize, kept: &mut ffi::Report| {
+        let write = |out, room, length: &mut usize, kept: &mut ffi::gate_report| {
             // SAFETY: the handle is not freed, and no other call has it; the slice is borrowed for the call; `out`, `length`
             // and `kept` are reached by nobody else.
             unsafe { ffi::gate_module_run(self.handle, calls.as_ptr(), calls.len(), &settings, out, room, length, kept) }
@@ -159,12 +160,12 @@ impl<'a> Module<'a> {
 
     /// The same module once more, for another thread. Nothing is judged again and no byte is copied.
     pub fn try_clone(&self) -> Result<Self, NoMemory> {
-        let mut other = ffi::Module { at: ptr::null_mut() };
+        let mut other = ffi::gate_module { at: ptr::null_mut() };
         // SAFETY: the handle is not freed, and no other call has it.
         match unsafe { ffi::gate_module_share(self.handle, &mut other) } {
-            ffi::OK => Ok(Self::of(other, self.owned.clone())),
-            ffi::NO_MEMORY => Err(NoMemory),
-            status => ffi::beyond_interface("status", status),
+            ffi::GATE_OK => Ok(Self::of(other, self.owned.clone())),
+            ffi::GATE_NO_MEMORY => Err(NoMemory),
+            status => beyond_interface("status", status),
         }
     }
 }
@@ -192,6 +193,49 @@ impl Module<'static> {
         let mut module = Module::new(borrowed)?;
         module.owned = Some(bytes);
         Ok(module)
+    }
+}
+
+/// A module that threads share: each takes a [`Module`] of its own from it, under a lock that is held for that long.
+///
+/// ```
+/// use gate::{Settings, SharedModule};
+/// use std::sync::Arc;
+/// use std::thread;
+///
+/// let shared = Arc::new(SharedModule::new(std::fs::read("../add.wasm")?)?);
+/// let threads: Vec<_> = (0..4)
+///     .map(|number| {
+///         let shared = Arc::clone(&shared);
+///         thread::spawn(move || shared.module()?.call("add", &[number.into(), 1.into()], Settings::default()))
+///     })
+///     .collect();
+/// for (number, thread) in threads.into_iter().enumerate() {
+///     assert_eq!(thread.join().unwrap()?.to_string(), format!("values i32:{} fuel 1", number + 1));
+/// }
+/// # Ok::<(), Box<dyn std::error::Error>>(())
+/// ```
+///
+/// A thread that calls often keeps its `Module`: a call needs no lock.
+#[derive(Debug)]
+pub struct SharedModule(Mutex<Module<'static>>);
+
+impl SharedModule {
+    /// Judges a module, whose bytes it owns. Where it is refused the bytes are dropped.
+    pub fn new(bytes: Vec<u8>) -> Result<Self, CheckError> {
+        Module::from_vec(bytes).map(Self::from)
+    }
+
+    /// The module, for the thread that asks. Nothing is judged again and no byte is copied.
+    pub fn module(&self) -> Result<Module<'static>, NoMemory> {
+        // A thread that panicked under the lock has left the module as it was: `try_clone` changes nothing of it.
+        self.0.lock().unwrap_or_else(PoisonError::into_inner).try_clone()
+    }
+}
+
+impl From<Module<'static>> for SharedModule {
+    fn from(module: Module<'static>) -> Self {
+        SharedModule(Mutex::new(module))
     }
 }
 

@@ -1,6 +1,7 @@
 //! The calls of a text, and their report.
-use crate::{error, ffi};
-use crate::{NoMemory, Settings};
+use crate::error::{self, beyond_interface};
+use crate::ffi;
+use crate::{Call, NoMemory, Settings};
 use std::fmt;
 use std::ptr;
 
@@ -47,6 +48,26 @@ impl Report {
         self.status
     }
 
+    /// How each call ended, in the order of the calls; nothing where the module or the calls are refused. A call that ran out of
+    /// memory by itself is an error.
+    ///
+    /// ```
+    /// use gate::{run, End, Settings, Value};
+    ///
+    /// let module = std::fs::read("../add.wasm")?;
+    /// let report = run(&module, b"add\ti32:40\ti32:2\nsub\n", Settings::default())?;
+    /// let ends: Result<Vec<_>, _> = report.ends().map(|call| call.map(|call| call.end)).collect();
+    /// assert_eq!(ends?, [End::Values(vec![Value::I32(42)]), End::NoExport]);
+    /// # Ok::<(), Box<dyn std::error::Error>>(())
+    /// ```
+    pub fn ends(&self) -> impl Iterator<Item = Result<Call, NoMemory>> + '_ {
+        let lines = match self.status {
+            Status::Reported => self.text.lines(),
+            Status::ModuleRefused | Status::CallsRefused => "".lines(),
+        };
+        lines.filter(|line| !line.starts_with("total ")).map(Call::of_line)
+    }
+
     /// The text, without a copy.
     pub fn into_text(self) -> String {
         self.text
@@ -58,12 +79,12 @@ impl Report {
     ///
     /// `write` is `gate_run` or `gate_module_run` with its last four parameters open: it writes `length` bytes of ASCII where
     /// it answers 0, 2 or 3, and a report of its own where it answers `SHORT_BUFFER`.
-    pub(crate) unsafe fn written(write: impl FnOnce(*mut u8, usize, &mut usize, &mut ffi::Report) -> u32) -> Result<Self, NoMemory> {
+    pub(crate) unsafe fn written(write: impl FnOnce(*mut u8, usize, &mut usize, &mut ffi::gate_report) -> u32) -> Result<Self, NoMemory> {
         let mut text = error::room(ROOM)?;
         let mut length = 0;
-        let mut kept = ffi::Report { at: ptr::null_mut() };
+        let mut kept = ffi::gate_report { at: ptr::null_mut() };
         match write(text.as_mut_ptr(), ROOM, &mut length, &mut kept) {
-            ffi::SHORT_BUFFER => Kept(kept).read(length),
+            ffi::GATE_SHORT_BUFFER => Kept(kept).read(length),
             // SAFETY: `length` bytes are written, if it is no error.
             status => unsafe { Self::of(status, text, length) },
         }
@@ -74,11 +95,11 @@ impl Report {
     /// Where `status` is 0, 2 or 3 the first `length` bytes of `text` are written, and they are within its capacity.
     unsafe fn of(status: u32, mut text: Vec<u8>, length: usize) -> Result<Self, NoMemory> {
         let status = match status {
-            ffi::OK => Status::Reported,
-            ffi::MODULE_REFUSED => Status::ModuleRefused,
-            ffi::CALLS_REFUSED => Status::CallsRefused,
-            ffi::NO_MEMORY => return Err(NoMemory),
-            status => ffi::beyond_interface("status", status),
+            ffi::GATE_OK => Status::Reported,
+            ffi::GATE_MODULE_REFUSED => Status::ModuleRefused,
+            ffi::GATE_CALLS_REFUSED => Status::CallsRefused,
+            ffi::GATE_NO_MEMORY => return Err(NoMemory),
+            status => beyond_interface("status", status),
         };
         // SAFETY: by this function's own condition.
         unsafe { text.set_len(length) };
@@ -94,7 +115,7 @@ impl fmt::Display for Report {
 }
 
 /// A report that the library keeps.
-struct Kept(ffi::Report);
+struct Kept(ffi::gate_report);
 
 impl Kept {
     /// Its text, of `length` bytes.
@@ -126,7 +147,7 @@ impl Drop for Kept {
 /// ```
 pub fn run(module: &[u8], calls: &[u8], settings: Settings) -> Result<Report, NoMemory> {
     let settings = settings.to_c();
-    let write = |out, room, length: &mut usize, kept: &mut ffi::Report| {
+    let write = |out, room, length: &mut usize, kept: &mut ffi::gate_report| {
         // SAFETY: the slices are borrowed for the call; `out`, `length` and `kept` are reached by nobody else.
         unsafe {
             ffi::gate_run(

@@ -56,9 +56,9 @@ impl Settings {
         self.pages
     }
 
-    pub(crate) fn to_c(self) -> ffi::Settings {
+    pub(crate) fn to_c(self) -> ffi::gate_settings {
         let Settings { fuel, frames, pages } = self;
-        ffi::Settings { fuel, frames, pages }
+        ffi::gate_settings { fuel, frames, pages }
     }
 }
 
@@ -102,9 +102,9 @@ mod tests {
 
     /// Whether the library takes these limits.
     fn library_takes(fuel: u32, frames: u32, pages: u32) -> bool {
-        let settings = ffi::Settings { fuel, frames, pages };
+        let settings = ffi::gate_settings { fuel, frames, pages };
         let (mut out, mut length) = ([0; 100], 0);
-        let mut kept = ffi::Report { at: ptr::null_mut() };
+        let mut kept = ffi::gate_report { at: ptr::null_mut() };
         let module = b"";
         // SAFETY: `out` has the room that is told and takes any refusal; nothing overlaps.
         let status = unsafe {
@@ -120,8 +120,8 @@ mod tests {
                 &mut kept,
             )
         };
-        assert!(status == ffi::MODULE_REFUSED || status == 64);
-        status == ffi::MODULE_REFUSED
+        assert!(status == ffi::GATE_MODULE_REFUSED || status == ffi::GATE_BAD_ARGUMENT);
+        status == ffi::GATE_MODULE_REFUSED
     }
 
     #[test]

@@ -1,4 +1,5 @@
 //! Arguments and results.
+use crate::error::beyond_interface;
 use crate::ffi;
 use std::error::Error;
 use std::fmt;
@@ -24,24 +25,24 @@ pub enum Value {
 }
 
 impl Value {
-    pub(crate) fn to_c(self) -> ffi::Value {
+    pub(crate) fn to_c(self) -> ffi::gate_value {
         match self {
-            Value::I32(number) => ffi::Value {
+            Value::I32(number) => ffi::gate_value {
                 width: 32,
                 bits: u64::from(number as u32),
             },
-            Value::I64(number) => ffi::Value {
+            Value::I64(number) => ffi::gate_value {
                 width: 64,
                 bits: number as u64,
             },
         }
     }
 
-    pub(crate) fn of(value: ffi::Value) -> Self {
+    pub(crate) fn of(value: ffi::gate_value) -> Self {
         match value.width {
             32 => Value::I32(value.bits as u32 as i32),
             64 => Value::I64(value.bits as i64),
-            width => ffi::beyond_interface("width", width),
+            width => beyond_interface("width", width),
         }
     }
 }

@@ -1,4 +1,5 @@
 //! Whether bytes are a module, and if not, the first reason.
+use crate::error::beyond_interface;
 use crate::ffi;
 use crate::{CheckError, NoMemory};
 use std::error::Error;
@@ -47,7 +48,7 @@ pub enum BodyFault {
 
 impl Refusal {
     /// The refusal that the numbers of the library tell.
-    pub(crate) fn of(verdict: &ffi::Verdict) -> Self {
+    pub(crate) fn of(verdict: &ffi::gate_verdict) -> Self {
         let body = |class| Refusal::Body {
             function: verdict.function,
             class,
@@ -59,7 +60,7 @@ impl Refusal {
             4 => body(BodyFault::Malformed),
             5 => body(BodyFault::TooManyLocals),
             6 => body(BodyFault::IllTyped { token: verdict.token }),
-            kind => ffi::beyond_interface("verdict", kind),
+            kind => beyond_interface("verdict", kind),
         }
     }
 }
@@ -107,13 +108,13 @@ impl Error for Refusal {}
 /// # Ok::<(), gate::NoMemory>(())
 /// ```
 pub fn judge(bytes: &[u8]) -> Result<Verdict, NoMemory> {
-    let mut verdict = ffi::Verdict::default();
+    let mut verdict = ffi::gate_verdict::default();
     // SAFETY: the slice is borrowed for the call, and `verdict` is reached by nobody else.
     match unsafe { ffi::gate_check(bytes.as_ptr(), bytes.len(), &mut verdict) } {
-        ffi::OK => Ok(Verdict::Accepted),
-        ffi::MODULE_REFUSED => Ok(Verdict::Refused(Refusal::of(&verdict))),
-        ffi::NO_MEMORY => Err(NoMemory),
-        status => ffi::beyond_interface("status", status),
+        ffi::GATE_OK => Ok(Verdict::Accepted),
+        ffi::GATE_MODULE_REFUSED => Ok(Verdict::Refused(Refusal::of(&verdict))),
+        ffi::GATE_NO_MEMORY => Err(NoMemory),
+        status => beyond_interface("status", status),
     }
 }
 
@@ -139,11 +140,11 @@ mod tests {
     use super::*;
 
     /// The line that the library itself makes of numbers.
-    fn library_line(verdict: &ffi::Verdict) -> String {
+    fn library_line(verdict: &ffi::gate_verdict) -> String {
         let (mut out, mut length) = ([0; 100], 0);
         // SAFETY: `out` has the room that is told, and the three overlap nowhere.
         let status = unsafe { ffi::gate_verdict_line(verdict, out.as_mut_ptr(), out.len(), &mut length) };
-        assert_eq!(status, ffi::OK);
+        assert_eq!(status, ffi::GATE_OK);
         String::from_utf8(out[..length].to_vec()).unwrap()
     }
 
@@ -151,7 +152,7 @@ mod tests {
     fn lines_are_the_library_s() {
         let (rule, function, token) = (13, u32::MAX, u64::MAX);
         for kind in 0..=6 {
-            let numbers = ffi::Verdict {
+            let numbers = ffi::gate_verdict {
                 kind,
                 rule: if kind == 3 { rule } else { 0 },
                 function: if kind >= 4 { function } else { 0 },

@@ -1,8 +1,11 @@
 //! The crate over the library, on modules whose answers are known.
 use gate::{
-    check, judge, run, BodyFault, CheckError, End, Module, NotStarted, Refusal, Settings, SettingsError, Status, Trap, Value, Verdict,
+    check, judge, run, BodyFault, CheckError, End, Module, NoMemory, NotStarted, Refusal, Settings, SettingsError, SharedModule, Status,
+    Trap, Value, ValueError, Verdict,
 };
+use std::error::Error;
 use std::fs;
+use std::sync::Arc;
 use std::thread;
 
 const HEADER: &[u8] = b"\0asm\x01\0\0\0";
@@ -86,6 +89,38 @@ fn reports_of_the_examples() {
         let report = run(&bytes, &calls, settings).unwrap();
         assert_eq!((report.status(), report.text()), (Status::Reported, wanted.as_str()));
         assert_eq!(Module::new(&bytes).unwrap().run(&calls, settings), Ok(report));
+    }
+}
+
+/// What a report tells of each call, displayed again, is its lines.
+#[test]
+fn ends_of_reports() {
+    for name in ["fold", "primes"] {
+        let (bytes, calls) = (example(&format!("{name}.wasm")), example(&format!("{name}.calls")));
+        let report = run(&bytes, &calls, Settings::default()).unwrap();
+        let told: Vec<String> = report.ends().map(|call| call.unwrap().to_string()).collect();
+        let wanted = String::from_utf8(example(&format!("{name}.report"))).unwrap();
+        let lines: Vec<&str> = wanted.lines().map(|line| line.split_once(' ').unwrap().1).collect();
+        assert_eq!(told, lines[..lines.len() - 1]);
+    }
+    assert_eq!(run(b"", b"f\n", Settings::default()).unwrap().ends().count(), 0);
+    assert_eq!(run(HEADER, b"f", Settings::default()).unwrap().ends().count(), 0);
+    assert_eq!(run(HEADER, b"", Settings::default()).unwrap().ends().count(), 0);
+}
+
+#[test]
+fn errors_are_errors() {
+    let errors: [(Box<dyn Error>, &str); 7] = [
+        (check(b"").unwrap_err().into(), "refused malformed"),
+        (Refusal::Rule(3).into(), "rule 3"),
+        (NoMemory.into(), "no memory"),
+        (ValueError.into(), "a value is i32:N or i64:N, with N in its range"),
+        (SettingsError::Frames(0).into(), "frames 0 are not from 1 to 4096"),
+        (Trap::DivideByZero.into(), "divide-by-zero"),
+        (NotStarted::DataOutside(1).into(), "data-outside 1"),
+    ];
+    for (error, text) in errors {
+        assert_eq!(error.to_string(), text);
     }
 }
 
@@ -226,6 +261,35 @@ fn threads_have_a_clone_each() {
         let calls: Vec<_> = thread.join().unwrap();
         assert!(calls.iter().all(|call| *call == wanted));
     }
+}
+
+/// One object for all threads, which goes before the last module out of it does.
+#[test]
+fn threads_have_one_module_in_common() {
+    fn is_shared<T: Send + Sync + 'static>(_: &T) {}
+    let shared = Arc::new(SharedModule::new(example("fold.wasm")).unwrap());
+    is_shared(&shared);
+    let threads: Vec<_> = (0..8)
+        .map(|_| {
+            let shared = Arc::clone(&shared);
+            thread::spawn(move || {
+                for _ in 0..300 {
+                    let module = shared.module().unwrap();
+                    let call = module.call("fold", &[0.into(), 10.into()], Settings::default()).unwrap();
+                    assert_eq!((call.end, call.fuel), (End::Values(vec![Value::I32(385)]), 31));
+                }
+            })
+        })
+        .collect();
+    let own = shared.module().unwrap();
+    drop(shared);
+    assert!(threads.into_iter().all(|thread| thread.join().is_ok()));
+    assert_eq!(
+        own.call("stop", &[], Settings::default()).unwrap().end,
+        End::Trap(Trap::Unreachable)
+    );
+    assert_eq!(SharedModule::new(vec![]).unwrap_err(), CheckError::Refused(Refusal::Malformed));
+    assert!(SharedModule::from(own).module().is_ok());
 }
 
 #[test]

@@ -1,7 +1,15 @@
-//! Finds libgate.a: in the folder that `GATE_LIB_DIR` names, else in the one that pkg-config knows.
+//! Finds libgate.a: in the folder that `GATE_LIB_DIR` names, else in `lib` beside this file, else in the folder that pkg-config knows.
 use std::env;
 use std::path::{Path, PathBuf};
 use std::process::{exit, Command};
+
+const ARCHIVE: &str = "libgate.a";
+
+/// The folder that came with the crate.
+fn packed() -> Option<PathBuf> {
+    let folder = Path::new(&env::var_os("CARGO_MANIFEST_DIR")?).join("lib");
+    folder.join(ARCHIVE).exists().then_some(folder)
+}
 
 /// The folder of an installed library.
 fn installed() -> Option<PathBuf> {
@@ -11,14 +19,14 @@ fn installed() -> Option<PathBuf> {
 }
 
 fn fail(reason: &str) -> ! {
-    eprintln!("gate: {reason}; set GATE_LIB_DIR to the folder of libgate.a, or install it so that `pkg-config gate` finds it");
+    eprintln!("gate-sys: {reason}; set GATE_LIB_DIR to the folder of {ARCHIVE}, or install it so that `pkg-config gate` finds it");
     exit(1)
 }
 
 /// Tells cargo to link the archive of a folder.
 fn link(folder: &Path) {
-    let Ok(archive) = folder.join("libgate.a").canonicalize() else {
-        fail(&format!("there is no libgate.a in {}", folder.display()));
+    let Ok(archive) = folder.join(ARCHIVE).canonicalize() else {
+        fail(&format!("there is no {ARCHIVE} in {}", folder.display()));
     };
     println!("cargo:rerun-if-changed={}", archive.display());
     if let Some(folder) = archive.parent() {
@@ -31,8 +39,9 @@ fn main() {
     println!("cargo:rerun-if-changed=build.rs");
     println!("cargo:rerun-if-env-changed=GATE_LIB_DIR");
     println!("cargo:rerun-if-env-changed=PKG_CONFIG_PATH");
-    match env::var_os("GATE_LIB_DIR").map(PathBuf::from).or_else(installed) {
+    let named = env::var_os("GATE_LIB_DIR").map(PathBuf::from);
+    match named.or_else(packed).or_else(installed) {
         Some(folder) => link(&folder),
-        None => fail("libgate.a is not found"),
+        None => fail(&format!("{ARCHIVE} is not found")),
     }
 }

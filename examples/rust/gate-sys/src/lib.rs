@@ -1,0 +1,159 @@
+//! The declarations of `gate.h`, of interface 1, and its archive. What a function answers, and what a caller owes, stands in that
+//! header. The crate `gate` is the safe one.
+#![no_std]
+#![allow(non_camel_case_types)]
+use core::ffi::c_void;
+use core::mem::{align_of, size_of};
+
+/// The module is accepted; the text, the report or the end is written.
+pub const GATE_OK: u32 = 0;
+/// The module is refused, and verdict or text say why.
+pub const GATE_MODULE_REFUSED: u32 = 2;
+/// The text of calls is refused, and the text says why.
+pub const GATE_CALLS_REFUSED: u32 = 3;
+/// A limit is out of its range, or numbers are of no verdict or value.
+pub const GATE_BAD_ARGUMENT: u32 = 64;
+/// A block was refused that the function cannot do without.
+pub const GATE_NO_MEMORY: u32 = 70;
+/// The buffer is short, and is as it was.
+pub const GATE_SHORT_BUFFER: u32 = 75;
+
+/// What is said of a module. Numbers that do not belong to the kind are 0.
+#[repr(C)]
+#[derive(Clone, Copy, Debug, Default)]
+pub struct gate_verdict {
+    /// `enum gate_kind`.
+    pub kind: u32,
+    /// The least broken rule, 2 to 13.
+    pub rule: u32,
+    /// The function whose body is refused, imported ones counted first.
+    pub function: u32,
+    /// The first token that no completion can save, from 0.
+    pub token: u64,
+}
+
+/// The limits of each call.
+#[repr(C)]
+#[derive(Clone, Copy, Debug, Default)]
+pub struct gate_settings {
+    /// At most 1,000,000,000.
+    pub fuel: u32,
+    /// 1 to 4,096.
+    pub frames: u32,
+    /// At most 1,024.
+    pub pages: u32,
+}
+
+/// An answer that is kept because the buffer was short.
+#[repr(C)]
+#[derive(Clone, Copy, Debug)]
+pub struct gate_report {
+    /// The library's.
+    pub at: *mut c_void,
+}
+
+/// An accepted module.
+#[repr(C)]
+#[derive(Clone, Copy, Debug)]
+pub struct gate_module {
+    /// The library's.
+    pub at: *mut c_void,
+}
+
+/// An argument or a result.
+#[repr(C)]
+#[derive(Clone, Copy, Debug, Default)]
+pub struct gate_value {
+    /// 32 or 64.
+    pub width: u32,
+    /// Of 32 bits: below 2^32.
+    pub bits: u64,
+}
+
+/// How a call ended.
+#[repr(C)]
+#[derive(Clone, Copy, Debug, Default)]
+pub struct gate_call {
+    /// `enum gate_end`.
+    pub end: u32,
+    /// Of a trap and of a call that was not started, else 0.
+    pub reason: u32,
+    /// The number of the segment that lies outside, else 0.
+    pub place: u32,
+    /// What the call cost, the start function included; 0 where nothing ran.
+    pub fuel: u32,
+    /// How many values there are; as many are written as there is room for.
+    pub results: u64,
+}
+
+const fn is_laid_out<T>(size: usize, alignment: usize) -> bool {
+    size_of::<T>() == size && align_of::<T>() == alignment
+}
+
+const _: () = assert!(is_laid_out::<gate_verdict>(24, 8) && is_laid_out::<gate_settings>(12, 4));
+const _: () = assert!(is_laid_out::<gate_report>(8, 8) && is_laid_out::<gate_module>(8, 8));
+const _: () = assert!(is_laid_out::<gate_value>(16, 8) && is_laid_out::<gate_call>(24, 8));
+
+extern "C" {
+    /// The number of the interface.
+    pub fn gate_version() -> u32;
+
+    /// Judges a module.
+    pub fn gate_check(bytes: *const u8, bytes_length: usize, verdict: *mut gate_verdict) -> u32;
+
+    /// Writes the line of a verdict.
+    pub fn gate_verdict_line(verdict: *const gate_verdict, out: *mut u8, room: usize, length: *mut usize) -> u32;
+
+    /// Judges a module, and runs the calls of a text.
+    pub fn gate_run(
+        module: *const u8,
+        module_length: usize,
+        calls: *const u8,
+        calls_length: usize,
+        settings: *const gate_settings,
+        out: *mut u8,
+        room: usize,
+        length: *mut usize,
+        kept: *mut gate_report,
+    ) -> u32;
+
+    /// Writes a kept answer.
+    pub fn gate_report_read(report: gate_report, out: *mut u8, room: usize, length: *mut usize) -> u32;
+
+    /// Frees a kept answer.
+    pub fn gate_report_free(report: gate_report);
+
+    /// Judges a module once for many calls.
+    pub fn gate_module_new(bytes: *const u8, bytes_length: usize, verdict: *mut gate_verdict, module: *mut gate_module) -> u32;
+
+    /// Runs the calls of a text on an accepted module.
+    pub fn gate_module_run(
+        module: gate_module,
+        calls: *const u8,
+        calls_length: usize,
+        settings: *const gate_settings,
+        out: *mut u8,
+        room: usize,
+        length: *mut usize,
+        kept: *mut gate_report,
+    ) -> u32;
+
+    /// Calls an export on a fresh instance.
+    pub fn gate_module_call(
+        module: gate_module,
+        name: *const u8,
+        name_length: usize,
+        args: *const gate_value,
+        args_count: usize,
+        settings: *const gate_settings,
+        results: *mut gate_value,
+        results_room: usize,
+        ended: *mut gate_call,
+    ) -> u32;
+
+    /// Gives another handle of the same module.
+    pub fn gate_module_share(module: gate_module, other: *mut gate_module) -> u32;
+
+    /// Frees a handle, and with the last one the module.
+    pub fn gate_module_free(module: gate_module);
+}
