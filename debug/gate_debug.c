@@ -204,9 +204,10 @@ uint32_t gate_debug_run(const char *file, int line, const uint8_t *module, size_
                         size_t calls_length, const gate_settings *settings, uint8_t *out, size_t room, size_t *length,
                         gate_report *kept) {
     const site here = { file, line, "gate_run" };
-    const area areas[] = { READS(uint8_t, module, module_length), READS(uint8_t, calls, calls_length),
-                           READS(gate_settings, settings, 1),     WRITES(uint8_t, out, room),
-                           WRITES(size_t, length, 1),             WRITES(gate_report, kept, 1) };
+    const area areas[] = {
+        READS(uint8_t, module, module_length), READS(uint8_t, calls, calls_length), READS(gate_settings, settings, 1),
+        WRITES(uint8_t, out, room), WRITES(size_t, length, 1), WRITES(gate_report, kept, 1),
+    };
     look_at(here, areas, COUNT_OF(areas));
     const uint32_t status = (gate_run)(module, module_length, calls, calls_length, settings, out, room, length, kept);
     keep_report(status, kept);
@@ -251,8 +252,10 @@ uint32_t gate_debug_module_run(const char *file, int line, gate_module module, c
                                const gate_settings *settings, uint8_t *out, size_t room, size_t *length, gate_report *kept) {
     const site here = { file, line, "gate_module_run" };
     handle *used = begin(here, module.at, MODULE, false);
-    const area areas[] = { READS_BYTES_OF(used),      READS(uint8_t, calls, calls_length), READS(gate_settings, settings, 1),
-                           WRITES(uint8_t, out, room), WRITES(size_t, length, 1),           WRITES(gate_report, kept, 1) };
+    const area areas[] = {
+        READS_BYTES_OF(used), READS(uint8_t, calls, calls_length), READS(gate_settings, settings, 1),
+        WRITES(uint8_t, out, room), WRITES(size_t, length, 1), WRITES(gate_report, kept, 1),
+    };
     look_at(here, areas, COUNT_OF(areas));
     const uint32_t status = (gate_module_run)(module, calls, calls_length, settings, out, room, length, kept);
     finish(used);
@@ -265,9 +268,10 @@ uint32_t gate_debug_module_call(const char *file, int line, gate_module module, 
                                 size_t results_room, gate_call *ended) {
     const site here = { file, line, "gate_module_call" };
     handle *used = begin(here, module.at, MODULE, false);
-    const area areas[] = { READS_BYTES_OF(used),              READS(uint8_t, name, name_length),
-                           READS(gate_value, args, args_count), READS(gate_settings, settings, 1),
-                           WRITES(gate_value, results, results_room), WRITES(gate_call, ended, 1) };
+    const area areas[] = {
+        READS_BYTES_OF(used), READS(uint8_t, name, name_length), READS(gate_value, args, args_count),
+        READS(gate_settings, settings, 1), WRITES(gate_value, results, results_room), WRITES(gate_call, ended, 1),
+    };
     look_at(here, areas, COUNT_OF(areas));
     const uint32_t status = (gate_module_call)(module, name, name_length, args, args_count, settings, results, results_room, ended);
     finish(used);

@@ -58,9 +58,9 @@ int main(void) {
 FUNCTION = '#include "gate.h"\nuint32_t f(const uint8_t *at, gate_verdict *verdict) { size_t length; uint8_t few[4], out[64];\n'
 FUNCTION += '(void)at; (void)verdict; (void)length; (void)few; (void)out; '
 RIGHT_USES = ['return gate_check(at, 8, verdict);', 'return gate_verdict_line(verdict, out, 64, &length);']
-WARNED = [('return gate_check(at, 8, NULL);', 'nonnull', '-Werror=nonnull'),
-          ('gate_check(at, 8, verdict); return 0;', 'warn_unused_result', '-Werror=unused-result'),
-          ('return gate_verdict_line(verdict, few, 64, &length);', 'access', '-Werror=stringop-overflow')]
+WARNED = [('return gate_check(at, 8, NULL);', 'nonnull', 'nonnull]'),
+          ('gate_check(at, 8, verdict); return 0;', 'warn_unused_result', 'unused-result]'),
+          ('return gate_verdict_line(verdict, few, 64, &length);', 'access', 'stringop-overflow')]
 SANITIZER = ['-fsanitize=address', '-g']
 WANTED_OF_LIBC = {'malloc', 'realloc', 'free', 'memcpy', 'memmove', 'memset'}
 MUTANTS, SEED = 1000, 20261127
@@ -368,6 +368,9 @@ def exports(tally, folder):
     needs('nm')
     with open(HEADER) as file:
         declared = set(re.findall(r'^(?:uint32_t|void) (gate_\w+)\(', file.read(), re.MULTILINE))
+    with open(os.path.join(DEBUG, 'gate_debug.h')) as file:
+        looked_at = set(re.findall(r'^#define (gate_\w+)\(', file.read(), re.MULTILINE))
+    tally.expect(declared - looked_at == {'gate_version'}, 'what gate_debug.h looks at', declared - looked_at)
     shared, archive = os.path.join(folder, library.SHARED), os.path.join(folder, library.ARCHIVE)
     exported = symbols(shared, '-D', '--defined-only') - {'GATE_1'}
     tally.expect(exported == declared, 'what libgate.so.1 exports', exported ^ declared)
