@@ -495,7 +495,9 @@ def all_parts(tally, pool, program, folder, work):
     os.mkdir(place)
     found = hosts(tally, pool, folder, work)
     compile_c('interface.c', checker, folder)
-    compile_c('refuse_through_c.c', refuser, folder, [f'-Wl,--wrap={name}' for name in ('malloc', 'realloc', 'free')])
+    # Its first check, when no request is refused yet, has an answer whatever the status says.
+    wrapped = [f'-Wl,--wrap={name}' for name in ('malloc', 'realloc', 'free')]
+    compile_c('refuse_through_c.c', refuser, folder, ['-Wno-unused-result', *wrapped])
     rows_, bytes_ = zip(*modules_of_tables(place))
     modules = [*rows_, *mutants(pool, program, place, [it for it in bytes_ if len(it) <= SHORT])]
     runs = list(runs_of_tables(work))
