@@ -1,5 +1,5 @@
 /* The functions that gate_debug.h puts before those of the library. A name in parentheses, as (gate_check), is the library's own. */
-#define _POSIX_C_SOURCE 200809L
+#define _DEFAULT_SOURCE
 #include "gate_debug.h"
 #include <errno.h>
 #include <pthread.h>
@@ -51,10 +51,14 @@ static _Noreturn void stop(site here, const char *what, const char *why) {
 
 static size_t bytes_of(const area *it) { return it->count * it->size; }
 
-/* msync has no effect here but its answer: ENOMEM where a page is none of the process. */
+/* Of mincore only the error counts: ENOMEM where a page is none of the process. */
 static bool is_mapped(const void *at, size_t length) {
-    const uintptr_t page = (uintptr_t)sysconf(_SC_PAGESIZE), within = (uintptr_t)at % page;
-    return !msync((void *)((uintptr_t)at - within), length + within, MS_ASYNC) || errno != ENOMEM;
+    unsigned char resident[256];
+    const uintptr_t page = (uintptr_t)sysconf(_SC_PAGESIZE), end = (uintptr_t)at + length, most = page * sizeof resident;
+    uintptr_t from = (uintptr_t)at - (uintptr_t)at % page;
+    for (; from < end; from += most)
+        if (mincore((void *)from, end - from < most ? end - from : most, resident) && errno == ENOMEM) return false;
+    return (uintptr_t)at <= end;
 }
 
 /* What AddressSanitizer knows of these bytes; without it nothing is. */
