@@ -1,8 +1,9 @@
 #!/bin/sh
 # usage: install.sh [install | uninstall]
 # Installs the unpacked release that it lies in, below PREFIX (/usr/local), or takes away what it installed there.
-# With DESTDIR all of that goes below that folder in the place of /. What is installed, is written down in
-# PREFIX/share/gate/installed: an uninstall goes by that, and an install takes away an earlier one first.
+# The libraries go to LIBDIR (PREFIX/lib), which lies below PREFIX too. With DESTDIR all of that goes below that folder in
+# the place of /. What is installed, is written down in PREFIX/share/gate/installed: an uninstall goes by that, and an
+# install takes away an earlier one first.
 set -eu
 LC_ALL=C
 export LC_ALL
@@ -23,16 +24,27 @@ case $prefix in
 /*) prefix=${prefix%/} ;;
 *) fail "PREFIX has to begin with /" 64 ;;
 esac
+# Without PREFIX before it, as lib64 or lib/x86_64-linux-gnu.
+libdir=${LIBDIR-lib}
+libdir=${libdir#"$prefix/"}
+libdir=${libdir%/}
+case /$libdir/ in
+//* | */../* | */./*) fail "LIBDIR has to lie below PREFIX" 64 ;;
+esac
 record=$prefix/share/gate/installed
 tab=$(printf '\t')
 
 # What is installed, a line each: its place in the release, a tab, and its place below PREFIX.
 files() {
     cd "$here"
-    {
-        find bin include lib share ! -type d | sed "s,.*,&$tab&,"
-        find README.md CHANGELOG.md PROOFS docs examples ! -type d | sed "s,.*,&${tab}share/doc/gate/&,"
-    } | sort
+    find bin include lib share README.md CHANGELOG.md PROOFS docs examples ! -type d | sort | while IFS= read -r from; do
+        case $from in
+        lib/*) to=$libdir/${from#lib/} ;;
+        bin/* | include/* | share/*) to=$from ;;
+        *) to=share/doc/gate/$from ;;
+        esac
+        printf '%s%s%s\n' "$from" "$tab" "$to"
+    done
 }
 
 # Makes a folder, after those that it lies in, and writes down what was not there: with `/` at its end.
@@ -56,9 +68,18 @@ put() {
     fi
 }
 
-# The description for pkg-config says where the library lies, in the place of how to find it from its own folder.
+# The description for pkg-config says where the library lies, in the place of how to find it from its own folder; that for
+# CMake how to find PREFIX from its own folder.
 set_prefix() {
-    { printf 'prefix=%s\n' "$prefix" && sed 1d "$here/lib/pkgconfig/gate.pc"; } >"$top$prefix/lib/pkgconfig/gate.pc"
+    {
+        printf 'prefix=%s\nlibdir=%s\n' "$prefix" "\${prefix}/$libdir"
+        sed 1,2d "$here/lib/pkgconfig/gate.pc"
+    } >"$top$prefix/$libdir/pkgconfig/gate.pc"
+    {
+        up=$(printf '%s\n' "$libdir/cmake/gate" | sed 's,[^/][^/]*,..,g')
+        printf 'get_filename_component(gate_prefix "%s" ABSOLUTE)\n' "\${CMAKE_CURRENT_LIST_DIR}/$up"
+        sed 1d "$here/lib/cmake/gate/gateConfig.cmake"
+    } >"$top$prefix/$libdir/cmake/gate/gateConfig.cmake"
 }
 
 # Stops where something lies in the way that no install.sh put there.
@@ -75,7 +96,7 @@ look() {
 hint() {
     case $prefix in
     /usr | /usr/local) say "where a program does not find libgate.so, run ldconfig" ;;
-    *) say "hosts need PKG_CONFIG_PATH=$prefix/lib/pkgconfig, and LD_LIBRARY_PATH=$prefix/lib or an rpath" ;;
+    *) say "hosts need PKG_CONFIG_PATH=$prefix/$libdir/pkgconfig, and LD_LIBRARY_PATH=$prefix/$libdir or an rpath" ;;
     esac
 }
 

@@ -3,6 +3,7 @@
 
 FOLDER gets libgate.a, one archive in which the three functions of the heap from the kit stand too, so that a host links nothing else;
 libgate.so.1, which exports the functions of include/gate.h alone; and libgate.so, a link to it. The same objects give the same bytes.
+libgate.so.1 tells the loader which processors it wants, where the linker can say so, and debuggers by a hash of its bytes which one it is.
 """
 import argparse
 import os
@@ -15,6 +16,8 @@ MAP = os.path.join(root, 'include', 'gate.map')
 CRATE_OUT = os.path.join(root, 'crates', 'gate_c', 'out')
 ARCHIVE, SHARED, LINK = 'libgate.a', 'libgate.so.1', 'libgate.so'
 HEAP = os.path.join('c', 'liblibc_c.a')
+# The loader refuses the library on a processor below this level.
+LEVEL = '-Wl,-z,x86-64-v2'
 
 
 def kit():
@@ -54,8 +57,10 @@ def make_archive(archives, path):
 
 
 def make_shared(archive, path):
-    run(['cc', '-shared', '-o', path, f'-Wl,-soname,{SHARED}', f'-Wl,--version-script={MAP}', '-Wl,-z,defs', '-Wl,-z,now',
-         '-Wl,--build-id=none', '-Wl,--strip-debug', '-Wl,--whole-archive', archive, '-Wl,--no-whole-archive'])
+    words = ['cc', '-shared', '-o', path, f'-Wl,-soname,{SHARED}', f'-Wl,--version-script={MAP}', '-Wl,-z,defs', '-Wl,-z,now',
+             '-Wl,--build-id=sha1', '-Wl,--strip-debug', '-Wl,--whole-archive', archive, '-Wl,--no-whole-archive']
+    if subprocess.run([*words, LEVEL], capture_output=True).returncode:
+        run(words)
 
 
 def make(crate_out, folder):

@@ -12,7 +12,7 @@
  *          process, and never jumps out of a call.
  * Stack    A call takes some 8 KB of it, whatever the module. That is measured, and not proved.
  *
- * What a caller owes; nothing checks it
+ * What a caller owes; nothing checks it but gate_debug.h
  *
  * Read     Bytes and `args` are a pointer and a length, which counts elements: readable for the whole call, and written by nobody
  *          meanwhile, in this process or in another one (of a mapped file). A length is below 2^63 bytes. A null pointer is allowed
@@ -30,7 +30,8 @@
  *          two up to 16 that divides its size, as to 8 for 24 bytes.
  * Signals  No call from a signal handler, and none in the child of a fork of a process with several threads before it calls exec, since
  *          malloc may be held there. In the child of a process with one thread all goes on as before.
- * Machine  An x86-64 processor of level v2 (SSE4.2, POPCNT). Nothing asks for it: on an older one a call ends in SIGILL.
+ * Machine  An x86-64 processor of level v2 (SSE4.2, POPCNT). The shared library says so to the loader, which may refuse it on an older
+ *          one. Else a call ends in SIGILL there.
  * Time     No call has a limit of time, and none can be stopped. A check takes time in proportion to the module's length, for some
  *          modules many times as much as for ordinary ones; fuel bounds a call. A host that needs a limit gives the call a process.
  *
@@ -50,6 +51,46 @@
 extern "C" {
 #endif
 
+/* What a compiler is told of the functions below, where it listens: the parameters, counted from 1, that are read and written, each with
+ * the one that counts its elements; those that are never null; and that the answer is to be looked at. */
+#ifdef __has_attribute
+#if __has_attribute(access)
+#define GATE_READS(at, count) __attribute__((access(read_only, at, count)))
+#define GATE_WRITES(at, count) __attribute__((access(write_only, at, count)))
+#endif
+#if __has_attribute(nonnull)
+#define GATE_NOT_NULL(parameters) __attribute__((nonnull parameters))
+#endif
+#if __has_attribute(warn_unused_result)
+#define GATE_ANSWERS __attribute__((warn_unused_result))
+#endif
+#endif
+#ifndef GATE_READS
+#define GATE_READS(at, count)
+#define GATE_WRITES(at, count)
+#endif
+#ifndef GATE_NOT_NULL
+#define GATE_NOT_NULL(parameters)
+#endif
+#ifndef GATE_ANSWERS
+#define GATE_ANSWERS
+#endif
+
+/* A function that stands here whole, and a conversion, in the words of each language. */
+#if defined __cplusplus
+#define GATE_INLINE static inline
+#define GATE_AS(type, number) static_cast<type>(number)
+#else
+#if defined __STDC_VERSION__ && __STDC_VERSION__ >= 199901L
+#define GATE_INLINE static inline
+#elif defined __GNUC__
+#define GATE_INLINE static __inline__
+#else
+#define GATE_INLINE static
+#endif
+#define GATE_AS(type, number) ((type)(number))
+#endif
+
 #define GATE_INTERFACE 1
 #define GATE_VERSION "0.1.0"
 
@@ -63,7 +104,14 @@ enum gate_status {
     GATE_CALLS_REFUSED = 3,   /* the text of calls is refused, and the text says why */
     GATE_BAD_ARGUMENT = 64,   /* a limit is out of its range, or numbers are of no verdict or value; nothing is written */
     GATE_NO_MEMORY = 70,      /* a block was refused that the function cannot do without; nothing is written */
-    GATE_SHORT_BUFFER = 75    /* *length bytes are wanted; out is as it was */
+    GATE_SHORT_BUFFER = 75,   /* *length bytes are wanted; out is as it was */
+    /* The same by names that say what they are of: GATE_BAD_ARGUMENTS is an end. */
+    GATE_STATUS_OK = GATE_OK,
+    GATE_STATUS_MODULE_REFUSED = GATE_MODULE_REFUSED,
+    GATE_STATUS_CALLS_REFUSED = GATE_CALLS_REFUSED,
+    GATE_STATUS_BAD_ARGUMENT = GATE_BAD_ARGUMENT,
+    GATE_STATUS_NO_MEMORY = GATE_NO_MEMORY,
+    GATE_STATUS_SHORT_BUFFER = GATE_SHORT_BUFFER
 };
 
 enum gate_kind {
@@ -93,14 +141,16 @@ typedef struct gate_settings {
  *   GATE_OK              accepted, and verdict->kind is GATE_ACCEPTED
  *   GATE_MODULE_REFUSED  verdict says why
  *   GATE_NO_MEMORY */
-uint32_t gate_check(const uint8_t *bytes, size_t bytes_length, gate_verdict *verdict);
+uint32_t gate_check(const uint8_t *bytes, size_t bytes_length, gate_verdict *verdict)
+    GATE_READS(1, 2) GATE_NOT_NULL((3)) GATE_ANSWERS;
 
 /* Writes the line of a verdict, as `gate check` prints it: with its newline, without a NUL. 64 bytes are enough for every line.
  *   GATE_OK            the first *length bytes of out are the line, whatever the verdict says
  *   GATE_BAD_ARGUMENT  the kind is above 6, its rule is not 2 to 13, or a number that does not belong to it is not 0
  *   GATE_SHORT_BUFFER  *length bytes are wanted
  *   GATE_NO_MEMORY */
-uint32_t gate_verdict_line(const gate_verdict *verdict, uint8_t *out, size_t room, size_t *length);
+uint32_t gate_verdict_line(const gate_verdict *verdict, uint8_t *out, size_t room, size_t *length)
+    GATE_WRITES(2, 3) GATE_NOT_NULL((1, 4)) GATE_ANSWERS;
 
 /* An answer that is kept because the buffer was short. */
 typedef struct gate_report { void *at; } gate_report;
@@ -115,15 +165,22 @@ typedef struct gate_report { void *at; } gate_report;
  *   GATE_NO_MEMORY       no answer; a call that ran out of memory by itself has a line `no-memory` in the report
  * *kept is written with GATE_SHORT_BUFFER only. */
 uint32_t gate_run(const uint8_t *module, size_t module_length, const uint8_t *calls, size_t calls_length,
-                  const gate_settings *settings, uint8_t *out, size_t room, size_t *length, gate_report *kept);
+                  const gate_settings *settings, uint8_t *out, size_t room, size_t *length, gate_report *kept)
+    GATE_READS(1, 2) GATE_READS(3, 4) GATE_WRITES(6, 7) GATE_NOT_NULL((5, 8, 9)) GATE_ANSWERS;
 
 /* Writes a kept answer, as often as it is asked.
  *   GATE_OK, GATE_MODULE_REFUSED, GATE_CALLS_REFUSED  the first *length bytes of out are what this status of gate_run means
  *   GATE_SHORT_BUFFER                                 *length bytes are wanted */
-uint32_t gate_report_read(gate_report report, uint8_t *out, size_t room, size_t *length);
+uint32_t gate_report_read(gate_report report, uint8_t *out, size_t room, size_t *length)
+    GATE_WRITES(2, 3) GATE_NOT_NULL((4)) GATE_ANSWERS;
 
 /* Frees a kept answer. */
 void gate_report_free(gate_report report);
+
+/* The same, but for { NULL } nothing. */
+GATE_INLINE void gate_report_drop(gate_report report) {
+    if (report.at) gate_report_free(report);
+}
 
 /* An accepted module. */
 typedef struct gate_module { void *at; } gate_module;
@@ -132,6 +189,20 @@ typedef struct gate_value {
     uint32_t width; /* 32 or 64 */
     uint64_t bits;  /* of 32 bits: below 2^32 */
 } gate_value;
+
+GATE_INLINE gate_value gate_i32(int32_t number) {
+    gate_value value;
+    value.width = 32;
+    value.bits = GATE_AS(uint32_t, number);
+    return value;
+}
+
+GATE_INLINE gate_value gate_i64(int64_t number) {
+    gate_value value;
+    value.width = 64;
+    value.bits = GATE_AS(uint64_t, number);
+    return value;
+}
 
 enum gate_end {
     GATE_VALUES = 0,
@@ -142,7 +213,17 @@ enum gate_end {
     GATE_NOT_A_FUNCTION = 5,
     GATE_BAD_ARGUMENTS = 6,     /* the arguments are not of the function's type */
     GATE_NOT_STARTED = 7,       /* reason: gate_not_started; place: the segment, of the last two */
-    GATE_CALL_NO_MEMORY = 8
+    GATE_CALL_NO_MEMORY = 8,
+    /* The same by names that say what they are of: GATE_BAD_ARGUMENT and GATE_NO_MEMORY are statuses. */
+    GATE_END_VALUES = GATE_VALUES,
+    GATE_END_TRAP = GATE_TRAP,
+    GATE_END_OUT_OF_FUEL = GATE_OUT_OF_FUEL,
+    GATE_END_OUT_OF_FRAMES = GATE_OUT_OF_FRAMES,
+    GATE_END_NO_EXPORT = GATE_NO_EXPORT,
+    GATE_END_NOT_A_FUNCTION = GATE_NOT_A_FUNCTION,
+    GATE_END_BAD_ARGUMENTS = GATE_BAD_ARGUMENTS,
+    GATE_END_NOT_STARTED = GATE_NOT_STARTED,
+    GATE_END_NO_MEMORY = GATE_CALL_NO_MEMORY
 };
 
 enum gate_trap {
@@ -152,7 +233,15 @@ enum gate_trap {
     GATE_UNINITIALIZED_ELEMENT = 3,
     GATE_TYPE_MISMATCH = 4,
     GATE_DIVIDE_BY_ZERO = 5,
-    GATE_INTEGER_OVERFLOW = 6
+    GATE_INTEGER_OVERFLOW = 6,
+    /* The same by names that say what they are of: an ill-typed body is GATE_BODY_ILL_TYPED. */
+    GATE_TRAP_UNREACHABLE = GATE_UNREACHABLE,
+    GATE_TRAP_OUT_OF_BOUNDS = GATE_OUT_OF_BOUNDS,
+    GATE_TRAP_UNDEFINED_ELEMENT = GATE_UNDEFINED_ELEMENT,
+    GATE_TRAP_UNINITIALIZED_ELEMENT = GATE_UNINITIALIZED_ELEMENT,
+    GATE_TRAP_TYPE_MISMATCH = GATE_TYPE_MISMATCH,
+    GATE_TRAP_DIVIDE_BY_ZERO = GATE_DIVIDE_BY_ZERO,
+    GATE_TRAP_INTEGER_OVERFLOW = GATE_INTEGER_OVERFLOW
 };
 
 enum gate_not_started {
@@ -176,11 +265,13 @@ typedef struct gate_call {
  *   GATE_OK              *module has a handle, and verdict->kind is GATE_ACCEPTED. The caller frees it by gate_module_free
  *   GATE_MODULE_REFUSED  verdict says why; *module is as it was, and the bytes are the caller's again
  *   GATE_NO_MEMORY       likewise */
-uint32_t gate_module_new(const uint8_t *bytes, size_t bytes_length, gate_verdict *verdict, gate_module *module);
+uint32_t gate_module_new(const uint8_t *bytes, size_t bytes_length, gate_verdict *verdict, gate_module *module)
+    GATE_READS(1, 2) GATE_NOT_NULL((3, 4)) GATE_ANSWERS;
 
 /* Runs the calls of a text on an accepted module: as gate_run, but for GATE_MODULE_REFUSED, which it never answers. */
 uint32_t gate_module_run(gate_module module, const uint8_t *calls, size_t calls_length, const gate_settings *settings,
-                         uint8_t *out, size_t room, size_t *length, gate_report *kept);
+                         uint8_t *out, size_t room, size_t *length, gate_report *kept)
+    GATE_READS(2, 3) GATE_WRITES(5, 6) GATE_NOT_NULL((4, 7, 8)) GATE_ANSWERS;
 
 /* Calls an export on a fresh instance. The name has any bytes, and is not ended by a NUL.
  *   GATE_OK            ended says how the call ended; with GATE_VALUES the first of results are its values, the lowest first, and those
@@ -188,15 +279,28 @@ uint32_t gate_module_run(gate_module module, const uint8_t *calls, size_t calls_
  *   GATE_BAD_ARGUMENT  a limit is out of its range, or a value is of neither width, or has bits past its width
  *   GATE_NO_MEMORY     the call did not begin; one that ran out of memory ends with GATE_CALL_NO_MEMORY */
 uint32_t gate_module_call(gate_module module, const uint8_t *name, size_t name_length, const gate_value *args, size_t args_count,
-                          const gate_settings *settings, gate_value *results, size_t results_room, gate_call *ended);
+                          const gate_settings *settings, gate_value *results, size_t results_room, gate_call *ended)
+    GATE_READS(2, 3) GATE_READS(4, 5) GATE_WRITES(7, 8) GATE_NOT_NULL((6, 9)) GATE_ANSWERS;
 
 /* Gives another handle of the same module, which another thread may use at the same time. Each of them is freed by itself.
  *   GATE_OK         *other has it
  *   GATE_NO_MEMORY  the handle that was given goes on as before */
-uint32_t gate_module_share(gate_module module, gate_module *other);
+uint32_t gate_module_share(gate_module module, gate_module *other) GATE_NOT_NULL((2)) GATE_ANSWERS;
 
 /* Frees a handle, and with the last one the module. */
 void gate_module_free(gate_module module);
+
+/* The same, but for { NULL } nothing. */
+GATE_INLINE void gate_module_drop(gate_module module) {
+    if (module.at) gate_module_free(module);
+}
+
+#undef GATE_READS
+#undef GATE_WRITES
+#undef GATE_NOT_NULL
+#undef GATE_ANSWERS
+#undef GATE_INLINE
+#undef GATE_AS
 
 /* The layouts that the library was made with: sizes and alignments are proved of its structs. C99 has nothing to say so. */
 #if defined __cplusplus && __cplusplus >= 201103L
@@ -227,5 +331,10 @@ GATE_IS(gate_module, 8, 8);
 
 #ifdef __cplusplus
 }
+#endif
+
+/* A host that is made with GATE_DEBUG is told its wrong uses. */
+#ifdef GATE_DEBUG
+#include "gate_debug.h"
 #endif
 #endif

@@ -6,9 +6,11 @@ hosts       Each host whose compiler is on the machine prints the verdicts of al
             A host is asked in three ways: `check -`, with names of files on standard input, one verdict line each on standard output;
             `run MODULE CALLS FUEL FRAMES PAGES`, a report on standard output; and `call MODULE NAME [i32:N | i64:N ..]`, the line
             of that call in a report, without its number.
-header      gate.h by the compilers of C and C++, with all warnings; the shared library exports the functions of it and nothing else,
-            and wants six functions of the C library.
+header      gate.h by the compilers of C and C++, with all warnings; the compiler warns of wrong uses that it sees. The shared library
+            exports the functions of gate.h and nothing else, wants six functions of the C library, and says which processor it wants.
+C++         gate.hpp by wrapper.cpp, and examples/cpp as it is shown, with all warnings.
 interface   interface.c calls each function, with short buffers, null pointers and numbers that are none, and on four threads.
+debug       interface.c and the hosts in C over debug/gate_debug.c, which has to find no fault; wrong_uses.c, of which it finds each.
 packages    the tests of the packages for Rust and Go.
 refused     refuse_through_c.c refuses each request for memory in turn.
 valgrind    where it is on the machine: no error and no leak in the hosts in C and in interface.c, and no race in the latter.
@@ -35,8 +37,31 @@ import rows
 
 INCLUDE = os.path.join(root, 'include')
 HEADER = os.path.join(INCLUDE, 'gate.h')
-STANDARDS = {'cc': ['c99', 'c11'], 'c++': ['c++17']}
+DEBUG = os.path.join(root, 'debug')
+STANDARDS = {'cc': ['c89', 'c99', 'c11', 'c2x'], 'c++': ['c++98', 'c++17', 'c++20']}
+OF_WRAPPER = ['c++17', 'c++20']
 WARNINGS = ['-Wall', '-Wextra', '-pedantic', '-Werror']
+MORE_WARNINGS = ['-Wconversion', '-Wsign-conversion', '-Wshadow']
+# What stands in gate.h alone, and the second names of its numbers.
+PROGRAM = b'''#include "gate.h"
+int main(void) {
+    gate_module module = { 0 };
+    gate_report report = { 0 };
+    gate_module_drop(module);
+    gate_report_drop(report);
+    if (gate_i32(-1).width != 32 || gate_i32(-1).bits != 0xFFFFFFFF || gate_i64(-1).width != 64 || ~gate_i64(-1).bits) return 1;
+    if (GATE_STATUS_BAD_ARGUMENT != 64 || GATE_STATUS_NO_MEMORY != 70 || GATE_END_BAD_ARGUMENTS != 6 || GATE_END_NO_MEMORY != 8) return 1;
+    return gate_version() != GATE_INTERFACE || GATE_TRAP_TYPE_MISMATCH != 4;
+}
+'''
+# A function of a host, what it may do, and the warning that each wrong use gives, with the attribute that it comes from.
+FUNCTION = '#include "gate.h"\nuint32_t f(const uint8_t *at, gate_verdict *verdict) { size_t length; uint8_t few[4], out[64];\n'
+FUNCTION += '(void)at; (void)verdict; (void)length; (void)few; (void)out; '
+RIGHT_USES = ['return gate_check(at, 8, verdict);', 'return gate_verdict_line(verdict, out, 64, &length);']
+WARNED = [('return gate_check(at, 8, NULL);', 'nonnull', 'nonnull]'),
+          ('gate_check(at, 8, verdict); return 0;', 'warn_unused_result', 'unused-result]'),
+          ('return gate_verdict_line(verdict, few, 64, &length);', 'access', 'stringop-overflow')]
+SANITIZER = ['-fsanitize=address', '-g']
 WANTED_OF_LIBC = {'malloc', 'realloc', 'free', 'memcpy', 'memmove', 'memset'}
 MUTANTS, SEED = 1000, 20261127
 # Longer modules are neither mutated, nor tried with refused requests and under valgrind.
@@ -51,6 +76,8 @@ MEMCHECK = VALGRIND + ['--leak-check=full', '--errors-for-leak-kinds=all', '--sh
 AT_ONCE = 4
 VALGRIND_RUNS, VALGRIND_CALLS = 5, 3
 MANY_ROUNDS, FEW_ROUNDS = 20_000, 50
+# What the head of examples/cpp/host.cpp shows.
+SHOWN = re.compile(r'^//     \$ \./host (.*)\n//     (.*)\n', re.MULTILINE)
 
 
 class Left(Exception):
@@ -131,7 +158,17 @@ def built(words, **settings):
 
 def compile_c(source, target, folder, more=()):
     words = [needs('cc'), '-std=c11', '-O2', *WARNINGS, f'-I{INCLUDE}', '-o', target, os.path.join(here, source)]
-    built(words + [os.path.join(folder, library.ARCHIVE), '-pthread', *more])
+    built(words + [*more, os.path.join(folder, library.ARCHIVE), '-pthread'])
+
+
+def compile_cpp(source, target, folder, standard):
+    words = [needs('c++'), f'-std={standard}', *WARNINGS, *MORE_WARNINGS, f'-I{INCLUDE}', '-o', target, source]
+    built([*words, os.path.join(folder, library.ARCHIVE), '-pthread'])
+
+
+def debugged():
+    """What a compiler is told of a host in C of which each call is looked at first."""
+    return ['-DGATE_DEBUG', f'-I{DEBUG}', os.path.join(DEBUG, 'gate_debug.c')]
 
 
 # The hosts.
@@ -151,6 +188,12 @@ def static_host(folder, work):
 
 def shared_host(folder, work):
     return c_host('C (shared)', folder, work, [f'LDLIBS=-L{folder} -lgate -Wl,-rpath,{folder} -pthread'])
+
+
+def debugged_host(folder, work):
+    flags, source = debugged()[:-1], debugged()[-1]
+    archive = os.path.join(folder, library.ARCHIVE)
+    return c_host('C (debug)', folder, work, ['CPPFLAGS=' + ' '.join(flags), f'LDLIBS={source} {archive} -pthread'])
 
 
 def cargo(folder, work, *words):
@@ -193,7 +236,8 @@ def tests_of_go(tally, folder):
     tally.expect(True, 'go test')
 
 
-HOSTS = {'C': static_host, 'C (shared)': shared_host, 'Rust': rust_host, 'Python': python_host, 'Go': go_host}
+HOSTS = {'C': static_host, 'C (shared)': shared_host, 'C (debug)': debugged_host, 'Rust': rust_host, 'Python': python_host,
+         'Go': go_host}
 
 
 def hosts(tally, pool, folder, work):
@@ -301,23 +345,73 @@ def header(tally, folder, work):
     for compiler, standards in STANDARDS.items():
         language = 'c' if compiler == 'cc' else 'c++'
         for standard in standards:
-            program = b'#include "gate.h"\nint main(void) { return gate_version() != GATE_INTERFACE; }\n'
             target = os.path.join(work, f'header-{standard}')
-            words = [needs(compiler), f'-std={standard}', *WARNINGS, f'-I{INCLUDE}', '-x', language, '-', '-x', 'none', '-o', target]
-            got = started(words + [os.path.join(folder, library.ARCHIVE)], program)
+            words = [needs(compiler), f'-std={standard}', *WARNINGS, *MORE_WARNINGS, f'-I{INCLUDE}', '-x', language, '-', '-x', 'none']
+            got = started([*words, '-o', target, os.path.join(folder, library.ARCHIVE)], PROGRAM)
             tally.expect(got[1] == 0 and not got[2], f'gate.h by {compiler} -std={standard}', got)
-            tally.expect(got[1] == 0 and started([target])[1] == 0, f'gate_version by {compiler} -std={standard}')
+            tally.expect(got[1] == 0 and started([target])[1] == 0, f'what stands in gate.h by {compiler} -std={standard}')
+
+
+def warned(tally):
+    """The compiler warns of wrong uses that it sees, where it has the attribute, and of nothing else."""
+    words = [needs('cc'), '-std=c11', '-O2', *WARNINGS, f'-I{INCLUDE}', '-c', '-x', 'c', '-', '-o', os.devnull]
+    for use in RIGHT_USES:
+        got = started(words, (FUNCTION + use + ' }\n').encode())
+        tally.expect(got[1] == 0, f'`{use}`', got)
+    for use, attribute, warning in WARNED:
+        if started([*words, '-E', '-o', '-'], f'#if !__has_attribute({attribute})\n#error\n#endif\n'.encode())[1] == 0:
+            got = started(words, (FUNCTION + use + ' }\n').encode())
+            tally.expect(got[1] != 0 and warning.encode() in got[2], f'the warning of `{use}`', got)
 
 
 def exports(tally, folder):
     needs('nm')
     with open(HEADER) as file:
         declared = set(re.findall(r'^(?:uint32_t|void) (gate_\w+)\(', file.read(), re.MULTILINE))
+    with open(os.path.join(DEBUG, 'gate_debug.h')) as file:
+        looked_at = set(re.findall(r'^#define (gate_\w+)\(', file.read(), re.MULTILINE))
+    tally.expect(declared - looked_at == {'gate_version'}, 'what gate_debug.h looks at', declared - looked_at)
     shared, archive = os.path.join(folder, library.SHARED), os.path.join(folder, library.ARCHIVE)
     exported = symbols(shared, '-D', '--defined-only') - {'GATE_1'}
     tally.expect(exported == declared, 'what libgate.so.1 exports', exported ^ declared)
     wanted = symbols(archive, '--undefined-only') - symbols(archive, '--defined-only')
     tally.expect(wanted == WANTED_OF_LIBC, 'what libgate.a wants', wanted)
+
+
+def level(tally, folder):
+    """The shared library names the level of its processor, and has a hash of its bytes, where the linker is that of GNU."""
+    needs('readelf')
+    if b'GNU ld' not in started([needs('cc'), '-Wl,--version'])[0]:
+        raise Left('the linker is another one')
+    notes = started(['readelf', '-n', os.path.join(folder, library.SHARED)])[0]
+    tally.expect(b'x86-64-v2' in notes and b'Build ID' in notes, 'the notes of libgate.so.1', notes)
+
+
+def wrapper(tally, folder, work):
+    """gate.hpp in each standard, and the example as its head shows it."""
+    module, example = (os.path.join(root, 'examples', it) for it in ('add.wasm', 'cpp/host.cpp'))
+    with open(example) as file:
+        (shown, printed), = SHOWN.findall(file.read())
+    for standard in OF_WRAPPER:
+        target = os.path.join(work, f'wrapper-{standard}')
+        compile_cpp(example, target, folder, standard)
+        got = started([target, *shown.split()], cwd=root)
+        tally.expect(got == (printed.encode() + b'\n', 0, b''), f'examples/cpp by -std={standard}', got)
+        compile_cpp(os.path.join(here, 'wrapper.cpp'), target, folder, standard)
+        got = started([target, module])
+        tally.expect(got[1] == 0 and not got[2] and int(got[0]) > 0, f'wrapper.cpp by -std={standard}', got)
+
+
+def debug(tally, folder, work, more):
+    """No fault in interface.c, and each of wrong_uses.c."""
+    target = os.path.join(work, '-'.join(['debug', *more]))
+    if started([needs('cc'), *more, '-x', 'c', '-', '-o', target], b'int main(void) { return 0; }')[1]:
+        raise Left(f'no {more[0]}')
+    compile_c('interface.c', target + '-interface', folder, [*more, *debugged()])
+    interface(tally, target + '-interface', [], FEW_ROUNDS)
+    compile_c('wrong_uses.c', target + '-wrong', folder, [*more, *debugged()])
+    got = started([target + '-wrong'])
+    tally.expect(got[1] == 0 and int(got[0] or b'0') > 0, 'wrong uses are told', got)
 
 
 def interface(tally, program, before, rounds):
@@ -401,7 +495,9 @@ def all_parts(tally, pool, program, folder, work):
     os.mkdir(place)
     found = hosts(tally, pool, folder, work)
     compile_c('interface.c', checker, folder)
-    compile_c('refuse_through_c.c', refuser, folder, [f'-Wl,--wrap={name}' for name in ('malloc', 'realloc', 'free')])
+    # Its first check, when no request is refused yet, has an answer whatever the status says.
+    wrapped = [f'-Wl,--wrap={name}' for name in ('malloc', 'realloc', 'free')]
+    compile_c('refuse_through_c.c', refuser, folder, ['-Wno-unused-result', *wrapped])
     rows_, bytes_ = zip(*modules_of_tables(place))
     modules = [*rows_, *mutants(pool, program, place, [it for it in bytes_ if len(it) <= SHORT])]
     runs = list(runs_of_tables(work))
@@ -410,7 +506,12 @@ def all_parts(tally, pool, program, folder, work):
     jobs.begin('refused', refusals, refuser, work, [it for it in rows_ if it.length <= SHORT], short_runs)
     jobs.begin('interface', interface, checker, [], MANY_ROUNDS)
     jobs.begin('gate.h', header, folder, work)
+    jobs.begin('warnings', warned)
     jobs.begin('exports', exports, folder)
+    jobs.begin('the notes of the shared library', level, folder)
+    jobs.begin('C++', wrapper, folder, work)
+    jobs.begin('debug', debug, folder, work, [])
+    jobs.begin('debug with AddressSanitizer', debug, folder, work, SANITIZER)
     jobs.begin('cargo test', tests_of_rust, folder, work)
     jobs.begin('go test', tests_of_go, folder)
     if shutil.which('valgrind'):

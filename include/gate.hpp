@@ -1,0 +1,148 @@
+/// gate.h for C++17 and later: handles that free themselves, containers in place of pointers, exceptions in place of statuses.
+///
+///     gate::Module module(bytes);                                             // throws gate::Refused
+///     gate::Call call = module.call("add", {gate_i32(40), gate_i32(2)});      // call.results[0].bits == 42
+///
+/// Where a block of memory is refused std::bad_alloc is thrown, and where a limit or a value is out of its range std::invalid_argument.
+/// gate.h says what a caller owes. A Module keeps its bytes; what remains is that it is in one call at a time.
+#ifndef GATE_HPP
+#define GATE_HPP
+
+#include <gate.h>
+#include <initializer_list>
+#include <memory>
+#include <new>
+#include <stdexcept>
+#include <string>
+#include <string_view>
+#include <utility>
+#include <vector>
+
+namespace gate {
+/// The limits that `gate run` has by default.
+inline constexpr gate_settings usual = {1000000, 1024, 256};
+
+/// Whether items of one type may be read as those of another: both are bytes, or the types are the same.
+template <class From, class To> inline constexpr bool reads = std::is_same_v<From, To> || (sizeof(From) == 1 && sizeof(To) == 1);
+
+/// Items that others hold: a pointer and a length, or a std::vector, std::array, std::string, std::string_view or std::span.
+template <class Item> struct View {
+    const Item *at;
+    std::size_t length;
+    View(const Item *items, std::size_t count) : at(items), length(count) {}
+    template <class Items, std::enable_if_t<reads<std::decay_t<decltype(*std::declval<const Items &>().data())>, Item>, int> = 0>
+    View(const Items &items) : at(reinterpret_cast<const Item *>(items.data())), length(items.size()) {}
+};
+using Bytes = View<std::uint8_t>;
+using Values = View<gate_value>;
+
+/// The status, unless it says that there is no answer.
+inline std::uint32_t answered(std::uint32_t status) {
+    if (status == GATE_STATUS_NO_MEMORY) throw std::bad_alloc();
+    if (status == GATE_STATUS_BAD_ARGUMENT) throw std::invalid_argument("gate: a limit or a value is out of its range");
+    return status;
+}
+
+/// The verdict on a module.
+inline gate_verdict check(Bytes module) {
+    gate_verdict verdict = {};
+    answered(gate_check(module.at, module.length, &verdict));
+    return verdict;
+}
+
+/// The line of a verdict, without its newline.
+inline std::string line(const gate_verdict &verdict) {
+    std::uint8_t out[64];
+    std::size_t length = 0;
+    answered(gate_verdict_line(&verdict, out, sizeof out, &length));
+    return std::string(reinterpret_cast<const char *>(out), length - 1);
+}
+
+/// A module is refused; what() is the line of the verdict.
+struct Refused : std::runtime_error {
+    explicit Refused(const gate_verdict &found) : std::runtime_error(line(found)), verdict(found) {}
+    gate_verdict verdict;
+};
+
+/// What `gate run` prints, and its status: GATE_STATUS_OK, _MODULE_REFUSED or _CALLS_REFUSED.
+struct Answer { std::uint32_t status; std::string text; };
+
+/// An answer that the library keeps, at the place that it is given.
+struct Report {
+    gate_report handle = {nullptr};
+    Report() = default;
+    Report(Report &&other) noexcept : handle(std::exchange(other.handle, gate_report{nullptr})) {}
+    ~Report() { gate_report_drop(handle); }
+    Answer read(std::size_t length) const {
+        std::string text(length, '\0');
+        const std::uint32_t status = gate_report_read(handle, reinterpret_cast<std::uint8_t *>(text.data()), length, &length);
+        return {status, std::move(text)};
+    }
+};
+
+/// The answer that `ask` writes, or has kept where it is longer than the buffer.
+template <class Ask> Answer answer_of(Ask ask) {
+    std::string text(4096, '\0');
+    std::size_t length = 0;
+    Report kept;
+    const std::uint32_t status = answered(ask(reinterpret_cast<std::uint8_t *>(text.data()), text.size(), &length, &kept.handle));
+    if (status == GATE_STATUS_SHORT_BUFFER) return kept.read(length);
+    text.resize(length);
+    return {status, std::move(text)};
+}
+
+/// Judges a module, and runs the calls of a text.
+inline Answer run(Bytes module, std::string_view calls, const gate_settings &settings = usual) {
+    return answer_of([&, text = Bytes(calls)](std::uint8_t *out, std::size_t room, std::size_t *length, gate_report *kept) {
+        return gate_run(module.at, module.length, text.at, text.length, &settings, out, room, length, kept);
+    });
+}
+
+/// How a call ended; with GATE_END_VALUES all results are there.
+struct Call { gate_call ended; std::vector<gate_value> results; };
+
+/// An accepted module, which goes from thread to thread; share() gives another thread its own. One that was moved from is assigned to or
+/// destroyed, and no more. The name begins large since `module` is a word of C++20.
+class Module {
+public:
+    explicit Module(std::vector<std::uint8_t> bytes) : bytes_(std::make_shared<const std::vector<std::uint8_t>>(std::move(bytes))) {
+        gate_verdict verdict = {};
+        if (answered(gate_module_new(bytes_->data(), bytes_->size(), &verdict, &handle_)) != GATE_STATUS_OK) throw Refused(verdict);
+    }
+    Module(Module &&other) noexcept : Module(std::move(other.bytes_), std::exchange(other.handle_, gate_module{nullptr})) {}
+    Module &operator=(Module &&other) noexcept { return std::swap(bytes_, other.bytes_), std::swap(handle_, other.handle_), *this; }
+    ~Module() { gate_module_drop(handle_); }
+    Module share() const {
+        gate_module other = {nullptr};
+        answered(gate_module_share(handle_, &other));
+        return Module(bytes_, other);
+    }
+    /// Calls an export on a fresh instance: so again, where it has more results than there is room for.
+    Call call(std::string_view name, Values args, const gate_settings &settings = usual) {
+        const Bytes text(name);
+        Call made = {{}, {}};
+        for (made.ended.results = 16; made.results.size() < made.ended.results;) {
+            made.results.resize(made.ended.results);
+            answered(gate_module_call(handle_, text.at, text.length, args.at, args.length, &settings, made.results.data(),
+                                      made.results.size(), &made.ended));
+        }
+        made.results.resize(made.ended.results);
+        return made;
+    }
+    Call call(std::string_view name, std::initializer_list<gate_value> args, const gate_settings &settings = usual) {
+        return call(name, Values(args.begin(), args.size()), settings);
+    }
+    Answer run(std::string_view calls, const gate_settings &settings = usual) {
+        return answer_of([&, text = Bytes(calls)](std::uint8_t *out, std::size_t room, std::size_t *length, gate_report *kept) {
+            return gate_module_run(handle_, text.at, text.length, &settings, out, room, length, kept);
+        });
+    }
+
+private:
+    using Shared = std::shared_ptr<const std::vector<std::uint8_t>>; // as long as the last handle
+    Module(Shared bytes, gate_module handle) noexcept : bytes_(std::move(bytes)), handle_(handle) {}
+    Shared bytes_;
+    gate_module handle_ = {nullptr};
+};
+} // namespace gate
+#endif

@@ -1,0 +1,100 @@
+// Calls each function of gate.hpp.
+// usage: wrapper MODULE    the bytes of examples/add.wasm
+// Prints each line that does not hold, and ends with 1 then; else how many held.
+#include <gate.hpp>
+
+#include <array>
+#include <cstdio>
+#include <fstream>
+#include <iterator>
+#include <thread>
+#if __cplusplus >= 202002L
+#include <span>
+#endif
+
+#define HOLDS(what) holds(what, #what, __LINE__)
+
+static unsigned held, failed;
+
+static void holds(bool it, const char *what, int line) {
+    held += it;
+    failed += !it;
+    if (!it) std::printf("wrapper: line %d: %s\n", line, what);
+}
+
+// Whether something throws an exception of this class.
+template <class Exception, class Work> static bool throws(Work work) {
+    try {
+        work();
+    } catch (const Exception &) {
+        return true;
+    }
+    return false;
+}
+
+static const char EMPTY[] = "total 0 values 0 traps 0 exhausted 0 refused 0 no-memory 0 fuel 0\n";
+
+static void judge(const std::vector<std::uint8_t> &bytes) {
+    const std::array<std::uint8_t, 3> three = {};
+    HOLDS(gate::check(bytes).kind == GATE_ACCEPTED);
+    HOLDS(gate::check({bytes.data(), bytes.size()}).kind == GATE_ACCEPTED);
+    HOLDS(gate::check(three).kind == GATE_MALFORMED);
+    HOLDS(gate::check(std::string_view("\0asm", 4)).kind == GATE_MALFORMED);
+#if __cplusplus >= 202002L
+    HOLDS(gate::check(std::span(bytes)).kind == GATE_ACCEPTED);
+    HOLDS(gate::check(std::as_bytes(std::span(bytes))).kind == GATE_ACCEPTED);
+#endif
+    HOLDS(gate::line(gate::check(three)) == "refused malformed");
+    HOLDS(throws<std::invalid_argument>([] { gate::line({7, 0, 0, 0}); }));
+    HOLDS(throws<gate::Refused>([] { gate::Module({0, 1, 2}); }));
+}
+
+static bool is_forty_two(const gate::Call &call) {
+    return call.ended.end == GATE_END_VALUES && call.ended.fuel == 1 && call.results.size() == 1 && call.results[0].bits == 42;
+}
+
+static void call(gate::Module &module) {
+    const std::vector<gate_value> args = {gate_i32(40), gate_i32(2)};
+    HOLDS(is_forty_two(module.call("add", args)));
+    HOLDS(is_forty_two(module.call("add", {gate_i32(44), gate_i32(-2)})));
+    HOLDS(module.call("sub", {}).ended.end == GATE_END_NO_EXPORT);
+    HOLDS(module.call("add", {gate_i64(1)}).ended.end == GATE_END_BAD_ARGUMENTS);
+    HOLDS(throws<std::invalid_argument>([&] { module.call("add", args, {1, 0, 0}); }));
+}
+
+// The report of many calls is longer than the buffer.
+static void run(gate::Module &module, const std::vector<std::uint8_t> &bytes) {
+    std::string calls;
+    for (int i = 0; i < 1000; i++) calls += "add\ti32:40\ti32:2\n";
+    const gate::Answer answer = module.run(calls), same = gate::run(bytes, calls);
+    const std::string last = "\ntotal 1000 values 1000 traps 0 exhausted 0 refused 0 no-memory 0 fuel 1000\n";
+    HOLDS(answer.status == GATE_STATUS_OK && answer.text.size() > 4096 && same.status == GATE_STATUS_OK && same.text == answer.text);
+    HOLDS(answer.text.compare(0, 25, "0 values i32:42 fuel 1\n1 ") == 0);
+    HOLDS(answer.text.compare(answer.text.size() - last.size(), last.size(), last) == 0);
+    HOLDS(module.run("").text == EMPTY);
+    const gate::Answer refused = module.run("add");
+    HOLDS(refused.status == GATE_STATUS_CALLS_REFUSED && refused.text == "accepted\ncalls line 1 refused\n");
+    HOLDS(throws<std::invalid_argument>([&] { module.run(calls, {0, 0, 0}); }));
+}
+
+// The handle that all others come from goes first.
+static void move(gate::Module module) {
+    gate::Module other = module.share(), third = std::move(module);
+    module = other.share();
+    third = std::move(other);
+    std::thread thread([mine = third.share()]() mutable { HOLDS(is_forty_two(mine.call("add", {gate_i32(1), gate_i32(41)}))); });
+    thread.join();
+    HOLDS(is_forty_two(module.call("add", {gate_i32(2), gate_i32(40)})) && is_forty_two(third.call("add", {gate_i32(0), gate_i32(42)})));
+}
+
+int main(int count, char **words) {
+    std::ifstream file(count > 1 ? words[1] : "", std::ios::binary);
+    const std::vector<std::uint8_t> bytes(std::istreambuf_iterator<char>(file), {});
+    gate::Module module(bytes);
+    judge(bytes);
+    call(module);
+    run(module, bytes);
+    move(std::move(module));
+    if (!failed) std::printf("%u\n", held);
+    return failed != 0;
+}
