@@ -1,4 +1,6 @@
 //! Where a body stands in its module.
+ghost use Rattle.std.specs.Prelude.{◌≡◌, IfSome};
+ghost use Rattle.std.specs.List.{between};
 
 use crate::explanation::Span;
 use crate::sections::{number_at, part_at, sized_at};
@@ -23,7 +25,7 @@ fn code_section(bytes: &[u8]) -> Option<Span> {
 }
 
 /// Where the body at that place of the section of bodies may stand.
-fn proposed(bytes: &[u8], place: u32) -> Option<Span> {
+fn proposed(bytes: &[u8], place: usize) -> Option<Span> {
     let section = code_section(bytes)?;
     let (_count, first) = number_at(bytes, section.from)?;
     let mut at = first;
@@ -34,7 +36,9 @@ fn proposed(bytes: &[u8], place: u32) -> Option<Span> {
 }
 
 /// Where the body stands in the module, whose place among the bodies that is; `None` where other bytes stand there.
-pub(crate) fn body_span(bytes: &[u8], place: u32, body: &[u8]) -> Option<Span> {
+pub(crate) fn body_span(bytes: &[u8], place: usize, body: &[u8]) -> Option<Span>
+    ensures { IfSome result (λ s. between s.from s.to bytes.now ≡ body.now) }
+{
     let span = proposed(bytes, place)?;
     let found = bytes.get(span.from..span.to)?;
     if found == body { Some(span) } else { None }

@@ -77,9 +77,13 @@ pub struct FoundToken {
 #[derive(Drop)]
 pub enum BodyFault<'a> {
     /// Its bytes spell no body.
-    Malformed { stop: Option<Stop<'a>> },
+    Malformed {
+        stop: Option<Stop<'a>>,
+    },
     /// It declares more than 100,000 locals, parameters aside: so many.
-    TooManyLocals { count: Option<u64> },
+    TooManyLocals {
+        count: Option<u64>,
+    },
     /// It has no type. `number` is that of the first token that no completion can save, from 0; where the body ends before
     /// it, there is no such token.
     IllTyped {

@@ -4,6 +4,8 @@
 mod bodies;
 mod explaining;
 mod explanation;
+mod faults;
+mod functions;
 mod headers;
 mod names;
 mod opcode_names;

@@ -101,7 +101,11 @@ pub(crate) fn push_stop(text: &mut String, stop: Stop<'_>) -> Result<(), AllocEr
         Stopped::Token => push_no_token(text, stop.rest),
         Stopped::Else => text.push_str("because   it is an else that stands in no if\n"),
         Stopped::Left => {
-            write!(text, "because   the body ended before it: bytes left {}\n", stop.rest.len())
+            write!(
+                text,
+                "because   the body ended before it: bytes left {}\n",
+                stop.rest.len()
+            )
         }
         Stopped::Short => text.push_str("because   the body ends there, before its last end\n"),
     }

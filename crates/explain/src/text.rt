@@ -1,4 +1,10 @@
 //! The text of an explanation: the line of the verdict, and then lines of a key, padded to ten columns, and what it says.
+ghost use Rattle.std.specs.Prelude.{◌≡◌, IfOk, IsSomeAnd, string_bytes};
+ghost use Rattle.wsyntax.specs.Texts.Lines.{verdict_line};
+ghost use Rattle.wsyntax.specs.Validation.Verdict.{BodyRefused};
+ghost use Rattle.verdict.specs.Refusals.{fault_of};
+ghost use Rattle.explain.specs.Texts.{BeginsWith};
+ghost use Rattle.explain.specs.Told.{verdict_told};
 
 use crate::explanation::{BodyFault, Explanation, FoundToken, NoModule, RefusedBody};
 use crate::quoting::{push_hex, push_name};
@@ -10,16 +16,22 @@ use verdict::BodyRefusal;
 use wsyntax::{LOCAL_LIMIT, MODULE_LIMIT};
 
 /// The line of a body that is refused.
-fn body_line(alloc: Global, func: u32, refusal: BodyRefusal) -> Result<String, AllocError> {
+fn body_line(alloc: Global, func: u32, refusal: BodyRefusal) -> Result<String, AllocError>
+    ensures { IfOk result (λ line. string_bytes line ≡ verdict_line (BodyRefused func (fault_of refusal))) }
+{
     match refusal {
         BodyRefusal::Malformed => format!(in alloc; "refused body {func} malformed\n"),
         BodyRefusal::TooManyLocals => format!(in alloc; "refused body {func} too-many-locals\n"),
-        BodyRefusal::IllTyped { at } => format!(in alloc; "refused body {func} ill-typed at {at}\n"),
+        BodyRefusal::IllTyped { at } => format!(in alloc;
+            "refused body {func} ill-typed at {at}\n"
+        ),
     }
 }
 
 /// The line of the verdict; there is none where memory was refused.
-fn first_line(alloc: Global, explanation: &Explanation<'_>) -> Result<String, AllocError> {
+fn first_line(alloc: Global, explanation: &Explanation<'_>) -> Result<String, AllocError>
+    ensures { IfOk result (λ line. IsSomeAnd (verdict_told explanation.now) (λ v. string_bytes line ≡ verdict_line v)) }
+{
     match explanation {
         Explanation::Accepted => String::from_str(alloc, "accepted\n"),
         Explanation::TooLarge { .. } => String::from_str(alloc, "refused too-large\n"),
@@ -65,7 +77,10 @@ fn push_fault(text: &mut String, fault: &BodyFault<'_>) -> Result<(), AllocError
     match fault {
         BodyFault::Malformed { stop: Some(stop) } => push_stop(text, *stop),
         BodyFault::TooManyLocals { count: Some(count) } => {
-            write!(text, "because   it declares {count} locals, and {LOCAL_LIMIT} are the most\n")
+            write!(
+                text,
+                "because   it declares {count} locals, and {LOCAL_LIMIT} are the most\n"
+            )
         }
         BodyFault::IllTyped {
             number,
@@ -91,10 +106,24 @@ fn push_no_module(text: &mut String, no_module: NoModule) -> Result<(), AllocErr
             text.push_str("hint      this is the text format; wat2wasm makes a module of it\n")
         }
         NoModule::Gzip => text.push_str("hint      these bytes are a gzip archive\n"),
-        NoModule::Short => text.push_str("because   a module begins with 00 61 73 6d 01 00 00 00, and the bytes end before\n"),
-        NoModule::Magic { at, found } => push_other_byte(text, at, found, "a module begins with 00 61 73 6d"),
-        NoModule::Version { at, found } => push_other_byte(text, at, found, "the version is 01 00 00 00"),
-        NoModule::Sections => text.push_str("because   after its first eight bytes, which are right, it has no sections of a module\n"),
+        NoModule::Short => text.push_str(
+            "because   a module begins with 00 61 73 6d 01 00 00 00, and the bytes end before\n",
+        ),
+        NoModule::Magic { at, found } => push_other_byte(
+            text,
+            at,
+            found,
+            "a module begins with 00 61 73 6d",
+        ),
+        NoModule::Version { at, found } => push_other_byte(
+            text,
+            at,
+            found,
+            "the version is 01 00 00 00",
+        ),
+        NoModule::Sections => text.push_str(
+            "because   after its first eight bytes, which are right, it has no sections of a module\n",
+        ),
     }
 }
 
@@ -111,7 +140,8 @@ fn rule_words(rule: u32) -> &'static str {
         9 => "each exported index exists in the space of its kind",
         10 => "the names of exports are distinct",
         11 => "the start function exists and has type [] -> []",
-        12 => "each element segment's table exists, its offset is a constant i32, its functions exist",
+        12 =>
+            "each element segment's table exists, its offset is a constant i32, its functions exist",
         13 => "each data segment's memory exists, and its offset is a constant i32",
         _ => "the module is valid",
     }
@@ -122,7 +152,10 @@ fn push_details(text: &mut String, explanation: &Explanation<'_>) -> Result<(), 
     match explanation {
         Explanation::Accepted | Explanation::Memory => Ok(()),
         Explanation::TooLarge { bytes } => {
-            write!(text, "because   it has {bytes} bytes, and {MODULE_LIMIT} are the most\n")
+            write!(
+                text,
+                "because   it has {bytes} bytes, and {MODULE_LIMIT} are the most\n"
+            )
         }
         Explanation::Malformed(no_module) => push_no_module(text, *no_module),
         Explanation::Rule(rule) => {
@@ -139,7 +172,9 @@ fn push_details(text: &mut String, explanation: &Explanation<'_>) -> Result<(), 
 
 /// The text of an explanation: the line of the verdict, and then lines of a key and what it says. There is none where memory
 /// was refused.
-pub fn explanation_text(alloc: Global, explanation: &Explanation<'_>) -> Result<String, AllocError> {
+pub fn explanation_text(alloc: Global, explanation: &Explanation<'_>) -> Result<String, AllocError>
+    ensures { IfOk result (λ text. IsSomeAnd (verdict_told explanation.now) (λ v. BeginsWith (verdict_line v) (string_bytes text))) }
+{
     let mut text = first_line(alloc, explanation)?;
     let mut details = String::new(alloc);
     push_details(&mut details, explanation)?;

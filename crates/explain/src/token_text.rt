@@ -43,7 +43,9 @@ fn push_access(text: &mut String, align: u32, offset: u32) -> Result<(), AllocEr
 /// What stands after the name of an instruction.
 fn push_immediates(text: &mut String, token: Token, labels: &[u32]) -> Result<(), AllocError> {
     match token {
-        Token::Block(block) | Token::Loop(block) | Token::If { block, .. } => push_block(text, block),
+        Token::Block(block) | Token::Loop(block) | Token::If { block, .. } => push_block(
+            text, block,
+        ),
         Token::Br(label) | Token::BrIf(label) => write!(text, " {}", label.index),
         Token::BrTable { .. } => push_labels(text, labels),
         Token::Call(index)

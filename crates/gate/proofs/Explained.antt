@@ -26,9 +26,9 @@ told held text old new v s (Err (Usage t)) judged is begins shown = absurd shown
 told held text old new v s (Err (Unreadable path)) judged is begins shown = absurd shown
 told held text old new v s (Err Memory) judged is begins shown = absurd shown
 
-pub explained : (held : Option (List ℕ)) (bytes slice text : List ℕ) (old new : Option (List ℕ)) (verdict : Option Verdict) (s : Status) (r : Result Status Fault)
+pub explained : (held : Option (List ℕ)) (bytes slice text shown : List ℕ) (old new : Option (List ℕ)) (verdict : Option Verdict) (s : Status) (r : Result Status Fault)
     → IsRead module_limit held bytes → slice ≡ bytes → IfSome verdict (IsVerdict slice) → ((v : Verdict) → verdict ≡ Some v → s ≡ status_of v)
-    → IsSomeAnd verdict (λ v. BeginsWith (verdict_line v) text) → Shows text s old new r → Explains held old new r
-explained held bytes slice text old new None s r read same is status begins shown = absurd begins
-explained held bytes slice text old new (Some v) s r read same is status begins shown =
-    told held text old new v s r (judges held bytes slice v read same is) (status v refl) begins shown
+    → IsSomeAnd verdict (λ v. BeginsWith (verdict_line v) text) → shown ≡ text → Shows shown s old new r → Explains held old new r
+explained held bytes slice text shown old new None s r read same is status begins e done = absurd begins
+explained held bytes slice text shown old new (Some v) s r read same is status begins e done =
+    told held text old new v s r (judges held bytes slice v read same is) (status v refl) begins (subst (λ x. Shows x s old new r) e done)
