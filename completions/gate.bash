@@ -4,14 +4,15 @@ _gate() {
     local place=0 at
     COMPREPLY=()
     if ((COMP_CWORD == 1)); then
-        mapfile -t COMPREPLY < <(compgen -W 'check run help --help --version' -- "$current")
+        mapfile -t COMPREPLY < <(compgen -W 'check explain run help --help --version' -- "$current")
         return
     fi
     case ${COMP_WORDS[1]} in
         check) ;;
+        explain) options='--help' ;;
         run) options+=' --fuel --frames --pages' ;;
         help)
-            ((COMP_CWORD > 2)) || mapfile -t COMPREPLY < <(compgen -W 'check run' -- "$current")
+            ((COMP_CWORD > 2)) || mapfile -t COMPREPLY < <(compgen -W 'check explain run' -- "$current")
             return
             ;;
         *) return ;;

@@ -40,6 +40,20 @@ print
 The status is 0 for a module that is accepted and 2 for one that is refused; 64 for words that are no
 command, 70 where a growth of memory was refused, and 74 where a file cannot be read or a write fails.";
 
+/// What `gate explain --help` ends with.
+const EXPLAIN_EXAMPLE: &str = "\
+The first line is that of `gate check`. The others, where the module is refused, have a key and a text each:
+
+    refused body 26 malformed
+    function  26 \"fill\", exported as \"fill\", [i32 i32] -> [], bytes 262 to 280
+    token     5, byte 274 (0x112)
+    because   fc 0b is memory.fill, of bulk memory (Core 2.0), which gate does not admit
+    hint      build the module with -mcpu=mvp
+
+Tokens and functions count from 0, and bytes are offsets in the file. New keys may come.
+
+The status is that of `gate check`.";
+
 /// What `gate run --help` ends with.
 const RUN_EXAMPLE: &str = "\
 CALLS has one line a call: the name of an export, and then for each argument a tab and `i32:NUMBER` or
@@ -73,6 +87,7 @@ pub fn gate_command<'a>(alloc: Global) -> Result<Command<'a>, AllocError> {
         .no_binary_name(true)
         .subcommand_required(true)
         .subcommand(check_command(alloc)?)?
+        .subcommand(explain_command(alloc)?)?
         .subcommand(run_command(alloc)?)
 }
 
@@ -86,6 +101,15 @@ fn check_command<'a>(alloc: Global) -> Result<Command<'a>, AllocError> {
     Command::new(alloc, "check")
         .about("Prints the verdict on a module: accepted, or its first refusal")
         .after_long_help(CHECK_EXAMPLE)
+        .args(words)
+}
+
+/// `gate explain`.
+fn explain_command<'a>(alloc: Global) -> Result<Command<'a>, AllocError> {
+    let words = vec![in alloc; module_word(alloc)]?;
+    Command::new(alloc, "explain")
+        .about("Prints the verdict on a module, and where and why it is refused")
+        .after_long_help(EXPLAIN_EXAMPLE)
         .args(words)
 }
 

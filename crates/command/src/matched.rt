@@ -26,6 +26,17 @@ pub fn check_of<'a>(words: &'a [&'a str], matches: &ArgMatches<'a>) -> Option<Re
     })
 }
 
+/// The file that `gate explain` is given.
+pub fn explain_of<'a>(words: &'a [&'a str], matches: &ArgMatches<'a>) -> Option<Request<'a>>
+    ensures { IfSome result (IsRequestOf (map (λ w. w.now) words.now)) }
+{
+    let matches = matches.subcommand_matches("explain")?;
+    let module = find_word(words, 1, matches.get_str("module")?)?;
+    Some(Request::Explain {
+        path: words[module],
+    })
+}
+
 /// The files, the limits and the plan that `gate run` is given.
 pub fn run_of<'a>(words: &'a [&'a str], matches: &ArgMatches<'a>) -> Option<Request<'a>>
     ensures { IfSome result (IsRequestOf (map (λ w. w.now) words.now)) }

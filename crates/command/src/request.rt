@@ -16,6 +16,10 @@ pub enum Request<'a> {
         settings: Settings,
         plan: Plan,
     },
+    /// `gate explain`: the verdict on the module at `path`, and why it is refused.
+    Explain {
+        path: &'a str,
+    },
     /// The text of help, or the version.
     Text(String),
 }

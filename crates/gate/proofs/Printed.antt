@@ -11,9 +11,10 @@ use Rattle.batch.specs.declared.status.Status.TheVariants.{Good, ModuleRefused, 
 use Rattle.command.specs.Options.{SaysLimits}
 use Rattle.command.specs.Requests.{AreOperands, IsRequestOf}
 use Rattle.command.specs.declared.request.Request.{Request}
-use Rattle.command.specs.declared.request.Request.TheVariants.{Check, Run, Text}
+use Rattle.command.specs.declared.request.Request.TheVariants.{Check, Explain, Run, Text}
 use Rattle.gate.specs.Sources.{ReadsPaths}
 use Rattle.gate.specs.Checks.{Judges}
+use Rattle.gate.specs.Explains.{IsExplained}
 use Rattle.gate.specs.Endings.{answer_status}
 use Rattle.gate.specs.Prints.{AsksFor, AnswersRequest, PrintsAnswer, PrintsCallsRefusal, PrintsGood, PrintsRefusal}
 use Rattle.gate.specs.Runs.{RunsOn}
@@ -81,19 +82,33 @@ good words (Check path plan) holds asked asked' old new s named (v, judged, is, 
       judged = subst (Judges (holds path.now)) same judged;
       written = subst (λ (x : Verdict). Appends old new (verdict_line x)) same written;
     })
+good words (Explain path) holds asked asked' old new s named (v, text, explained, is, written) order e =
+    let same : v ≡ Accepted = only_accepted v (sym is ∙ only_good s e) in
+    inr (inr (inl record {
+      path = path.now;
+      named = named;
+      only = order;
+      text = text;
+      explained = subst (λ (x : Verdict). IsExplained (Judges (holds path.now)) x text) same explained;
+      written = written;
+    }))
 good words (Run path calls settings plan) holds asked asked' old new s (named, said) done order e =
-    inr (inr (answer words path calls settings holds asked asked' old new s Good named said.0 done order (only_good s e)))
+    inr (inr (inr (answer words path calls settings holds asked asked' old new s Good named said.0 done order (only_good s e))))
 good words (Text text) holds asked asked' old new s asks shown order e = inl asks
 
 pub refusal : (words : List (List ℕ)) (request : Request) (holds : List ℕ → Option (List ℕ)) (asked asked' : Option (List (List ℕ))) (old new : Option (List ℕ)) (s : Status) → IsRequestOf words request → AnswersRequest request holds old new (Ok s) → AsksFor request asked asked' (Ok s) → answer_status s ≡ 2 → PrintsRefusal words holds asked asked' old new
 refusal words (Check path plan) holds asked asked' old new s named (v, judged, is, written) order e =
-    inl (v, sym is ∙ only_refused s e, record { path = path.now; named = named.0; only = order; judged = judged; written = written })
+    inl (v, sym is ∙ only_refused s e, inl record { path = path.now; named = named.0; only = order; judged = judged; written = written })
+refusal words (Explain path) holds asked asked' old new s named (v, text, explained, is, written) order e =
+    inl (v, sym is ∙ only_refused s e, inr record { path = path.now; named = named; only = order; text = text; explained = explained; written = written })
 refusal words (Run path calls settings plan) holds asked asked' old new s (named, said) done order e =
     inr (answer words path calls settings holds asked asked' old new s ModuleRefused named said.0 done order (only_refused s e))
 refusal words (Text text) holds asked asked' old new s asks shown order e = absurd (not_refused s shown.0 (only_refused s e))
 
 pub calls_refusal : (words : List (List ℕ)) (request : Request) (holds : List ℕ → Option (List ℕ)) (asked asked' : Option (List (List ℕ))) (old new : Option (List ℕ)) (s : Status) → IsRequestOf words request → AnswersRequest request holds old new (Ok s) → AsksFor request asked asked' (Ok s) → answer_status s ≡ 3 → PrintsCallsRefusal words holds asked asked' old new
 calls_refusal words (Check path plan) holds asked asked' old new s named (v, judged, is, written) order e =
+    absurd (no_verdict v (sym is ∙ only_calls_refused s e))
+calls_refusal words (Explain path) holds asked asked' old new s named (v, text, explained, is, written) order e =
     absurd (no_verdict v (sym is ∙ only_calls_refused s e))
 calls_refusal words (Run path calls settings plan) holds asked asked' old new s (named, said) done order e =
     answer words path calls settings holds asked asked' old new s CallsRefused named said.0 done order (only_calls_refused s e)

@@ -1,9 +1,10 @@
 //! The last step of an answer: what was written is flushed.
 ghost use Rattle.std.specs.Io.KnownBytes.{Keeps};
 ghost use Rattle.gate.specs.Endings.{EndsAs};
+ghost use Rattle.gate.specs.Prints.{Shows};
 
 use crate::fault::Fault;
-use batch::{AnswerFault, Status};
+use batch::{AnswerFault, Status, write_text};
 use std::io::Write;
 
 /// Flushes what was written of an answer, where it was written whole, and says how it ended.
@@ -22,4 +23,14 @@ pub fn finish<'a, O: Write>(
         Err(AnswerFault::Memory) => Err(Fault::Memory),
         Err(AnswerFault::Write) => Err(Fault::Write),
     }
+}
+
+/// Writes a text and flushes it: then the program ends with that status.
+pub fn show<'a, O: Write>(text: &[u8], status: Status, out: &mut O) -> Result<Status, Fault<'a>>
+    ensures { Shows text.now status (O.contents out.old) (O.contents out.new) result }
+{
+    if write_text(out, text).is_err() || out.flush().is_err() {
+        return Err(Fault::Write);
+    }
+    Ok(status)
 }

@@ -10,6 +10,7 @@ mod answer;
 mod arguments;
 mod check;
 mod disk;
+mod explaining;
 mod fault;
 mod finishing;
 mod program;

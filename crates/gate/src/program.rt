@@ -2,13 +2,15 @@
 ghost use Rattle.std.specs.Prelude.{◌≡◌, ◌⊎◌, map};
 ghost use Rattle.std.specs.Io.KnownBytes.{Keeps};
 ghost use Rattle.gate.specs.Endings.{answer_status, IsStatus};
-ghost use Rattle.gate.specs.Prints.{AsksFor, AnswersRequest, AnswersWords, PrintsCallsRefusal, PrintsGood, PrintsRefusal, Shows};
+ghost use Rattle.gate.specs.Prints.{AsksFor, AnswersRequest, AnswersWords, PrintsCallsRefusal, PrintsGood, PrintsRefusal};
 
 use crate::answer::answer_files;
 use crate::check::check_file;
+use crate::explaining::explain_file;
 use crate::fault::{Fault, end};
+use crate::finishing::show;
 use crate::source::Source;
-use batch::{Status, write_text};
+use batch::Status;
 use command::{Request, read_words};
 use std::alloc::Global;
 use std::io::Write;
@@ -68,21 +70,12 @@ fn obey<'a, R: Threads + Wait + Sync, S: Source, O: Write>(
             settings,
             plan,
         } => answer_files(rt, alloc, path, calls, settings, plan, source, out),
-        Request::Text(text) => show(text.as_bytes(), out),
+        Request::Explain { path } => explain_file(alloc, path, source, out),
+        Request::Text(text) => show(text.as_bytes(), Status::Good, out),
     }
 }
 
-/// Writes a text and flushes it.
-fn show<'a, O: Write>(text: &[u8], out: &mut O) -> Result<Status, Fault<'a>>
-    ensures { Shows text.now (O.contents out.old) (O.contents out.new) result }
-{
-    if write_text(out, text).is_err() || out.flush().is_err() {
-        return Err(Fault::Write);
-    }
-    Ok(Status::Good)
-}
-
-/// The status of an answer.
+//// The status of an answer.
 fn number(status: Status) -> u8
     ensures { result ≡ answer_status status }
 {

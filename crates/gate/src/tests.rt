@@ -103,13 +103,15 @@ fn status_of<R: Threads + Wait + Sync>(
 
 #[test]
 fn help_goes_to_standard_output(rt: HostRuntime) {
-    let asked: [&[&str]; 16] = [
+    let asked: [&[&str]; 18] = [
         &["--help"],
         &["-h"],
         &["help"],
         &["check", "--help"],
         &["run", "--help"],
         &["help", "run"],
+        &["explain", "--help"],
+        &["help", "explain"],
         &["--version"],
         &["-V"],
         &["-hV"],
@@ -130,9 +132,12 @@ fn help_goes_to_standard_output(rt: HostRuntime) {
 
 #[test]
 fn words_that_are_no_command(rt: HostRuntime) {
-    let wrong: [&[&str]; 33] = [
+    let wrong: [&[&str]; 36] = [
         &[],
         &["judge"],
+        &["explain"],
+        &["explain", "x.wasm", "y.wasm"],
+        &["explain", "x.wasm", "--workers", "1"],
         &["check"],
         &["check", "x.wasm", "y.wasm"],
         &["run", "x.wasm"],
@@ -267,15 +272,30 @@ fn a_write_or_flush_that_fails(rt: HostRuntime) -> Result<(), Fail> {
     Ok(())
 }
 
+/// (func (memory.fill ..)), of which the first two bytes of the instruction stand there.
+const FILL: [u8; 26] = [
+    0x00, 0x61, 0x73, 0x6D, 0x01, 0x00, 0x00, 0x00, 0x01, 0x04, 0x01, 0x60, 0x00, 0x00, 0x03, 0x02,
+    0x01, 0x00, 0x0A, 0x06, 0x01, 0x04, 0x00, 0xFC, 0x0B, 0x0B,
+];
+
+const FILL_EXPLAINED: &[u8] = b"refused body 0 malformed\n\
+    function  0, [] -> [], bytes 22 to 26\n\
+    token     0, byte 23 (0x17)\n\
+    because   fc 0b is memory.fill, of bulk memory (Core 2.0), which gate does not admit\n\
+    hint      build the module with -mcpu=mvp\n";
+
 /// An answer of each kind is written whole before its flush fails.
 #[test]
 fn a_flush_that_fails_after_an_answer(rt: HostRuntime) {
     let check: &[&str] = &["check", "x.wasm"];
     let calls: &[&str] = &["run", "x.wasm", "x.calls"];
-    let answers: [(&[&str], &[u8], &[u8], &[u8], u8); 5] = [
+    let explain: &[&str] = &["explain", "x.wasm"];
+    let answers: [(&[&str], &[u8], &[u8], &[u8], u8); 7] = [
         (check, &HEADER, b"", b"accepted\n", 0),
         (check, &HEADER[..7], b"", b"refused malformed\n", 2),
         (calls, &HEADER[..7], b"", b"refused malformed\n", 2),
+        (explain, &HEADER, b"", b"accepted\n", 0),
+        (explain, &FILL, b"", FILL_EXPLAINED, 2),
         (calls, &HEADER, b"f", b"accepted\ncalls line 1 refused\n", 3),
         (
             calls,

@@ -1,0 +1,5 @@
+pub mod Headers
+pub mod Placed
+pub mod Places
+pub mod Texts
+pub mod Told

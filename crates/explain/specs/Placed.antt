@@ -1,0 +1,89 @@
+-- What an explanation says of a refused body is so of the module that the bytes spell.
+use Rattle.std.specs.Prelude.{◌≡◌, ◌+◌, ℕ, Bool, true, false, List, [], ◌∷◌, Option, Some, None, IfSome, slice_get, option_map, ◌&&◌, ◌==◌, length, if◌then◌else◌}
+use Rattle.std.specs.List.{between}
+use Rattle.wsyntax.specs.Types.{FuncType}
+use Rattle.wsyntax.specs.declared.module.LocalRun.{LocalRun}
+use Rattle.wsyntax.specs.declared.module.ExportKind.{ExportKind}
+use Rattle.wsyntax.specs.declared.module.ExportKind.TheVariants.{Function, Table, Memory, Global}
+use Rattle.wsyntax.specs.Modules.{ModuleShape, ExportShape}
+use Rattle.wsyntax.specs.Binary.Sections.{locals, locals_of}
+use Rattle.wsyntax.specs.Binary.Shell.{Shell}
+use Rattle.wsyntax.specs.Validation.ModuleContext.{module_context, imported_functions}
+use Rattle.explain.specs.declared.explanation.Signature.{Signature}
+use Rattle.explain.specs.declared.explanation.Span.{Span}
+use Rattle.explain.specs.declared.explanation.BodyFault.{BodyFault}
+use Rattle.explain.specs.declared.explanation.BodyFault.TheVariants.{Malformed, TooManyLocals, IllTyped}
+use Rattle.explain.specs.declared.explanation.RefusedBody.{RefusedBody}
+use Rattle.explain.specs.declared.explanation.Explanation.{Explanation}
+use Rattle.explain.specs.declared.explanation.Explanation.TheVariants as told
+use Rattle.explain.specs.Headers.{TellsHeader}
+use Rattle.explain.specs.Places.{IsStopOf, IsTokenAt}
+
+-- ---- the function
+
+abbrev pub is_function : ExportKind → Bool
+is_function Function = true
+is_function Table = false
+is_function Memory = false
+is_function Global = false
+
+-- 2.5.10 the name of the first export of the function of that index
+abbrev pub first_name : ℕ → List ExportShape → Option (List ℕ)
+first_name f [] = None
+first_name f (e ∷ es) = if is_function e.kind && e.index == f then Some e.item_name else first_name f es
+
+-- 2.3.3 the type that a signature says
+abbrev pub type_told : Signature → FuncType
+type_told s = record { params = s.params.items; results = s.results.items }
+
+-- ---- the body
+
+-- 2.5.1 these bytes are the body of the function of that index: the imported ones come first
+abbrev pub IsBodyOf : ℕ → List (List ℕ) → ℕ → List ℕ → Type 0
+IsBodyOf imported bodies f body = (place : ℕ) × (f ≡ imported + place) × (slice_get bodies place ≡ Some body)
+
+-- 5.5.13 so many locals are declared
+abbrev pub Declares : List ℕ → ℕ → Type 0
+Declares body count = (runs : List LocalRun) × (code : List ℕ) × (locals.read body ≡ Some (runs, code)) × (count ≡ locals_of runs)
+
+-- the places that a fault tells are those of the body, which begins at offset `start`
+abbrev pub TellsPlaces : List ℕ → ℕ → BodyFault → Type 0
+TellsPlaces body start (Malformed stop) = IfSome stop (IsStopOf body start)
+TellsPlaces body start (TooManyLocals count) = IfSome count (Declares body)
+TellsPlaces body start (IllTyped number found) = IfSome found (IsTokenAt body start number)
+
+-- it tells none
+abbrev pub TellsNoPlaces : BodyFault → Type 0
+TellsNoPlaces (Malformed stop) = stop ≡ None
+TellsNoPlaces (TooManyLocals count) = count ≡ None
+TellsNoPlaces (IllTyped number found) = found ≡ None
+
+-- the bytes of the module in the span are the body of the function; without a span no place is told
+abbrev pub TellsBody : List ℕ → ℕ → List (List ℕ) → ℕ → Option Span → BodyFault → Type 0
+TellsBody bytes imported bodies f None fault = TellsNoPlaces fault
+TellsBody bytes imported bodies f (Some s) fault =
+    IsBodyOf imported bodies f (between s.from s.to bytes) × TellsPlaces (between s.from s.to bytes) s.from fault
+
+-- no more is told than the verdict
+pub record KnowsNothing (r : RefusedBody) : Type 0 where
+  pub «export» : r.«export» ≡ None
+  pub signature : r.signature ≡ None
+  pub span : r.span ≡ None
+  pub places : TellsNoPlaces r.fault
+
+-- what is told of the function and its body is so in that module, which the bytes spell
+pub record IsSoIn (bytes : List ℕ) (m : ModuleShape) (r : RefusedBody) : Type 0 where
+  pub «export» : IfSome r.«export» (λ name. first_name r.func m.exports ≡ Some name.now)
+  pub signature : IfSome r.signature (λ s. slice_get (module_context m).functions r.func ≡ Some (type_told s))
+  pub body : TellsBody bytes (length (imported_functions m)) m.bodies r.func r.span r.fault
+
+-- it is so in each module that the bytes spell
+abbrev pub IsSo : List ℕ → RefusedBody → Type 0
+IsSo bytes r = (m : ModuleShape) → Shell bytes m → IsSoIn bytes m r
+
+-- what is told beside the verdict is so
+abbrev pub AreSo : List ℕ → Explanation → Type 0
+AreSo bytes (told.TooLarge n) = n ≡ length bytes
+AreSo bytes (told.Malformed what) = TellsHeader bytes what
+AreSo bytes (told.Body r) = IsSo bytes r
+AreSo bytes _ = Unit {0}

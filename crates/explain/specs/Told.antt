@@ -1,0 +1,31 @@
+-- What an explanation says of a module: its verdict.
+use Rattle.std.specs.Prelude.{◌≡◌, ℕ, Option, Some, None}
+use Rattle.wsyntax.specs.Validation.Verdict.{Verdict, BodyRefused, RuleBroken}
+use Rattle.wsyntax.specs.Validation.Verdict as meant
+use Rattle.verdict.specs.declared.refusal.BodyRefusal.{BodyRefusal}
+use Rattle.verdict.specs.declared.refusal.BodyRefusal.TheVariants as refusal
+use Rattle.verdict.specs.Refusals.{fault_of}
+use Rattle.explain.specs.declared.explanation.BodyFault.{BodyFault}
+use Rattle.explain.specs.declared.explanation.BodyFault.TheVariants as fault
+use Rattle.explain.specs.declared.explanation.RefusedBody.{RefusedBody}
+use Rattle.explain.specs.declared.explanation.Explanation.{Explanation}
+use Rattle.explain.specs.declared.explanation.Explanation.TheVariants.{Accepted, TooLarge, Malformed, Rule, Body, Memory}
+
+-- why a body is refused, without places
+abbrev pub refusal_told : BodyFault → BodyRefusal
+refusal_told (fault.Malformed stop) = refusal.Malformed
+refusal_told (fault.TooManyLocals count) = refusal.TooManyLocals
+refusal_told (fault.IllTyped number found) = refusal.IllTyped number
+
+-- the verdict; out of memory gives none
+abbrev pub verdict_told : Explanation → Option Verdict
+verdict_told Accepted = Some meant.Accepted
+verdict_told (TooLarge bytes) = Some meant.TooLarge
+verdict_told (Malformed what) = Some meant.Malformed
+verdict_told (Rule k) = Some (RuleBroken k)
+verdict_told (Body b) = Some (BodyRefused b.func (fault_of (refusal_told b.fault)))
+verdict_told Memory = None
+
+-- it is said of the body of that function, and for that refusal
+abbrev pub Tells : ℕ → BodyRefusal → RefusedBody → Type 0
+Tells f r b = (b.func ≡ f) × (refusal_told b.fault ≡ r)

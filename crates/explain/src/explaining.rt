@@ -1,0 +1,105 @@
+//! The explanation of a verdict: made after it, and only of what is refused.
+ghost use Rattle.std.specs.Prelude.{◌≡◌, IfOk, IfSome};
+ghost use Rattle.wsyntax.specs.Modules.{module_shape};
+ghost use Rattle.wsyntax.specs.Validation.Verdict.{IsVerdict};
+ghost use Rattle.explain.specs.Placed.{AreSo, IsSo, IsSoIn, KnowsNothing};
+ghost use Rattle.explain.specs.Told.{Tells, verdict_told};
+
+use crate::explanation::{Explanation, RefusedBody};
+use crate::faults::{Located, locate, not_located};
+use crate::functions::{first_export, signature_of};
+use crate::headers::no_module;
+use crate::names::name_of;
+use std::alloc::{AllocError, Global};
+use verdict::{BodyRefusal, Refusal, examine_alone};
+use wcontext::{ModuleFault, check_early};
+use wdecode::{DecodeFault, Front, decode_front};
+
+/// A refused body of which no more is known than its verdict.
+fn bare_body<'a>(func: u32, refusal: BodyRefusal) -> RefusedBody<'a>
+    ensures refusal { Tells func refusal result }
+    ensures nothing { KnowsNothing result }
+{
+    let Located { span, fault } = not_located(refusal);
+    RefusedBody {
+        func,
+        span,
+        name: None,
+        export: None,
+        signature: None,
+        fault,
+    }
+}
+
+/// The refused body of the function of that index, in a module of that front.
+fn body_of<'a>(
+    alloc: Global,
+    bytes: &'a [u8],
+    front: &Front<'a>,
+    func: u32,
+    refusal: BodyRefusal,
+) -> Result<RefusedBody<'a>, AllocError>
+    ensures refusal { IfOk result (Tells func refusal) }
+    ensures so { IfOk result (IsSoIn bytes.now (module_shape front.now.module)) }
+{
+    let context = match check_early(alloc, &front.module) {
+        Ok((context, _counts)) => context,
+        Err(ModuleFault::Rule(_)) => return Ok(bare_body(func, refusal)),
+        Err(ModuleFault::Memory) => return Err(AllocError),
+    };
+    let signature = signature_of(alloc, &context, func)?;
+    let imported = context.imported_functions();
+    let Located { span, fault } = locate(
+        alloc,
+        bytes,
+        &front.module.bodies,
+        imported,
+        func,
+        refusal,
+    )?;
+    Ok(RefusedBody {
+        func,
+        span,
+        name: name_of(bytes, func),
+        export: first_export(&front.module.exports, func),
+        signature,
+        fault,
+    })
+}
+
+/// The refused body of the function of that index.
+fn refused_body<'a>(
+    alloc: Global,
+    bytes: &'a [u8],
+    func: u32,
+    refusal: BodyRefusal,
+) -> Result<RefusedBody<'a>, AllocError>
+    ensures refusal { IfOk result (Tells func refusal) }
+    ensures so { IfOk result (IsSo bytes.now) }
+{
+    match decode_front(alloc, bytes) {
+        Ok(front) => body_of(alloc, bytes, &front, func, refusal),
+        Err(DecodeFault::Memory) => Err(AllocError),
+        Err(DecodeFault::Malformed | DecodeFault::TooLarge) => Ok(bare_body(func, refusal)),
+    }
+}
+
+/// Judges a module, on the calling thread, and says of a refusal where and why.
+pub fn explain(alloc: Global, bytes: &[u8]) -> Explanation<'_>
+    // What it tells is the verdict.
+    ensures verdict { IfSome (verdict_told result) (IsVerdict bytes.now) }
+    // What it tells of a refused body is so.
+    ensures so { AreSo bytes.now result }
+{
+    match examine_alone(alloc, bytes) {
+        Ok(()) => Explanation::Accepted,
+        Err(Refusal::TooLarge) => Explanation::TooLarge { bytes: bytes.len() },
+        Err(Refusal::Malformed) => Explanation::Malformed(no_module(bytes)),
+        Err(Refusal::Rule(rule)) => Explanation::Rule(rule),
+        Err(Refusal::Body { func, refusal }) => match refused_body(alloc, bytes, func, refusal) {
+            Ok(body) => Explanation::Body(body),
+            Err(AllocError) => Explanation::Memory,
+        },
+        Err(Refusal::Memory) => Explanation::Memory,
+    }
+}

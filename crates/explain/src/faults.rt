@@ -1,0 +1,134 @@
+//! Why a body is refused: by its verdict alone, and with its places.
+ghost use Rattle.std.specs.Prelude.{◌≡◌, IfOk, IfSome, Some, None, map, slice_get};
+ghost use Rattle.wsyntax.specs.Binary.Sections.{locals_of};
+ghost use Rattle.explain.specs.Told.{refusal_told};
+ghost use Rattle.explain.specs.Placed.{Declares, TellsBody, TellsNoPlaces, TellsPlaces};
+
+use crate::bodies::body_span;
+use crate::explanation::{BodyFault, Span};
+use crate::places::find_token;
+use crate::stops::stop_of;
+use std::alloc::{AllocError, Global};
+use verdict::BodyRefusal;
+use wdecode::{Fault, locals_at};
+use wsyntax::LocalRun;
+
+/// What is known of a refused body by its verdict alone.
+fn bare_fault<'a>(refusal: BodyRefusal) -> BodyFault<'a>
+    ensures refusal { refusal_told result ≡ refusal }
+    ensures places { TellsNoPlaces result }
+{
+    match refusal {
+        BodyRefusal::Malformed => BodyFault::Malformed { stop: None },
+        BodyRefusal::TooManyLocals => BodyFault::TooManyLocals { count: None },
+        BodyRefusal::IllTyped { at } => BodyFault::IllTyped {
+            number: at,
+            found: None,
+        },
+    }
+}
+
+/// How many locals runs declare.
+fn count_of(runs: &[LocalRun]) -> Option<u64>
+    ensures { IfSome result (λ count. count ≡ locals_of runs.now) }
+{
+    let mut count: u64 = 0;
+    for run in runs {
+        count = count.checked_add(u64::from(run.count))?;
+    }
+    Some(count)
+}
+
+/// How many locals a body declares.
+fn declared_locals(alloc: Global, body: &[u8]) -> Result<Option<u64>, AllocError>
+    ensures { IfOk result (λ count. IfSome count (Declares body.now)) }
+{
+    match locals_at(alloc, body) {
+        Ok((runs, _code)) => Ok(count_of(&runs)),
+        Err(Fault::Malformed) => Ok(None),
+        Err(Fault::Memory) => Err(AllocError),
+    }
+}
+
+/// Why a body is refused that begins at offset `start`.
+fn placed_fault<'a>(
+    alloc: Global,
+    body: &'a [u8],
+    start: usize,
+    refusal: BodyRefusal,
+) -> Result<BodyFault<'a>, AllocError>
+    ensures refusal { IfOk result (λ f. refusal_told f ≡ refusal) }
+    ensures places { IfOk result (TellsPlaces body.now start) }
+{
+    match refusal {
+        BodyRefusal::Malformed => {
+            let stop = stop_of(alloc, body, start)?;
+            Ok(BodyFault::Malformed { stop })
+        }
+        BodyRefusal::TooManyLocals => {
+            let count = declared_locals(alloc, body)?;
+            Ok(BodyFault::TooManyLocals { count })
+        }
+        BodyRefusal::IllTyped { at } => match find_token(alloc, body, start, at) {
+            Ok(found) => Ok(BodyFault::IllTyped {
+                number: at,
+                found: Some(found),
+            }),
+            Err(Fault::Malformed) => Ok(bare_fault(refusal)),
+            Err(Fault::Memory) => Err(AllocError),
+        },
+    }
+}
+
+/// Why a body is refused, and where it stands.
+#[derive(Drop)]
+pub(crate) struct Located<'a> {
+    pub(crate) span: Option<Span>,
+    pub(crate) fault: BodyFault<'a>,
+}
+
+/// A body whose place is not known.
+pub(crate) fn not_located<'a>(refusal: BodyRefusal) -> Located<'a>
+    ensures refusal { refusal_told result.fault ≡ refusal }
+    ensures places { (result.span ≡ None) × TellsNoPlaces result.fault }
+{
+    Located {
+        span: None,
+        fault: bare_fault(refusal),
+    }
+}
+
+/// The body at that place of the bodies of a module.
+fn body_at<'a>(bodies: &Vec<&'a [u8]>, place: usize) -> Option<&'a [u8]>
+    ensures { IfSome result (λ body. slice_get (map (λ s. s.now) bodies.now.items) place ≡ Some body.now) }
+{
+    bodies.get(place).copied()
+}
+
+/// Why the body of the function of that index is refused, and where it stands among the bytes of its module.
+pub(crate) fn locate<'a>(
+    alloc: Global,
+    bytes: &[u8],
+    bodies: &Vec<&'a [u8]>,
+    imported: usize,
+    func: u32,
+    refusal: BodyRefusal,
+) -> Result<Located<'a>, AllocError>
+    ensures refusal { IfOk result (λ l. refusal_told l.fault ≡ refusal) }
+    ensures places { IfOk result (λ l. TellsBody bytes.now imported (map (λ s. s.now) bodies.now.items) func l.span l.fault) }
+{
+    let Some(place) = (func as usize).checked_sub(imported) else {
+        return Ok(not_located(refusal));
+    };
+    let Some(body) = body_at(bodies, place) else {
+        return Ok(not_located(refusal));
+    };
+    let Some(span) = body_span(bytes, place, body) else {
+        return Ok(not_located(refusal));
+    };
+    let fault = placed_fault(alloc, body, span.from, refusal)?;
+    Ok(Located {
+        span: Some(span),
+        fault,
+    })
+}

@@ -1,0 +1,183 @@
+//! The text of an explanation: the line of the verdict, and then lines of a key, padded to ten columns, and what it says.
+ghost use Rattle.std.specs.Prelude.{◌≡◌, IfOk, IsSomeAnd, string_bytes};
+ghost use Rattle.wsyntax.specs.Texts.Lines.{verdict_line};
+ghost use Rattle.wsyntax.specs.Validation.Verdict.{BodyRefused};
+ghost use Rattle.verdict.specs.Refusals.{fault_of};
+ghost use Rattle.explain.specs.Texts.{BeginsWith};
+ghost use Rattle.explain.specs.Told.{verdict_told};
+
+use crate::explanation::{BodyFault, Explanation, FoundToken, NoModule, RefusedBody};
+use crate::quoting::{push_hex, push_name};
+use crate::stop_text::push_stop;
+use crate::token_text::push_token;
+use crate::type_text::push_signature;
+use std::alloc::{AllocError, Global};
+use verdict::BodyRefusal;
+use wsyntax::{LOCAL_LIMIT, MODULE_LIMIT};
+
+/// The line of a body that is refused.
+fn body_line(alloc: Global, func: u32, refusal: BodyRefusal) -> Result<String, AllocError>
+    ensures { IfOk result (λ line. string_bytes line ≡ verdict_line (BodyRefused func (fault_of refusal))) }
+{
+    match refusal {
+        BodyRefusal::Malformed => format!(in alloc; "refused body {func} malformed\n"),
+        BodyRefusal::TooManyLocals => format!(in alloc; "refused body {func} too-many-locals\n"),
+        BodyRefusal::IllTyped { at } => format!(in alloc;
+            "refused body {func} ill-typed at {at}\n"
+        ),
+    }
+}
+
+/// The line of the verdict; there is none where memory was refused.
+fn first_line(alloc: Global, explanation: &Explanation<'_>) -> Result<String, AllocError>
+    ensures { IfOk result (λ line. IsSomeAnd (verdict_told explanation.now) (λ v. string_bytes line ≡ verdict_line v)) }
+{
+    match explanation {
+        Explanation::Accepted => String::from_str(alloc, "accepted\n"),
+        Explanation::TooLarge { .. } => String::from_str(alloc, "refused too-large\n"),
+        Explanation::Malformed(_) => String::from_str(alloc, "refused malformed\n"),
+        Explanation::Rule(rule) => format!(in alloc; "refused rule {rule}\n"),
+        Explanation::Body(body) => body_line(alloc, body.func, body.fault.refusal()),
+        Explanation::Memory => Err(AllocError),
+    }
+}
+
+/// The line on the function.
+fn push_function(text: &mut String, body: &RefusedBody<'_>) -> Result<(), AllocError> {
+    write!(text, "function  {}", body.func)?;
+    if let Some(name) = body.name {
+        text.push_str(" ")?;
+        push_name(text, name)?;
+    }
+    if let Some(export) = body.export {
+        text.push_str(", exported as ")?;
+        push_name(text, export)?;
+    }
+    if let Some(signature) = &body.signature {
+        text.push_str(", ")?;
+        push_signature(text, signature)?;
+    }
+    if let Some(span) = body.span {
+        write!(text, ", bytes {} to {}", span.from, span.to)?;
+    }
+    text.push_str("\n")
+}
+
+/// The line on the token that is refused.
+fn push_found(text: &mut String, number: usize, found: &FoundToken) -> Result<(), AllocError> {
+    write!(text, "token     {number} ")?;
+    push_token(text, found)?;
+    let from = found.span.from;
+    let to = found.span.to;
+    write!(text, ", bytes {from} to {to} (0x{from:x})\n")
+}
+
+/// The lines on why a body is refused.
+fn push_fault(text: &mut String, fault: &BodyFault<'_>) -> Result<(), AllocError> {
+    match fault {
+        BodyFault::Malformed { stop: Some(stop) } => push_stop(text, *stop),
+        BodyFault::TooManyLocals { count: Some(count) } => {
+            write!(
+                text,
+                "because   it declares {count} locals, and {LOCAL_LIMIT} are the most\n"
+            )
+        }
+        BodyFault::IllTyped {
+            number,
+            found: Some(found),
+        } => push_found(text, *number, found),
+        _ => Ok(()),
+    }
+}
+
+/// A byte of the header that is another.
+fn push_other_byte(text: &mut String, at: usize, found: u8, of: &str) -> Result<(), AllocError> {
+    write!(text, "because   byte {at} is ")?;
+    push_hex(text, found)?;
+    text.push_str(", and ")?;
+    text.push_str(of)?;
+    text.push_str("\n")
+}
+
+/// The lines on bytes that spell no module.
+fn push_no_module(text: &mut String, no_module: NoModule) -> Result<(), AllocError> {
+    match no_module {
+        NoModule::Text => {
+            text.push_str("hint      this is the text format; wat2wasm makes a module of it\n")
+        }
+        NoModule::Gzip => text.push_str("hint      these bytes are a gzip archive\n"),
+        NoModule::Short => text.push_str(
+            "because   a module begins with 00 61 73 6d 01 00 00 00, and the bytes end before\n",
+        ),
+        NoModule::Magic { at, found } => push_other_byte(
+            text,
+            at,
+            found,
+            "a module begins with 00 61 73 6d",
+        ),
+        NoModule::Version { at, found } => push_other_byte(
+            text,
+            at,
+            found,
+            "the version is 01 00 00 00",
+        ),
+        NoModule::Sections => text.push_str(
+            "because   after its first eight bytes, which are right, it has no sections of a module\n",
+        ),
+    }
+}
+
+/// A module rule in words.
+fn rule_words(rule: u32) -> &'static str {
+    match rule {
+        2 => "the type index of each imported function exists",
+        3 => "the type index of each defined function exists",
+        4 => "each table's minimum is at most its maximum, where there is one",
+        5 => "each memory has at most 65,536 pages, and its minimum is at most its maximum",
+        6 => "there is at most one table, imported ones counted",
+        7 => "there is at most one memory, imported ones counted",
+        8 => "each global's first value is a constant expression of its type",
+        9 => "each exported index exists in the space of its kind",
+        10 => "the names of exports are distinct",
+        11 => "the start function exists and has type [] -> []",
+        12 =>
+            "each element segment's table exists, its offset is a constant i32, its functions exist",
+        13 => "each data segment's memory exists, and its offset is a constant i32",
+        _ => "the module is valid",
+    }
+}
+
+/// The lines after that of the verdict.
+fn push_details(text: &mut String, explanation: &Explanation<'_>) -> Result<(), AllocError> {
+    match explanation {
+        Explanation::Accepted | Explanation::Memory => Ok(()),
+        Explanation::TooLarge { bytes } => {
+            write!(
+                text,
+                "because   it has {bytes} bytes, and {MODULE_LIMIT} are the most\n"
+            )
+        }
+        Explanation::Malformed(no_module) => push_no_module(text, *no_module),
+        Explanation::Rule(rule) => {
+            text.push_str("because   this has to hold: ")?;
+            text.push_str(rule_words(*rule))?;
+            text.push_str("\n")
+        }
+        Explanation::Body(body) => {
+            push_function(text, body)?;
+            push_fault(text, &body.fault)
+        }
+    }
+}
+
+/// The text of an explanation: the line of the verdict, and then lines of a key and what it says. There is none where memory
+/// was refused.
+pub fn explanation_text(alloc: Global, explanation: &Explanation<'_>) -> Result<String, AllocError>
+    ensures { IfOk result (λ text. IsSomeAnd (verdict_told explanation.now) (λ v. BeginsWith (verdict_line v) (string_bytes text))) }
+{
+    let mut text = first_line(alloc, explanation)?;
+    let mut details = String::new(alloc);
+    push_details(&mut details, explanation)?;
+    text.push_str(details.as_str())?;
+    Ok(text)
+}

@@ -1,0 +1,46 @@
+//! Explaining the verdict on one file.
+ghost use Rattle.std.specs.Prelude.{◌≡◌, List, [], ◌∷◌, Some};
+ghost use Rattle.wsyntax.specs.Validation.Verdict.{Verdict};
+ghost use Rattle.batch.specs.Report.{status_of};
+ghost use Rattle.explain.specs.Told.{verdict_told};
+ghost use Rattle.gate.specs.Sources.{ReadsPaths};
+ghost use Rattle.gate.specs.Explains.{Explains};
+
+use crate::fault::Fault;
+use crate::finishing::show;
+use crate::reading::read_file;
+use crate::source::Source;
+use batch::Status;
+use explain::{Explanation, explain, explanation_text};
+use std::alloc::Global;
+use std::io::Write;
+use wsyntax::MODULE_LIMIT;
+
+/// The status that goes with an explanation.
+fn status(explanation: &Explanation<'_>) -> Status
+    ensures { (v : Verdict) → verdict_told explanation.now ≡ Some v → result ≡ status_of v }
+{
+    match explanation {
+        Explanation::Accepted => Status::Good,
+        _ => Status::ModuleRefused,
+    }
+}
+
+/// Reads a module whole, judges it on the calling thread, and writes its verdict line and why it is refused.
+pub fn explain_file<'a, S: Source, O: Write>(
+    alloc: Global,
+    path: &'a str,
+    source: &mut S,
+    out: &mut O,
+) -> Result<Status, Fault<'a>>
+    ensures explained { Explains (S.holds source.old path.entry.now) (O.contents out.old) (O.contents out.new) result }
+    ensures only { ReadsPaths (S.asked source.old) (S.asked source.new) (path.entry.now ∷ []) }
+{
+    let bytes = read_file(alloc, path, MODULE_LIMIT, source)?;
+    let explanation = explain(alloc, bytes.as_slice());
+    let status = status(&explanation);
+    match explanation_text(alloc, &explanation) {
+        Ok(text) => show(text.as_bytes(), status, out),
+        Err(_) => Err(Fault::Memory),
+    }
+}
