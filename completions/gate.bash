@@ -9,7 +9,7 @@ _gate() {
     fi
     case ${COMP_WORDS[1]} in
         check) ;;
-        explain) options='--help' ;;
+        explain) options=--help ;;
         run) options+=' --fuel --frames --pages' ;;
         help)
             ((COMP_CWORD > 2)) || mapfile -t COMPREPLY < <(compgen -W 'check explain run' -- "$current")
