@@ -255,7 +255,7 @@ def readme_speed():
         '![The check beside V8](docs/check.svg)', '',
         f'- One worker checks real programs {mean_beside(("gate", "1"), ("V8", "1")):.2f} times as fast as V8.',
         f'- Four workers check them {mean_beside(("gate", "4"), ("V8", "all")):.2f} times as fast as V8 with all its threads.',
-        f'- JavaScriptCore\'s interpreter takes {mean_kernel("JavaScriptCore"):.2f} times as long on the kernels.',
+        f'- Calls: JavaScriptCore\'s interpreter takes {mean_kernel("JavaScriptCore"):.2f} times as long as `gate run`.',
         f'- The worst hostile module known takes {most_seconds("families*", "check"):.1f} s for 16 MB, '
         f'{most("families*", "times_ordinary", "check"):.0f} times ordinary code.', '',
         '[SPEED](docs/SPEED.md) has the tables.'])
