@@ -5,6 +5,7 @@ check.tsv    name, the module as bytes in hexadecimal, what `gate check` prints,
              and once more with stacks of 64 KiB, on 64 workers, with a custom section that makes it long enough for them
 run.tsv      name, the module, the calls, the options, what `gate run` prints, its status; each is run with twelve plans,
              and once more with stacks of 64 KiB, on 64 workers
+explain.tsv  in tests/: name, the module, what `gate explain` prints, its status
 Bytes are in hexadecimal; `xNN*K` stands for K times the bytes NN. In calls and in what is printed \\t is a tab and \\n a
 newline. Lines that begin with # are comments.
 """
@@ -15,7 +16,8 @@ import subprocess
 import sys
 import tempfile
 
-tables = os.path.join(os.path.dirname(os.path.abspath(__file__)), '..', 'crates', 'suite', 'data')
+here = os.path.dirname(os.path.abspath(__file__))
+tables = os.path.join(here, '..', 'crates', 'suite', 'data')
 
 
 def bytes_of(text):
@@ -33,8 +35,8 @@ def text_of(escaped):
     return escaped.replace('\\t', '\t').replace('\\n', '\n').encode()
 
 
-def rows(name):
-    with open(os.path.join(tables, name)) as file:
+def rows(name, folder=tables):
+    with open(os.path.join(folder, name)) as file:
         for line in file:
             if line.strip() and not line.startswith('#'):
                 yield line.rstrip('\n').split('\t')
@@ -89,9 +91,15 @@ def main(gate):
                     expect(name, words + ['--workers', workers, '--piece', piece], text_of(text), int(status))
             expect(name, words + many, text_of(text), int(status), preexec_fn=small_stack, env={})
 
+    def explain(path):
+        for name, module, text, status in rows('explain.tsv', here):
+            write(path, bytes_of(module))
+            expect(name, ['explain', path], text_of(text), int(status))
+
     with tempfile.TemporaryDirectory() as folder:
         path = os.path.join(folder, 'module.wasm')
         check(path)
+        explain(path)
         run(path, os.path.join(folder, 'calls'))
     print(f'{passed} passed, {failed} failed')
     return 1 if failed or not passed else 0
