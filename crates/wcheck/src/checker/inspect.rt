@@ -1,5 +1,5 @@
 //! What a checker knows between two tokens, for a reader who asks why the next one is refused. No check of a body asks.
-ghost use Rattle.std.specs.Prelude.{◌≡◌, ⊥, [], MatchOption, IfSome, Some, drop, reverse, option_map, slice_get};
+ghost use Rattle.std.specs.Prelude.{◌≡◌, [], MatchOption, drop, reverse, option_map, slice_get};
 ghost use Rattle.wsyntax.specs.Modules.{seen};
 ghost use Rattle.wsyntax.specs.Validation.Context.{block_sig};
 ghost use Rattle.wsyntax.specs.Validation.Algorithm.{context_in};
