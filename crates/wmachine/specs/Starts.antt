@@ -20,6 +20,10 @@ StartEnds m i l s left (Some o) =
 abbrev pub StartEndsOnEach : ModuleShape → List BodyShape → Limits → Store → ℕ → Option Outcome → Type 0
 StartEndsOnEach m bodies l s left end = (i : Module) → InstanceOf m bodies i → StartEnds m i l s left end
 
+-- 4.5.4 the same, by the units of fuel that it took
+abbrev pub StartsOnEach : ModuleShape → List BodyShape → Limits → Store → ℕ → Option Outcome → Type 0
+StartsOnEach m bodies l s k end = (left : ℕ) × (k + left ≡ l.fuel) × StartEndsOnEach m bodies l s left end
+
 -- it did not end in values
 abbrev pub HasNoValues : meant.Outcome → Type 0
 HasNoValues (meant.Values vs) = ⊥

@@ -1,4 +1,4 @@
-ghost use Rattle.std.specs.Prelude.{◌≡◌, ℕ, ◌≤◌, true, IsErr, IfOk, OnErr};
+ghost use Rattle.std.specs.Prelude.{◌≡◌, ℕ, ◌≤◌, true, IsErr, IfOk, OnOk, OnErr};
 ghost use Rattle.wsyntax.specs.Outcomes.{outcome_of};
 ghost use Rattle.wsyntax.specs.Execution.Store.{Store};
 ghost use Rattle.wsyntax.specs.Execution.Ends.{Outcome as MeantOutcome};
@@ -49,6 +49,7 @@ pub fn invoke(
     ensures of { instance.new.accepted.now ≡ instance.old.accepted.now }
     ensures failed { instance.old.failed ≡ true → IsErr result }
     ensures fails { OnErr result (instance.new.failed ≡ true) }
+    ensures kept { OnOk result (instance.new.failed ≡ instance.old.failed) }
     ensures untouched { OnErr result (fuel.new.left ≡ fuel.old.left) }
     ensures needed { OnErr result (MayWant instance.old fuel.old.left frames) }
     ensures given_up { OnErr result (IsGivenUp instance.old function args.now fuel.old.left frames instance.new) }

@@ -2,7 +2,8 @@
 //! function.
 //!
 //! Proved: `fits` is true exactly where the function exists and the arguments are of its types. `invoke` ends a call as the
-//! reduction does, with the exact fuel and store, and is never stuck. `start_and_invoke` ends as a line of the report says.
+//! reduction does, with the exact fuel and store, and is never stuck; whatever was done to the instance before, it begins with the
+//! store that this left. `start` leaves the store of the start function. `start_and_invoke` ends as a line of the report says.
 //! Out of memory comes only with fuel and a frame left, or on an instance that had failed.
 #![tactic(auto)]
 
@@ -14,5 +15,5 @@ mod starting;
 pub use arguments::fits;
 pub use fuel::Fuel;
 pub use invoking::invoke;
-pub use starting::{Ended, start_and_invoke};
+pub use starting::{Begun, Ended, start, start_and_invoke};
 pub use wsyntax::Outcome;

@@ -1,13 +1,13 @@
-//! A call on a fresh instance, after the start function of its module.
+//! The start function of a fresh instance, and a call after it.
 
-ghost use Rattle.std.specs.Prelude.{◌≡◌, ◌≤◌, true, IfOk, IfSome, OnErr};
+ghost use Rattle.std.specs.Prelude.{◌≡◌, ◌≤◌, true, IfOk, IfSome, OnOk, OnErr};
 ghost use Rattle.wsyntax.specs.Outcomes.{outcome_of};
 ghost use Rattle.wsyntax.specs.Execution.Start.{fresh_store};
 ghost use Rattle.interpreter.specs.Buffers.{room_with};
 ghost use Rattle.wstore.specs.CallLimits.{limits_of};
 ghost use Rattle.wstore.specs.Views.{module_in, bodies_in, context_in, store_in};
 ghost use Rattle.wmachine.specs.Calls.{HasParams, GivesTyped};
-ghost use Rattle.wmachine.specs.Starts.{StartEndsOnEach, EndsOnEach, HasNoValues};
+ghost use Rattle.wmachine.specs.Starts.{StartEndsOnEach, StartsOnEach, EndsOnEach, HasNoValues};
 
 use crate::fuel::Fuel;
 use crate::invoking::invoke;
@@ -21,6 +21,15 @@ pub struct Ended {
     /// The end of the call, or that of the start function where this did not end in values.
     pub outcome: Outcome,
     /// The units that both spent.
+    pub fuel: u32,
+}
+
+/// How the start function ended.
+#[derive(Debug, Drop, PartialEq, Eq)]
+pub struct Begun {
+    /// Its end, where that is not in values. `None` where it is, or where there is no start function.
+    pub end: Option<Outcome>,
+    /// The units that it spent.
     pub fuel: u32,
 }
 
@@ -40,6 +49,7 @@ fn run_start(
     ensures room { room_with instance.old.parts.memory instance.old.lent ≤ room_with instance.new.parts.memory instance.new.lent }
     ensures of { instance.new.accepted.now ≡ instance.old.accepted.now }
     ensures fails { OnErr result (instance.new.failed ≡ true) }
+    ensures kept { OnOk result (instance.new.failed ≡ instance.old.failed) }
 {
     let accepted = instance.accepted();
     accepted.start_is_plain();
@@ -50,6 +60,35 @@ fn run_start(
         Outcome::Values(_) => Ok(None),
         outcome => Ok(Some(outcome)),
     }
+}
+
+/// Runs the start function of a fresh instance (4.5.4), where its module names one: what `start_and_invoke` does first. A host that
+/// keeps the instance calls `invoke` after it. Where the start function does not end in values, the standard has no instance. An
+/// error says that memory was refused; then the instance has failed. A failed instance gives an error at once, where there is a
+/// start function.
+pub fn start(
+    alloc: Global,
+    instance: &mut Instance<'_>,
+    settings: Settings,
+) -> Result<Begun, AllocError>
+    requires { store_in instance.old ≡ fresh_store settings.pages (module_in instance.old) }
+    ensures ends { IfOk result (λ b. StartsOnEach (module_in instance.old) (bodies_in instance.old) (limits_of settings)
+        (store_in instance.new) b.fuel b.end) }
+    ensures other { IfOk result (λ b. IfSome b.end (λ o. HasNoValues (outcome_of o))) }
+    ensures room { room_with instance.old.parts.memory instance.old.lent ≤ room_with instance.new.parts.memory instance.new.lent }
+    ensures of { instance.new.accepted.now ≡ instance.old.accepted.now }
+    ensures fails { OnErr result (instance.new.failed ≡ true) }
+    ensures kept { OnOk result (instance.new.failed ≡ instance.old.failed) }
+{
+    settings.in_range();
+    let Some(mut fuel) = Fuel::new(settings.fuel()) else {
+        unreachable!()
+    };
+    let end = run_start(alloc, instance, &mut fuel, settings)?;
+    Ok(Begun {
+        end,
+        fuel: fuel.spent(),
+    })
 }
 
 /// Runs the start function of a fresh instance (4.5.4), where its module names one, and then calls `function` (4.5.5) with the

@@ -7,3 +7,5 @@ pub mod Refusals
 pub mod Programs
 pub mod ProgramCode
 pub mod TypedCalls
+pub mod ByteLists
+pub mod ExportedItems

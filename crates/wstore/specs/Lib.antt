@@ -7,3 +7,6 @@ pub mod Stores
 pub mod Held
 pub mod Views
 pub mod Runs
+pub mod Bytes
+pub mod ExportedGlobals
+pub mod Detached
