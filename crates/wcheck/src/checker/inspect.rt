@@ -65,11 +65,13 @@ impl<'a> Checker<'a> {
         ensures taken { TakesOperand self.old.frames self.new.frames result }
         ensures same { self.new ≡ with_frames self.old self.new.frames }
     {
-        let operands = &mut self.control.operands;
-        if !self.control.is_open || (operands.is_empty() && !operands.is_unreachable()) {
+        if !self.control.is_open {
             return None;
         }
-        operands.take_any()
+        if self.control.operands.is_empty() && !self.control.operands.is_unreachable() {
+            return None;
+        }
+        self.control.operands.take_any()
     }
 
     /// Leaves the innermost frame, with its operands.
