@@ -3,3 +3,4 @@ pub mod Placed
 pub mod Places
 pub mod Texts
 pub mod Told
+pub mod Typed

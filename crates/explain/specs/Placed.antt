@@ -8,8 +8,8 @@ use Rattle.wsyntax.specs.declared.module.ExportKind.TheVariants.{Function, Table
 use Rattle.wsyntax.specs.Modules.{ModuleShape, ExportShape}
 use Rattle.wsyntax.specs.Binary.Sections.{locals, locals_of}
 use Rattle.wsyntax.specs.Binary.Shell.{Shell}
+use Rattle.wsyntax.specs.Validation.Context.{Context}
 use Rattle.wsyntax.specs.Validation.ModuleContext.{module_context, imported_functions}
-use Rattle.explain.specs.declared.explanation.Signature.{Signature}
 use Rattle.explain.specs.declared.explanation.Span.{Span}
 use Rattle.explain.specs.declared.explanation.BodyFault.{BodyFault}
 use Rattle.explain.specs.declared.explanation.BodyFault.TheVariants.{Malformed, TooManyLocals, IllTyped}
@@ -18,6 +18,7 @@ use Rattle.explain.specs.declared.explanation.Explanation.{Explanation}
 use Rattle.explain.specs.declared.explanation.Explanation.TheVariants as told
 use Rattle.explain.specs.Headers.{TellsHeader}
 use Rattle.explain.specs.Places.{IsStopOf, IsTokenAt}
+use Rattle.explain.specs.Typed.{IsTypingOf, type_told}
 
 -- ---- the function
 
@@ -32,10 +33,6 @@ abbrev pub first_name : ℕ → List ExportShape → Option (List ℕ)
 first_name f [] = None
 first_name f (e ∷ es) = if is_function e.kind && e.index == f then Some e.item_name else first_name f es
 
--- 2.3.3 the type that a signature says
-abbrev pub type_told : Signature → FuncType
-type_told s = record { params = s.params.items; results = s.results.items }
-
 -- ---- the body
 
 -- 2.5.1 these bytes are the body of the function of that index: the imported ones come first
@@ -46,23 +43,23 @@ IsBodyOf imported bodies f body = (place : ℕ) × (f ≡ imported + place) × (
 abbrev pub Declares : List ℕ → ℕ → Type 0
 Declares body count = (runs : List LocalRun) × (code : List ℕ) × (locals.read body ≡ Some (runs, code)) × (count ≡ locals_of runs)
 
--- the places that a fault tells are those of the body, which begins at offset `start`
-abbrev pub TellsPlaces : List ℕ → ℕ → BodyFault → Type 0
-TellsPlaces body start (Malformed stop) = IfSome stop (IsStopOf body start)
-TellsPlaces body start (TooManyLocals count) = IfSome count (Declares body)
-TellsPlaces body start (IllTyped number found) = IfSome found (IsTokenAt body start number)
+-- the places that a fault tells are those of the body of function f, which begins at offset `start`
+abbrev pub TellsPlaces : Context → ℕ → List ℕ → ℕ → BodyFault → Type 0
+TellsPlaces C f body start (Malformed stop) = IfSome stop (IsStopOf body start)
+TellsPlaces C f body start (TooManyLocals count) = IfSome count (Declares body)
+TellsPlaces C f body start (IllTyped number found typing) = IfSome found (IsTokenAt body start number) × IfSome typing (IsTypingOf C f body number)
 
 -- it tells none
 abbrev pub TellsNoPlaces : BodyFault → Type 0
 TellsNoPlaces (Malformed stop) = stop ≡ None
 TellsNoPlaces (TooManyLocals count) = count ≡ None
-TellsNoPlaces (IllTyped number found) = found ≡ None
+TellsNoPlaces (IllTyped number found typing) = (found ≡ None) × (typing ≡ None)
 
 -- the bytes of the module in the span are the body of the function; without a span no place is told
-abbrev pub TellsBody : List ℕ → ℕ → List (List ℕ) → ℕ → Option Span → BodyFault → Type 0
-TellsBody bytes imported bodies f None fault = TellsNoPlaces fault
-TellsBody bytes imported bodies f (Some s) fault =
-    IsBodyOf imported bodies f (between s.from s.to bytes) × TellsPlaces (between s.from s.to bytes) s.from fault
+abbrev pub TellsBody : List ℕ → Context → ℕ → List (List ℕ) → ℕ → Option Span → BodyFault → Type 0
+TellsBody bytes C imported bodies f None fault = TellsNoPlaces fault
+TellsBody bytes C imported bodies f (Some s) fault =
+    IsBodyOf imported bodies f (between s.from s.to bytes) × TellsPlaces C f (between s.from s.to bytes) s.from fault
 
 -- no more is told than the verdict
 pub record KnowsNothing (r : RefusedBody) : Type 0 where
@@ -75,7 +72,7 @@ pub record KnowsNothing (r : RefusedBody) : Type 0 where
 pub record IsSoIn (bytes : List ℕ) (m : ModuleShape) (r : RefusedBody) : Type 0 where
   pub «export» : IfSome r.«export» (λ name. first_name r.func m.exports ≡ Some name.now)
   pub signature : IfSome r.signature (λ s. slice_get (module_context m).functions r.func ≡ Some (type_told s))
-  pub body : TellsBody bytes (length (imported_functions m)) m.bodies r.func r.span r.fault
+  pub body : TellsBody bytes (module_context m) (length (imported_functions m)) m.bodies r.func r.span r.fault
 
 -- it is so in each module that the bytes spell
 abbrev pub IsSo : List ℕ → RefusedBody → Type 0

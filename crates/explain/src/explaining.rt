@@ -52,6 +52,7 @@ fn body_of<'a>(
     let Located { span, fault } = locate(
         alloc,
         bytes,
+        &context,
         &front.module.bodies,
         imported,
         func,

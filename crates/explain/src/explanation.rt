@@ -1,5 +1,6 @@
 //! What is said of a module: its verdict, and of a refusal where and why.
 
+use crate::typing::Typing;
 use verdict::{BodyRefusal, Refusal};
 use wsyntax::{Token, ValType};
 
@@ -89,6 +90,7 @@ pub enum BodyFault<'a> {
     IllTyped {
         number: usize,
         found: Option<FoundToken>,
+        typing: Option<Typing>,
     },
 }
 

@@ -1,15 +1,18 @@
 //! Why a body is refused: by its verdict alone, and with its places.
 ghost use Rattle.std.specs.Prelude.{◌≡◌, IfOk, IfSome, Some, None, map, slice_get};
 ghost use Rattle.wsyntax.specs.Binary.Sections.{locals_of};
+ghost use Rattle.verdict.specs.declared.refusal.BodyRefusal.TheVariants as refusal;
 ghost use Rattle.explain.specs.Told.{refusal_told};
 ghost use Rattle.explain.specs.Placed.{Declares, TellsBody, TellsNoPlaces, TellsPlaces};
 
 use crate::bodies::body_span;
 use crate::explanation::{BodyFault, Span};
 use crate::places::find_token;
+use crate::recheck::typing_of;
 use crate::stops::stop_of;
 use std::alloc::{AllocError, Global};
 use verdict::BodyRefusal;
+use wcontext::Context;
 use wdecode::{Fault, locals_at};
 use wsyntax::LocalRun;
 
@@ -24,6 +27,7 @@ fn bare_fault<'a>(refusal: BodyRefusal) -> BodyFault<'a>
         BodyRefusal::IllTyped { at } => BodyFault::IllTyped {
             number: at,
             found: None,
+            typing: None,
         },
     }
 }
@@ -50,15 +54,43 @@ fn declared_locals(alloc: Global, body: &[u8]) -> Result<Option<u64>, AllocError
     }
 }
 
-/// Why a body is refused that begins at offset `start`.
+/// The token of that number, and its typing, in a body that begins at offset `start`.
+fn placed_token<'a>(
+    alloc: Global,
+    context: &Context,
+    func: u32,
+    body: &[u8],
+    start: usize,
+    number: usize,
+) -> Result<BodyFault<'a>, AllocError>
+    ensures refusal { IfOk result (λ f. refusal_told f ≡ refusal.IllTyped number) }
+    ensures places { IfOk result (TellsPlaces context.now.context func body.now start) }
+{
+    match find_token(alloc, body, start, number) {
+        Ok(found) => {
+            let typing = typing_of(alloc, context, func, body, start, number)?;
+            Ok(BodyFault::IllTyped {
+                number,
+                found: Some(found),
+                typing,
+            })
+        }
+        Err(Fault::Malformed) => Ok(bare_fault(BodyRefusal::IllTyped { at: number })),
+        Err(Fault::Memory) => Err(AllocError),
+    }
+}
+
+/// Why the body of the function of that index is refused, which begins at offset `start`.
 fn placed_fault<'a>(
     alloc: Global,
+    context: &Context,
+    func: u32,
     body: &'a [u8],
     start: usize,
     refusal: BodyRefusal,
 ) -> Result<BodyFault<'a>, AllocError>
     ensures refusal { IfOk result (λ f. refusal_told f ≡ refusal) }
-    ensures places { IfOk result (TellsPlaces body.now start) }
+    ensures places { IfOk result (TellsPlaces context.now.context func body.now start) }
 {
     match refusal {
         BodyRefusal::Malformed => {
@@ -69,14 +101,7 @@ fn placed_fault<'a>(
             let count = declared_locals(alloc, body)?;
             Ok(BodyFault::TooManyLocals { count })
         }
-        BodyRefusal::IllTyped { at } => match find_token(alloc, body, start, at) {
-            Ok(found) => Ok(BodyFault::IllTyped {
-                number: at,
-                found: Some(found),
-            }),
-            Err(Fault::Malformed) => Ok(bare_fault(refusal)),
-            Err(Fault::Memory) => Err(AllocError),
-        },
+        BodyRefusal::IllTyped { at } => placed_token(alloc, context, func, body, start, at),
     }
 }
 
@@ -109,13 +134,15 @@ fn body_at<'a>(bodies: &Vec<&'a [u8]>, place: usize) -> Option<&'a [u8]>
 pub(crate) fn locate<'a>(
     alloc: Global,
     bytes: &[u8],
+    context: &Context,
     bodies: &Vec<&'a [u8]>,
     imported: usize,
     func: u32,
     refusal: BodyRefusal,
 ) -> Result<Located<'a>, AllocError>
     ensures refusal { IfOk result (λ l. refusal_told l.fault ≡ refusal) }
-    ensures places { IfOk result (λ l. TellsBody bytes.now imported (map (λ s. s.now) bodies.now.items) func l.span l.fault) }
+    ensures places { IfOk result (λ l.
+        TellsBody bytes.now context.now.context imported (map (λ s. s.now) bodies.now.items) func l.span l.fault) }
 {
     let Some(place) = (func as usize).checked_sub(imported) else {
         return Ok(not_located(refusal));
@@ -126,7 +153,7 @@ pub(crate) fn locate<'a>(
     let Some(span) = body_span(bytes, place, body) else {
         return Ok(not_located(refusal));
     };
-    let fault = placed_fault(alloc, body, span.from, refusal)?;
+    let fault = placed_fault(alloc, context, func, body, span.from, refusal)?;
     Ok(Located {
         span: Some(span),
         fault,

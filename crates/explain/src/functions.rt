@@ -1,7 +1,8 @@
 //! What is told of the function of a refused body beside its body.
 ghost use Rattle.std.specs.Prelude.{◌≡◌, IfOk, IfSome, Some, map, option_map, slice_get};
 ghost use Rattle.wsyntax.specs.Modules.{export_shape};
-ghost use Rattle.explain.specs.Placed.{first_name, is_function as names_function, type_told};
+ghost use Rattle.explain.specs.Placed.{first_name, is_function as names_function};
+ghost use Rattle.explain.specs.Typed.{type_told};
 
 use crate::explanation::Signature;
 use std::alloc::{AllocError, Global};

@@ -9,20 +9,26 @@ mod functions;
 mod headers;
 mod names;
 mod opcode_names;
+mod operands;
 mod places;
 mod quoting;
+mod recheck;
 mod sections;
 mod stop_text;
 mod stops;
 mod text;
 mod token_text;
+mod trail;
 mod type_text;
+mod typing;
+mod typing_text;
 
 pub use explaining::explain;
 pub use explanation::{
     BodyFault, Explanation, FoundToken, NoModule, RefusedBody, Signature, Span, Stop, Stopped,
 };
 pub use text::explanation_text;
+pub use typing::{BlockKind, Giver, OpenBlock, Opening, Typing};
 
 #[cfg(test)]
 mod tests;

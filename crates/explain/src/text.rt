@@ -11,6 +11,7 @@ use crate::quoting::{push_hex, push_name};
 use crate::stop_text::push_stop;
 use crate::token_text::push_token;
 use crate::type_text::push_signature;
+use crate::typing_text::push_typing;
 use std::alloc::{AllocError, Global};
 use verdict::BodyRefusal;
 use wsyntax::{LOCAL_LIMIT, MODULE_LIMIT};
@@ -85,7 +86,14 @@ fn push_fault(text: &mut String, fault: &BodyFault<'_>) -> Result<(), AllocError
         BodyFault::IllTyped {
             number,
             found: Some(found),
-        } => push_found(text, *number, found),
+            typing,
+        } => {
+            push_found(text, *number, found)?;
+            match typing {
+                Some(typing) => push_typing(text, typing),
+                None => Ok(()),
+            }
+        }
         _ => Ok(()),
     }
 }

@@ -66,8 +66,18 @@ fn push_immediates(text: &mut String, token: Token, labels: &[u32]) -> Result<()
     }
 }
 
+/// An instruction, by the first of its bytes, and what stands after its name.
+pub(crate) fn push_instruction(
+    text: &mut String,
+    opcode: u8,
+    token: Token,
+    labels: &[u32],
+) -> Result<(), AllocError> {
+    text.push_str(name_of_byte(opcode))?;
+    push_immediates(text, token, labels)
+}
+
 /// A token.
 pub(crate) fn push_token(text: &mut String, found: &FoundToken) -> Result<(), AllocError> {
-    text.push_str(name_of_byte(found.opcode))?;
-    push_immediates(text, found.token, found.targets.as_slice())
+    push_instruction(text, found.opcode, found.token, found.targets.as_slice())
 }

@@ -1,0 +1,89 @@
+//! The lines on the typing of a token.
+
+use crate::token_text::push_instruction;
+use crate::type_text::{push_signature, type_name};
+use crate::typing::{BlockKind, Giver, OpenBlock, Typing};
+use std::alloc::AllocError;
+use wsyntax::ValType;
+
+/// How many operands of a list are shown, and how many tokens.
+const SHOWN: usize = 32;
+
+/// The last of a list, as many as are shown.
+fn last_shown<T>(items: &[T]) -> &[T] {
+    items
+        .get(items.len().saturating_sub(SHOWN)..)
+        .unwrap_or(items)
+}
+
+/// A list of operands, the topmost last.
+fn push_operands(
+    text: &mut String,
+    key: &str,
+    operands: &[Option<ValType>],
+    unknown: &str,
+) -> Result<(), AllocError> {
+    text.push_str(key)?;
+    text.push_str(if operands.len() > SHOWN { " .." } else { "" })?;
+    for operand in last_shown(operands) {
+        text.push_str(" ")?;
+        text.push_str(match operand {
+            Some(of_type) => type_name(*of_type),
+            None => unknown,
+        })?;
+    }
+    text.push_str(if operands.is_empty() {
+        " nothing\n"
+    } else {
+        "\n"
+    })
+}
+
+/// The line on the tokens that gave operands.
+fn push_givers(text: &mut String, givers: &[Giver]) -> Result<(), AllocError> {
+    if givers.is_empty() {
+        return Ok(());
+    }
+    text.push_str("given by ")?;
+    text.push_str(if givers.len() > SHOWN { " ..," } else { "" })?;
+    for (place, giver) in last_shown(givers).iter().enumerate() {
+        text.push_str(if place == 0 { "" } else { "," })?;
+        write!(text, " token {} ", giver.number)?;
+        push_instruction(text, giver.opcode, giver.token, &[])?;
+    }
+    text.push_str("\n")
+}
+
+/// The name of what opens a block.
+fn kind_name(kind: BlockKind) -> &'static str {
+    match kind {
+        BlockKind::Block => "block",
+        BlockKind::Loop => "loop",
+        BlockKind::If => "if",
+        BlockKind::Else => "else",
+    }
+}
+
+/// The line on an open block.
+fn push_within(text: &mut String, block: &OpenBlock) -> Result<(), AllocError> {
+    let Some(opening) = block.opening else {
+        return Ok(());
+    };
+    let kind = kind_name(opening.kind);
+    write!(text, "within    {kind} at byte {}, ", opening.at)?;
+    push_signature(text, &block.signature)?;
+    text.push_str("\n")
+}
+
+/// The lines on the typing of a token.
+pub(crate) fn push_typing(text: &mut String, typing: &Typing) -> Result<(), AllocError> {
+    if !typing.takes.is_empty() || !typing.finds.is_empty() {
+        push_operands(text, "takes    ", &typing.takes, "any")?;
+        push_operands(text, "finds    ", &typing.finds, "?")?;
+    }
+    push_givers(text, &typing.given_by)?;
+    for block in &typing.within {
+        push_within(text, block)?;
+    }
+    Ok(())
+}
