@@ -3,3 +3,4 @@ pub mod LooseForm
 pub mod ModuleValues
 pub mod ReportValues
 pub mod Spelled
+pub mod CountValues
