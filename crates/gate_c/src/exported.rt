@@ -76,13 +76,11 @@ impl GateExport {
 pub(crate) fn tell_export(accepted: &Accepted<'_>, number: u64, export: &mut GateExport) -> u32
     ensures { TellsExport accepted.now number export.old export.new result }
 {
-    match accepted.module().exports.get(number as usize) {
-        Some(found) => {
-            *export = GateExport::of(accepted.context(), found.kind, found.index);
-            OK
-        }
-        None => NOTHING,
-    }
+    let Some(found) = accepted.module().exports.get(number as usize) else {
+        return NOTHING;
+    };
+    *export = GateExport::of(accepted.context(), found.kind, found.index);
+    OK
 }
 
 /// Writes what is exported under the name. 0: it is written; 4: nothing is exported under it.
@@ -108,10 +106,10 @@ pub(crate) fn tell_name(
 ) -> u32
     ensures { TellsName accepted.now number out.old out.new length.old length.new result }
 {
-    match accepted.module().exports.get(number as usize) {
-        Some(found) => hand_text(found.name, OK, out, length),
-        None => NOTHING,
-    }
+    let Some(found) = accepted.module().exports.get(number as usize) else {
+        return NOTHING;
+    };
+    hand_text(found.name, OK, out, length)
 }
 
 /// The byte that spells a value type.
