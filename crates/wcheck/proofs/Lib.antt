@@ -24,3 +24,4 @@ pub mod Taking
 pub mod Written
 pub mod Suiting
 pub mod Unchecked
+pub mod Labels

@@ -11,3 +11,4 @@ pub mod Outcomes
 pub mod Refusals
 pub mod LocalRuns
 pub mod Kept
+pub mod Inspected

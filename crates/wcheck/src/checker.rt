@@ -4,6 +4,8 @@ ghost use Rattle.wsyntax.specs.Validation.Algorithm.{when, step};
 ghost use Rattle.wcheck.specs.Checking.{begun, with_frames};
 ghost use Rattle.side_table.specs.Pass.{reachable_height, outer_dead, below_size, label_size, in_if};
 
+mod inspect;
+
 use crate::control::{Control, is_past_expanded, step_control, step_known};
 use crate::frames::{ControlFrame, label};
 use crate::locals::Locals;
@@ -11,6 +13,7 @@ use crate::operand_stack::OperandStack;
 use crate::outer_frames::OuterFrames;
 use crate::scope::{Scope, none};
 use crate::tuning::{LOCAL_RUNS, OPEN_FRAMES, OPERANDS};
+pub use inspect::OpenFrame;
 use std::alloc::{AllocError, Global};
 use std::marker::Model;
 use wcontext::{Context, ListPair, TypeList};

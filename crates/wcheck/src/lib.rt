@@ -37,4 +37,5 @@ mod types;
 
 pub use check::{CheckFault, check_body};
 pub use checked::CheckedBody;
-pub use checker::Checker;
+pub use checker::{Checker, OpenFrame};
+pub use rule::OperandRule;

@@ -17,7 +17,8 @@ use wsyntax::{AccessRow, Arity, Load, Operator, OperatorRow, Store, Token, ValTy
 
 /// What an instruction without a body takes from the operands and leaves there (3.3). An index is an i32 on top.
 #[derive(Clone, Copy)]
-pub(crate) enum OperandRule {
+pub enum OperandRule {
+    /// Takes nothing, and puts nothing.
     Nothing,
     Push(ValType),
     Pop(ValType),
@@ -27,6 +28,7 @@ pub(crate) enum OperandRule {
     Binary(ValType, ValType),
     /// Takes a value of this type, and an address below it.
     Stores(ValType),
+    /// Takes the first list, and puts the second.
     Signature {
         has_index: bool,
         takes: TypeList,
@@ -37,7 +39,9 @@ pub(crate) enum OperandRule {
         has_index: bool,
         takes: TypeList,
     },
+    /// Takes one operand of any type.
     Drops,
+    /// Takes an i32 and two operands of one type, and puts one of that type.
     Selects,
 }
 
