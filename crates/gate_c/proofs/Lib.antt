@@ -4,3 +4,4 @@ pub mod ModuleValues
 pub mod ReportValues
 pub mod Spelled
 pub mod CountValues
+pub mod ExportedTypes

@@ -1,5 +1,5 @@
 -- What a module exports, as numbers and texts.
-use Rattle.std.specs.Prelude.{◌≡◌, ◌⊎◌, ℕ, ◌<◌, List, length, map, Option, Some, None, slice_get, Contains, MatchOption}
+use Rattle.std.specs.Prelude.{◌≡◌, ◌⊎◌, ℕ, ◌<◌, List, length, map, Option, Some, None, slice_get, Contains, IsSome, MatchOption}
 use Rattle.wsyntax.specs.Types.{FuncType}
 use Rattle.wsyntax.specs.declared.ValType.{ValType}
 use Rattle.wsyntax.specs.declared.ValType.TheVariants.{I32, I64, F32, F64}
@@ -51,9 +51,16 @@ export_numbers functions kind index = record {
   results = results_of (function_type functions kind index);
 }
 
--- the numbers of an export are written
+-- 3.4.10 what is exported has a type, where it is a function
+abbrev pub IsTyped : List FuncType → ExportKind → ℕ → Type 0
+IsTyped functions Function f = IsSome (slice_get functions f)
+IsTyped functions Table x = Unit {0}
+IsTyped functions Memory x = Unit {0}
+IsTyped functions Global x = Unit {0}
+
+-- the numbers of an export are written, and it has a type, where it is a function
 abbrev pub TellsOf : AcceptedModule → GateExport → ℕ → ExportShape → Type 0
-TellsOf a new answered e = (answered ≡ 0) × (new ≡ export_numbers (functions_of a) e.kind e.index)
+TellsOf a new answered e = (answered ≡ 0) × (new ≡ export_numbers (functions_of a) e.kind e.index) × IsTyped (functions_of a) e.kind e.index
 
 -- there is none, and nothing is written
 abbrev pub LeavesExport : GateExport → GateExport → ℕ → Type 0

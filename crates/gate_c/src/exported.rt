@@ -76,6 +76,7 @@ impl GateExport {
 pub(crate) fn tell_export(accepted: &Accepted<'_>, number: u64, export: &mut GateExport) -> u32
     ensures { TellsExport accepted.now number export.old export.new result }
 {
+    accepted.accepted_holds();
     let Some(found) = accepted.module().exports.get(number as usize) else {
         return NOTHING;
     };
@@ -87,6 +88,7 @@ pub(crate) fn tell_export(accepted: &Accepted<'_>, number: u64, export: &mut Gat
 pub(crate) fn find(accepted: &Accepted<'_>, name: &[u8], export: &mut GateExport) -> u32
     ensures { FindsExport accepted.now name.now export.old export.new result }
 {
+    accepted.accepted_holds();
     match accepted.export(name) {
         Some((kind, index)) => {
             *export = GateExport::of(accepted.context(), kind, index);
