@@ -306,3 +306,64 @@ void gate_debug_module_free(const char *file, int line, gate_module module) {
 void gate_debug_module_drop(const char *file, int line, gate_module module) {
     if (module.at) free_module((site){ file, line, "gate_module_drop" }, module);
 }
+
+uint64_t gate_debug_module_export_count(const char *file, int line, gate_module module) {
+    const site here = { file, line, "gate_module_export_count" };
+    handle *used = begin(here, module.at, MODULE, false);
+    const uint64_t count = (gate_module_export_count)(module);
+    finish(used);
+    return count;
+}
+
+uint32_t gate_debug_module_export(const char *file, int line, gate_module module, uint64_t number, gate_export *found) {
+    const site here = { file, line, "gate_module_export" };
+    handle *used = begin(here, module.at, MODULE, false);
+    const area areas[] = { READS_BYTES_OF(used), WRITES(gate_export, found, 1) };
+    look_at(here, areas, COUNT_OF(areas));
+    const uint32_t status = (gate_module_export)(module, number, found);
+    finish(used);
+    return status;
+}
+
+uint32_t gate_debug_module_export_name(const char *file, int line, gate_module module, uint64_t number, uint8_t *out, size_t room,
+                                       size_t *length) {
+    const site here = { file, line, "gate_module_export_name" };
+    handle *used = begin(here, module.at, MODULE, false);
+    const area areas[] = { READS_BYTES_OF(used), WRITES(uint8_t, out, room), WRITES(size_t, length, 1) };
+    look_at(here, areas, COUNT_OF(areas));
+    const uint32_t status = (gate_module_export_name)(module, number, out, room, length);
+    finish(used);
+    return status;
+}
+
+uint32_t gate_debug_module_find(const char *file, int line, gate_module module, const uint8_t *name, size_t name_length,
+                                gate_export *found) {
+    const site here = { file, line, "gate_module_find" };
+    handle *used = begin(here, module.at, MODULE, false);
+    const area areas[] = { READS_BYTES_OF(used), READS(uint8_t, name, name_length), WRITES(gate_export, found, 1) };
+    look_at(here, areas, COUNT_OF(areas));
+    const uint32_t status = (gate_module_find)(module, name, name_length, found);
+    finish(used);
+    return status;
+}
+
+uint32_t gate_debug_module_types(const char *file, int line, gate_module module, uint32_t function, uint8_t *params,
+                                 size_t params_room, uint8_t *results, size_t results_room) {
+    const site here = { file, line, "gate_module_types" };
+    handle *used = begin(here, module.at, MODULE, false);
+    const area areas[] = { READS_BYTES_OF(used), WRITES(uint8_t, params, params_room), WRITES(uint8_t, results, results_room) };
+    look_at(here, areas, COUNT_OF(areas));
+    const uint32_t status = (gate_module_types)(module, function, params, params_room, results, results_room);
+    finish(used);
+    return status;
+}
+
+uint32_t gate_debug_module_starts(const char *file, int line, gate_module module, const gate_settings *settings, gate_call *ended) {
+    const site here = { file, line, "gate_module_starts" };
+    handle *used = begin(here, module.at, MODULE, false);
+    const area areas[] = { READS_BYTES_OF(used), READS(gate_settings, settings, 1), WRITES(gate_call, ended, 1) };
+    look_at(here, areas, COUNT_OF(areas));
+    const uint32_t status = (gate_module_starts)(module, settings, ended);
+    finish(used);
+    return status;
+}

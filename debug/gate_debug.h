@@ -40,6 +40,15 @@ uint32_t gate_debug_module_call(const char *file, int line, gate_module module, 
 uint32_t gate_debug_module_share(const char *file, int line, gate_module module, gate_module *other);
 void gate_debug_module_free(const char *file, int line, gate_module module);
 void gate_debug_module_drop(const char *file, int line, gate_module module);
+uint64_t gate_debug_module_export_count(const char *file, int line, gate_module module);
+uint32_t gate_debug_module_export(const char *file, int line, gate_module module, uint64_t number, gate_export *found);
+uint32_t gate_debug_module_export_name(const char *file, int line, gate_module module, uint64_t number, uint8_t *out, size_t room,
+                                       size_t *length);
+uint32_t gate_debug_module_find(const char *file, int line, gate_module module, const uint8_t *name, size_t name_length,
+                                gate_export *found);
+uint32_t gate_debug_module_types(const char *file, int line, gate_module module, uint32_t function, uint8_t *params,
+                                 size_t params_room, uint8_t *results, size_t results_room);
+uint32_t gate_debug_module_starts(const char *file, int line, gate_module module, const gate_settings *settings, gate_call *ended);
 
 #ifdef __cplusplus
 }
@@ -57,5 +66,11 @@ void gate_debug_module_drop(const char *file, int line, gate_module module);
 #define gate_module_share(...) gate_debug_module_share(__FILE__, __LINE__, __VA_ARGS__)
 #define gate_module_free(...) gate_debug_module_free(__FILE__, __LINE__, __VA_ARGS__)
 #define gate_module_drop(...) gate_debug_module_drop(__FILE__, __LINE__, __VA_ARGS__)
+#define gate_module_export_count(...) gate_debug_module_export_count(__FILE__, __LINE__, __VA_ARGS__)
+#define gate_module_export(...) gate_debug_module_export(__FILE__, __LINE__, __VA_ARGS__)
+#define gate_module_export_name(...) gate_debug_module_export_name(__FILE__, __LINE__, __VA_ARGS__)
+#define gate_module_find(...) gate_debug_module_find(__FILE__, __LINE__, __VA_ARGS__)
+#define gate_module_types(...) gate_debug_module_types(__FILE__, __LINE__, __VA_ARGS__)
+#define gate_module_starts(...) gate_debug_module_starts(__FILE__, __LINE__, __VA_ARGS__)
 
 #endif

@@ -18,8 +18,8 @@
  *          meanwhile, in this process or in another one (of a mapped file). A length is below 2^63 bytes. A null pointer is allowed
  *          with length 0 only. `verdict` of gate_verdict_line and `settings` are never null.
  * Written  `out` and `results` have room for as many elements as their room says, and are null with room 0 only. A room, too, is below
- *          2^63 bytes. `verdict`, `length`, `kept`, `module`, `other` and `ended` are never null. None of them overlaps another one, or
- *          anything that the call reads. All pointers are aligned as their types ask.
+ *          2^63 bytes. `verdict`, `length`, `kept`, `module`, `other`, `found` and `ended` are never null. None of them overlaps another
+ *          one, or anything that the call reads. All pointers are aligned as their types ask.
  * Handles  A gate_report or gate_module is one that the library wrote and that is not freed yet: { NULL } is none. Who got it, frees it,
  *          once; a copy of the struct is the same handle. Its `at` is the library's.
  * Threads  A handle is in one call at a time; any thread may make that call. It goes from thread to thread by a lock, by the start or
@@ -97,11 +97,18 @@ extern "C" {
 /* The number of the interface: GATE_INTERFACE of the header that the library was made with. */
 uint32_t gate_version(void);
 
-/* What every function but gate_version and the freeing ones answers. */
+#define GATE_REVISION 1
+
+/* The number of what the library has beside the functions that came first: GATE_REVISION of the header that it was made with. What came
+ * with a revision says so below; a library without it has no such symbol. This function came with revision 1. */
+uint32_t gate_revision(void);
+
+/* What every function answers but gate_version, gate_revision, gate_module_export_count and the freeing ones. */
 enum gate_status {
     GATE_OK = 0,              /* the module is accepted; the text, the report or the end is written */
     GATE_MODULE_REFUSED = 2,  /* the module is refused, and verdict or text say why */
     GATE_CALLS_REFUSED = 3,   /* the text of calls is refused, and the text says why */
+    GATE_NOTHING = 4,         /* there is no such export or function; nothing is written */
     GATE_BAD_ARGUMENT = 64,   /* a limit is out of its range, or numbers are of no verdict or value; nothing is written */
     GATE_NO_MEMORY = 70,      /* a block was refused that the function cannot do without; nothing is written */
     GATE_SHORT_BUFFER = 75,   /* *length bytes are wanted; out is as it was */
@@ -109,6 +116,7 @@ enum gate_status {
     GATE_STATUS_OK = GATE_OK,
     GATE_STATUS_MODULE_REFUSED = GATE_MODULE_REFUSED,
     GATE_STATUS_CALLS_REFUSED = GATE_CALLS_REFUSED,
+    GATE_STATUS_NOTHING = GATE_NOTHING,
     GATE_STATUS_BAD_ARGUMENT = GATE_BAD_ARGUMENT,
     GATE_STATUS_NO_MEMORY = GATE_NO_MEMORY,
     GATE_STATUS_SHORT_BUFFER = GATE_SHORT_BUFFER
@@ -295,6 +303,65 @@ GATE_INLINE void gate_module_drop(gate_module module) {
     if (module.at) gate_module_free(module);
 }
 
+/* What a module exports, and whether it would start: since revision 1. None of these functions takes memory but gate_module_starts. */
+
+enum gate_export_kind {
+    GATE_EXPORT_FUNCTION = 0,
+    GATE_EXPORT_TABLE = 1,
+    GATE_EXPORT_MEMORY = 2,
+    GATE_EXPORT_GLOBAL = 3
+};
+
+/* The type of a value, by the byte that spells it in a module. */
+enum gate_type {
+    GATE_TYPE_I32 = 0x7F,
+    GATE_TYPE_I64 = 0x7E,
+    GATE_TYPE_F32 = 0x7D,
+    GATE_TYPE_F64 = 0x7C
+};
+
+typedef struct gate_export {
+    uint32_t kind;    /* gate_export_kind */
+    uint32_t index;   /* among those of its kind, imported ones counted first */
+    uint32_t params;  /* how many parameters a function has, else 0 */
+    uint32_t results; /* how many results a function has, else 0 */
+} gate_export;
+
+/* How many exports there are. */
+uint64_t gate_module_export_count(gate_module module) GATE_ANSWERS;
+
+/* Tells an export by its number, from 0, in the order of the module.
+ *   GATE_OK       it is written
+ *   GATE_NOTHING  there are no more */
+uint32_t gate_module_export(gate_module module, uint64_t number, gate_export *found) GATE_NOT_NULL((3)) GATE_ANSWERS;
+
+/* Writes the name of an export by that number: UTF-8, not ended by a NUL.
+ *   GATE_OK            the first *length bytes of out are the name
+ *   GATE_NOTHING       there are no more
+ *   GATE_SHORT_BUFFER  *length bytes are wanted */
+uint32_t gate_module_export_name(gate_module module, uint64_t number, uint8_t *out, size_t room, size_t *length)
+    GATE_WRITES(3, 4) GATE_NOT_NULL((5)) GATE_ANSWERS;
+
+/* Tells an export by its name.
+ *   GATE_OK       it is written
+ *   GATE_NOTHING  no export has the name */
+uint32_t gate_module_find(gate_module module, const uint8_t *name, size_t name_length, gate_export *found)
+    GATE_READS(2, 3) GATE_NOT_NULL((4)) GATE_ANSWERS;
+
+/* Writes the types of a function, by its index: of each parameter a byte, and of each result, in their order. A gate_export has the counts.
+ *   GATE_OK            they are written
+ *   GATE_NOTHING       there is no function of that index
+ *   GATE_SHORT_BUFFER  one of the two has not room enough, and both are as they were */
+uint32_t gate_module_types(gate_module module, uint32_t function, uint8_t *params, size_t params_room, uint8_t *results,
+                           size_t results_room) GATE_WRITES(3, 4) GATE_WRITES(5, 6) GATE_ANSWERS;
+
+/* Says whether a call would have an instance, and if not, why: what it finds before anything runs. It makes the instance, and gives it
+ * back. It runs no code, the start function neither: that one may still trap, or use up fuel or frames, at each call.
+ *   GATE_OK            ended->end is GATE_VALUES, without results or fuel: there would be one; or GATE_NOT_STARTED, with reason and
+ *                      place; or GATE_CALL_NO_MEMORY
+ *   GATE_BAD_ARGUMENT  a limit is out of its range, fuel and frames too, which change nothing here */
+uint32_t gate_module_starts(gate_module module, const gate_settings *settings, gate_call *ended) GATE_NOT_NULL((2, 3)) GATE_ANSWERS;
+
 #undef GATE_READS
 #undef GATE_WRITES
 #undef GATE_NOT_NULL
@@ -323,6 +390,9 @@ GATE_HOLDS(offsetof(gate_value, width) == 0 && offsetof(gate_value, bits) == 8);
 GATE_IS(gate_call, 24, 8);
 GATE_HOLDS(offsetof(gate_call, end) == 0 && offsetof(gate_call, reason) == 4 && offsetof(gate_call, place) == 8);
 GATE_HOLDS(offsetof(gate_call, fuel) == 12 && offsetof(gate_call, results) == 16);
+GATE_IS(gate_export, 16, 4);
+GATE_HOLDS(offsetof(gate_export, kind) == 0 && offsetof(gate_export, index) == 4);
+GATE_HOLDS(offsetof(gate_export, params) == 8 && offsetof(gate_export, results) == 12);
 GATE_IS(gate_report, 8, 8);
 GATE_IS(gate_module, 8, 8);
 #undef GATE_HOLDS

@@ -12,6 +12,7 @@
 #include <initializer_list>
 #include <memory>
 #include <new>
+#include <optional>
 #include <stdexcept>
 #include <string>
 #include <string_view>
@@ -98,6 +99,12 @@ inline Answer run(Bytes module, std::string_view calls, const gate_settings &set
     });
 }
 
+/// The types of a function's parameters and results, in their order: GATE_TYPE_I32 and the like.
+struct FunctionType { std::vector<std::uint8_t> params, results; };
+
+/// What is exported under a name; the type is that of a function.
+struct Export { std::string name; gate_export item; FunctionType type; };
+
 /// How a call ended; with GATE_END_VALUES all results are there.
 struct Call { gate_call ended; std::vector<gate_value> results; };
 
@@ -117,15 +124,35 @@ public:
         answered(gate_module_share(handle_, &other));
         return Module(bytes_, other);
     }
-    /// Calls an export on a fresh instance: so again, where it has more results than there is room for.
+    /// What the module exports, in its order.
+    std::vector<Export> exports() {
+        std::vector<Export> found(gate_module_export_count(handle_));
+        for (std::size_t number = 0; number < found.size(); number++) {
+            answered(gate_module_export(handle_, number, &found[number].item));
+            found[number].name = name_of(number);
+            found[number].type = type_of(found[number].item);
+        }
+        return found;
+    }
+    /// The export of that name.
+    std::optional<Export> find(std::string_view name) {
+        gate_export item = {};
+        if (!told(name, item)) return std::nullopt;
+        return Export{std::string(name), item, type_of(item)};
+    }
+    /// Whether a call would have an instance: with GATE_END_VALUES it would; else why not. Nothing runs.
+    gate_call starts(const gate_settings &settings = usual) {
+        gate_call ended = {};
+        answered(gate_module_starts(handle_, &settings, &ended));
+        return ended;
+    }
+    /// Calls an export on a fresh instance.
     Call call(std::string_view name, Values args, const gate_settings &settings = usual) {
         const Bytes text(name);
-        Call made = {{}, {}};
-        for (made.ended.results = 16; made.results.size() < made.ended.results;) {
-            made.results.resize(made.ended.results);
-            answered(gate_module_call(handle_, text.at, text.length, args.at, args.length, &settings, made.results.data(),
-                                      made.results.size(), &made.ended));
-        }
+        gate_export item = {};
+        Call made = {{}, std::vector<gate_value>(told(name, item) ? item.results : 0)};
+        answered(gate_module_call(handle_, text.at, text.length, args.at, args.length, &settings, made.results.data(),
+                                  made.results.size(), &made.ended));
         made.results.resize(made.ended.results);
         return made;
     }
@@ -141,6 +168,25 @@ public:
 private:
     using Shared = std::shared_ptr<const std::vector<std::uint8_t>>; // as long as the last handle
     Module(Shared bytes, gate_module handle) noexcept : bytes_(std::move(bytes)), handle_(handle) {}
+    bool told(std::string_view name, gate_export &item) {
+        const Bytes text(name);
+        return answered(gate_module_find(handle_, text.at, text.length, &item)) == GATE_STATUS_OK;
+    }
+    std::string name_of(std::uint64_t number) {
+        std::string name(64, '\0');
+        std::size_t length = 0;
+        while (gate_module_export_name(handle_, number, reinterpret_cast<std::uint8_t *>(name.data()), name.size(), &length)
+               == GATE_STATUS_SHORT_BUFFER)
+            name.resize(length);
+        name.resize(length);
+        return name;
+    }
+    FunctionType type_of(const gate_export &item) {
+        FunctionType type = {std::vector<std::uint8_t>(item.params), std::vector<std::uint8_t>(item.results)};
+        if (item.kind == GATE_EXPORT_FUNCTION)
+            answered(gate_module_types(handle_, item.index, type.params.data(), item.params, type.results.data(), item.results));
+        return type;
+    }
     Shared bytes_;
     gate_module handle_ = {nullptr};
 };

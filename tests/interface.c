@@ -39,6 +39,12 @@ static const text OUTSIDE = BYTES(HEAD, 1, 4, 1, 0x60, 0, 0, 3, 2, 1, 0, 5, 3, 1
                                   2, 0, 0x0B, 0x0B, 0x10, 2, 0, 0x41, 0, 0x0B, 1, 0, 0, 0x41, 0xFF, 0xFF, 3, 0x0B, 2, 0, 0);
 static const text IMPORT = BYTES(HEAD, 1, 4, 1, 0x60, 0, 0, 2, 7, 1, 1, 'a', 1, 'b', 0, 0, 7, 5, 1, 1, 'f', 0, 0);
 
+/* both of type [i64 i32] -> [i32 i64], f of [f64] -> [], a memory, a global, and a table with an empty name. */
+static const text ALL_KINDS = BYTES(HEAD, 1, 12, 2, 0x60, 2, 0x7E, 0x7F, 2, 0x7F, 0x7E, 0x60, 1, 0x7C, 0, 3, 3, 2, 0, 1, 4, 4, 1, 0x70,
+                                    0, 1, 5, 3, 1, 0, 1, 6, 6, 1, 0x7F, 0, 0x41, 5, 0x0B, 7, 23, 5, 4, 'b', 'o', 't', 'h', 0, 0, 1,
+                                    'f', 0, 1, 1, 'm', 2, 0, 1, 'g', 3, 0, 0, 1, 0, 0x0A, 11, 2, 6, 0, 0x20, 1, 0x20, 0, 0x0B, 2, 0,
+                                    0x0B);
+
 static const gate_settings USUAL = { 1000000, 1024, 256 };
 static const gate_value FORTY_TWO[] = { { 32, 40 }, { 32, 2 } };
 
@@ -277,6 +283,108 @@ static void bad_values(void) {
     gate_module_free(module);
 }
 
+static bool is_export(const gate_export *it, gate_export wanted) {
+    return it->kind == wanted.kind && it->index == wanted.index && it->params == wanted.params && it->results == wanted.results;
+}
+
+/* The export of a number: itself, the same by its name, and the name in each room. */
+static void export(gate_module module, uint64_t number, const char *name, gate_export wanted) {
+    gate_export found = { 9, 9, 9, 9 };
+    HOLDS(gate_module_export(module, number, &found) == GATE_OK && is_export(&found, wanted));
+    found = (gate_export){ 9, 9, 9, 9 };
+    HOLDS(gate_module_find(module, *name ? said(name).at : NULL, strlen(name), &found) == GATE_OK && is_export(&found, wanted));
+    for (size_t room = 0; room <= strlen(name) + 1; room++) {
+        uint8_t out[ROOM];
+        size_t length = 77;
+        memset(out, UNTOUCHED, sizeof out);
+        uint32_t status = gate_module_export_name(module, number, room ? out : NULL, room, &length);
+        HOLDS(length == strlen(name));
+        if (room < length)
+            HOLDS(status == GATE_SHORT_BUFFER && is_untouched(out, ROOM));
+        else
+            HOLDS(status == GATE_OK && is(out, length, name) && is_untouched(out + length, ROOM - length));
+    }
+}
+
+static void no_export(gate_module module, uint64_t number, const char *name) {
+    gate_export found = { 9, 9, 9, 9 };
+    uint8_t out[ROOM];
+    size_t length = 77;
+    memset(out, UNTOUCHED, sizeof out);
+    HOLDS(gate_module_export(module, number, &found) == GATE_NOTHING && is_export(&found, (gate_export){ 9, 9, 9, 9 }));
+    HOLDS(gate_module_export_name(module, number, out, ROOM, &length) == GATE_NOTHING && length == 77 && is_untouched(out, ROOM));
+    HOLDS(gate_module_find(module, said(name).at, strlen(name), &found) == GATE_NOTHING && is_export(&found, (gate_export){ 9, 9, 9, 9 }));
+}
+
+/* The types of a function in each room. */
+static void types(gate_module module, uint32_t function, text params, text results) {
+    for (size_t i = 0; i <= params.length + 1; i++)
+        for (size_t j = 0; j <= results.length + 1; j++) {
+            uint8_t out[ROOM], more[ROOM];
+            memset(out, UNTOUCHED, sizeof out);
+            memset(more, UNTOUCHED, sizeof more);
+            uint32_t status = gate_module_types(module, function, i ? out : NULL, i, j ? more : NULL, j);
+            bool is_short = i < params.length || j < results.length;
+            HOLDS(status == (is_short ? GATE_SHORT_BUFFER : GATE_OK));
+            HOLDS(is_short || (!memcmp(out, params.at, params.length) && !memcmp(more, results.at, results.length)));
+            HOLDS(is_untouched(out + (is_short ? 0 : params.length), ROOM - params.length));
+            HOLDS(is_untouched(more + (is_short ? 0 : results.length), ROOM - results.length));
+        }
+}
+
+static void exports(void) {
+    const text of_both = BYTES(GATE_TYPE_I64, GATE_TYPE_I32), gives = BYTES(GATE_TYPE_I32, GATE_TYPE_I64);
+    const text of_float = BYTES(GATE_TYPE_F64);
+    const text none = { (const uint8_t[]){ 0 }, 0 };
+    gate_module module = module_of(ALL_KINDS);
+    uint8_t out[1] = { UNTOUCHED };
+    HOLDS(gate_revision() == GATE_REVISION && gate_module_export_count(module) == 5);
+    export(module, 0, "both", (gate_export){ GATE_EXPORT_FUNCTION, 0, 2, 2 });
+    export(module, 1, "f", (gate_export){ GATE_EXPORT_FUNCTION, 1, 1, 0 });
+    export(module, 2, "m", (gate_export){ GATE_EXPORT_MEMORY, 0, 0, 0 });
+    export(module, 3, "g", (gate_export){ GATE_EXPORT_GLOBAL, 0, 0, 0 });
+    export(module, 4, "", (gate_export){ GATE_EXPORT_TABLE, 0, 0, 0 });
+    no_export(module, 5, "bot");
+    no_export(module, UINT64_C(1) << 32, "both ");
+    no_export(module, UINT64_MAX, "h");
+    types(module, 0, of_both, gives);
+    types(module, 1, of_float, none);
+    HOLDS(gate_module_types(module, 2, out, 1, NULL, 0) == GATE_NOTHING && is_untouched(out, 1));
+    HOLDS(gate_module_types(module, UINT32_MAX, out, 1, NULL, 0) == GATE_NOTHING && is_untouched(out, 1));
+    gate_module_free(module);
+    module = module_of(IMPORT);
+    HOLDS(gate_module_export_count(module) == 1);
+    export(module, 0, "f", (gate_export){ GATE_EXPORT_FUNCTION, 0, 0, 0 });
+    no_export(module, 1, "");
+    types(module, 0, none, none);
+    gate_module_free(module);
+}
+
+/* What is said of the start of a module that is judged for it. */
+static void start(text bytes, gate_settings settings, gate_call wanted) {
+    gate_module module = module_of(bytes);
+    gate_call ended = { 99, 99, 99, 99, 99 };
+    HOLDS(gate_module_starts(module, &settings, &ended) == GATE_OK && ended.end == wanted.end && ended.reason == wanted.reason);
+    HOLDS(ended.place == wanted.place && ended.fuel == 0 && ended.results == 0);
+    gate_module_free(module);
+}
+
+static void starts(void) {
+    gate_module module = module_of(ADD);
+    const gate_settings bad[] = { { 1000000001, 1, 1 }, { 1, 0, 1 }, { 1, 4097, 1 }, { 1, 1, 1025 } };
+    for (size_t i = 0; i < sizeof bad / sizeof *bad; i++) {
+        gate_call ended = { 99, 99, 99, 99, 99 };
+        HOLDS(gate_module_starts(module, &bad[i], &ended) == GATE_BAD_ARGUMENT && ended.end == 99 && ended.results == 99);
+    }
+    gate_module_free(module);
+    start(ADD, (gate_settings){ 0, 1, 0 }, (gate_call){ GATE_VALUES, 0, 0, 0, 0 });
+    start(LOOP, USUAL, (gate_call){ GATE_VALUES, 0, 0, 0, 0 });
+    start(IMPORT, USUAL, (gate_call){ GATE_NOT_STARTED, GATE_HAS_IMPORTS, 0, 0, 0 });
+    start(ALL_KINDS, USUAL, (gate_call){ GATE_NOT_STARTED, GATE_HAS_FLOATS, 0, 0, 0 });
+    start(OUTSIDE, (gate_settings){ 9, 9, 0 }, (gate_call){ GATE_NOT_STARTED, GATE_MEMORY_LIMIT, 0, 0, 0 });
+    start(OUTSIDE, USUAL, (gate_call){ GATE_NOT_STARTED, GATE_DATA_OUTSIDE, 1, 0, 0 });
+}
+
 typedef struct part {
     pthread_t thread;
     gate_module module; /* its own handle, which it frees */
@@ -322,6 +430,8 @@ int main(int count, char **words) {
     calls();
     results();
     bad_values();
+    exports();
+    starts();
     threads(count > 1 ? atol(words[1]) : 10000);
     if (!failed) printf("%u\n", held);
     return failed != 0;

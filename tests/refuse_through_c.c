@@ -127,6 +127,22 @@ static void play_call(const task *it, answer *got) {
     for (size_t i = 0; i < MOST_VALUES; i++) clear_gap(&got->as.call.results[i].width);
 }
 
+static void play_starts(const task *it, answer *got) {
+    got->status = gate_module_starts(it->module, &it->settings, &got->as.call.ended);
+}
+
+/* The questions that take no memory. */
+static void play_questions(const task *it, answer *got) {
+    gate_export found = { 0, 0, 0, 0 };
+    const uint64_t count = gate_module_export_count(it->module);
+    got->status = gate_module_find(it->module, it->name.at, it->name.length, &found);
+    if (got->status == GATE_OK && found.kind == GATE_EXPORT_FUNCTION && found.params + found.results <= ROOM)
+        got->status = gate_module_types(it->module, found.index, got->as.text, found.params, got->as.text + found.params, found.results);
+    if (count && gate_module_export(it->module, count - 1, &found) != GATE_OK) got->status = GATE_NO_MEMORY;
+    if (count && gate_module_export_name(it->module, count - 1, got->as.text, ROOM, &got->length) != GATE_OK) got->status = GATE_NO_MEMORY;
+    if (asked) got->status = GATE_NO_MEMORY;
+}
+
 typedef struct game {
     const char *name;
     play *play;
@@ -143,6 +159,8 @@ static const game GAMES[] = {
     { "gate_module_run", play_module_run, true, true },
     { "gate_module_run, no room", play_module_run_short, true, true },
     { "gate_module_call", play_call, true, false },
+    { "gate_module_starts", play_starts, true, false },
+    { "gate_module_export and the like", play_questions, true, false },
 };
 
 static long tried, none, wrong;
@@ -179,7 +197,8 @@ static bool is_same(const answer *one, const answer *other) {
 /* A call that ran out of memory by itself. */
 static bool is_short_call(const game *of, const answer *got) {
     const gate_call *it = &got->as.call.ended;
-    return of->play == play_call && got->status == GATE_OK && it->end == GATE_CALL_NO_MEMORY && !it->reason && !it->place && !it->results;
+    const bool is_call = of->play == play_call || of->play == play_starts;
+    return is_call && got->status == GATE_OK && it->end == GATE_CALL_NO_MEMORY && !it->reason && !it->place && !it->results;
 }
 
 static void write_report(const answer *got) {

@@ -62,6 +62,28 @@ static void call(gate::Module &module) {
     HOLDS(throws<std::invalid_argument>([&] { module.call("add", args, {1, 0, 0}); }));
 }
 
+static void exports(gate::Module &module) {
+    const std::vector<gate::Export> all = module.exports();
+    const std::vector<std::uint8_t> one(1, GATE_TYPE_I32), two(2, GATE_TYPE_I32);
+    HOLDS(all.size() == 1 && all[0].name == "add" && all[0].item.kind == GATE_EXPORT_FUNCTION && all[0].item.index == 0);
+    HOLDS(all[0].item.params == 2 && all[0].item.results == 1 && all[0].type.params == two && all[0].type.results == one);
+    const std::optional<gate::Export> found = module.find("add");
+    HOLDS(found && found->name == "add" && found->item.index == 0 && found->type.params == two && found->type.results == one);
+    HOLDS(!module.find("ad") && !module.find("add1") && !module.find(""));
+    // A memory of two pages, exported under a name of 70 bytes.
+    const char HEAD[] = "\0asm\1\0\0\0\5\3\1\0\2\7\x4A\1\x46";
+    std::vector<std::uint8_t> bytes(HEAD, HEAD + sizeof HEAD - 1);
+    bytes.insert(bytes.end(), 70, 'n');
+    bytes.insert(bytes.end(), {2, 0});
+    gate::Module pages(bytes);
+    HOLDS(pages.exports().size() == 1 && pages.exports()[0].name == std::string(70, 'n'));
+    HOLDS(pages.exports()[0].item.kind == GATE_EXPORT_MEMORY && pages.exports()[0].type.params.empty());
+    HOLDS(pages.starts().end == GATE_END_VALUES && pages.starts({0, 1, 2}).end == GATE_END_VALUES);
+    HOLDS(pages.starts({0, 1, 1}).end == GATE_END_NOT_STARTED && pages.starts({0, 1, 1}).reason == GATE_MEMORY_LIMIT);
+    HOLDS(throws<std::invalid_argument>([&] { pages.starts({0, 0, 2}); }));
+    HOLDS(pages.call(std::string(70, 'n'), {}).ended.end == GATE_END_NOT_A_FUNCTION);
+}
+
 // The report of many calls is longer than the buffer.
 static void run(gate::Module &module, const std::vector<std::uint8_t> &bytes) {
     std::string calls;
@@ -93,6 +115,7 @@ int main(int count, char **words) {
     gate::Module module(bytes);
     judge(bytes);
     call(module);
+    exports(module);
     run(module, bytes);
     move(std::move(module));
     if (!failed) std::printf("%u\n", held);

@@ -89,6 +89,17 @@ static void null_settings(void) {
     WRONG("gate_run: settings is null", gate_run(bytes, sizeof LOOP, NULL, 0, NULL, out, ROOM, &length, &kept));
 }
 
+static void counted_after_free(void) {
+    gate_module_free(module);
+    WRONG("gate_module_export_count: the module was freed before", gate_module_export_count(module));
+}
+
+static void null_found(void) { WRONG("gate_module_find: found is null", gate_module_find(module, bytes, 1, NULL)); }
+
+static void types_in_one_place(void) {
+    WRONG("gate_module_types: results overlaps something else of the call", gate_module_types(module, 0, out, 8, out + 4, 8));
+}
+
 static void null_line(void) { WRONG("gate_verdict_line: out is null", gate_verdict_line(&verdict, NULL, ROOM, &length)); }
 
 static void length_within_out(void) {
@@ -179,7 +190,8 @@ static void bytes_freed(void) {
 static void (*const uses[])(void) = {
     null_module_freed, null_report_freed, module_freed_twice, report_freed_twice, called_after_free, shared_after_free, read_after_free,
     null_verdict, null_bytes, null_settings, null_line, length_within_out, out_within_module, verdict_within_bytes, misaligned, too_long,
-    bytes_unmapped, calls_unmapped, bytes_changed, own_handle, other_handle, two_threads,
+    bytes_unmapped, calls_unmapped, bytes_changed, own_handle, other_handle, two_threads, counted_after_free, null_found,
+    types_in_one_place,
 #ifdef HAS_SANITIZER
     out_shorter, bytes_freed,
 #endif

@@ -37,6 +37,11 @@ func Interface() uint32 {
 	return uint32(C.gate_version())
 }
 
+// Revision is the number of what the library has beside its first functions. This package wants 1 at least.
+func Revision() uint32 {
+	return uint32(C.gate_revision())
+}
+
 // Check judges a module: nil where it is accepted, else its Refusal or ErrNoMemory.
 func Check(module []byte) error {
 	var verdict C.gate_verdict

@@ -65,8 +65,85 @@ func sevens(count int) []byte {
 }
 
 func TestInterface(t *testing.T) {
-	if Interface() != 1 {
-		t.Error(Interface())
+	if Interface() != 1 || Revision() != 1 {
+		t.Error(Interface(), Revision())
+	}
+}
+
+// allKinds is a module that exports `both` of type [i64 i32] -> [i32 i64], `f` of [f64] -> [], the memory `m`, the global `g`, and the
+// table with an empty name.
+func allKinds() []byte {
+	return bytes.Join([][]byte{
+		[]byte(header),
+		section(1, []byte{2, 0x60, 2, 0x7e, 0x7f, 2, 0x7f, 0x7e, 0x60, 1, 0x7c, 0}),
+		section(3, []byte{2, 0, 1}),
+		section(4, []byte{1, 0x70, 0, 1}),
+		section(5, []byte{1, 0, 1}),
+		section(6, []byte{1, 0x7f, 0, 0x41, 5, 0x0b}),
+		section(7, []byte("\x05\x04both\x00\x00\x01f\x00\x01\x01m\x02\x00\x01g\x03\x00\x00\x01\x00")),
+		section(10, []byte{2, 6, 0, 0x20, 1, 0x20, 0, 0x0b, 2, 0, 0x0b}),
+	}, nil)
+}
+
+func TestExports(t *testing.T) {
+	module := opened(t, allKinds())
+	wanted := []Export{
+		{"both", Function, 0, []ValueType{TypeI64, TypeI32}, []ValueType{TypeI32, TypeI64}},
+		{"f", Function, 1, []ValueType{TypeF64}, []ValueType{}},
+		{"m", Memory, 0, nil, nil}, {"g", Global, 0, nil, nil}, {"", Table, 0, nil, nil},
+	}
+	got, err := module.Exports()
+	if err != nil || !reflect.DeepEqual(got, wanted) {
+		t.Fatal(got, err)
+	}
+	for _, export := range wanted {
+		if found, ok, err := module.Find(export.Name); err != nil || !ok || !reflect.DeepEqual(found, export) {
+			t.Error(found, ok, err)
+		}
+	}
+	if found, ok, err := module.Find("both "); err != nil || ok {
+		t.Error(found, ok, err)
+	}
+	text := fmt.Sprint(got)
+	if text != "[both: function (i64, i32) -> (i32, i64) f: function (f64) -> () m: memory 0 g: global 0 : table 0]" {
+		t.Error(text)
+	}
+	if none, err := opened(t, []byte(header)).Exports(); err != nil || len(none) != 0 {
+		t.Error(none, err)
+	}
+}
+
+func TestNamesOfAnyLength(t *testing.T) {
+	for _, count := range []int{0, 1, 63, 64, 65, 5000} {
+		name := strings.Repeat("n", count)
+		exported := bytes.Join([][]byte{{1}, unsigned(count), []byte(name), {2, 0}}, nil)
+		module := opened(t, bytes.Join([][]byte{[]byte(header), section(5, []byte{1, 0, 1}), section(7, exported)}, nil))
+		if exports, err := module.Exports(); err != nil || len(exports) != 1 || exports[0].Name != name {
+			t.Error(count, exports, err)
+		}
+	}
+}
+
+func TestStarts(t *testing.T) {
+	module := opened(t, bytes.Join([][]byte{[]byte(header), section(5, []byte{1, 0, 2})}, nil))
+	table := []struct {
+		module   *Module
+		settings Settings
+		wanted   error
+	}{
+		{module, Settings{0, 1, 2}, nil},
+		{module, Settings{0, 1, 1}, NotStarted{MemoryLimit, 0}},
+		{module, Settings{0, 0, 2}, SettingsError{"Frames", 0, 1, MostFrames}},
+		{opened(t, allKinds()), DefaultSettings(), NotStarted{Floats, 0}},
+	}
+	for _, row := range table {
+		if err := row.module.Starts(row.settings); err != row.wanted {
+			t.Error(row.settings, err)
+		}
+	}
+	module.Close()
+	if err := module.Starts(DefaultSettings()); err != ErrClosed {
+		t.Error(err)
 	}
 }
 

@@ -15,12 +15,6 @@ import (
 // ErrClosed says that a module was used after its Close.
 var ErrClosed = errors.New("the module is closed")
 
-// How many results a first call has room for, and any call before it asked for more.
-const (
-	firstResults = 16
-	mostResults  = 1024
-)
-
 // Module is an accepted module: judged once, called often. Each call has an instance of its own, so no call sees what another one
 // wrote.
 //
@@ -30,7 +24,6 @@ type Module struct {
 	mutex  sync.Mutex
 	handle C.gate_module
 	bytes  *shared // nil once it is closed
-	room   int     // the results that the next call has room for: as many as any call gave, from firstResults to mostResults
 }
 
 // shared is the bytes of a module in C's memory: Go's may not be kept by C.
@@ -54,16 +47,14 @@ func NewModule(module []byte) (*Module, error) {
 
 func moduleOf(handle C.gate_module, bytes *shared) *Module {
 	bytes.handles.Add(1)
-	module := &Module{handle: handle, bytes: bytes, room: firstResults}
+	module := &Module{handle: handle, bytes: bytes}
 	// A call is never cut off by it: each one unlocks its module's mutex after the library has answered.
 	runtime.SetFinalizer(module, (*Module).Close)
 	return module
 }
 
-// Call calls an export. The error is an End, a Trap, NotStarted, a SettingsError, ErrNoMemory or ErrClosed.
-//
-// The library does not tell how many results a function has before it was called. So where there are more than 16, and more than
-// any call of this module gave, or more than 1,024, the function is called once more: on a fresh instance, so with the same end.
+// Call calls an export. Which arguments it takes, Find tells. The error is an End, a Trap, NotStarted, a SettingsError, ErrNoMemory or
+// ErrClosed.
 func (m *Module) Call(name string, settings Settings, args ...Value) (Call, error) {
 	limits, err := settings.inC()
 	if err != nil {
@@ -78,43 +69,31 @@ func (m *Module) Call(name string, settings Settings, args ...Value) (Call, erro
 	if err != nil {
 		return Call{}, err
 	}
-	m.room = within(len(results), m.room, mostResults)
 	return Call{valuesOf(results), uint32(ended.fuel)}, endOf(&ended)
 }
 
 // called calls with as much room as the results need.
 func (m *Module) called(name []byte, args []C.gate_value, limits *C.gate_settings) (C.gate_call, []C.gate_value, error) {
+	var ended C.gate_call
+	told, _ := m.told(name)
+	results := make([]C.gate_value, told.results)
 	nameAt, nameLength := inC(name)
-	var argsAt *C.gate_value
-	if len(args) > 0 {
-		argsAt = &args[0]
+	argsAt, argsCount := valuesInC(args)
+	resultsAt, resultsRoom := valuesInC(results)
+	status := C.gate_module_call(m.handle, nameAt, nameLength, argsAt, argsCount, limits, resultsAt, resultsRoom, &ended)
+	if status == C.GATE_NO_MEMORY {
+		return ended, nil, ErrNoMemory
 	}
-	for room := C.uint64_t(m.room); ; {
-		var ended C.gate_call
-		results := make([]C.gate_value, room)
-		status := C.gate_module_call(m.handle, nameAt, nameLength, argsAt, C.size_t(len(args)), limits, &results[0],
-			C.size_t(len(results)), &ended)
-		if status == C.GATE_NO_MEMORY {
-			return ended, nil, ErrNoMemory
-		}
-		if status != C.GATE_OK {
-			panic(beyondInterface("status", status))
-		}
-		if ended.results <= room {
-			return ended, results[:ended.results], nil
-		}
-		room = ended.results
-	}
+	expectOK(status)
+	return ended, results[:ended.results], nil
 }
 
-func within(number, least, most int) int {
-	if number < least {
-		return least
+// valuesInC is a slice as C takes it, for one call.
+func valuesInC(values []C.gate_value) (*C.gate_value, C.size_t) {
+	if len(values) == 0 {
+		return nil, 0
 	}
-	if number > most {
-		return most
-	}
-	return number
+	return &values[0], C.size_t(len(values))
 }
 
 func argsInC(args []Value) []C.gate_value {

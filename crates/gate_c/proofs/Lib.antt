@@ -3,3 +3,5 @@ pub mod LooseForm
 pub mod ModuleValues
 pub mod ReportValues
 pub mod Spelled
+pub mod CountValues
+pub mod ExportedTypes

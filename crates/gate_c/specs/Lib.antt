@@ -8,3 +8,5 @@ pub mod Slots
 pub mod Handed
 pub mod Runs
 pub mod Calls
+pub mod Exported
+pub mod Starts

@@ -1,12 +1,14 @@
 //! The library for C: each export calls a function of the crates below and hands its answer out as plain numbers. It starts no
 //! thread and waits for none. Its names and structs are those of gate.h.
 //!
-//! Proved: each export writes the numbers or the text of the definition with its status, or answers 64 or 70 and writes
+//! Proved: each export writes the numbers or the text of the definition with its status, or answers 4, 64 or 70 and writes
 //! nothing; a call on a handle leaves it alive and the same. What C owes, `gate.h` says, and nothing checks.
 #![tactic(auto)]
 
 mod calling;
+mod counted;
 mod ending;
+mod exported;
 mod exports;
 mod handing;
 mod held;
@@ -14,14 +16,18 @@ mod judged;
 mod kept;
 mod loose;
 mod module;
+mod queries;
 mod report;
 mod sending;
 mod settings;
+mod starting;
 mod status;
 mod text;
 mod value;
 
+pub use counted::ModuleCount;
 pub use ending::GateCall;
+pub use exported::GateExport;
 pub use held::Held;
 pub use judged::GateVerdict;
 pub use kept::Kept;

@@ -11,6 +11,8 @@ pub(crate) const OK: u32 = 0;
 pub(crate) const MODULE_REFUSED: u32 = 2;
 /// The text of calls is refused, and the text says why.
 pub(crate) const CALLS_REFUSED: u32 = 3;
+/// There is no such export or function.
+pub(crate) const NOTHING: u32 = 4;
 /// A limit is out of its range, or numbers are of no verdict or value.
 pub(crate) const BAD_ARGUMENT: u32 = 64;
 /// An allocation was refused that the function cannot do without.

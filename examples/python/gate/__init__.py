@@ -4,12 +4,13 @@
     >>> str(gate.check(b'\\0asm\\1\\0\\0'))
     'refused malformed'
     >>> with gate.Module(open('examples/add.wasm', 'rb').read()) as module:
-    ...     print(module.call('add', gate.I32(40), gate.I32(2)))
-    values i32:42 fuel 1
+    ...     print(module.exports[0], module.call('add', 40, 2), sep='; ')
+    add: function (i32, i32) -> (i32); values i32:42 fuel 1
 
 All functions raise `MemoryError` where memory is refused. ctypes lets other threads run during a call.
 """
 from gate.ends import End, EndKind, NotStarted, Trap
+from gate.exports import Export, ExportKind, FunctionType, ValueType
 from gate.module import Module
 from gate.report import Report, Status, run
 from gate.settings import Settings
@@ -17,5 +18,5 @@ from gate.values import I32, I64, Value, call_line, value_of
 from gate.verdict import ModuleRefused, Refusal, Verdict, check
 
 __version__ = '0.1.0'
-__all__ = ['End', 'EndKind', 'I32', 'I64', 'Module', 'ModuleRefused', 'NotStarted', 'Refusal', 'Report', 'Settings', 'Status', 'Trap',
-           'Value', 'Verdict', '__version__', 'call_line', 'check', 'run', 'value_of']
+__all__ = ['End', 'EndKind', 'Export', 'ExportKind', 'FunctionType', 'I32', 'I64', 'Module', 'ModuleRefused', 'NotStarted', 'Refusal',
+           'Report', 'Settings', 'Status', 'Trap', 'Value', 'ValueType', 'Verdict', '__version__', 'call_line', 'check', 'run', 'value_of']

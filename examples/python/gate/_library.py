@@ -11,11 +11,14 @@ from ctypes import CDLL, POINTER, Structure, c_char_p, c_size_t, c_uint32, c_uin
 from typing import Union
 
 INTERFACE = 1
+# The least revision of the library.
+REVISION = 1
 BESIDE = os.path.join(os.path.dirname(os.path.abspath(__file__)), f'libgate.so.{INTERFACE}')
 
 OK = 0
 MODULE_REFUSED = 2
 CALLS_REFUSED = 3
+NOTHING = 4
 BAD_ARGUMENT = 64
 NO_MEMORY = 70
 SHORT_BUFFER = 75
@@ -47,6 +50,10 @@ class CCall(Structure):
     _fields_ = [('end', c_uint32), ('reason', c_uint32), ('place', c_uint32), ('fuel', c_uint32), ('results', c_uint64)]
 
 
+class CExport(Structure):
+    _fields_ = [('kind', c_uint32), ('index', c_uint32), ('params', c_uint32), ('results', c_uint32)]
+
+
 TEXT = [c_char_p, c_size_t]
 WRITTEN = [c_char_p, c_size_t, POINTER(c_size_t)]
 
@@ -64,6 +71,13 @@ FUNCTIONS = {
                                                        POINTER(CCall)]),
     'gate_module_share': (c_uint32, [CModule, POINTER(CModule)]),
     'gate_module_free': (None, [CModule]),
+    'gate_revision': (c_uint32, []),
+    'gate_module_export_count': (c_uint64, [CModule]),
+    'gate_module_export': (c_uint32, [CModule, c_uint64, POINTER(CExport)]),
+    'gate_module_export_name': (c_uint32, [CModule, c_uint64] + WRITTEN),
+    'gate_module_find': (c_uint32, [CModule] + TEXT + [POINTER(CExport)]),
+    'gate_module_types': (c_uint32, [CModule, c_uint32, c_char_p, c_size_t, c_char_p, c_size_t]),
+    'gate_module_starts': (c_uint32, [CModule, POINTER(CSettings), POINTER(CCall)]),
 }
 
 
@@ -86,6 +100,8 @@ def load() -> CDLL:
         raise ImportError(f'{name} is no libgate: {fault}') from fault
     if library.gate_version() != INTERFACE:
         raise ImportError(f'{name} has interface {library.gate_version()}, and this package is for {INTERFACE}')
+    if library.gate_revision() < REVISION:
+        raise ImportError(f'{name} has revision {library.gate_revision()}, and this package wants {REVISION}')
     return library
 
 

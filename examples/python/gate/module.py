@@ -11,14 +11,11 @@ from typing import Any, NoReturn
 
 from gate._library import MODULE_REFUSED, OK, Bytes, CCall, CModule, CValue, CVerdict, expect, library, whole
 from gate.ends import End, end_of
+from gate.exports import Export, arguments_for, exports_of, find
 from gate.report import Report, fetch
 from gate.settings import DEFAULT, Settings
-from gate.values import Value, name_bytes, values_only
+from gate.values import Value, name_bytes
 from gate.verdict import ModuleRefused, verdict_of
-
-# How many results a first call has room for, and any call before it asks for more.
-FIRST_RESULTS = 16
-MOST_RESULTS = 1024
 
 
 def _free(handle: CModule, _held: object) -> None:
@@ -48,7 +45,7 @@ class Module:
         # A thread that outlives the main one may still be in a call.
         self._freed.atexit = False
         self._closed = False
-        self._room = FIRST_RESULTS
+        self._found: dict[bytes, Export] = {}
 
     @contextlib.contextmanager
     def _open(self) -> Iterator[CModule]:
@@ -57,28 +54,44 @@ class Module:
                 raise ValueError('the module is closed')
             yield self._handle
 
-    def call(self, name: str | bytes, *values: Value, settings: Settings = DEFAULT) -> End:
+    @property
+    def exports(self) -> tuple[Export, ...]:
+        """What the module exports, in its order."""
+        with self._open() as handle:
+            return exports_of(handle)
+
+    def find(self, name: str | bytes) -> Export | None:
+        """The export of that name."""
+        with self._open() as handle:
+            return self._find(handle, name_bytes(name))
+
+    def _find(self, handle: CModule, name: bytes) -> Export | None:
+        found = self._found.get(name) or find(handle, name)
+        if found:
+            self._found[name] = found
+        return found
+
+    def call(self, name: str | bytes, *values: Value | int, settings: Settings = DEFAULT) -> End:
         """Calls the export of that name on an instance of its own.
 
-        Where there are more than 16 results, and more than any call of this object gave, or more than 1,024, the call is made
-        once more, with room for all. It ends in the same way.
+        A plain number is an argument of its parameter's type. Where there is one, wrong numbers are a `TypeError` or a `ValueError`, and
+        nothing runs; else arguments of another type are the end of the call.
         """
-        values_only(values)
         data = name_bytes(name)
-        args = (CValue * len(values))(*(value.to_c() for value in values))
         with self._open() as handle:
-            ended, results = self._called(handle, data, args, settings)
-        return end_of(ended, results)
+            found = self._find(handle, data)
+            args = [value.to_c() for value in arguments_for(found, values)]
+            ended, results = CCall(), (CValue * (len(found.type.results) if found and found.type else 0))()
+            expect(library.gate_module_call(handle, data, len(data), (CValue * len(args))(*args), len(args), settings.to_c(), results,
+                                            len(results), ended), OK)
+        return end_of(ended, list(results[:ended.results]))
 
-    def _called(self, handle: CModule, name: bytes, args: Any, settings: Settings) -> tuple[CCall, list[CValue]]:
-        ended, room = CCall(), self._room
-        while True:
-            results = (CValue * room)()
-            expect(library.gate_module_call(handle, name, len(name), args, len(args), settings.to_c(), results, room, ended), OK)
-            if ended.results <= room:
-                self._room = max(self._room, min(ended.results, MOST_RESULTS))
-                return ended, results[:ended.results]
-            room = ended.results
+    def starts(self, settings: Settings = DEFAULT) -> End:
+        """Whether a call would have an instance: an end in no values, where there would be one, and else why not. Nothing runs."""
+        ended = CCall()
+        with self._open() as handle:
+            expect(library.gate_module_starts(handle, settings.to_c(), ended), OK)
+        return end_of(ended, [])
 
     def run(self, calls: Bytes, settings: Settings = DEFAULT) -> Report:
         """Runs the calls of a text, each on an instance of its own."""

@@ -53,11 +53,10 @@ class Calls(unittest.TestCase):
                         export, values = arguments_of(call)
                         self.assertEqual(str(held.call(export, *values, settings=settings)), line.partition(' ')[2])
 
-    def test_more_results_than_room(self) -> None:
+    def test_many_results_in_one_call(self) -> None:
         with gate.Module(MANY) as module, mock.patch.object(library, 'gate_module_call', wraps=library.gate_module_call) as called:
-            for calls in 2, 3:
-                self.assertEqual(module.call('many').values, tuple(map(I32, range(RESULTS))))
-                self.assertEqual(called.call_count, calls)
+            self.assertEqual(module.call('many').values, tuple(map(I32, range(RESULTS))))
+            self.assertEqual(called.call_count, 1)
 
     def test_wrong_arguments(self) -> None:
         with gate.Module(example('add.wasm')) as module:
@@ -65,7 +64,7 @@ class Calls(unittest.TestCase):
             for values in wrong:
                 self.assertEqual(module.call('add', *values), gate.End(gate.EndKind.BAD_ARGUMENTS))
             self.assertEqual(module.call('sub'), gate.End(gate.EndKind.NO_EXPORT))
-            for number in 40, 2.5, None, '40':
+            for number in 2.5, None, '40':
                 with self.assertRaisesRegex(TypeError, r'gate\.I32\(N\) or gate\.I64\(N\), and not '):
                     module.call('add', I32(1), number)  # type: ignore[arg-type]
 

@@ -19,6 +19,7 @@
 //! unwinds out of it. Fuel and pages bound a call; a check has no limit but the module's length, and nothing interrupts either.
 mod call;
 mod error;
+mod export;
 mod module;
 mod report;
 mod settings;
@@ -29,6 +30,7 @@ use gate_sys as ffi;
 
 pub use call::{Call, End, NotStarted, Trap};
 pub use error::{CheckError, NoMemory};
+pub use export::{Export, FunctionType, Item, ValueType};
 pub use module::{Module, SharedModule};
 pub use report::{run, Report, Status};
 pub use settings::{Settings, SettingsError};
@@ -39,4 +41,10 @@ pub use verdict::{check, judge, BodyFault, Refusal, Verdict};
 pub fn interface() -> u32 {
     // SAFETY: it takes and touches nothing.
     unsafe { ffi::gate_version() }
+}
+
+/// The number of what the library has beside its first functions. This crate wants 1 at least.
+pub fn revision() -> u32 {
+    // SAFETY: it takes and touches nothing.
+    unsafe { ffi::gate_revision() }
 }

@@ -1,18 +1,11 @@
 //! An accepted module: judged once, called often.
 use crate::error::{self, beyond_interface};
 use crate::ffi;
-use crate::{Call, CheckError, NoMemory, Refusal, Report, Settings, Value};
-use std::cell::Cell;
+use crate::{Call, CheckError, End, NoMemory, NotStarted, Refusal, Report, Settings, Value};
 use std::marker::PhantomData;
 use std::ptr;
 use std::slice;
 use std::sync::{Arc, Mutex, PoisonError};
-
-/// The results that a first call has room for.
-const ROOM: usize = 16;
-
-/// The most results that a call has room for before it asked for more.
-const MOST_ROOM: usize = 1024;
 
 /// An accepted module. Each call has an instance of its own, so no call sees what another one wrote.
 ///
@@ -53,9 +46,7 @@ const MOST_ROOM: usize = 1024;
 /// ```
 #[derive(Debug)]
 pub struct Module<'a> {
-    handle: ffi::gate_module,
-    /// The results that the next call has room for: as many as any call gave, from `ROOM` to `MOST_ROOM`.
-    room: Cell<usize>,
+    pub(crate) handle: ffi::gate_module,
     /// The bytes, where the module owns them.
     owned: Option<Arc<Vec<u8>>>,
     borrowed: PhantomData<&'a [u8]>,
@@ -83,30 +74,31 @@ impl<'a> Module<'a> {
     fn of(handle: ffi::gate_module, owned: Option<Arc<Vec<u8>>>) -> Self {
         Module {
             handle,
-            room: Cell::new(ROOM),
             owned,
             borrowed: PhantomData,
         }
     }
 
-    /// Calls an export.
-    ///
-    /// The library does not tell how many results a function has before it was called. So where there are more than 16, and
-    /// more than any call of this module gave, or more than 1,024, the function is called once more: on a fresh instance, so
-    /// with the same end.
+    /// Calls an export. Which arguments it takes, [`find`](Module::find) tells.
     pub fn call(&self, name: &str, args: &[Value], settings: Settings) -> Result<Call, NoMemory> {
         let mut numbers = error::room(args.len())?;
         numbers.extend(args.iter().map(|value| value.to_c()));
-        let settings = settings.to_c();
-        let mut room = self.room.get();
-        loop {
-            let (ended, results) = self.call_with_room(name, &numbers, &settings, room)?;
-            let count = usize::try_from(ended.results).map_err(|_| NoMemory)?;
-            if count <= room {
-                self.room.set(room.min(MOST_ROOM));
-                return Call::of(&ended, results);
-            }
-            room = count;
+        let room = self.told(name).map_or(0, |told| told.results as usize);
+        let (ended, results) = self.call_with_room(name, &numbers, &settings.to_c(), room)?;
+        Call::of(&ended, results)
+    }
+
+    /// Whether a call would have an instance, and if not, why. Nothing runs: a start function may still end each call.
+    pub fn starts(&self, settings: Settings) -> Result<Option<NotStarted>, NoMemory> {
+        let mut ended = ffi::gate_call::default();
+        // SAFETY: the handle is not freed, and no other call has it.
+        match unsafe { ffi::gate_module_starts(self.handle, &settings.to_c(), &mut ended) } {
+            ffi::GATE_OK => {}
+            status => beyond_interface("status", status),
+        }
+        match Call::of(&ended, Vec::new())?.end {
+            End::NotStarted(reason) => Ok(Some(reason)),
+            _ => Ok(None),
         }
     }
 

@@ -1,7 +1,7 @@
 //! The crate over the library, on modules whose answers are known.
 use gate::{
-    check, judge, run, BodyFault, CheckError, End, Module, NoMemory, NotStarted, Refusal, Settings, SettingsError, SharedModule, Status,
-    Trap, Value, ValueError, Verdict,
+    check, judge, run, BodyFault, CheckError, End, Export, FunctionType, Item, Module, NoMemory, NotStarted, Refusal, Settings,
+    SettingsError, SharedModule, Status, Trap, Value, ValueError, ValueType, Verdict,
 };
 use std::error::Error;
 use std::fs;
@@ -52,7 +52,7 @@ fn with_body(body: &[u8]) -> Vec<u8> {
 
 #[test]
 fn the_interface_is_the_crate_s() {
-    assert_eq!(gate::interface(), 1);
+    assert_eq!((gate::interface(), gate::revision()), (1, 1));
 }
 
 #[test]
@@ -164,6 +164,80 @@ fn results_of_any_number() {
             assert_eq!((call.end, call.fuel), (End::Values(vec![Value::I32(7); count]), 1));
         }
     }
+}
+
+/// `both` of type [i64 i32] -> [i32 i64], `f` of [f64] -> [], the memory `m`, the global `g`, and the table with an empty name.
+fn all_kinds() -> Vec<u8> {
+    module(&[
+        (1, &[2, 0x60, 2, 0x7e, 0x7f, 2, 0x7f, 0x7e, 0x60, 1, 0x7c, 0]),
+        (3, &[2, 0, 1]),
+        (4, &[1, 0x70, 0, 1]),
+        (5, &[1, 0, 1]),
+        (6, &[1, 0x7f, 0, 0x41, 5, 0x0b]),
+        (7, b"\x05\x04both\0\0\x01f\0\x01\x01m\x02\0\x01g\x03\0\0\x01\0"),
+        (10, &[2, 6, 0, 0x20, 1, 0x20, 0, 0x0b, 2, 0, 0x0b]),
+    ])
+}
+
+#[test]
+fn exports() {
+    let bytes = all_kinds();
+    let module = Module::new(&bytes).unwrap();
+    let both = FunctionType {
+        params: vec![ValueType::I64, ValueType::I32],
+        results: vec![ValueType::I32, ValueType::I64],
+    };
+    let of_float = FunctionType {
+        params: vec![ValueType::F64],
+        results: vec![],
+    };
+    let export = |name: &str, item, index| Export {
+        name: name.to_owned(),
+        item,
+        index,
+    };
+    let wanted = vec![
+        export("both", Item::Function(both), 0),
+        export("f", Item::Function(of_float), 1),
+        export("m", Item::Memory, 0),
+        export("g", Item::Global, 0),
+        export("", Item::Table, 0),
+    ];
+    for export in &wanted {
+        assert_eq!(module.find(&export.name).unwrap().as_ref(), Some(export));
+    }
+    assert_eq!(module.exports(), Ok(wanted));
+    assert_eq!(module.find("both "), Ok(None));
+    assert_eq!(Module::new(HEADER).unwrap().exports(), Ok(vec![]));
+    let shown: Vec<_> = module.exports().unwrap().iter().map(ToString::to_string).collect();
+    assert_eq!(
+        shown.join("; "),
+        "both: function (i64, i32) -> (i32, i64); f: function (f64) -> (); m: memory 0; g: global 0; : table 0"
+    );
+}
+
+#[test]
+fn names_of_any_length() {
+    for count in [0, 1, 63, 64, 65, 5000] {
+        let name = "n".repeat(count);
+        let exported = [&[1][..], &unsigned(count), name.as_bytes(), &[2, 0]].concat();
+        let bytes = module(&[(5, &[1, 0, 1]), (7, &exported)]);
+        let exports = Module::new(&bytes).unwrap().exports().unwrap();
+        assert_eq!((exports.len(), &exports[0].name), (1, &name));
+    }
+}
+
+#[test]
+fn starts() {
+    let bytes = module(&[(5, &[1, 0, 2])]);
+    let module = Module::new(&bytes).unwrap();
+    assert_eq!(module.starts(Settings::new(0, 1, 2).unwrap()), Ok(None));
+    assert_eq!(module.starts(Settings::new(0, 1, 1).unwrap()), Ok(Some(NotStarted::MemoryLimit)));
+    let floats = all_kinds();
+    assert_eq!(
+        Module::new(&floats).unwrap().starts(Settings::default()),
+        Ok(Some(NotStarted::Floats))
+    );
 }
 
 #[test]

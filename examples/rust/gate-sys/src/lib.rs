@@ -1,4 +1,4 @@
-//! The declarations of `gate.h`, of interface 1, and its archive. What a function answers, and what a caller owes, stands in that
+//! The declarations of `gate.h`, of interface 1 and revision 1, and its archive. What a function answers, and what a caller owes, stands in that
 //! header. The crate `gate` is the safe one.
 #![no_std]
 #![allow(non_camel_case_types)]
@@ -11,6 +11,8 @@ pub const GATE_OK: u32 = 0;
 pub const GATE_MODULE_REFUSED: u32 = 2;
 /// The text of calls is refused, and the text says why.
 pub const GATE_CALLS_REFUSED: u32 = 3;
+/// There is no such export or function.
+pub const GATE_NOTHING: u32 = 4;
 /// A limit is out of its range, or numbers are of no verdict or value.
 pub const GATE_BAD_ARGUMENT: u32 = 64;
 /// A block was refused that the function cannot do without.
@@ -86,6 +88,20 @@ pub struct gate_call {
     pub results: u64,
 }
 
+/// What is exported.
+#[repr(C)]
+#[derive(Clone, Copy, Debug, Default)]
+pub struct gate_export {
+    /// `enum gate_export_kind`.
+    pub kind: u32,
+    /// Among those of its kind, imported ones counted first.
+    pub index: u32,
+    /// How many parameters a function has, else 0.
+    pub params: u32,
+    /// How many results a function has, else 0.
+    pub results: u32,
+}
+
 const fn is_laid_out<T>(size: usize, alignment: usize) -> bool {
     size_of::<T>() == size && align_of::<T>() == alignment
 }
@@ -93,6 +109,7 @@ const fn is_laid_out<T>(size: usize, alignment: usize) -> bool {
 const _: () = assert!(is_laid_out::<gate_verdict>(24, 8) && is_laid_out::<gate_settings>(12, 4));
 const _: () = assert!(is_laid_out::<gate_report>(8, 8) && is_laid_out::<gate_module>(8, 8));
 const _: () = assert!(is_laid_out::<gate_value>(16, 8) && is_laid_out::<gate_call>(24, 8));
+const _: () = assert!(is_laid_out::<gate_export>(16, 4));
 
 extern "C" {
     /// The number of the interface.
@@ -156,4 +173,32 @@ extern "C" {
 
     /// Frees a handle, and with the last one the module.
     pub fn gate_module_free(module: gate_module);
+
+    /// The number of what the library has beside the functions that came first.
+    pub fn gate_revision() -> u32;
+
+    /// How many exports there are.
+    pub fn gate_module_export_count(module: gate_module) -> u64;
+
+    /// Tells an export by its number.
+    pub fn gate_module_export(module: gate_module, number: u64, found: *mut gate_export) -> u32;
+
+    /// Writes the name of an export by its number.
+    pub fn gate_module_export_name(module: gate_module, number: u64, out: *mut u8, room: usize, length: *mut usize) -> u32;
+
+    /// Tells an export by its name.
+    pub fn gate_module_find(module: gate_module, name: *const u8, name_length: usize, found: *mut gate_export) -> u32;
+
+    /// Writes the types of a function.
+    pub fn gate_module_types(
+        module: gate_module,
+        function: u32,
+        params: *mut u8,
+        params_room: usize,
+        results: *mut u8,
+        results_room: usize,
+    ) -> u32;
+
+    /// Says whether a call would have an instance.
+    pub fn gate_module_starts(module: gate_module, settings: *const gate_settings, ended: *mut gate_call) -> u32;
 }

@@ -1,0 +1,96 @@
+"""What modules export, and calls by plain numbers."""
+import unittest
+from unittest import mock
+
+import gate
+from gate import I32, I64, ExportKind, FunctionType, ValueType
+from gate._library import library
+from tests.modules import HEADER, MANY, RESULTS, example
+
+# `both` of type [i64 i32] -> [i32 i64] gives its second and its first parameter; `f` of [f64] -> [], the memory `m`, the global `g`, the
+# table `t` with an empty name.
+ALL = HEADER + bytes.fromhex(
+    '01 0c 02 60 02 7e 7f 02 7f 7e 60 01 7c 00  03 03 02 00 01  04 04 01 70 00 01  05 03 01 00 01  06 06 01 7f 00 41 05 0b'
+    '07 17 05 04 62 6f 74 68 00 00  01 66 00 01  01 6d 02 00  01 67 03 00  00 01 00  0a 0b 02 06 00 20 01 20 00 0b 02 00 0b')
+# Its memory has two pages.
+TWO_PAGES = HEADER + bytes.fromhex('05 03 01 00 02')
+BOTH = FunctionType((ValueType.I64, ValueType.I32), (ValueType.I32, ValueType.I64))
+
+
+class Exports(unittest.TestCase):
+    def test_all_kinds(self) -> None:
+        with gate.Module(ALL) as module:
+            self.assertEqual(module.exports, (
+                gate.Export('both', ExportKind.FUNCTION, 0, BOTH),
+                gate.Export('f', ExportKind.FUNCTION, 1, FunctionType((ValueType.F64,), ())),
+                gate.Export('m', ExportKind.MEMORY, 0), gate.Export('g', ExportKind.GLOBAL, 0), gate.Export('', ExportKind.TABLE, 0)))
+            for export in module.exports:
+                self.assertEqual(module.find(export.name), export)
+            self.assertIsNone(module.find('both '))
+            self.assertIsNone(module.find(b'\xff'))
+            self.assertEqual('; '.join(map(str, module.exports)),
+                             'both: function (i64, i32) -> (i32, i64); f: function (f64) -> (); m: memory 0; g: global 0; : table 0')
+
+    def test_none(self) -> None:
+        with gate.Module(HEADER) as module:
+            self.assertEqual(module.exports, ())
+
+    def test_a_long_name(self) -> None:
+        name = 'n\u00e4' * 200
+        data = name.encode()
+        section = bytes([1, 0x80 | len(data) & 0x7F, len(data) >> 7]) + data + bytes([2, 0])
+        module = HEADER + bytes.fromhex('05 03 01 00 01 07') + bytes([0x80 | len(section) & 0x7F, len(section) >> 7]) + section
+        with gate.Module(module) as held:
+            self.assertEqual(held.exports, (gate.Export(name, ExportKind.MEMORY, 0),))
+
+    def test_closed(self) -> None:
+        module = gate.Module(HEADER)
+        module.close()
+        for use in (lambda: module.exports), (lambda: module.find('f')), module.starts:
+            with self.assertRaisesRegex(ValueError, 'closed'):
+                use()
+
+
+class PlainNumbers(unittest.TestCase):
+    def test_by_the_type(self) -> None:
+        with gate.Module(example('add.wasm')) as module:
+            self.assertEqual(module.call('add', 40, 2).values, (I32(42),))
+            self.assertEqual(module.call('add', 40, I32(-2)).values, (I32(38),))
+            self.assertEqual(module.call('add', True, 2 ** 31 - 1).values, (I32(-2 ** 31),))
+
+    def test_wrong_numbers_run_nothing(self) -> None:
+        with gate.Module(example('add.wasm')) as module, \
+                mock.patch.object(library, 'gate_module_call', wraps=library.gate_module_call) as called:
+            with self.assertRaisesRegex(TypeError, r'add is \(i32, i32\) -> \(i32\): it takes 2 numbers, and not 1'):
+                module.call('add', 40)
+            with self.assertRaisesRegex(TypeError, 'number 1 of add is an i32, and not I64'):
+                module.call('add', 40, I64(2))
+            with self.assertRaisesRegex(TypeError, 'number 0 of add is an i32, and not 2.5'):
+                module.call('add', 2.5, 1)  # type: ignore[arg-type]
+            for number in 2 ** 31, -2 ** 31 - 1:
+                with self.assertRaisesRegex(ValueError, f'number 1 of add: an i32 is from .*, and not {number}'):
+                    module.call('add', 1, number)
+            self.assertEqual(called.call_count, 0)
+
+    def test_no_function(self) -> None:
+        with gate.Module(ALL) as module:
+            self.assertEqual(module.call('sub', 1).kind, gate.EndKind.NO_EXPORT)
+            self.assertEqual(module.call('m', 1).kind, gate.EndKind.NOT_A_FUNCTION)
+            with self.assertRaisesRegex(TypeError, 'number 0 of f is an f64, and not 1'):
+                module.call('f', 1)
+
+    def test_many_results(self) -> None:
+        with gate.Module(MANY) as module:
+            self.assertEqual(module.call('many').values, tuple(map(I32, range(RESULTS))))
+
+
+class Starts(unittest.TestCase):
+    def test_starts(self) -> None:
+        with gate.Module(TWO_PAGES) as module:
+            self.assertEqual(module.starts(), gate.End(gate.EndKind.VALUES, fuel=0))
+            self.assertEqual(module.starts(gate.Settings(fuel=0, pages=2)), gate.End(gate.EndKind.VALUES, fuel=0))
+            self.assertEqual(module.starts(gate.Settings(pages=1)), gate.End(gate.EndKind.NOT_STARTED, reason=gate.NotStarted.MEMORY_LIMIT))
+
+    def test_floats(self) -> None:
+        with gate.Module(ALL) as module:
+            self.assertEqual(str(module.starts()), 'not-started floats')
