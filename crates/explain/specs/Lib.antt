@@ -1,4 +1,5 @@
 pub mod Headers
+pub mod Numbers
 pub mod Placed
 pub mod Places
 pub mod Texts

@@ -8,6 +8,7 @@ mod faults;
 mod functions;
 mod headers;
 mod names;
+mod numbers;
 mod opcode_names;
 mod operands;
 mod places;
@@ -27,6 +28,7 @@ pub use explaining::explain;
 pub use explanation::{
     BodyFault, Explanation, FoundToken, NoModule, RefusedBody, Signature, Span, Stop, Stopped,
 };
+pub use numbers::Kind;
 pub use text::explanation_text;
 pub use typing::{BlockKind, Giver, OpenBlock, Opening, Typing};
 

@@ -1,0 +1,92 @@
+-- The numbers that an explanation tells.
+use Rattle.std.specs.Prelude.{ℕ, List, Option, Some, None, option_map, slice_get}
+use Rattle.explain.specs.declared.explanation.BodyFault.{BodyFault}
+use Rattle.explain.specs.declared.explanation.BodyFault.TheVariants as fault
+use Rattle.explain.specs.declared.explanation.Explanation.{Explanation}
+use Rattle.explain.specs.declared.explanation.Explanation.TheVariants as told
+use Rattle.explain.specs.declared.explanation.NoModule.{NoModule}
+use Rattle.explain.specs.declared.explanation.NoModule.TheVariants as header
+use Rattle.explain.specs.declared.explanation.Span.{Span}
+use Rattle.explain.specs.declared.explanation.Stopped.{Stopped}
+use Rattle.explain.specs.declared.explanation.Stopped.TheVariants as stopped
+use Rattle.explain.specs.declared.numbers.Kind.{Kind}
+use Rattle.explain.specs.declared.numbers.Kind.TheVariants as kind
+
+-- ---- the kind
+
+abbrev pub kind_of_no_module : NoModule → Kind
+kind_of_no_module header.Text = kind.Text
+kind_of_no_module header.Gzip = kind.Gzip
+kind_of_no_module header.Short = kind.ShortHeader
+kind_of_no_module (header.Magic at found) = kind.Magic
+kind_of_no_module (header.Version at found) = kind.Version
+kind_of_no_module header.Sections = kind.Sections
+
+abbrev pub kind_of_stop : Stopped → Kind
+kind_of_stop stopped.Locals = kind.Locals
+kind_of_stop stopped.Token = kind.Token
+kind_of_stop stopped.Else = kind.Else
+kind_of_stop stopped.Left = kind.Left
+kind_of_stop stopped.Short = kind.ShortBody
+
+abbrev pub kind_of_fault : BodyFault → Kind
+kind_of_fault (fault.Malformed (Some s)) = kind_of_stop s.why
+kind_of_fault (fault.Malformed None) = kind.BodyMalformed
+kind_of_fault (fault.TooManyLocals count) = kind.TooManyLocals
+kind_of_fault (fault.IllTyped number found) = kind.IllTyped
+
+abbrev pub kind_told : Explanation → Kind
+kind_told told.Accepted = kind.Accepted
+kind_told (told.TooLarge bytes) = kind.TooLarge
+kind_told (told.Malformed what) = kind_of_no_module what
+kind_told (told.Rule k) = kind.Rule
+kind_told (told.Body b) = kind_of_fault b.fault
+kind_told told.Memory = kind.Memory
+
+-- ---- the place: from the first byte on up to the byte after the last; where reading stopped these are one
+
+abbrev pub at_offset : ℕ → Span
+at_offset at = record { from = at; to = at }
+
+abbrev pub place_of_no_module : NoModule → Option Span
+place_of_no_module (header.Magic at found) = Some (at_offset at)
+place_of_no_module (header.Version at found) = Some (at_offset at)
+place_of_no_module _ = None
+
+abbrev pub place_of_fault : BodyFault → Option Span
+place_of_fault (fault.Malformed (Some s)) = Some (at_offset s.at)
+place_of_fault (fault.IllTyped number (Some f)) = Some f.span
+place_of_fault _ = None
+
+abbrev pub place_told : Explanation → Option Span
+place_told (told.Malformed what) = place_of_no_module what
+place_told (told.Body b) = place_of_fault b.fault
+place_told _ = None
+
+-- 5.5.13 bodies stand in section 10
+abbrev pub section_told : Explanation → Option ℕ
+section_told (told.Body b) = Some 10
+section_told _ = None
+
+abbrev pub item_told : Explanation → Option ℕ
+item_told e = None
+
+-- ---- the body
+
+abbrev pub opcode_of_stop : Stopped → List ℕ → Option ℕ
+opcode_of_stop stopped.Token rest = slice_get rest 0
+opcode_of_stop stopped.Else rest = slice_get rest 0
+opcode_of_stop _ rest = None
+
+abbrev pub opcode_of_fault : BodyFault → Option ℕ
+opcode_of_fault (fault.Malformed (Some s)) = opcode_of_stop s.why s.rest.now
+opcode_of_fault (fault.IllTyped number (Some f)) = Some f.opcode
+opcode_of_fault _ = None
+
+abbrev pub opcode_told : Explanation → Option ℕ
+opcode_told (told.Body b) = opcode_of_fault b.fault
+opcode_told _ = None
+
+abbrev pub body_told : Explanation → Option Span
+body_told (told.Body b) = b.span
+body_told _ = None

@@ -1,0 +1,223 @@
+//! The numbers of an explanation, one by one, for readers that no variant concerns. `None` says that a number is not told.
+ghost use Rattle.std.specs.Prelude.{◌≡◌};
+ghost use Rattle.explain.specs.Numbers.{kind_of_fault, kind_of_no_module, kind_of_stop, opcode_of_fault, opcode_of_stop, place_of_fault, place_of_no_module};
+
+use crate::explanation::{BodyFault, Explanation, NoModule, Span, Stop, Stopped};
+
+/// The id of the section of bodies (5.5.13).
+const CODE_SECTION: u8 = 10;
+
+/// What is said of a module, by its kind.
+#[derive(Clone, Copy, Debug, PartialEq, Eq)]
+pub enum Kind {
+    Accepted,
+    TooLarge,
+    /// The bytes begin as the text format does.
+    Text,
+    /// They begin as a gzip archive does.
+    Gzip,
+    /// They are fewer than the eight of the magic and the version.
+    ShortHeader,
+    /// One of the first four is none of the magic.
+    Magic,
+    /// One of the next four is none of the version.
+    Version,
+    /// What follows are not the sections of a module.
+    Sections,
+    /// A module rule is broken.
+    Rule,
+    /// A body is malformed, and where is not known.
+    BodyMalformed,
+    /// Its declared locals cannot be read.
+    Locals,
+    /// No token begins with the bytes that follow.
+    Token,
+    /// An `else` stands in no `if`.
+    Else,
+    /// Bytes are left after its last `end`.
+    Left,
+    /// It ends before its last `end`.
+    ShortBody,
+    /// It declares more than 100,000 locals.
+    TooManyLocals,
+    /// It has no type.
+    IllTyped,
+    /// An allocation was refused; nothing is said of the module.
+    Memory,
+}
+
+/// The kind of bytes that spell no module.
+fn no_module_kind(what: NoModule) -> Kind
+    ensures { result ≡ kind_of_no_module what }
+{
+    match what {
+        NoModule::Text => Kind::Text,
+        NoModule::Gzip => Kind::Gzip,
+        NoModule::Short => Kind::ShortHeader,
+        NoModule::Magic { .. } => Kind::Magic,
+        NoModule::Version { .. } => Kind::Version,
+        NoModule::Sections => Kind::Sections,
+    }
+}
+
+/// The kind of a body that is malformed for that.
+fn stop_kind(why: Stopped) -> Kind
+    ensures { result ≡ kind_of_stop why }
+{
+    match why {
+        Stopped::Locals => Kind::Locals,
+        Stopped::Token => Kind::Token,
+        Stopped::Else => Kind::Else,
+        Stopped::Left => Kind::Left,
+        Stopped::Short => Kind::ShortBody,
+    }
+}
+
+/// The kind of a body that is refused.
+fn fault_kind(fault: &BodyFault<'_>) -> Kind
+    ensures { result ≡ kind_of_fault fault.now }
+{
+    match fault {
+        BodyFault::Malformed { stop: Some(stop) } => stop_kind(stop.why),
+        BodyFault::Malformed { stop: None } => Kind::BodyMalformed,
+        BodyFault::TooManyLocals { .. } => Kind::TooManyLocals,
+        BodyFault::IllTyped { .. } => Kind::IllTyped,
+    }
+}
+
+/// No bytes at an offset: where reading stopped.
+fn at_offset(at: usize) -> Span
+    ensures from { result.from ≡ at }
+    ensures to { result.to ≡ at }
+{
+    Span { from: at, to: at }
+}
+
+/// Where reading stopped of bytes that spell no module.
+fn no_module_place(what: NoModule) -> Option<Span>
+    ensures { result ≡ place_of_no_module what }
+{
+    match what {
+        NoModule::Magic { at, .. } | NoModule::Version { at, .. } => Some(at_offset(at)),
+        _ => None,
+    }
+}
+
+/// The bytes of the token that is refused, or where reading stopped.
+fn fault_place(fault: &BodyFault<'_>) -> Option<Span>
+    ensures { result ≡ place_of_fault fault.now }
+{
+    match fault {
+        BodyFault::Malformed { stop: Some(stop) } => Some(at_offset(stop.at)),
+        BodyFault::IllTyped {
+            found: Some(found),
+            ..
+        } => Some(found.span),
+        _ => None,
+    }
+}
+
+/// The byte that no token begins with, or that of an `else` that stands in no `if`.
+fn stop_opcode(stop: &Stop<'_>) -> Option<u8>
+    ensures { result ≡ opcode_of_stop stop.now.why stop.now.rest.now }
+{
+    match stop.why {
+        Stopped::Token | Stopped::Else => stop.rest.first().copied(),
+        _ => None,
+    }
+}
+
+/// The first byte of the token that is refused, or where reading stopped.
+fn fault_opcode(fault: &BodyFault<'_>) -> Option<u8>
+    ensures { result ≡ opcode_of_fault fault.now }
+{
+    match fault {
+        BodyFault::Malformed { stop: Some(stop) } => stop_opcode(stop),
+        BodyFault::IllTyped {
+            found: Some(found),
+            ..
+        } => Some(found.opcode),
+        _ => None,
+    }
+}
+
+impl Explanation<'_> {
+    ghost use Rattle.std.specs.Prelude.{◌≡◌, option_map};
+    ghost use Rattle.explain.specs.Numbers.{body_told, item_told, kind_told, opcode_told, place_told, section_told};
+
+    /// What is said, by its kind.
+    pub fn kind(&self) -> Kind
+        ensures { result ≡ kind_told self.now }
+    {
+        match self {
+            Explanation::Accepted => Kind::Accepted,
+            Explanation::TooLarge { .. } => Kind::TooLarge,
+            Explanation::Malformed(what) => no_module_kind(*what),
+            Explanation::Rule(_) => Kind::Rule,
+            Explanation::Body(body) => fault_kind(&body.fault),
+            Explanation::Memory => Kind::Memory,
+        }
+    }
+
+    /// The bytes of the module that the refusal is about: a token, or none where reading stopped.
+    pub fn place(&self) -> Option<Span>
+        ensures { result ≡ place_told self.now }
+    {
+        match self {
+            Explanation::Malformed(what) => no_module_place(*what),
+            Explanation::Body(body) => fault_place(&body.fault),
+            _ => None,
+        }
+    }
+
+    /// The offset of the first of them.
+    pub fn offset(&self) -> Option<usize>
+        ensures { result ≡ option_map (λ p. p.from) (place_told self.now) }
+    {
+        Some(self.place()?.from)
+    }
+
+    /// The offset after the last of them.
+    pub fn end(&self) -> Option<usize>
+        ensures { result ≡ option_map (λ p. p.to) (place_told self.now) }
+    {
+        Some(self.place()?.to)
+    }
+
+    /// The id of the section in which they stand (5.5.2).
+    pub fn section(&self) -> Option<u8>
+        ensures { result ≡ section_told self.now }
+    {
+        match self {
+            Explanation::Body(_) => Some(CODE_SECTION),
+            _ => None,
+        }
+    }
+
+    /// The place of the refused item in its section, from 0; of bodies the verdict has the function in its stead.
+    pub fn item(&self) -> Option<usize>
+        ensures { result ≡ item_told self.now }
+    {
+        None
+    }
+
+    /// The first byte of the token that is refused, or with which no token begins.
+    pub fn opcode(&self) -> Option<u8>
+        ensures { result ≡ opcode_told self.now }
+    {
+        match self {
+            Explanation::Body(body) => fault_opcode(&body.fault),
+            _ => None,
+        }
+    }
+
+    /// The bytes of the body that is refused.
+    pub fn body(&self) -> Option<Span>
+        ensures { result ≡ body_told self.now }
+    {
+        match self {
+            Explanation::Body(body) => body.span,
+            _ => None,
+        }
+    }
+}
