@@ -8,3 +8,4 @@ pub mod Slots
 pub mod Handed
 pub mod Runs
 pub mod Calls
+pub mod Explained

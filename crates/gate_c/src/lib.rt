@@ -7,6 +7,8 @@
 
 mod calling;
 mod ending;
+mod explained;
+mod explaining;
 mod exports;
 mod handing;
 mod held;
@@ -22,6 +24,7 @@ mod text;
 mod value;
 
 pub use ending::GateCall;
+pub use explained::GateExplanation;
 pub use held::Held;
 pub use judged::GateVerdict;
 pub use kept::Kept;

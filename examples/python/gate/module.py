@@ -11,10 +11,10 @@ from typing import Any, NoReturn
 
 from gate._library import MODULE_REFUSED, OK, Bytes, CCall, CModule, CValue, CVerdict, expect, library, whole
 from gate.ends import End, end_of
+from gate.explanation import ModuleRefused, explain
 from gate.report import Report, fetch
 from gate.settings import DEFAULT, Settings
 from gate.values import Value, name_bytes, values_only
-from gate.verdict import ModuleRefused, verdict_of
 
 # How many results a first call has room for, and any call before it asks for more.
 FIRST_RESULTS = 16
@@ -27,7 +27,7 @@ def _free(handle: CModule, _held: object) -> None:
 
 
 class Module:
-    """An accepted module. A refused one raises `ModuleRefused`.
+    """An accepted module. A refused one raises `ModuleRefused`, which says where and why.
 
     The object keeps a copy of the bytes. It is used by one thread at a time: a lock makes the others wait. For calls side by
     side each thread has a `Module` of its own, by `share`. `close`, or leaving a `with`, frees it; later uses raise `ValueError`.
@@ -38,7 +38,7 @@ class Module:
         held = ctypes.create_string_buffer(data, len(data))
         said, handle = CVerdict(), CModule()
         if expect(library.gate_module_new(held, len(data), said, handle), OK, MODULE_REFUSED) == MODULE_REFUSED:
-            raise ModuleRefused(verdict_of(said))
+            raise ModuleRefused(explain(data))
         self._own(handle, held)
 
     def _own(self, handle: CModule, held: object) -> None:
