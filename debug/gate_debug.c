@@ -204,6 +204,21 @@ uint32_t gate_debug_verdict_line(const char *file, int line, const gate_verdict 
     return (gate_verdict_line)(verdict, out, room, length);
 }
 
+uint32_t gate_debug_explain(const char *file, int line, const uint8_t *bytes, size_t bytes_length, gate_explanation *explanation) {
+    const site here = { file, line, "gate_explain" };
+    const area areas[] = { READS(uint8_t, bytes, bytes_length), WRITES(gate_explanation, explanation, 1) };
+    look_at(here, areas, COUNT_OF(areas));
+    return (gate_explain)(bytes, bytes_length, explanation);
+}
+
+uint32_t gate_debug_explain_text(const char *file, int line, const uint8_t *bytes, size_t bytes_length, uint8_t *out, size_t room,
+                                 size_t *length) {
+    const site here = { file, line, "gate_explain_text" };
+    const area areas[] = { READS(uint8_t, bytes, bytes_length), WRITES(uint8_t, out, room), WRITES(size_t, length, 1) };
+    look_at(here, areas, COUNT_OF(areas));
+    return (gate_explain_text)(bytes, bytes_length, out, room, length);
+}
+
 uint32_t gate_debug_run(const char *file, int line, const uint8_t *module, size_t module_length, const uint8_t *calls,
                         size_t calls_length, const gate_settings *settings, uint8_t *out, size_t room, size_t *length,
                         gate_report *kept) {

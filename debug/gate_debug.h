@@ -24,6 +24,9 @@ extern "C" {
 
 uint32_t gate_debug_check(const char *file, int line, const uint8_t *bytes, size_t bytes_length, gate_verdict *verdict);
 uint32_t gate_debug_verdict_line(const char *file, int line, const gate_verdict *verdict, uint8_t *out, size_t room, size_t *length);
+uint32_t gate_debug_explain(const char *file, int line, const uint8_t *bytes, size_t bytes_length, gate_explanation *explanation);
+uint32_t gate_debug_explain_text(const char *file, int line, const uint8_t *bytes, size_t bytes_length, uint8_t *out, size_t room,
+                                 size_t *length);
 uint32_t gate_debug_run(const char *file, int line, const uint8_t *module, size_t module_length, const uint8_t *calls,
                         size_t calls_length, const gate_settings *settings, uint8_t *out, size_t room, size_t *length,
                         gate_report *kept);
@@ -56,6 +59,8 @@ uint32_t gate_debug_module_starts(const char *file, int line, gate_module module
 
 #define gate_check(...) gate_debug_check(__FILE__, __LINE__, __VA_ARGS__)
 #define gate_verdict_line(...) gate_debug_verdict_line(__FILE__, __LINE__, __VA_ARGS__)
+#define gate_explain(...) gate_debug_explain(__FILE__, __LINE__, __VA_ARGS__)
+#define gate_explain_text(...) gate_debug_explain_text(__FILE__, __LINE__, __VA_ARGS__)
 #define gate_run(...) gate_debug_run(__FILE__, __LINE__, __VA_ARGS__)
 #define gate_report_read(...) gate_debug_report_read(__FILE__, __LINE__, __VA_ARGS__)
 #define gate_report_free(...) gate_debug_report_free(__FILE__, __LINE__, __VA_ARGS__)

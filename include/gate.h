@@ -18,8 +18,8 @@
  *          meanwhile, in this process or in another one (of a mapped file). A length is below 2^63 bytes. A null pointer is allowed
  *          with length 0 only. `verdict` of gate_verdict_line and `settings` are never null.
  * Written  `out` and `results` have room for as many elements as their room says, and are null with room 0 only. A room, too, is below
- *          2^63 bytes. `verdict`, `length`, `kept`, `module`, `other`, `found` and `ended` are never null. None of them overlaps another
- *          one, or anything that the call reads. All pointers are aligned as their types ask.
+ *          2^63 bytes. `verdict`, `explanation`, `length`, `kept`, `module`, `other`, `found` and `ended` are never null. None of them
+ *          overlaps another one, or anything that the call reads. All pointers are aligned as their types ask.
  * Handles  A gate_report or gate_module is one that the library wrote and that is not freed yet: { NULL } is none. Who got it, frees it,
  *          once; a copy of the struct is the same handle. Its `at` is the library's.
  * Threads  A handle is in one call at a time; any thread may make that call. It goes from thread to thread by a lock, by the start or
@@ -39,7 +39,7 @@
  *
  * Functions, structs, their sizes and the numbers of all codes stay as they are for as long as gate_version answers 1 and the shared
  * library is libgate.so.1. The upper limit of a range, as 1,024 pages, may grow, and never shrinks. A struct grows, and an enum gets a
- * new number, only with a new function under a new name.
+ * new number, only with a new function under a new name. One enum gets new numbers before: gate_why.
  */
 #ifndef GATE_H
 #define GATE_H
@@ -159,6 +159,58 @@ uint32_t gate_check(const uint8_t *bytes, size_t bytes_length, gate_verdict *ver
  *   GATE_NO_MEMORY */
 uint32_t gate_verdict_line(const gate_verdict *verdict, uint8_t *out, size_t room, size_t *length)
     GATE_WRITES(2, 3) GATE_NOT_NULL((1, 4)) GATE_ANSWERS;
+
+/* Why a module has its verdict. Later versions of the library tell more kinds: the hundreds of a number are the kind of the verdict, so
+ * a number that a host does not know says that much. */
+enum gate_why {
+    GATE_WHY_ACCEPTED = 0,
+    GATE_WHY_TOO_LARGE = 100,
+    GATE_WHY_TEXT = 201,           /* the bytes begin as the text format does */
+    GATE_WHY_GZIP = 202,           /* as a gzip archive does */
+    GATE_WHY_SHORT_HEADER = 203,   /* they are fewer than the eight of the magic and the version */
+    GATE_WHY_MAGIC = 204,          /* the byte at `from` is none of the magic */
+    GATE_WHY_VERSION = 205,        /* the byte at `from` is none of the version */
+    GATE_WHY_SECTIONS = 206,       /* what follows are not the sections of a module */
+    GATE_WHY_RULE = 300,
+    GATE_WHY_BODY_MALFORMED = 400, /* and it is not known where */
+    GATE_WHY_LOCALS = 401,         /* its declared locals cannot be read */
+    GATE_WHY_TOKEN = 402,          /* no instruction begins at `from`, or what has to follow it cannot be read */
+    GATE_WHY_ELSE = 403,           /* an `else` stands in no `if` */
+    GATE_WHY_LEFT = 404,           /* bytes are left after the last `end` */
+    GATE_WHY_SHORT_BODY = 405,     /* the body ends before its last `end` */
+    GATE_WHY_TOO_MANY_LOCALS = 500,
+    GATE_WHY_ILL_TYPED = 600
+};
+
+/* A number that is not told, of 64 bits and of 32. */
+#define GATE_NONE UINT64_MAX
+#define GATE_NONE_32 UINT32_MAX
+
+/* Offsets count bytes of the module from 0; each `to` is the one after the last byte. */
+typedef struct gate_explanation {
+    gate_verdict verdict;         /* that of gate_check */
+    uint32_t why;                 /* gate_why */
+    uint32_t section;             /* the id of the section in which it stands */
+    uint32_t opcode;              /* the first byte of the token that is refused, or with which no token begins */
+    uint64_t item;                /* the place in that section, from 0; of a body verdict.function says which */
+    uint64_t body_from, body_to;  /* the refused body, without its size */
+    uint64_t from, to;            /* the token, or the item; where reading stopped both are that offset */
+} gate_explanation;
+
+/* Judges a module, and says of a refusal where and why.
+ *   GATE_OK              accepted
+ *   GATE_MODULE_REFUSED  explanation says why
+ *   GATE_NO_MEMORY */
+uint32_t gate_explain(const uint8_t *bytes, size_t bytes_length, gate_explanation *explanation)
+    GATE_READS(1, 2) GATE_NOT_NULL((3)) GATE_ANSWERS;
+
+/* Judges a module, and writes what `gate explain` prints: the line of the verdict, and of a refusal lines that say where and why. Each of
+ * them has a key, blanks up to column 10, and a text. Without a NUL.
+ *   GATE_OK, GATE_MODULE_REFUSED  the first *length bytes of out are the text
+ *   GATE_SHORT_BUFFER             *length bytes are wanted
+ *   GATE_NO_MEMORY */
+uint32_t gate_explain_text(const uint8_t *bytes, size_t bytes_length, uint8_t *out, size_t room, size_t *length)
+    GATE_READS(1, 2) GATE_WRITES(3, 4) GATE_NOT_NULL((5)) GATE_ANSWERS;
 
 /* An answer that is kept because the buffer was short. */
 typedef struct gate_report { void *at; } gate_report;
@@ -395,6 +447,11 @@ GATE_HOLDS(offsetof(gate_export, kind) == 0 && offsetof(gate_export, index) == 4
 GATE_HOLDS(offsetof(gate_export, params) == 8 && offsetof(gate_export, results) == 12);
 GATE_IS(gate_report, 8, 8);
 GATE_IS(gate_module, 8, 8);
+GATE_IS(gate_explanation, 80, 8);
+GATE_HOLDS(offsetof(gate_explanation, why) == 24 && offsetof(gate_explanation, section) == 28);
+GATE_HOLDS(offsetof(gate_explanation, opcode) == 32 && offsetof(gate_explanation, item) == 40);
+GATE_HOLDS(offsetof(gate_explanation, body_from) == 48 && offsetof(gate_explanation, body_to) == 56);
+GATE_HOLDS(offsetof(gate_explanation, from) == 64 && offsetof(gate_explanation, to) == 72);
 #undef GATE_HOLDS
 #undef GATE_IS
 #endif

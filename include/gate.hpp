@@ -59,10 +59,46 @@ inline std::string line(const gate_verdict &verdict) {
     return std::string(reinterpret_cast<const char *>(out), length - 1);
 }
 
-/// A module is refused; what() is the line of the verdict.
+/// Where and why a module is refused: its numbers, and what `gate explain` prints.
+struct Explanation {
+    gate_explanation numbers;
+    std::string text;
+    /// The offset of the first byte that is refused, or where reading stopped.
+    std::optional<std::uint64_t> offset() const { return numbers.from == GATE_NONE ? std::nullopt : std::optional(numbers.from); }
+    /// The text of the first line with this key; empty where there is none.
+    std::string line(std::string_view key) const {
+        for (std::size_t at = text.find('\n'); at != std::string::npos; at = text.find('\n', at + 1)) {
+            const std::string whole = text.substr(at + 1, text.find('\n', at + 1) - at - 1);
+            if (whole.size() > 10 && whole.substr(0, 10) == std::string(key).append(10 - key.size(), ' ')) return whole.substr(10);
+        }
+        return {};
+    }
+    std::string because() const { return line("because"); }
+    /// The verdict, and why.
+    std::string sentence() const {
+        const std::string why = because(), verdict = text.substr(0, text.find('\n'));
+        return why.empty() ? verdict : verdict + ": " + why;
+    }
+};
+
+/// Judges a module, and says of a refusal where and why.
+inline Explanation explain(Bytes module) {
+    Explanation found = {{}, std::string(1024, '\0')};
+    answered(gate_explain(module.at, module.length, &found.numbers));
+    for (std::size_t length = 0;; found.text.resize(length)) {
+        auto *out = reinterpret_cast<std::uint8_t *>(found.text.data());
+        const std::uint32_t status = answered(gate_explain_text(module.at, module.length, out, found.text.size(), &length));
+        if (status != GATE_STATUS_SHORT_BUFFER) return found.text.resize(length), found;
+    }
+}
+
+/// A module is refused; what() says why in a sentence.
 struct Refused : std::runtime_error {
-    explicit Refused(const gate_verdict &found) : std::runtime_error(line(found)), verdict(found) {}
-    gate_verdict verdict;
+    explicit Refused(Explanation found) : std::runtime_error(found.sentence()), explanation(std::move(found)) {}
+    Explanation explanation;
+    const gate_verdict &verdict() const { return explanation.numbers.verdict; }
+    std::optional<std::uint64_t> offset() const { return explanation.offset(); }
+    std::string because() const { return explanation.because(); }
 };
 
 /// What `gate run` prints, and its status: GATE_STATUS_OK, _MODULE_REFUSED or _CALLS_REFUSED.
@@ -114,7 +150,8 @@ class Module {
 public:
     explicit Module(std::vector<std::uint8_t> bytes) : bytes_(std::make_shared<const std::vector<std::uint8_t>>(std::move(bytes))) {
         gate_verdict verdict = {};
-        if (answered(gate_module_new(bytes_->data(), bytes_->size(), &verdict, &handle_)) != GATE_STATUS_OK) throw Refused(verdict);
+        const std::uint32_t status = answered(gate_module_new(bytes_->data(), bytes_->size(), &verdict, &handle_));
+        if (status != GATE_STATUS_OK) throw Refused(explain(*bytes_));
     }
     Module(Module &&other) noexcept : Module(std::move(other.bytes_), std::exchange(other.handle_, gate_module{nullptr})) {}
     Module &operator=(Module &&other) noexcept { return std::swap(bytes_, other.bytes_), std::swap(handle_, other.handle_), *this; }

@@ -61,6 +61,7 @@ typedef struct answer {
     union {
         uint8_t text[ROOM];
         gate_verdict verdict;
+        gate_explanation explanation;
         struct {
             gate_call ended;
             gate_value results[MOST_VALUES];
@@ -78,6 +79,16 @@ static void clear_gap(uint32_t *before) { memset(before + 1, UNTOUCHED, sizeof *
 static void play_check(const task *it, answer *got) {
     got->status = gate_check(it->bytes.at, it->bytes.length, &got->as.verdict);
     clear_gap(&got->as.verdict.function);
+}
+
+static void play_explain(const task *it, answer *got) {
+    got->status = gate_explain(it->bytes.at, it->bytes.length, &got->as.explanation);
+    clear_gap(&got->as.explanation.verdict.function);
+    clear_gap(&got->as.explanation.opcode);
+}
+
+static void play_explain_text(const task *it, answer *got) {
+    got->status = gate_explain_text(it->bytes.at, it->bytes.length, got->as.text, ROOM, &got->length);
 }
 
 static void play_line(const task *it, answer *got) {
@@ -151,6 +162,8 @@ typedef struct game {
 
 static const game GAMES[] = {
     { "gate_check", play_check, false, false },
+    { "gate_explain", play_explain, false, false },
+    { "gate_explain_text", play_explain_text, false, false },
     { "gate_verdict_line", play_line, false, false },
     { "gate_run", play_run, false, true },
     { "gate_run, no room", play_run_short, false, true },

@@ -49,6 +49,40 @@ static void judge(const std::vector<std::uint8_t> &bytes) {
     HOLDS(throws<gate::Refused>([] { gate::Module({0, 1, 2}); }));
 }
 
+// The two bytes of memory.fill, which Core 1.0 does not have.
+static const std::vector<std::uint8_t> FILL = {0, 'a', 's', 'm', 1, 0, 0, 0, 1, 4, 1, 0x60, 0, 0, 3, 2, 1, 0, 0x0A, 6, 1, 4, 0, 0xFC, 0x0B,
+                                               0x0B};
+// A start function that does not exist.
+static const std::vector<std::uint8_t> NO_START = {0, 'a', 's', 'm', 1, 0, 0, 0, 8, 1, 0};
+
+static bool is_of_fill(const gate::Explanation &it) {
+    const gate_explanation &n = it.numbers;
+    return n.verdict.kind == GATE_BODY_MALFORMED && n.why == GATE_WHY_TOKEN && n.section == 10 && n.opcode == 0xFC && n.item == GATE_NONE &&
+           n.body_from == 22 && n.body_to == 26 && n.from == 23 && n.to == 23 && it.offset() == 23 &&
+           it.because() == "fc 0b is memory.fill, of bulk memory (Core 2.0), which gate does not admit" &&
+           it.line("hint") == "build the module with -mcpu=mvp" && it.line("hin").empty() &&
+           it.sentence() == "refused body 0 malformed: " + it.because();
+}
+
+static void explain(const std::vector<std::uint8_t> &bytes) {
+    HOLDS(is_of_fill(gate::explain(FILL)));
+    const gate::Explanation rule = gate::explain(NO_START), accepted = gate::explain(bytes);
+    HOLDS(rule.numbers.verdict.rule == 11 && rule.numbers.why / 100 == GATE_RULE && rule.because().find("start function") < 100);
+    const gate::Explanation version = gate::explain(std::string_view("\0asm\2\0\0\0", 8));
+    HOLDS(version.numbers.why == GATE_WHY_VERSION && version.offset() == 4 && version.numbers.body_from == GATE_NONE);
+    HOLDS(version.sentence() == "refused malformed: byte 4 is 02, and the version is 01 00 00 00");
+    HOLDS(accepted.numbers.why == GATE_WHY_ACCEPTED && accepted.text == "accepted\n" && accepted.sentence() == "accepted");
+    HOLDS(!accepted.offset() && accepted.because().empty() && accepted.numbers.section == GATE_NONE_32);
+    try {
+        gate::Module{FILL};
+        HOLDS(false);
+    } catch (const gate::Refused &refused) {
+        HOLDS(is_of_fill(refused.explanation) && refused.what() == refused.explanation.sentence());
+        HOLDS(refused.offset() == 23 && refused.verdict().kind == GATE_BODY_MALFORMED);
+        HOLDS(refused.because() == refused.explanation.because());
+    }
+}
+
 static bool is_forty_two(const gate::Call &call) {
     return call.ended.end == GATE_END_VALUES && call.ended.fuel == 1 && call.results.size() == 1 && call.results[0].bits == 42;
 }
@@ -114,6 +148,7 @@ int main(int count, char **words) {
     const std::vector<std::uint8_t> bytes(std::istreambuf_iterator<char>(file), {});
     gate::Module module(bytes);
     judge(bytes);
+    explain(bytes);
     call(module);
     exports(module);
     run(module, bytes);

@@ -83,6 +83,10 @@ static void read_after_free(void) {
 
 static void null_verdict(void) { WRONG("gate_check: verdict is null", gate_check(bytes, sizeof LOOP, NULL)); }
 
+static void null_explanation(void) { WRONG("gate_explain: explanation is null", gate_explain(bytes, sizeof LOOP, NULL)); }
+
+static void null_text(void) { WRONG("gate_explain_text: out is null", gate_explain_text(bytes, sizeof LOOP, NULL, ROOM, &length)); }
+
 static void null_bytes(void) { WRONG("gate_check: bytes is null", gate_check(NULL, 8, &verdict)); }
 
 static void null_settings(void) {
@@ -189,9 +193,9 @@ static void bytes_freed(void) {
 
 static void (*const uses[])(void) = {
     null_module_freed, null_report_freed, module_freed_twice, report_freed_twice, called_after_free, shared_after_free, read_after_free,
-    null_verdict, null_bytes, null_settings, null_line, length_within_out, out_within_module, verdict_within_bytes, misaligned, too_long,
-    bytes_unmapped, calls_unmapped, bytes_changed, own_handle, other_handle, two_threads, counted_after_free, null_found,
-    types_in_one_place,
+    null_verdict, null_explanation, null_text, null_bytes, null_settings, null_line, length_within_out, out_within_module,
+    verdict_within_bytes, misaligned, too_long, bytes_unmapped, calls_unmapped, bytes_changed, own_handle, other_handle, two_threads,
+    counted_after_free, null_found, types_in_one_place,
 #ifdef HAS_SANITIZER
     out_shorter, bytes_freed,
 #endif

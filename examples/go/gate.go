@@ -1,7 +1,7 @@
 // Package gate is a proved validator and sandbox for WebAssembly, over the library libgate.
 //
 //	if err := gate.Check(module); err != nil {
-//		return err // gate.Refusal, the first reason, or gate.ErrNoMemory
+//		return err // gate.Explanation, which says where and why, or gate.ErrNoMemory
 //	}
 //
 // A module that is called often is judged once:
@@ -42,20 +42,20 @@ func Revision() uint32 {
 	return uint32(C.gate_revision())
 }
 
-// Check judges a module: nil where it is accepted, else its Refusal or ErrNoMemory.
+// Check judges a module: nil where it is accepted, else its Explanation or ErrNoMemory.
 func Check(module []byte) error {
 	var verdict C.gate_verdict
 	at, length := inC(module)
-	return judged(C.gate_check(at, length, &verdict), &verdict)
+	return judged(C.gate_check(at, length, &verdict), module)
 }
 
-// judged is what a status and a verdict say of a module.
-func judged(status C.uint32_t, verdict *C.gate_verdict) error {
+// judged is what a status says of a module.
+func judged(status C.uint32_t, module []byte) error {
 	switch status {
 	case C.GATE_OK:
 		return nil
 	case C.GATE_MODULE_REFUSED:
-		return refusalOf(verdict)
+		return refused(module)
 	case C.GATE_NO_MEMORY:
 		return ErrNoMemory
 	}

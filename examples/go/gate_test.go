@@ -165,16 +165,81 @@ func TestVerdicts(t *testing.T) {
 	}
 	for place, row := range table {
 		got := Check(row.module)
-		if got != row.wanted || got != nil && got.Error() != row.line {
+		var refusal Refusal
+		if !errors.Is(got, row.wanted) || errors.As(got, &refusal) && refusal.Error() != row.line {
 			t.Errorf("row %d: %v", place, got)
 		}
 		module, err := NewModule(row.module)
-		if err != row.wanted {
+		if err != got {
 			t.Errorf("row %d, as a module: %v", place, err)
 		}
 		if err == nil {
 			module.Close()
 		}
+	}
+}
+
+// A body that is malformed: the two bytes of memory.fill, which Core 1.0 does not have.
+func TestExplanationOfAMalformedBody(t *testing.T) {
+	fill := bytes.Join([][]byte{[]byte(header), section(1, []byte{1, 0x60, 0, 0}), section(3, []byte{1, 0}),
+		section(10, []byte{1, 4, 0, 0xfc, 0x0b, 0x0b})}, nil)
+	because := "fc 0b is memory.fill, of bulk memory (Core 2.0), which gate does not admit"
+	_, err := NewModule(fill)
+	var found Explanation
+	if !errors.As(err, &found) || found.Refusal != (Refusal{Kind: BodyMalformed}) || err.Error() != "refused body 0 malformed: "+because {
+		t.Fatal(err)
+	}
+	if offset, isTold := found.Offset(); offset != 23 || !isTold || found.Why != 402 || found.Because() != because {
+		t.Error(offset, isTold, found)
+	}
+	if from, to, isTold := found.Body(); from != 22 || to != 26 || !isTold {
+		t.Error(from, to, isTold)
+	}
+	if from, to, isTold := found.Place(); from != 23 || to != 23 || !isTold {
+		t.Error(from, to, isTold)
+	}
+	section, hasSection := found.Section()
+	opcode, hasOpcode := found.Opcode()
+	if _, hasItem := found.Item(); section != 10 || !hasSection || opcode != 0xfc || !hasOpcode || hasItem {
+		t.Error(section, hasSection, opcode, hasOpcode, hasItem)
+	}
+	if found.Line("hint") != "build the module with -mcpu=mvp" || found.Line("hin") != "" {
+		t.Error(found.Text)
+	}
+}
+
+func TestExplanations(t *testing.T) {
+	for _, row := range []struct {
+		module       []byte
+		kind         Kind
+		from, to     uint64
+		hasPlace     bool
+		text, suffix string
+	}{
+		// `i32.add` stands at 31, after a `nop`.
+		{moduleOfType([]byte{0, 0}, []byte{0, 1, 0x6a, 0x0b}), BodyIllTyped, 31, 32, true, "refused body 0 ill-typed at 1", ""},
+		{[]byte("\x00asm\x02\x00\x00\x00"), Malformed, 4, 4, true, "refused malformed",
+			": byte 4 is 02, and the version is 01 00 00 00"},
+		{[]byte(header), 0, 0, 0, false, "accepted", ""},
+	} {
+		found, err := Explain(row.module)
+		if err != nil || found.Refusal.Kind != row.kind || Kind(found.Why/100) != row.kind {
+			t.Fatal(found, err)
+		}
+		from, to, isTold := found.Place()
+		if isTold != row.hasPlace || isTold && (from != row.from || to != row.to) {
+			t.Error(found, from, to, isTold)
+		}
+		if !strings.HasPrefix(found.Error(), row.text+row.suffix) || !strings.HasPrefix(found.Text, row.text+"\n") {
+			t.Error(found)
+		}
+	}
+	rule, err := Explain([]byte(header + "\x08\x01\x00"))
+	if err != nil || rule.Refusal != (Refusal{Kind: BrokenRule, Rule: 11}) || !strings.Contains(rule.Because(), "start function") {
+		t.Error(rule, err)
+	}
+	if _, _, hasBody := rule.Body(); hasBody || rule.Why/100 != 3 {
+		t.Error(rule)
 	}
 }
 

@@ -32,12 +32,12 @@ type shared struct {
 	handles atomic.Int32
 }
 
-// NewModule judges a module, of which it takes a copy. The error is its Refusal or ErrNoMemory.
+// NewModule judges a module, of which it takes a copy. The error is its Explanation or ErrNoMemory.
 func NewModule(module []byte) (*Module, error) {
 	bytes := &shared{at: C.CBytes(module)}
 	var verdict C.gate_verdict
 	var handle C.gate_module
-	err := judged(C.gate_module_new((*C.uint8_t)(bytes.at), C.size_t(len(module)), &verdict, &handle), &verdict)
+	err := judged(C.gate_module_new((*C.uint8_t)(bytes.at), C.size_t(len(module)), &verdict, &handle), module)
 	if err != nil {
 		C.free(bytes.at)
 		return nil, err

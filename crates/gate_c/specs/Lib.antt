@@ -10,3 +10,4 @@ pub mod Runs
 pub mod Calls
 pub mod Exported
 pub mod Starts
+pub mod Explained

@@ -69,13 +69,14 @@ func verdictLine(path string) (string, int) {
 	if err != nil {
 		return "cannot be read", 74
 	}
-	switch err := gate.Check(module); err {
-	case nil:
+	var refusal gate.Refusal
+	switch err := gate.Check(module); {
+	case err == nil:
 		return "accepted", 0
-	case gate.ErrNoMemory:
-		return "no memory", 70
+	case errors.As(err, &refusal):
+		return refusal.Error(), 0
 	default:
-		return err.Error(), 0
+		return "no memory", 70
 	}
 }
 
@@ -127,7 +128,8 @@ func call(path, name string, words []string) (int, error) {
 		return 0, err
 	}
 	module, err := gate.NewModule(bytes)
-	if refusal, isRefused := err.(gate.Refusal); isRefused {
+	var refusal gate.Refusal
+	if errors.As(err, &refusal) {
 		return 2, write(refusal.Error() + "\n")
 	}
 	if err != nil {

@@ -30,6 +30,12 @@ class CVerdict(Structure):
     _fields_ = [('kind', c_uint32), ('rule', c_uint32), ('function', c_uint32), ('token', c_uint64)]
 
 
+class CExplanation(Structure):
+    # `from` is a word of Python.
+    _fields_ = [('verdict', CVerdict), ('why', c_uint32), ('section', c_uint32), ('opcode', c_uint32), ('item', c_uint64),
+                ('body_from', c_uint64), ('body_to', c_uint64), ('begin', c_uint64), ('end', c_uint64)]
+
+
 class CSettings(Structure):
     _fields_ = [('fuel', c_uint32), ('frames', c_uint32), ('pages', c_uint32)]
 
@@ -62,6 +68,8 @@ FUNCTIONS = {
     'gate_version': (c_uint32, []),
     'gate_check': (c_uint32, TEXT + [POINTER(CVerdict)]),
     'gate_verdict_line': (c_uint32, [POINTER(CVerdict)] + WRITTEN),
+    'gate_explain': (c_uint32, TEXT + [POINTER(CExplanation)]),
+    'gate_explain_text': (c_uint32, TEXT + WRITTEN),
     'gate_run': (c_uint32, TEXT + TEXT + [POINTER(CSettings)] + WRITTEN + [POINTER(CReport)]),
     'gate_report_read': (c_uint32, [CReport] + WRITTEN),
     'gate_report_free': (None, [CReport]),

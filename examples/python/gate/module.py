@@ -11,11 +11,11 @@ from typing import Any, NoReturn
 
 from gate._library import MODULE_REFUSED, OK, Bytes, CCall, CModule, CValue, CVerdict, expect, library, whole
 from gate.ends import End, end_of
+from gate.explanation import ModuleRefused, explain
 from gate.exports import Export, arguments_for, exports_of, find
 from gate.report import Report, fetch
 from gate.settings import DEFAULT, Settings
 from gate.values import Value, name_bytes
-from gate.verdict import ModuleRefused, verdict_of
 
 
 def _free(handle: CModule, _held: object) -> None:
@@ -24,7 +24,7 @@ def _free(handle: CModule, _held: object) -> None:
 
 
 class Module:
-    """An accepted module. A refused one raises `ModuleRefused`.
+    """An accepted module. A refused one raises `ModuleRefused`, which says where and why.
 
     The object keeps a copy of the bytes. It is used by one thread at a time: a lock makes the others wait. For calls side by
     side each thread has a `Module` of its own, by `share`. `close`, or leaving a `with`, frees it; later uses raise `ValueError`.
@@ -35,7 +35,7 @@ class Module:
         held = ctypes.create_string_buffer(data, len(data))
         said, handle = CVerdict(), CModule()
         if expect(library.gate_module_new(held, len(data), said, handle), OK, MODULE_REFUSED) == MODULE_REFUSED:
-            raise ModuleRefused(verdict_of(said))
+            raise ModuleRefused(explain(data))
         self._own(handle, held)
 
     def _own(self, handle: CModule, held: object) -> None:

@@ -58,14 +58,6 @@ class Verdict:
         return ctypes.string_at(out, length.value).decode().rstrip('\n')
 
 
-class ModuleRefused(ValueError):
-    """A module that was to be called is refused; `verdict` says why."""
-
-    def __init__(self, verdict: Verdict) -> None:
-        super().__init__(verdict)
-        self.verdict = verdict
-
-
 def verdict_of(said: CVerdict) -> Verdict:
     """The verdict of the numbers that the library wrote."""
     return Verdict(Refusal(said.kind) if said.kind else None, said.rule, said.function, said.token)

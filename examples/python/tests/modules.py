@@ -17,6 +17,12 @@ HOST = os.path.join(HERE, '..', 'host.py')
 HEADER = b'\0asm\1\0\0\0'
 # One body that gives i32 where nothing is wanted.
 ILL_TYPED = HEADER + bytes.fromhex('01 04 01 60 00 00 03 02 01 00 0a 06 01 04 00 41 00 0b')
+# One body that begins with the two bytes of memory.fill, which Core 1.0 does not have.
+FILL = HEADER + bytes.fromhex('01 04 01 60 00 00 03 02 01 00 0a 06 01 04 00 fc 0b 0b')
+# A start function that does not exist.
+NO_START = HEADER + bytes.fromhex('08 01 00')
+# The bytes of another version.
+VERSION_2 = b'\0asm\2\0\0\0'
 RESULTS = 20
 # `many` of type [] -> [i32 x 20] gives 0, 1 .. 19.
 MANY = (HEADER + bytes([1, 4 + RESULTS, 1, 0x60, 0, RESULTS]) + b'\x7f' * RESULTS + bytes([3, 2, 1, 0]) + b'\x07\x08\x01\x04many\0\0'

@@ -71,7 +71,7 @@ class Calls(unittest.TestCase):
     def test_refused(self) -> None:
         with self.assertRaises(gate.ModuleRefused) as caught:
             gate.Module(ILL_TYPED)
-        self.assertEqual(str(caught.exception), 'refused body 0 ill-typed at 1')
+        self.assertEqual(str(caught.exception.verdict), 'refused body 0 ill-typed at 1')
 
 
 class Handles(unittest.TestCase):

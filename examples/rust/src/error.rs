@@ -1,5 +1,5 @@
 //! What else than an answer may come.
-use crate::Refusal;
+use crate::{Explanation, Refusal};
 use std::error::Error;
 use std::fmt;
 
@@ -27,19 +27,39 @@ pub(crate) fn beyond_interface(what: &str, told: impl fmt::Display) -> ! {
     panic!("libgate answers the {what} {told}, which interface 1 does not have")
 }
 
-/// Why a module is not accepted.
-#[derive(Clone, Copy, Debug, PartialEq, Eq, Hash)]
+/// Why a module is not accepted. A refusal displays as a sentence that says why.
+#[derive(Clone, Debug, PartialEq, Eq, Hash)]
 pub enum CheckError {
-    /// It is refused, and this is the first reason.
-    Refused(Refusal),
+    /// It is refused, and this says where and why.
+    Refused(Box<Explanation>),
     /// Memory was refused: the module may be of either kind.
     NoMemory,
+}
+
+impl CheckError {
+    /// What is said of a module that is refused.
+    pub fn explanation(&self) -> Option<&Explanation> {
+        match self {
+            CheckError::Refused(explanation) => Some(explanation),
+            CheckError::NoMemory => None,
+        }
+    }
+
+    /// The first reason to refuse it.
+    pub fn refusal(&self) -> Option<Refusal> {
+        self.explanation().and_then(Explanation::refusal)
+    }
+
+    /// The offset of the first byte that is refused, or where reading stopped.
+    pub fn offset(&self) -> Option<u64> {
+        self.explanation().and_then(Explanation::offset)
+    }
 }
 
 impl fmt::Display for CheckError {
     fn fmt(&self, f: &mut fmt::Formatter<'_>) -> fmt::Result {
         match self {
-            CheckError::Refused(refusal) => write!(f, "refused {refusal}"),
+            CheckError::Refused(explanation) => explanation.fmt(f),
             CheckError::NoMemory => NoMemory.fmt(f),
         }
     }
@@ -47,9 +67,9 @@ impl fmt::Display for CheckError {
 
 impl Error for CheckError {}
 
-impl From<Refusal> for CheckError {
-    fn from(refusal: Refusal) -> Self {
-        CheckError::Refused(refusal)
+impl From<Explanation> for CheckError {
+    fn from(explanation: Explanation) -> Self {
+        CheckError::Refused(Box::new(explanation))
     }
 }
 

@@ -4,7 +4,7 @@
 //! use gate::{check, Module, Settings};
 //!
 //! let bytes = std::fs::read("../fold.wasm")?;
-//! check(&bytes)?; // or the first reason to refuse it
+//! check(&bytes)?; // or where and why it is refused
 //!
 //! let module = Module::new(&bytes)?; // judged once, called often
 //! let limits = Settings::new(100, 16, 1)?; // fuel, frames, pages of memory
@@ -19,6 +19,7 @@
 //! unwinds out of it. Fuel and pages bound a call; a check has no limit but the module's length, and nothing interrupts either.
 mod call;
 mod error;
+mod explanation;
 mod export;
 mod module;
 mod report;
@@ -31,6 +32,7 @@ use gate_sys as ffi;
 pub use call::{Call, End, NotStarted, Trap};
 pub use error::{CheckError, NoMemory};
 pub use export::{Export, FunctionType, Item, ValueType};
+pub use explanation::{explain, Explanation};
 pub use module::{Module, SharedModule};
 pub use report::{run, Report, Status};
 pub use settings::{Settings, SettingsError};

@@ -1,7 +1,7 @@
 //! An accepted module: judged once, called often.
 use crate::error::{self, beyond_interface};
 use crate::ffi;
-use crate::{Call, CheckError, End, NoMemory, NotStarted, Refusal, Report, Settings, Value};
+use crate::{explain, Call, CheckError, End, NoMemory, NotStarted, Report, Settings, Value};
 use std::marker::PhantomData;
 use std::ptr;
 use std::slice;
@@ -65,7 +65,7 @@ impl<'a> Module<'a> {
         // SAFETY: the bytes stay as they are until the handle is freed, since `Module` borrows them.
         match unsafe { ffi::gate_module_new(bytes.as_ptr(), bytes.len(), &mut verdict, &mut handle) } {
             ffi::GATE_OK => Ok(Self::of(handle, None)),
-            ffi::GATE_MODULE_REFUSED => Err(Refusal::of(&verdict).into()),
+            ffi::GATE_MODULE_REFUSED => Err(explain(bytes)?.into()),
             ffi::GATE_NO_MEMORY => Err(CheckError::NoMemory),
             status => beyond_interface("status", status),
         }

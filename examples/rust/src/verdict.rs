@@ -1,7 +1,7 @@
 //! Whether bytes are a module, and if not, the first reason.
 use crate::error::beyond_interface;
 use crate::ffi;
-use crate::{CheckError, NoMemory};
+use crate::{explain, CheckError, NoMemory};
 use std::error::Error;
 use std::fmt;
 
@@ -44,6 +44,16 @@ pub enum BodyFault {
         /// The first token that no completion can save, from 0; `end` and `else` are tokens.
         token: u64,
     },
+}
+
+impl Verdict {
+    /// The verdict that the numbers of the library tell.
+    pub(crate) fn of(verdict: &ffi::gate_verdict) -> Self {
+        match verdict.kind {
+            0 => Verdict::Accepted,
+            _ => Verdict::Refused(Refusal::of(verdict)),
+        }
+    }
 }
 
 impl Refusal {
@@ -125,13 +135,13 @@ pub fn judge(bytes: &[u8]) -> Result<Verdict, NoMemory> {
 ///
 /// // A start section that names a function that does not exist.
 /// let error = gate::check(b"\0asm\x01\0\0\0\x08\x01\0").unwrap_err();
-/// assert_eq!(error, gate::CheckError::Refused(gate::Refusal::Rule(11)));
-/// assert_eq!(error.to_string(), "refused rule 11");
+/// assert_eq!(error.refusal(), Some(gate::Refusal::Rule(11)));
+/// assert!(error.to_string().starts_with("refused rule 11: "));
 /// ```
 pub fn check(bytes: &[u8]) -> Result<(), CheckError> {
     match judge(bytes)? {
         Verdict::Accepted => Ok(()),
-        Verdict::Refused(refusal) => Err(refusal.into()),
+        Verdict::Refused(_) => Err(explain(bytes)?.into()),
     }
 }
 
@@ -158,11 +168,7 @@ mod tests {
                 function: if kind >= 4 { function } else { 0 },
                 token: if kind == 6 { token } else { 0 },
             };
-            let verdict = match kind {
-                0 => Verdict::Accepted,
-                _ => Verdict::Refused(Refusal::of(&numbers)),
-            };
-            assert_eq!(format!("{verdict}\n"), library_line(&numbers));
+            assert_eq!(format!("{}\n", Verdict::of(&numbers)), library_line(&numbers));
         }
     }
 }

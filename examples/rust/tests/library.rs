@@ -1,6 +1,6 @@
 //! The crate over the library, on modules whose answers are known.
 use gate::{
-    check, judge, run, BodyFault, CheckError, End, Export, FunctionType, Item, Module, NoMemory, NotStarted, Refusal, Settings,
+    check, explain, judge, run, BodyFault, CheckError, End, Export, FunctionType, Item, Module, NoMemory, NotStarted, Refusal, Settings,
     SettingsError, SharedModule, Status, Trap, Value, ValueError, ValueType, Verdict,
 };
 use std::error::Error;
@@ -71,13 +71,57 @@ fn verdicts() {
     ];
     for (bytes, verdict) in table {
         assert_eq!(judge(&bytes), Ok(verdict));
+        let found = explain(&bytes).unwrap();
+        assert_eq!(
+            (found.verdict(), found.text().lines().next()),
+            (verdict, Some(verdict.to_string().as_str()))
+        );
         let wanted = match verdict {
             Verdict::Accepted => Ok(()),
-            Verdict::Refused(refusal) => Err(CheckError::Refused(refusal)),
+            Verdict::Refused(_) => Err(CheckError::from(found)),
         };
         assert_eq!(check(&bytes), wanted);
         assert_eq!(Module::new(&bytes).map(drop), wanted);
     }
+}
+
+/// A body that is malformed: the two bytes of memory.fill, which Core 1.0 does not have.
+#[test]
+fn an_explanation_of_a_malformed_body() {
+    let because = "fc 0b is memory.fill, of bulk memory (Core 2.0), which gate does not admit";
+    let bytes = module(&[(1, &[1, 0x60, 0, 0]), (3, &[1, 0]), (10, &[1, 4, 0, 0xfc, 0x0b, 0x0b])]);
+    let error = Module::new(&bytes).unwrap_err();
+    let found = error.explanation().unwrap();
+    assert_eq!((error.offset(), found.because()), (Some(23), Some(because)));
+    assert_eq!(
+        (found.why(), found.section(), found.item(), found.opcode()),
+        (402, Some(10), None, Some(0xfc))
+    );
+    assert_eq!((found.body(), found.place()), (Some(22..26), Some(23..23)));
+    assert_eq!(found.line("hint"), Some("build the module with -mcpu=mvp"));
+    assert_eq!(found.line("hin"), None);
+    assert_eq!(error.to_string(), format!("refused body 0 malformed: {because}"));
+}
+
+#[test]
+fn explanations_of_other_modules() {
+    // `i32.add` stands at 24, after a `nop`.
+    let ill_typed = explain(&module(&[(1, &[1, 0x60, 0, 0]), (3, &[1, 0]), (10, &[1, 4, 0, 0x01, 0x6a, 0x0b])])).unwrap();
+    assert_eq!(
+        (ill_typed.why() / 100, ill_typed.opcode(), ill_typed.place()),
+        (6, Some(0x6a), Some(24..25))
+    );
+    let rule = explain(&module(&[(8, &[0])])).unwrap();
+    assert_eq!((rule.refusal(), rule.why() / 100, rule.body()), (Some(Refusal::Rule(11)), 3, None));
+    assert!(rule.because().unwrap().contains("start function"));
+    let version = explain(b"\0asm\x02\0\0\0").unwrap();
+    assert_eq!((version.why(), version.offset(), version.place()), (205, Some(4), Some(4..4)));
+    let accepted = explain(HEADER).unwrap();
+    assert_eq!((accepted.why(), accepted.text(), accepted.because()), (0, "accepted\n", None));
+    assert_eq!(
+        (accepted.offset(), accepted.section(), accepted.to_string()),
+        (None, None, "accepted".to_string())
+    );
 }
 
 #[test]
@@ -111,7 +155,10 @@ fn ends_of_reports() {
 #[test]
 fn errors_are_errors() {
     let errors: [(Box<dyn Error>, &str); 7] = [
-        (check(b"").unwrap_err().into(), "refused malformed"),
+        (
+            check(b"\0asm\x02\0\0\0").unwrap_err().into(),
+            "refused malformed: byte 4 is 02, and the version is 01 00 00 00",
+        ),
         (Refusal::Rule(3).into(), "rule 3"),
         (NoMemory.into(), "no memory"),
         (ValueError.into(), "a value is i32:N or i64:N, with N in its range"),
@@ -362,7 +409,7 @@ fn threads_have_one_module_in_common() {
         own.call("stop", &[], Settings::default()).unwrap().end,
         End::Trap(Trap::Unreachable)
     );
-    assert_eq!(SharedModule::new(vec![]).unwrap_err(), CheckError::Refused(Refusal::Malformed));
+    assert_eq!(SharedModule::new(vec![]).unwrap_err().refusal(), Some(Refusal::Malformed));
     assert!(SharedModule::from(own).module().is_ok());
 }
 

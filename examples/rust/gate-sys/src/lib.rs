@@ -34,6 +34,35 @@ pub struct gate_verdict {
     pub token: u64,
 }
 
+/// A number of 64 bits that is not told.
+pub const GATE_NONE: u64 = u64::MAX;
+/// A number of 32 bits that is not told.
+pub const GATE_NONE_32: u32 = u32::MAX;
+
+/// Where and why a module is refused. Offsets count the bytes of the module.
+#[repr(C)]
+#[derive(Clone, Copy, Debug, Default)]
+pub struct gate_explanation {
+    /// That of `gate_check`.
+    pub verdict: gate_verdict,
+    /// `enum gate_why`.
+    pub why: u32,
+    /// The id of the section in which it stands.
+    pub section: u32,
+    /// The first byte of the token that is refused, or with which no token begins.
+    pub opcode: u32,
+    /// The place in the section, from 0.
+    pub item: u64,
+    /// The refused body, without its size.
+    pub body_from: u64,
+    /// The offset after it.
+    pub body_to: u64,
+    /// The token or the item, or where reading stopped.
+    pub from: u64,
+    /// The offset after it; the same where reading stopped.
+    pub to: u64,
+}
+
 /// The limits of each call.
 #[repr(C)]
 #[derive(Clone, Copy, Debug, Default)]
@@ -107,6 +136,7 @@ const fn is_laid_out<T>(size: usize, alignment: usize) -> bool {
 }
 
 const _: () = assert!(is_laid_out::<gate_verdict>(24, 8) && is_laid_out::<gate_settings>(12, 4));
+const _: () = assert!(is_laid_out::<gate_explanation>(80, 8));
 const _: () = assert!(is_laid_out::<gate_report>(8, 8) && is_laid_out::<gate_module>(8, 8));
 const _: () = assert!(is_laid_out::<gate_value>(16, 8) && is_laid_out::<gate_call>(24, 8));
 const _: () = assert!(is_laid_out::<gate_export>(16, 4));
@@ -120,6 +150,12 @@ extern "C" {
 
     /// Writes the line of a verdict.
     pub fn gate_verdict_line(verdict: *const gate_verdict, out: *mut u8, room: usize, length: *mut usize) -> u32;
+
+    /// Judges a module, and says of a refusal where and why.
+    pub fn gate_explain(bytes: *const u8, bytes_length: usize, explanation: *mut gate_explanation) -> u32;
+
+    /// The same as a text.
+    pub fn gate_explain_text(bytes: *const u8, bytes_length: usize, out: *mut u8, room: usize, length: *mut usize) -> u32;
 
     /// Judges a module, and runs the calls of a text.
     pub fn gate_run(

@@ -105,7 +105,7 @@ fn call(module: &OsStr, name: &str, args: &[Value]) -> Result<u8, Failure> {
     let module = match Module::new(&bytes) {
         Ok(module) => module,
         Err(CheckError::NoMemory) => return Err(Failure::NoMemory),
-        Err(refused) => return print(format_args!("{refused}\n")).map(|()| 2),
+        Err(CheckError::Refused(found)) => return print(format_args!("{}\n", found.verdict())).map(|()| 2),
     };
     print(format_args!("{}\n", module.call(name, args, Settings::default())?))?;
     Ok(0)

@@ -1,0 +1,118 @@
+//! An explanation as numbers: `gate_explanation` of gate.h.
+
+ghost use Rattle.std.specs.Prelude.{◌≡◌, IfSome, option_map};
+ghost use Rattle.explain.specs.Told.{verdict_told};
+ghost use Rattle.gate_c.specs.Explained.{kind_number, numbers_with, short, wide};
+ghost use Rattle.gate_c.specs.Verdicts.{numbers_of, status_of};
+
+use crate::judged::GateVerdict;
+use crate::status::{MODULE_REFUSED, OK};
+use explain::{Explanation, Kind};
+
+/// An explanation. Of what is not told the number is the greatest of its width.
+#[repr(C)]
+#[derive(Clone, Copy)]
+pub struct GateExplanation {
+    pub verdict: GateVerdict,
+    /// A kind, whose hundreds are the kind of the verdict.
+    pub why: u32,
+    /// The id of the section in which the rest lies.
+    pub section: u32,
+    /// The first byte of the token that is refused, or with which no token begins.
+    pub opcode: u32,
+    /// The place of the refused item in its section, from 0; none of a body.
+    pub item: u64,
+    /// The bytes of the refused body.
+    pub body_from: u64,
+    pub body_to: u64,
+    /// The bytes of the refused token; the same offset twice where reading stopped.
+    pub from: u64,
+    pub to: u64,
+}
+
+const _: () = prove!(size_of::<GateExplanation>() == 80 && align_of::<GateExplanation>() == 8);
+
+/// The number of a kind, as `gate_why` of gate.h has it.
+fn number_of_kind(kind: Kind) -> u32
+    ensures { result ≡ kind_number kind }
+{
+    match kind {
+        Kind::Accepted | Kind::Memory => 0,
+        Kind::TooLarge => 100,
+        Kind::Text => 201,
+        Kind::Gzip => 202,
+        Kind::ShortHeader => 203,
+        Kind::Magic => 204,
+        Kind::Version => 205,
+        Kind::Sections => 206,
+        Kind::Rule => 300,
+        Kind::BodyMalformed => 400,
+        Kind::Locals => 401,
+        Kind::Token => 402,
+        Kind::Else => 403,
+        Kind::Left => 404,
+        Kind::ShortBody => 405,
+        Kind::TooManyLocals => 500,
+        Kind::IllTyped => 600,
+    }
+}
+
+/// A number of 64 bits.
+fn wide_number(told: Option<usize>) -> u64
+    ensures { result ≡ wide told }
+{
+    match told {
+        Some(number) => number as u64,
+        None => u64::MAX,
+    }
+}
+
+/// A number of 32 bits.
+fn short_number(told: Option<u8>) -> u32
+    ensures { result ≡ short told }
+{
+    match told {
+        Some(number) => u32::from(number),
+        None => u32::MAX,
+    }
+}
+
+/// The numbers of the verdict; `None` where memory was refused.
+fn verdict_of(found: &Explanation<'_>) -> Option<GateVerdict>
+    ensures { result ≡ option_map numbers_of (verdict_told found.now) }
+{
+    match found.judged() {
+        Ok(()) => Some(GateVerdict::accepted()),
+        Err(refusal) => GateVerdict::of_refusal(refusal),
+    }
+}
+
+/// The status that goes with the verdict.
+pub(crate) fn status_with(found: &Explanation<'_>) -> u32
+    ensures { IfSome (verdict_told found.now) (λ v. result ≡ status_of v) }
+{
+    match found.judged() {
+        Ok(()) => OK,
+        Err(_) => MODULE_REFUSED,
+    }
+}
+
+impl GateExplanation {
+    /// The numbers of an explanation; `None` where memory was refused.
+    pub(crate) fn of(found: &Explanation<'_>) -> Option<GateExplanation>
+        ensures { result ≡ option_map (numbers_with found.now) (verdict_told found.now) }
+    {
+        let body = found.body();
+        Some(GateExplanation {
+            verdict: verdict_of(found)?,
+            why: number_of_kind(found.kind()),
+            section: short_number(found.section()),
+            opcode: short_number(found.opcode()),
+            item: wide_number(found.item()),
+            body_from: wide_number(body.map(|span| span.from)),
+            body_to: wide_number(body.map(|span| span.to)),
+            from: wide_number(found.offset()),
+            to: wide_number(found.end()),
+        })
+    }
+}
