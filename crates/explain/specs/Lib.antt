@@ -4,3 +4,4 @@ pub mod Places
 pub mod Texts
 pub mod Told
 pub mod Typed
+pub mod Causes
