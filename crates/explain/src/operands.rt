@@ -58,12 +58,13 @@ fn entered(
     is_if: bool,
 ) -> Result<Option<Operands>, AllocError>
     ensures { IfOk result (λ o. option_map (λ x. reverse x.items) o
-        ≡ option_map (λ s. map Some (indexed is_if (enter s))) (block_sig checker.now.outside.types block)) }
+        ≡ option_map (λ s. map Some (indexed is_if (enter s))) (block_sig checker.now.inside.types block)) }
 {
+    let context = checker.context();
     match checker.block_lists(block) {
         None => Ok(None),
         Some(pair) => {
-            let operands = listed(alloc, checker.context().list(pair.params), is_if)?;
+            let operands = listed(alloc, context.list(pair.params), is_if)?;
             Ok(Some(operands))
         }
     }
@@ -83,7 +84,8 @@ pub(crate) fn takes_of(
         return Ok(None);
     };
     match token {
-        Token::Block(block) | Token::Loop(block) => entered(alloc, checker, block, false),
+        Token::Block(block) => entered(alloc, checker, block, false),
+        Token::Loop(block) => entered(alloc, checker, block, false),
         Token::If { block, target: _ } => entered(alloc, checker, block, true),
         Token::Else { .. } | Token::End => {
             let operands = listed(alloc, frame.gives, false)?;

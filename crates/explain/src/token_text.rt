@@ -79,10 +79,5 @@ pub(crate) fn push_instruction(
 
 /// A token.
 pub(crate) fn push_token(text: &mut String, found: &FoundToken) -> Result<(), AllocError> {
-    push_instruction(
-        text,
-        found.opcode,
-        found.token,
-        found.targets.as_slice(),
-    )
+    push_instruction(text, found.opcode, found.token, found.targets.as_slice())
 }

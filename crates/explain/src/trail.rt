@@ -156,7 +156,12 @@ impl Trail {
     }
 
     /// Opens a block that takes so many operands.
-    fn open(&mut self, kind: BlockKind, takes: usize, passed: &Passed<'_>) -> Result<(), AllocError> {
+    fn open(
+        &mut self,
+        kind: BlockKind,
+        takes: usize,
+        passed: &Passed<'_>,
+    ) -> Result<(), AllocError> {
         let below = passed.before.height.saturating_sub(takes);
         let base = self.base().saturating_add(below);
         let opening = Opening {
@@ -195,7 +200,11 @@ impl Trail {
     }
 
     /// Goes on by a token.
-    pub(crate) fn note(&mut self, context: &Context, passed: &Passed<'_>) -> Result<(), AllocError> {
+    pub(crate) fn note(
+        &mut self,
+        context: &Context,
+        passed: &Passed<'_>,
+    ) -> Result<(), AllocError> {
         let own = self.note_blocks(context, passed)?;
         let height = self.base().saturating_add(passed.after.height);
         self.shrink_to(height.saturating_sub(own));

@@ -11,7 +11,9 @@ const SHOWN: usize = 32;
 
 /// The last of a list, as many as are shown.
 fn last_shown<T>(items: &[T]) -> &[T] {
-    items.get(items.len().saturating_sub(SHOWN)..).unwrap_or(items)
+    items
+        .get(items.len().saturating_sub(SHOWN)..)
+        .unwrap_or(items)
 }
 
 /// A list of operands, the topmost last.
@@ -30,7 +32,11 @@ fn push_operands(
             None => unknown,
         })?;
     }
-    text.push_str(if operands.is_empty() { " nothing\n" } else { "\n" })
+    text.push_str(if operands.is_empty() {
+        " nothing\n"
+    } else {
+        "\n"
+    })
 }
 
 /// The line on the tokens that gave operands.

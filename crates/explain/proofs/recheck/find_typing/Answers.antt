@@ -1,0 +1,30 @@
+use Rattle.std.proofs.Common.{subst, List, ℕ}
+use Rattle.wsyntax.specs.Modules.{seen}
+use Rattle.explain.specs.Typed.{IsTypingIn}
+use Rattle.explain.proofs.Lefts.{token_read}
+use Rattle.explain.proofs.Typings.{from_beginning}
+use Rattle.explain.proofs.recheck.find_typing.Goals as goal
+
+pub returns : goal.returns
+returns c =
+    let C = c.args.context.now.context in
+    let runs = c.in_ok-runs.runs.items in
+    let code = c.in_ok-runs.code.now in
+    let now = c.pass_tokens.new.checker in
+    let targets = c.token_at.new.targets.items in
+    let t = c.in_ok-token.token in
+    let left = c.in_ok-rest.rest.now in
+    record {
+      runs = runs;
+      code = code;
+      declared = c.in_ok-runs.ensures;
+      now = now;
+      before = from_beginning C c.new-checker.result.outside c.args.func runs c.deref.result.now code c.args.number c.begin.new.self now
+          c.in_ok-rest.ensures.passed c.in_ok-begin.ensures.begun c.new-checker.ensures.outside c.deref.ensures.value;
+      left = left;
+      rest = c.in_ok-rest.ensures.left;
+      token = seen targets t;
+      after = c.in_ok-token._after.now;
+      next = token_read left c.in_ok-token._after.now targets t c.in_ok-token.ensures.ok.2;
+      so = subst (λ (ts : List ℕ). IsTypingIn now.inside (seen ts t) now.frames c.in_ok-typing.typing) c.deref-2.ensures.value c.in_ok-typing.ensures;
+    }
