@@ -2,3 +2,5 @@ pub mod Exports
 pub mod Fronts
 pub mod Lefts
 pub mod Typings
+pub mod Misfits
+pub mod Refused

@@ -5,3 +5,4 @@ pub mod Places
 pub mod Texts
 pub mod Told
 pub mod Typed
+pub mod Causes

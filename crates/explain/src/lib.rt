@@ -2,6 +2,9 @@
 #![tactic(auto)]
 
 mod bodies;
+mod cause;
+mod cause_text;
+mod causes;
 mod explaining;
 mod explanation;
 mod faults;
@@ -24,6 +27,7 @@ mod type_text;
 mod typing;
 mod typing_text;
 
+pub use cause::{Cause, Space};
 pub use explaining::explain;
 pub use explanation::{
     BodyFault, Explanation, FoundToken, NoModule, RefusedBody, Signature, Span, Stop, Stopped,

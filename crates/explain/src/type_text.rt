@@ -18,7 +18,7 @@ pub(crate) fn type_name(of_type: ValType) -> &'static str {
 }
 
 /// A list of types between brackets.
-fn push_types(text: &mut String, types: &[ValType]) -> Result<(), AllocError> {
+pub(crate) fn push_types(text: &mut String, types: &[ValType]) -> Result<(), AllocError> {
     text.push_str("[")?;
     for (place, of_type) in types.get(..SHOWN).unwrap_or(types).iter().enumerate() {
         text.push_str(if place == 0 { "" } else { " " })?;

@@ -1,0 +1,171 @@
+//! Why a token is ill typed, in a sentence.
+
+use crate::cause::{Cause, Space};
+use crate::explanation::FoundToken;
+use crate::opcode_names::name_of_byte;
+use crate::token_text::push_instruction;
+use crate::type_text::{push_signature, push_types, type_name};
+use std::alloc::AllocError;
+use wsyntax::{Token, ValType};
+
+/// An operand of that type.
+fn wanted_words(wanted: Option<ValType>) -> &'static str {
+    match wanted {
+        Some(ValType::I32) => "an i32",
+        Some(ValType::I64) => "an i64",
+        Some(ValType::F32) => "an f32",
+        Some(ValType::F64) => "an f64",
+        None => "an operand",
+    }
+}
+
+/// What the token takes.
+fn push_taken(
+    text: &mut String,
+    found: &FoundToken,
+    wanted: Option<ValType>,
+) -> Result<(), AllocError> {
+    match found.token {
+        Token::BrTable { .. } => text.push_str(name_of_byte(found.opcode))?,
+        _ => push_instruction(text, found.opcode, found.token, &[])?,
+    }
+    text.push_str(" takes ")?;
+    text.push_str(wanted_words(wanted))
+}
+
+/// A place from the top.
+fn push_place(text: &mut String, place: usize) -> Result<(), AllocError> {
+    match place {
+        0 => text.push_str(" on top"),
+        1 => text.push_str(" below the top"),
+        _ => write!(text, " below {place} others"),
+    }
+}
+
+/// The place of an operand that is missing, which is the height of the stack.
+fn push_missing(text: &mut String, place: usize) -> Result<(), AllocError> {
+    match place {
+        0 => text.push_str(", and the stack of the block is empty"),
+        1 => text.push_str(" below the top, and the block has 1 operand"),
+        _ => write!(
+            text,
+            " below {place} others, and the block has {place} operands"
+        ),
+    }
+}
+
+/// How many indices of a space there are.
+fn push_count(text: &mut String, space: Space, count: usize) -> Result<(), AllocError> {
+    let (one, several) = match space {
+        Space::Types => ("type", "types"),
+        Space::Functions => ("function", "functions"),
+        Space::Globals => ("global", "globals"),
+        Space::Locals => ("local", "locals"),
+        Space::Labels => ("label", "labels"),
+    };
+    match count {
+        1 => write!(text, "there is 1 {one}"),
+        _ => write!(text, "there are {count} {several}"),
+    }
+}
+
+/// The name of a space.
+fn space_name(space: Space) -> &'static str {
+    match space {
+        Space::Types => "type",
+        Space::Functions => "function",
+        Space::Globals => "global",
+        Space::Locals => "local",
+        Space::Labels => "label",
+    }
+}
+
+/// An alignment in bytes.
+fn push_alignment(text: &mut String, align: u32, largest: u32) -> Result<(), AllocError> {
+    if align < 32 {
+        let bytes = 1u32 << align;
+        write!(text, "the alignment {bytes} is larger than ")?;
+    } else {
+        write!(text, "the alignment 2^{align} is larger than ")?;
+    }
+    match largest {
+        0 => text.push_str("1 byte"),
+        1 => text.push_str("2 bytes"),
+        2 => text.push_str("4 bytes"),
+        _ => text.push_str("8 bytes"),
+    }
+}
+
+/// Operands that are left where a block ends.
+fn push_left_over(text: &mut String, found: &FoundToken, count: usize) -> Result<(), AllocError> {
+    match count {
+        1 => text.push_str("1 operand is left over at ")?,
+        _ => write!(text, "{count} operands are left over at ")?,
+    }
+    text.push_str(name_of_byte(found.opcode))
+}
+
+/// The sentence on the cause.
+fn push_sentence(text: &mut String, found: &FoundToken, cause: &Cause) -> Result<(), AllocError> {
+    match cause {
+        Cause::Operand {
+            place,
+            wanted,
+            found: other,
+        } => {
+            push_taken(text, found, Some(*wanted))?;
+            push_place(text, *place)?;
+            text.push_str(", and finds ")?;
+            text.push_str(wanted_words(Some(*other)))
+        }
+        Cause::Missing { place, wanted } => {
+            push_taken(text, found, *wanted)?;
+            push_missing(text, *place)
+        }
+        Cause::LeftOver { count } => push_left_over(text, found, *count),
+        Cause::NoElse(signature) => {
+            text.push_str("the if has type ")?;
+            push_signature(text, signature)?;
+            text.push_str(", and an else is missing")
+        }
+        Cause::NoIndex {
+            space,
+            index,
+            count,
+        } => {
+            write!(text, "{} {index} does not exist: ", space_name(*space))?;
+            push_count(text, *space, *count)
+        }
+        Cause::Immutable { global } => write!(text, "global {global} is immutable"),
+        Cause::NoMemory => text.push_str("memory 0 does not exist"),
+        Cause::NoTable => text.push_str("table 0 does not exist"),
+        Cause::Alignment { align, largest } => push_alignment(text, *align, *largest),
+        Cause::Labels {
+            label,
+            takes,
+            others,
+        } => {
+            write!(text, "label {label} of the branch table takes ")?;
+            push_types(text, takes)?;
+            text.push_str(", and its default ")?;
+            push_types(text, others)
+        }
+        Cause::Select { above, below } => write!(
+            text,
+            "select takes two operands of one type, and finds {} and {}",
+            type_name(*above),
+            type_name(*below)
+        ),
+    }
+}
+
+/// The line on the cause.
+pub(crate) fn push_cause(
+    text: &mut String,
+    found: &FoundToken,
+    cause: &Cause,
+) -> Result<(), AllocError> {
+    text.push_str("because   ")?;
+    push_sentence(text, found, cause)?;
+    text.push_str("\n")
+}
