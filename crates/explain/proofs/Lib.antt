@@ -1,3 +1,4 @@
 pub mod Exports
 pub mod Fronts
 pub mod Lefts
+pub mod Shells

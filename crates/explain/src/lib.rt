@@ -12,6 +12,10 @@ mod opcode_names;
 mod places;
 mod quoting;
 mod sections;
+mod shell;
+mod shell_place;
+mod shell_text;
+mod shell_words;
 mod stop_text;
 mod stops;
 mod text;
@@ -22,6 +26,7 @@ pub use explaining::explain;
 pub use explanation::{
     BodyFault, Explanation, FoundToken, NoModule, RefusedBody, Signature, Span, Stop, Stopped,
 };
+pub use shell_place::{FoundSection, OtherSegment, Place, SectionPart, Wanted, Wrong};
 pub use text::explanation_text;
 
 #[cfg(test)]

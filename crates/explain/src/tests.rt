@@ -245,7 +245,10 @@ fn other_verdicts_are_explained(rt: HostRuntime) -> Result<(), Fail> {
         ),
         (
             &[0x00, 0x61, 0x73, 0x6D, 0x01, 0x00, 0x00, 0x00, 0x01],
-            "refused malformed\nbecause   after its first eight bytes, which are right, it has no sections of a module\n",
+            "refused malformed\n\
+             section   1 (type), bytes 8 to 9\n\
+             item      its size, byte 9 (0x9)\n\
+             because   the module ends there, and the size of a section is wanted\n",
         ),
         // A function whose type does not exist.
         (
@@ -264,6 +267,209 @@ fn other_verdicts_are_explained(rt: HostRuntime) -> Result<(), Fail> {
         text_of(rt.alloc(), &large)?.as_str(),
         "refused too-large\nbecause   it has 16777217 bytes, and 16777216 are the most\n"
     );
+    Ok(())
+}
+
+// Of modules that are malformed outside their bodies: the bytes after the first eight, and the lines after the first.
+static SHELLS: [(&[u8], &str); 30] = [
+    (
+        &[0x05, 0x04, 0x01, 0x03, 0x01, 0x02],
+        "section   5 (memory), bytes 8 to 14\n\
+         item      memory 0, byte 11 (0xb)\n\
+         because   the flags 03 are those of a shared memory, of threads (a proposal), which gate does not admit\n\
+         hint      build the module with -mcpu=mvp (docs/GUESTS.md)\n",
+    ),
+    (
+        &[0x05, 0x03, 0x01, 0x04, 0x01],
+        "section   5 (memory), bytes 8 to 13\n\
+         item      memory 0, byte 11 (0xb)\n\
+         because   the flags 04 are those of a 64-bit memory, of 64-bit addresses (Core 3.0), which gate does not admit\n\
+         hint      build the module with --target=wasm32 (docs/GUESTS.md)\n",
+    ),
+    (
+        &[0x0C, 0x01, 0x00],
+        "section   12 (data count), bytes 8 to 11\n\
+         item      its id, byte 8 (0x8)\n\
+         because   12 is the id of the data count section, of bulk memory (Core 2.0), which gate does not admit\n\
+         hint      build the module with -mcpu=mvp (docs/GUESTS.md)\n",
+    ),
+    (
+        &[0x0D, 0x01, 0x00],
+        "section   13 (tag), bytes 8 to 11\n\
+         item      its id, byte 8 (0x8)\n\
+         because   13 is the id of the tag section, of exception handling (Core 3.0), which gate does not admit\n",
+    ),
+    (
+        &[0x0E, 0x01, 0x00],
+        "section   14, bytes 8 to 11\n\
+         item      its id, byte 8 (0x8)\n\
+         because   14 is the id of no section; 0 to 11 are\n",
+    ),
+    (
+        &[0x03, 0x01, 0x00, 0x01, 0x01, 0x00],
+        "section   1 (type), bytes 11 to 14\n\
+         item      its id, byte 11 (0xb)\n\
+         because   it follows section 3, and sections stand in the order of their ids\n",
+    ),
+    (
+        &[0x01, 0x01, 0x00, 0x01, 0x01, 0x00],
+        "section   1 (type), bytes 11 to 14\n\
+         item      its id, byte 11 (0xb)\n\
+         because   it is a second section 1\n",
+    ),
+    (
+        &[0x01, 0x05, 0x01, 0x60, 0x00, 0x00, 0x00],
+        "section   1 (type), bytes 8 to 15\n\
+         item      after its items, byte 14 (0xe)\n\
+         because   section 1 says 5 bytes, and its items take 4\n",
+    ),
+    (
+        &[0x01, 0x03, 0x01, 0x60, 0x00, 0x00],
+        "section   1 (type), bytes 8 to 13\n\
+         item      type 0, byte 13 (0xd)\n\
+         because   section 1 says 3 bytes, and its items take 4\n",
+    ),
+    (
+        &[0x01, 0x63, 0x01],
+        "section   1 (type), bytes 8 to 11\n\
+         item      its size, byte 9 (0x9)\n\
+         because   the size of a section is 99, and the bytes left are 1\n",
+    ),
+    (
+        &[0x01, 0x05, 0x01, 0x60, 0x01, 0x7B, 0x00],
+        "section   1 (type), bytes 8 to 15\n\
+         item      type 0, byte 13 (0xd)\n\
+         because   the byte 7b is v128, of vector instructions (Core 2.0), which gate does not admit\n\
+         hint      build the module with -mcpu=mvp (docs/GUESTS.md)\n",
+    ),
+    (
+        &[0x01, 0x05, 0x01, 0x60, 0x01, 0x05, 0x00],
+        "section   1 (type), bytes 8 to 15\n\
+         item      type 0, byte 13 (0xd)\n\
+         because   05 is not a value type; 7f, 7e, 7d and 7c are\n",
+    ),
+    (
+        &[0x01, 0x03, 0x01, 0x5F, 0x00],
+        "section   1 (type), bytes 8 to 13\n\
+         item      type 0, byte 11 (0xb)\n\
+         because   the byte 5f is that of a struct, of garbage collection (Core 3.0), which gate does not admit\n",
+    ),
+    (
+        &[0x0B, 0x08, 0x01, 0x01, 0x05, 0x68, 0x65, 0x6C, 0x6C, 0x6F],
+        "section   11 (data), bytes 8 to 18\n\
+         item      data segment 0, byte 12 (0xc)\n\
+         because   data segment 0 begins with 01, as a passive one, of bulk memory (Core 2.0), which gate does not admit\n\
+         hint      build the module with -mcpu=mvp (docs/GUESTS.md)\n",
+    ),
+    (
+        &[0x09, 0x05, 0x01, 0x03, 0x00, 0x01, 0x00],
+        "section   9 (element), bytes 8 to 15\n\
+         item      element segment 0, byte 15 (0xf)\n\
+         because   element segment 0 begins with 03, as a declarative one, of reference types (Core 2.0), which gate does not admit\n\
+         hint      build the module with -mcpu=mvp (docs/GUESTS.md)\n",
+    ),
+    (
+        &[0x02, 0x08, 0x01, 0x01, 0x61, 0x01, 0x62, 0x04, 0x00, 0x00],
+        "section   2 (import), bytes 8 to 18\n\
+         item      import 0, byte 15 (0xf)\n\
+         because   the byte 04 is that of a tag, of exception handling (Core 3.0), which gate does not admit\n",
+    ),
+    (
+        &[0x07, 0x05, 0x01, 0x01, 0x61, 0x07, 0x00],
+        "section   7 (export), bytes 8 to 15\n\
+         item      export 0, byte 13 (0xd)\n\
+         because   07 is not the kind of an export; 00, 01, 02 and 03 are\n",
+    ),
+    (
+        &[0x06, 0x06, 0x01, 0x7F, 0x02, 0x41, 0x00, 0x0B],
+        "section   6 (global), bytes 8 to 16\n\
+         item      global 0, byte 12 (0xc)\n\
+         because   02 is not a mutability; 00 and 01 are\n",
+    ),
+    (
+        &[0x04, 0x04, 0x01, 0x6F, 0x00, 0x01],
+        "section   4 (table), bytes 8 to 14\n\
+         item      table 0, byte 11 (0xb)\n\
+         because   the byte 6f is externref, of reference types (Core 2.0), which gate does not admit\n\
+         hint      build the module with -mcpu=mvp (docs/GUESTS.md)\n",
+    ),
+    (
+        &[0x03, 0x06, 0x81, 0x80, 0x80, 0x80, 0x80, 0x00],
+        "section   3 (function), bytes 8 to 16\n\
+         item      its count, byte 10 (0xa)\n\
+         because   the number there, a count, has more than 5 bytes\n",
+    ),
+    (
+        &[0x03, 0x06, 0x01, 0xFF, 0xFF, 0xFF, 0xFF, 0x1F],
+        "section   3 (function), bytes 8 to 16\n\
+         item      function 0, byte 11 (0xb)\n\
+         because   the number there, an index, is 2^32 or more\n",
+    ),
+    (
+        &[0x00, 0x02, 0x01, 0xFF],
+        "section   0 (custom), bytes 8 to 12\n\
+         item      its name, byte 10 (0xa)\n\
+         because   the name there, of size 1, is not UTF-8\n",
+    ),
+    (
+        &[0x0A, 0x04, 0x01, 0x02, 0x00, 0x0B],
+        "section   10 (code), bytes 8 to 14\n\
+         item      its count, byte 10 (0xa)\n\
+         because   the functions declared are 0, and the bodies 1\n",
+    ),
+    (
+        &[0x03, 0x02, 0x01, 0x00],
+        "item      after the sections, byte 12 (0xc)\n\
+         because   the functions declared are 1, and the bodies 0\n",
+    ),
+    (
+        &[0x03, 0x02, 0x01, 0x80],
+        "section   3 (function), bytes 8 to 12\n\
+         item      function 0, byte 11 (0xb)\n\
+         because   the section ends within the number there, an index\n",
+    ),
+    (
+        &[0x03, 0x02, 0x02, 0x00],
+        "section   3 (function), bytes 8 to 12\n\
+         item      function 1, byte 12 (0xc)\n\
+         because   the section ends there, and an index is wanted\n",
+    ),
+    (
+        &[0x06, 0x06, 0x01, 0x7F, 0x00, 0xD2, 0x00, 0x0B],
+        "section   6 (global), bytes 8 to 16\n\
+         item      global 0, byte 13 (0xd)\n\
+         because   d2 is ref.func, of reference types (Core 2.0), which gate does not admit\n\
+         hint      build the module with -mcpu=mvp (docs/GUESTS.md)\n",
+    ),
+    (
+        &[0x06, 0x07, 0x01, 0x7F, 0x00, 0xFC, 0x0B, 0x00, 0x0B],
+        "section   6 (global), bytes 8 to 17\n\
+         item      global 0, byte 13 (0xd)\n\
+         because   fc 0b is memory.fill, of bulk memory (Core 2.0), which gate does not admit\n\
+         hint      build the module with -mcpu=mvp (docs/GUESTS.md)\n",
+    ),
+    (
+        &[0x06, 0x05, 0x01, 0x7F, 0x00, 0x05, 0x0B],
+        "section   6 (global), bytes 8 to 15\n\
+         item      global 0, byte 13 (0xd)\n\
+         because   05 is an else that stands in no if\n",
+    ),
+    (
+        &[0x03, 0x02, 0x01, 0x00, 0x0A, 0x03, 0x01, 0x09, 0x00],
+        "section   10 (code), bytes 12 to 17\n\
+         item      body 0, byte 15 (0xf)\n\
+         because   the size of a body is 9, and the bytes left are 1\n",
+    ),
+];
+
+#[test]
+fn each_kind_of_shell_is_explained(rt: HostRuntime) -> Result<(), Fail> {
+    for (rest, lines) in SHELLS {
+        let mut bytes = [0x00, 0x61, 0x73, 0x6D, 0x01, 0x00, 0x00, 0x00].to_vec(rt.alloc())?;
+        bytes.extend_from_slice(rest)?;
+        let wanted = format!(in rt.alloc(); "refused malformed\n{lines}")?;
+        assert_eq!(rt; text_of(rt.alloc(), &bytes)?.as_str(), wanted.as_str());
+    }
     Ok(())
 }
 
