@@ -4,3 +4,4 @@ pub mod Lefts
 pub mod Typings
 pub mod Misfits
 pub mod Refused
+pub mod Shells

@@ -1,8 +1,9 @@
 -- 5.5.15 What the first bytes tell of bytes that spell no module.
-use Rattle.std.specs.Prelude.{◌≡◌, ◌≢◌, ◌<◌, ◌≤◌, ℕ, List, [], ◌∷◌, Some, length, slice_get, nat_lt, if◌then◌else◌}
+use Rattle.std.specs.Prelude.{◌≡◌, ◌≢◌, ◌<◌, ◌≤◌, ℕ, List, [], ◌∷◌, Some, IfSome, length, slice_get, nat_lt, if◌then◌else◌}
 use Rattle.wsyntax.specs.Binary.Shell.{header}
 use Rattle.explain.specs.declared.explanation.NoModule.{NoModule}
 use Rattle.explain.specs.declared.explanation.NoModule.TheVariants.{Text, Gzip, Short, Magic, Version, Sections}
+use Rattle.explain.specs.Shells.{TellsPlace}
 use Rattle.explain.specs.Texts.{BeginsWith}
 
 -- a byte of the magic or of the version
@@ -20,4 +21,4 @@ TellsHeader bytes Gzip = BeginsWith (0x1F ∷ 0x8B ∷ []) bytes
 TellsHeader bytes Short = length bytes < 8
 TellsHeader bytes (Magic at found) = (at < 4) × IsOther bytes at found
 TellsHeader bytes (Version at found) = (4 ≤ at) × IsOther bytes at found
-TellsHeader bytes Sections = Unit {0}
+TellsHeader bytes (Sections place) = IfSome place (TellsPlace bytes)

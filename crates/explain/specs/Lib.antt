@@ -2,6 +2,7 @@ pub mod Headers
 pub mod Numbers
 pub mod Placed
 pub mod Places
+pub mod Shells
 pub mod Texts
 pub mod Told
 pub mod Typed

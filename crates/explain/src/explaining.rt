@@ -2,14 +2,16 @@
 ghost use Rattle.std.specs.Prelude.{◌≡◌, IfOk, IfSome};
 ghost use Rattle.wsyntax.specs.Modules.{module_shape};
 ghost use Rattle.wsyntax.specs.Validation.Verdict.{IsVerdict};
+ghost use Rattle.explain.specs.Headers.{TellsHeader};
 ghost use Rattle.explain.specs.Placed.{AreSo, IsSo, IsSoIn, KnowsNothing};
 ghost use Rattle.explain.specs.Told.{Tells, verdict_told};
 
-use crate::explanation::{Explanation, RefusedBody};
+use crate::explanation::{Explanation, NoModule, RefusedBody};
 use crate::faults::{Located, locate, not_located};
 use crate::functions::{first_export, signature_of};
 use crate::headers::no_module;
 use crate::names::name_of;
+use crate::shell::places::place_of;
 use std::alloc::{AllocError, Global};
 use verdict::{BodyRefusal, Refusal, examine_alone};
 use wcontext::{ModuleFault, check_early};
@@ -85,6 +87,19 @@ fn refused_body<'a>(
     }
 }
 
+/// What bytes are that spell no module.
+fn not_spelled(alloc: Global, bytes: &[u8]) -> Result<NoModule, AllocError>
+    ensures { IfOk result (TellsHeader bytes.now) }
+{
+    match no_module(bytes) {
+        NoModule::Sections(_) => {
+            let place = place_of(alloc, bytes)?;
+            Ok(NoModule::Sections(place))
+        }
+        other => Ok(other),
+    }
+}
+
 /// Judges a module, on the calling thread, and says of a refusal where and why.
 pub fn explain(alloc: Global, bytes: &[u8]) -> Explanation<'_>
     // What it tells is the verdict.
@@ -95,7 +110,10 @@ pub fn explain(alloc: Global, bytes: &[u8]) -> Explanation<'_>
     match examine_alone(alloc, bytes) {
         Ok(()) => Explanation::Accepted,
         Err(Refusal::TooLarge) => Explanation::TooLarge { bytes: bytes.len() },
-        Err(Refusal::Malformed) => Explanation::Malformed(no_module(bytes)),
+        Err(Refusal::Malformed) => match not_spelled(alloc, bytes) {
+            Ok(what) => Explanation::Malformed(what),
+            Err(AllocError) => Explanation::Memory,
+        },
         Err(Refusal::Rule(rule)) => Explanation::Rule(rule),
         Err(Refusal::Body { func, refusal }) => match refused_body(alloc, bytes, func, refusal) {
             Ok(body) => Explanation::Body(body),

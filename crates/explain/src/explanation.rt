@@ -1,5 +1,6 @@
 //! What is said of a module: its verdict, and of a refusal where and why.
 
+use crate::shell_place::Place;
 use crate::typing::Typing;
 use verdict::{BodyRefusal, Refusal};
 use wsyntax::{Token, ValType};
@@ -31,8 +32,8 @@ pub enum NoModule {
     Magic { at: usize, found: u8 },
     /// The byte at that offset, from 4 to 7, is none of the version.
     Version { at: usize, found: u8 },
-    /// Magic and version are right, and what follows are not the sections of a module.
-    Sections,
+    /// Magic and version are right, and what follows are not the sections of a module; and where reading stopped.
+    Sections(Option<Place>),
 }
 
 /// Why reading a body stopped.

@@ -46,7 +46,7 @@ fn header_fault(bytes: &[u8]) -> NoModule
             return other_byte(at, *found);
         }
     }
-    NoModule::Sections
+    NoModule::Sections(None)
 }
 
 /// What bytes are that spell no module.

@@ -18,6 +18,10 @@ mod places;
 mod quoting;
 mod recheck;
 mod sections;
+mod shell;
+mod shell_place;
+mod shell_text;
+mod shell_words;
 mod stop_text;
 mod stops;
 mod text;
@@ -33,6 +37,7 @@ pub use explanation::{
     BodyFault, Explanation, FoundToken, NoModule, RefusedBody, Signature, Span, Stop, Stopped,
 };
 pub use numbers::Kind;
+pub use shell_place::{FoundSection, OtherSegment, Place, SectionPart, Wanted, Wrong};
 pub use text::explanation_text;
 pub use typing::{BlockKind, Giver, OpenBlock, Opening, Typing};
 

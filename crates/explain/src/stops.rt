@@ -70,7 +70,7 @@ fn left_over<'a>(tokens: usize, rest: &'a [u8]) -> Option<Halt<'a>>
 }
 
 /// Where reading stops in the bytes after the locals of a body; `None` where they are tokens up to the last `end`.
-fn halt_in<'a>(alloc: Global, code: &'a [u8]) -> Result<Option<Halt<'a>>, AllocError>
+pub(crate) fn halt_in<'a>(alloc: Global, code: &'a [u8]) -> Result<Option<Halt<'a>>, AllocError>
     ensures { IfOk result (λ h. IfSome h (IsHaltIn code.now)) }
 {
     let mut opened = SmallVec::new(alloc);

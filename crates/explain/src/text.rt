@@ -8,6 +8,7 @@ ghost use Rattle.explain.specs.Told.{verdict_told};
 
 use crate::explanation::{BodyFault, Explanation, FoundToken, NoModule, RefusedBody};
 use crate::quoting::{push_hex, push_name};
+use crate::shell_text::push_place;
 use crate::stop_text::push_stop;
 use crate::token_text::push_token;
 use crate::type_text::push_signature;
@@ -129,7 +130,8 @@ fn push_no_module(text: &mut String, no_module: NoModule) -> Result<(), AllocErr
             found,
             "the version is 01 00 00 00",
         ),
-        NoModule::Sections => text.push_str(
+        NoModule::Sections(Some(place)) => push_place(text, place),
+        NoModule::Sections(None) => text.push_str(
             "because   after its first eight bytes, which are right, it has no sections of a module\n",
         ),
     }

@@ -1,0 +1,8 @@
+//! Reading what a module says outside its bodies, to find where it is malformed: no value is kept.
+
+pub(crate) mod contents;
+pub(crate) mod expressions;
+pub(crate) mod items;
+pub(crate) mod places;
+pub(crate) mod primitives;
+pub(crate) mod type_items;

@@ -1,0 +1,144 @@
+//! What a section holds (5.5.3 to 5.5.14), read past item by item.
+ghost use Rattle.std.specs.Prelude.{◌≡◌, ℕ, List, Option, IfOk, IfSome};
+ghost use Rattle.explain.specs.Shells.{Comes, ContentsCome, ItemsCome, Passes, VectorComes, id_of};
+
+use crate::shell::items::{Items, after_item};
+use crate::shell::primitives::{Stuck, after_index, after_name, number_at};
+use crate::shell_place::{OtherSegment, SectionPart, Wanted, Wrong};
+use std::alloc::{AllocError, Global};
+
+/// The id of a custom section (5.5.3).
+const CUSTOM: u8 = 0;
+
+/// The id of the section of the start function (5.5.11).
+const START: u8 = 8;
+
+/// Where the contents of a section cannot be read on.
+#[derive(Clone, Copy)]
+pub(crate) struct Lapse<'a> {
+    pub(crate) part: SectionPart,
+    pub(crate) rest: &'a [u8],
+    pub(crate) wrong: Wrong,
+    pub(crate) segment: Option<OtherSegment>,
+}
+
+/// What comes of reading contents.
+#[derive(Clone, Copy)]
+pub(crate) enum Outcome<'a> {
+    /// The bytes after them, and the first segment of a later standard.
+    After {
+        rest: &'a [u8],
+        segment: Option<OtherSegment>,
+    },
+    Stopped(Lapse<'a>),
+    /// No section has that id.
+    Unknown,
+}
+
+/// What the items of the section of that id are.
+fn items_of(id: u8) -> Option<Items>
+    ensures { IfSome result (λ items. id_of items ≡ id) }
+{
+    match id {
+        1 => Some(Items::Types),
+        2 => Some(Items::Imports),
+        3 => Some(Items::Functions),
+        4 => Some(Items::Tables),
+        5 => Some(Items::Memories),
+        6 => Some(Items::Globals),
+        7 => Some(Items::Exports),
+        9 => Some(Items::Elements),
+        10 => Some(Items::Bodies),
+        11 => Some(Items::Segments),
+        _ => None,
+    }
+}
+
+/// What comes of reading a part of contents, with the segment that is told beside.
+fn part_read<'a>(
+    part: SectionPart,
+    read: Result<&'a [u8], Stuck<'a>>,
+    segment: Option<OtherSegment>,
+) -> Result<Outcome<'a>, AllocError>
+    ensures { IfOk result (λ o. (left : Option (List ℕ)) → Passes left read.entry → Comes part left o) }
+{
+    match read {
+        Ok(rest) => Ok(Outcome::After { rest, segment }),
+        Err(Stuck::Memory) => Err(AllocError),
+        Err(Stuck::Here { rest, wrong }) => Ok(Outcome::Stopped(Lapse {
+            part,
+            rest,
+            wrong,
+            segment,
+        })),
+    }
+}
+
+/// The segment of that number, where it begins with another number than 0.
+fn other_segment(items: Items, number: u32, bytes: &[u8]) -> Option<OtherSegment> {
+    if items != Items::Elements && items != Items::Segments {
+        return None;
+    }
+    let (first, _rest) = wnum::front_u32(bytes)?;
+    if first == 0 {
+        return None;
+    }
+    Some(OtherSegment { number, first })
+}
+
+/// Reads past as many items.
+fn after_items<'a>(
+    alloc: Global,
+    items: Items,
+    count: u32,
+    bytes: &'a [u8],
+) -> Result<Outcome<'a>, AllocError>
+    ensures { IfOk result (ItemsCome items count bytes.now) }
+{
+    let mut rest = bytes;
+    let mut segment = None;
+    for number in 0..count {
+        segment = segment.or(other_segment(items, number, rest));
+        let read = after_item(alloc, items, rest);
+        match part_read(SectionPart::Item(number), read, segment)? {
+            Outcome::After { rest: after, .. } => rest = after,
+            Outcome::Stopped(lapse) => return Ok(Outcome::Stopped(lapse)),
+            Outcome::Unknown => return Ok(Outcome::Unknown),
+        }
+    }
+    Ok(Outcome::After { rest, segment })
+}
+
+/// Reads past a vector of items (5.1.3).
+fn after_vector<'a>(alloc: Global, items: Items, bytes: &'a [u8]) -> Result<Outcome<'a>, AllocError>
+    ensures { IfOk result (VectorComes items bytes.now) }
+{
+    match number_at(bytes, Wanted::Count) {
+        Ok((count, first)) => after_items(alloc, items, count, first),
+        Err(Stuck::Memory) => Err(AllocError),
+        Err(Stuck::Here { rest, wrong }) => Ok(Outcome::Stopped(Lapse {
+            part: SectionPart::Count,
+            rest,
+            wrong,
+            segment: None,
+        })),
+    }
+}
+
+/// Reads past what the section of that id holds.
+pub(crate) fn after_contents<'a>(
+    alloc: Global,
+    id: u8,
+    bytes: &'a [u8],
+) -> Result<Outcome<'a>, AllocError>
+    ensures { IfOk result (ContentsCome id bytes.now) }
+{
+    if let Some(items) = items_of(id) {
+        return after_vector(alloc, items, bytes);
+    }
+    match id {
+        CUSTOM => part_read(SectionPart::Name, after_name(bytes), None),
+        START => part_read(SectionPart::Start, after_index(bytes), None),
+        _ => Ok(Outcome::Unknown),
+    }
+}

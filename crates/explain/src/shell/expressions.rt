@@ -1,0 +1,87 @@
+//! The expressions of first values and offsets (5.4.6), read past.
+ghost use Rattle.std.specs.Prelude.{◌≡◌, None};
+ghost use Rattle.wsyntax.specs.Binary.Nesting.{expression, token_at as token_read};
+ghost use Rattle.wdecode.specs.Gives.{rest_of};
+ghost use Rattle.explain.specs.Shells.{IsStuck, Passes, Stands};
+
+use crate::explanation::Stopped;
+use crate::shell::primitives::Stuck;
+use crate::shell_place::{Wanted, Wrong};
+use crate::stops::{Halt, halt_in};
+use std::alloc::{AllocError, Global};
+use wdecode::{Fault, expression_at};
+
+/// What is wrong with bytes that no token begins with.
+fn wrong_opcode(bytes: &[u8]) -> Wrong
+    requires { token_read bytes.now ≡ None }
+    ensures { Stands result bytes.now }
+{
+    match bytes {
+        [] => Wrong::Ends(Wanted::Instruction),
+        [first, rest @ ..] => Wrong::Opcode {
+            first: *first,
+            number: wnum::front_u32(rest).map(|found| found.0),
+        },
+    }
+}
+
+/// Why bytes begin with no expression.
+fn stuck_in<'a>(alloc: Global, bytes: &'a [u8]) -> Stuck<'a>
+    requires { expression.read bytes.now ≡ None }
+    ensures { IsStuck result }
+{
+    match halt_in(alloc, bytes) {
+        Err(AllocError) => Stuck::Memory,
+        Ok(
+            Some(
+                Halt {
+                    why: Stopped::Token,
+                    rest,
+                    ..
+                },
+            ),
+        ) => Stuck::Here {
+            rest,
+            wrong: wrong_opcode(rest),
+        },
+        Ok(
+            Some(
+                Halt {
+                    why: Stopped::Short,
+                    rest,
+                    ..
+                },
+            ),
+        ) => Stuck::Here {
+            rest,
+            wrong: Wrong::Ends(Wanted::Instruction),
+        },
+        Ok(
+            Some(
+                Halt {
+                    why: Stopped::Else,
+                    rest,
+                    ..
+                },
+            ),
+        ) => Stuck::Here {
+            rest,
+            wrong: Wrong::Else,
+        },
+        Ok(_) => Stuck::Here {
+            rest: bytes,
+            wrong: Wrong::Expression,
+        },
+    }
+}
+
+/// The bytes after an expression.
+pub(crate) fn after_expression<'a>(alloc: Global, bytes: &'a [u8]) -> Result<&'a [u8], Stuck<'a>>
+    ensures { Passes (rest_of (expression.read bytes.now)) result }
+{
+    match expression_at(alloc, bytes) {
+        Ok((_tokens, rest)) => Ok(rest),
+        Err(Fault::Malformed) => Err(stuck_in(alloc, bytes)),
+        Err(Fault::Memory) => Err(Stuck::Memory),
+    }
+}

@@ -1,0 +1,194 @@
+//! What stands in the shell of a module, in words, and what of it is of later standards.
+
+use crate::opcode_names::Feature;
+use crate::shell_place::Wanted;
+
+/// What something of a later standard is of.
+#[derive(Clone, Copy, PartialEq, Eq)]
+pub(crate) enum Origin {
+    Of(Feature),
+    Memory64,
+    PageSizes,
+}
+
+impl Origin {
+    /// In words.
+    pub(crate) fn words(self) -> &'static str {
+        match self {
+            Origin::Of(feature) => feature.words(),
+            Origin::Memory64 => "64-bit addresses (Core 3.0)",
+            Origin::PageSizes => "custom page sizes (a proposal)",
+        }
+    }
+
+    /// What to build the module with, so that it has none of it.
+    pub(crate) fn hint(self) -> Option<&'static str> {
+        match self {
+            Origin::Of(Feature::Threads) => Some("-mcpu=mvp"),
+            Origin::Of(feature) if feature.is_left_out_by_mvp() => Some("-mcpu=mvp"),
+            Origin::Memory64 => Some("--target=wasm32"),
+            _ => None,
+        }
+    }
+}
+
+/// The name of a section (5.5.2, and later standards).
+pub(crate) fn section_name(id: u8) -> &'static str {
+    match id {
+        0 => "custom",
+        1 => "type",
+        2 => "import",
+        3 => "function",
+        4 => "table",
+        5 => "memory",
+        6 => "global",
+        7 => "export",
+        8 => "start",
+        9 => "element",
+        10 => "code",
+        11 => "data",
+        12 => "data count",
+        13 => "tag",
+        _ => "",
+    }
+}
+
+/// What an item of a section is.
+pub(crate) fn item_name(id: u8) -> &'static str {
+    match id {
+        9 => "element segment",
+        10 => "body",
+        11 => "data segment",
+        _ => section_name(id),
+    }
+}
+
+/// What is wanted.
+pub(crate) fn wanted_words(wanted: Wanted) -> &'static str {
+    match wanted {
+        Wanted::SectionSize => "the size of a section",
+        Wanted::Count => "a count",
+        Wanted::NameSize => "the size of a name",
+        Wanted::TypeForm => "the form of a type",
+        Wanted::ValueType => "a value type",
+        Wanted::ElementType => "an element type",
+        Wanted::MemoryFlags | Wanted::TableFlags => "the flags of limits",
+        Wanted::Minimum => "a minimum",
+        Wanted::Maximum => "a maximum",
+        Wanted::Mutability => "a mutability",
+        Wanted::ImportKind => "the kind of an import",
+        Wanted::ExportKind => "the kind of an export",
+        Wanted::Index => "an index",
+        Wanted::BodySize => "the size of a body",
+        Wanted::DataSize => "the size of a segment's data",
+        Wanted::Instruction => "an instruction",
+    }
+}
+
+/// Which bytes are wanted.
+pub(crate) fn wanted_bytes(wanted: Wanted) -> &'static str {
+    match wanted {
+        Wanted::TypeForm => "60 is",
+        Wanted::ValueType => "7f, 7e, 7d and 7c are",
+        Wanted::ElementType => "70 is",
+        Wanted::ImportKind | Wanted::ExportKind => "00, 01, 02 and 03 are",
+        _ => "00 and 01 are",
+    }
+}
+
+/// The value type of that byte, of a later standard.
+fn later_type(byte: u8) -> Option<(&'static str, Origin)> {
+    let (name, feature) = match byte {
+        0x7B => ("v128", Feature::Vectors),
+        0x70 => ("funcref", Feature::ReferenceTypes),
+        0x6F => ("externref", Feature::ReferenceTypes),
+        0x69 => ("exnref", Feature::Exceptions),
+        0x64 => ("a reference", Feature::FunctionReferences),
+        0x63 => ("a reference that may be null", Feature::FunctionReferences),
+        0x6E => ("anyref", Feature::GarbageCollection),
+        0x6D => ("eqref", Feature::GarbageCollection),
+        0x6C => ("i31ref", Feature::GarbageCollection),
+        0x6B => ("structref", Feature::GarbageCollection),
+        0x6A => ("arrayref", Feature::GarbageCollection),
+        0x73 => ("nullfuncref", Feature::GarbageCollection),
+        0x72 => ("nullexternref", Feature::GarbageCollection),
+        0x71 => ("nullref", Feature::GarbageCollection),
+        _ => return None,
+    };
+    Some((name, Origin::Of(feature)))
+}
+
+/// The form of a type of that byte, of a later standard.
+fn later_form(byte: u8) -> Option<(&'static str, Origin)> {
+    let name = match byte {
+        0x5F => "that of a struct",
+        0x5E => "that of an array",
+        0x50 => "that of a type with supertypes",
+        0x4F => "that of a final type with supertypes",
+        0x4E => "that of recursive types",
+        _ => return None,
+    };
+    Some((name, Origin::Of(Feature::GarbageCollection)))
+}
+
+/// The flags of that byte, of a later standard.
+fn later_flags(byte: u8, of_memory: bool) -> Option<(&'static str, Origin)> {
+    match byte {
+        2 | 3 if of_memory => Some(("those of a shared memory", Origin::Of(Feature::Threads))),
+        2 | 3 => Some(("those of a shared table", Origin::Of(Feature::Threads))),
+        4 | 5 if of_memory => Some(("those of a 64-bit memory", Origin::Memory64)),
+        4 | 5 => Some(("those of a 64-bit table", Origin::Memory64)),
+        6 | 7 if of_memory => Some((
+            "those of a shared 64-bit memory",
+            Origin::Of(Feature::Threads),
+        )),
+        8..=15 if of_memory => Some(("those of a memory of other pages", Origin::PageSizes)),
+        _ => None,
+    }
+}
+
+/// What that byte is in a later standard, where something else is wanted.
+pub(crate) fn later_byte(wanted: Wanted, byte: u8) -> Option<(&'static str, Origin)> {
+    match wanted {
+        Wanted::ValueType => later_type(byte),
+        Wanted::TypeForm => later_form(byte),
+        Wanted::ElementType if byte == 0x40 => Some((
+            "that of a table with a first value",
+            Origin::Of(Feature::FunctionReferences),
+        )),
+        Wanted::ElementType => later_type(byte),
+        Wanted::MemoryFlags => later_flags(byte, true),
+        Wanted::TableFlags => later_flags(byte, false),
+        Wanted::ImportKind | Wanted::ExportKind if byte == 4 => Some((
+            "that of a tag",
+            Origin::Of(Feature::Exceptions),
+        )),
+        _ => None,
+    }
+}
+
+/// What the section of that id is of, of a later standard.
+pub(crate) fn later_section(id: u8) -> Option<Origin> {
+    match id {
+        12 => Some(Origin::Of(Feature::BulkMemory)),
+        13 => Some(Origin::Of(Feature::Exceptions)),
+        _ => None,
+    }
+}
+
+/// What a segment of the section of that id is, of a later standard, that begins with that number.
+pub(crate) fn later_segment(id: u8, first: u32) -> Option<(&'static str, Origin)> {
+    let bulk = Origin::Of(Feature::BulkMemory);
+    let references = Origin::Of(Feature::ReferenceTypes);
+    match (id, first) {
+        (9 | 11, 1) => Some(("a passive one", bulk)),
+        (9, 2) => Some(("one that names its table", bulk)),
+        (9, 3) => Some(("a declarative one", references)),
+        (9, 4) => Some(("one of expressions", references)),
+        (9, 5) => Some(("a passive one of expressions", references)),
+        (9, 6) => Some(("one of expressions that names its table", references)),
+        (9, 7) => Some(("a declarative one of expressions", references)),
+        (11, 2) => Some(("one that names its memory", bulk)),
+        _ => None,
+    }
+}
