@@ -11,6 +11,8 @@ use Rattle.explain.specs.declared.explanation.Stopped.{Stopped}
 use Rattle.explain.specs.declared.explanation.Stopped.TheVariants as stopped
 use Rattle.explain.specs.declared.numbers.Kind.{Kind}
 use Rattle.explain.specs.declared.numbers.Kind.TheVariants as kind
+use Rattle.explain.specs.declared.shell_place.SectionPart.{SectionPart}
+use Rattle.explain.specs.declared.shell_place.SectionPart.TheVariants as part
 
 -- ---- the kind
 
@@ -20,7 +22,7 @@ kind_of_no_module header.Gzip = kind.Gzip
 kind_of_no_module header.Short = kind.ShortHeader
 kind_of_no_module (header.Magic at found) = kind.Magic
 kind_of_no_module (header.Version at found) = kind.Version
-kind_of_no_module header.Sections = kind.Sections
+kind_of_no_module (header.Sections place) = kind.Sections
 
 abbrev pub kind_of_stop : Stopped → Kind
 kind_of_stop stopped.Locals = kind.Locals
@@ -33,7 +35,7 @@ abbrev pub kind_of_fault : BodyFault → Kind
 kind_of_fault (fault.Malformed (Some s)) = kind_of_stop s.why
 kind_of_fault (fault.Malformed None) = kind.BodyMalformed
 kind_of_fault (fault.TooManyLocals count) = kind.TooManyLocals
-kind_of_fault (fault.IllTyped number found) = kind.IllTyped
+kind_of_fault (fault.IllTyped number found typing) = kind.IllTyped
 
 abbrev pub kind_told : Explanation → Kind
 kind_told told.Accepted = kind.Accepted
@@ -51,11 +53,12 @@ at_offset at = record { from = at; to = at }
 abbrev pub place_of_no_module : NoModule → Option Span
 place_of_no_module (header.Magic at found) = Some (at_offset at)
 place_of_no_module (header.Version at found) = Some (at_offset at)
+place_of_no_module (header.Sections (Some p)) = Some (at_offset p.at)
 place_of_no_module _ = None
 
 abbrev pub place_of_fault : BodyFault → Option Span
 place_of_fault (fault.Malformed (Some s)) = Some (at_offset s.at)
-place_of_fault (fault.IllTyped number (Some f)) = Some f.span
+place_of_fault (fault.IllTyped number (Some f) typing) = Some f.span
 place_of_fault _ = None
 
 abbrev pub place_told : Explanation → Option Span
@@ -66,10 +69,16 @@ place_told _ = None
 -- 5.5.13 bodies stand in section 10
 abbrev pub section_told : Explanation → Option ℕ
 section_told (told.Body b) = Some 10
+section_told (told.Malformed (header.Sections (Some p))) = option_map (λ s. s.id) p.section
 section_told _ = None
 
+abbrev pub item_of_part : SectionPart → Option ℕ
+item_of_part (part.Item n) = Some n
+item_of_part _ = None
+
 abbrev pub item_told : Explanation → Option ℕ
-item_told e = None
+item_told (told.Malformed (header.Sections (Some p))) = item_of_part p.part
+item_told _ = None
 
 -- ---- the body
 
@@ -80,7 +89,7 @@ opcode_of_stop _ rest = None
 
 abbrev pub opcode_of_fault : BodyFault → Option ℕ
 opcode_of_fault (fault.Malformed (Some s)) = opcode_of_stop s.why s.rest.now
-opcode_of_fault (fault.IllTyped number (Some f)) = Some f.opcode
+opcode_of_fault (fault.IllTyped number (Some f) typing) = Some f.opcode
 opcode_of_fault _ = None
 
 abbrev pub opcode_told : Explanation → Option ℕ

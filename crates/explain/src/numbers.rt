@@ -1,8 +1,9 @@
 //! The numbers of an explanation, one by one, for readers that no variant concerns. `None` says that a number is not told.
-ghost use Rattle.std.specs.Prelude.{◌≡◌};
-ghost use Rattle.explain.specs.Numbers.{kind_of_fault, kind_of_no_module, kind_of_stop, opcode_of_fault, opcode_of_stop, place_of_fault, place_of_no_module};
+ghost use Rattle.std.specs.Prelude.{◌≡◌, option_map};
+ghost use Rattle.explain.specs.Numbers.{item_of_part, kind_of_fault, kind_of_no_module, kind_of_stop, opcode_of_fault, opcode_of_stop, place_of_fault, place_of_no_module};
 
 use crate::explanation::{BodyFault, Explanation, NoModule, Span, Stop, Stopped};
+use crate::shell_place::{Place, SectionPart};
 
 /// The id of the section of bodies (5.5.13).
 const CODE_SECTION: u8 = 10;
@@ -56,7 +57,7 @@ fn no_module_kind(what: NoModule) -> Kind
         NoModule::Short => Kind::ShortHeader,
         NoModule::Magic { .. } => Kind::Magic,
         NoModule::Version { .. } => Kind::Version,
-        NoModule::Sections => Kind::Sections,
+        NoModule::Sections(_) => Kind::Sections,
     }
 }
 
@@ -99,6 +100,24 @@ fn no_module_place(what: NoModule) -> Option<Span>
 {
     match what {
         NoModule::Magic { at, .. } | NoModule::Version { at, .. } => Some(at_offset(at)),
+        NoModule::Sections(Some(place)) => Some(at_offset(place.at)),
+        _ => None,
+    }
+}
+
+/// The id of the section where reading stopped.
+fn section_id(place: &Place) -> Option<u8>
+    ensures { result ≡ option_map (λ s. s.id) place.now.section }
+{
+    Some(place.section?.id)
+}
+
+/// The place of an item in its section.
+fn item_place(part: SectionPart) -> Option<usize>
+    ensures { result ≡ item_of_part part }
+{
+    match part {
+        SectionPart::Item(number) => Some(number as usize),
         _ => None,
     }
 }
@@ -190,6 +209,7 @@ impl Explanation<'_> {
     {
         match self {
             Explanation::Body(_) => Some(CODE_SECTION),
+            Explanation::Malformed(NoModule::Sections(Some(place))) => section_id(place),
             _ => None,
         }
     }
@@ -198,7 +218,10 @@ impl Explanation<'_> {
     pub fn item(&self) -> Option<usize>
         ensures { result ≡ item_told self.now }
     {
-        None
+        match self {
+            Explanation::Malformed(NoModule::Sections(Some(place))) => item_place(place.part),
+            _ => None,
+        }
     }
 
     /// The first byte of the token that is refused, or with which no token begins.
