@@ -1,5 +1,9 @@
+pub mod Exported
 pub mod Headers
 pub mod Placed
 pub mod Places
+pub mod Rules
+pub mod Segments
+pub mod Spaces
 pub mod Texts
 pub mod Told

@@ -10,6 +10,7 @@ use crate::faults::{Located, locate, not_located};
 use crate::functions::{first_export, signature_of};
 use crate::headers::no_module;
 use crate::names::name_of;
+use crate::rules::broken_item;
 use std::alloc::{AllocError, Global};
 use verdict::{BodyRefusal, Refusal, examine_alone};
 use wcontext::{ModuleFault, check_early};
@@ -95,7 +96,10 @@ pub fn explain(alloc: Global, bytes: &[u8]) -> Explanation<'_>
         Ok(()) => Explanation::Accepted,
         Err(Refusal::TooLarge) => Explanation::TooLarge { bytes: bytes.len() },
         Err(Refusal::Malformed) => Explanation::Malformed(no_module(bytes)),
-        Err(Refusal::Rule(rule)) => Explanation::Rule(rule),
+        Err(Refusal::Rule(rule)) => match broken_item(alloc, bytes, rule) {
+            Ok(item) => Explanation::Rule { rule, item },
+            Err(AllocError) => Explanation::Memory,
+        },
         Err(Refusal::Body { func, refusal }) => match refused_body(alloc, bytes, func, refusal) {
             Ok(body) => Explanation::Body(body),
             Err(AllocError) => Explanation::Memory,

@@ -253,7 +253,7 @@ fn other_verdicts_are_explained(rt: HostRuntime) -> Result<(), Fail> {
                 0x00, 0x61, 0x73, 0x6D, 0x01, 0x00, 0x00, 0x00, 0x03, 0x02, 0x01, 0x00, 0x0A, 0x04,
                 0x01, 0x02, 0x00, 0x0B,
             ],
-            "refused rule 3\nbecause   this has to hold: the type index of each defined function exists\n",
+            "refused rule 3\nitem      function 0, byte 11 (0xb)\nbecause   function 0 has type 0, and there is none\n",
         ),
     ];
     for (bytes, wanted) in cases {
