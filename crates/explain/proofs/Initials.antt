@@ -1,5 +1,5 @@
 -- What is told of an expression decides whether it is a constant one.
-use Rattle.std.proofs.Common.{◌≡◌, ◌↔◌, ℕ, List, [], ◌∷◌, Option, Some, None, Bool, true, false, IsTrue, if◌then◌else◌, option_and_then, slice_get, refl, sym, ap, subst, ◌∙◌}
+use Rattle.std.proofs.Common.{◌≡◌, ◌↔◌, ℕ, List, [], ◌∷◌, Option, Some, None, Bool, true, false, IsTrue, if◌then◌else◌, option_and_then, slice_get, sym, ap, subst, ◌∙◌}
 use Rattle.wsyntax.specs.Instructions.{Token, Do, End, Const, GlobalGet}
 use Rattle.wsyntax.specs.Validation.Rules.{ConstantOf, one_const, one_get}
 use Rattle.wsyntax.specs.declared.types.GlobalType.{GlobalType}

@@ -1,5 +1,5 @@
 -- What is told by the index spaces that were gathered is so of the module.
-use Rattle.std.proofs.Common.{◌≡◌, ◌↔◌, ℕ, ◌+◌, ◌<◌, ◌≤◌, ◌++◌, Bool, true, false, IsTrue, List, length, get_or, map, take, Option, Some, None, slice_get, refl, ap, sym, subst, ◌∙◌, arith}
+use Rattle.std.proofs.Common.{◌≡◌, ◌↔◌, ℕ, ◌+◌, ◌<◌, Bool, true, false, IsTrue, List, length, get_or, map, take, Option, Some, None, slice_get, refl, ap, sym, subst, arith}
 use Rattle.std.proofs.lemmas.List.Elements.{All-get_or}
 use Rattle.std.proofs.lemmas.Option.{slice_get_within, get_or_from_slice_get}
 use Rattle.std.specs.List.{All}
@@ -7,10 +7,9 @@ use Rattle.std.specs.Prelude.{Result, Ok, Err, IfOk, IfSome}
 use Rattle.std.specs.declared.alloc.AllocError.{AllocError}
 use Rattle.std.proofs.Math.Seq.{take-append_seam}
 use Rattle.wsyntax.specs.HeldElement.{HeldElement}
-use Rattle.wsyntax.specs.Modules.{ModuleShape, DataShape, ElementShape, module_shape, data_shape, element_shape, export_shape, global_shape, initial_tokens}
+use Rattle.wsyntax.specs.Modules.{ModuleShape, DataShape, module_shape, data_shape, element_shape, export_shape, global_shape, initial_tokens}
 use Rattle.wsyntax.specs.Validation.ModuleContext.{imported_functions, imported_globals, functions_of, tables_of, memories_of}
 use Rattle.wsyntax.specs.Validation.Rules.{ConstantOf, DataValid, ElementValid, count_of}
-use Rattle.wsyntax.specs.declared.types.ValType.TheVariants.{I32}
 use Rattle.wsyntax.specs.declared.types.GlobalType.{GlobalType}
 use Rattle.wsyntax.specs.Binary.Shell.{Shell}
 use Rattle.wsyntax.specs.declared.module.Module.{Module}
@@ -28,7 +27,7 @@ use Rattle.explain.specs.declared.broken_item.BrokenItem.{BrokenItem}
 use Rattle.explain.specs.Rules.{Breaks, BreaksIn, IsFirst, IsInitial, IsElementFault, IsDataFault, TellsElement, TellsData, TellsFault, TellsGlobal, constant_type, rule_of}
 use Rattle.explain.specs.Segments.{IsDataValid, IsFirstElement, IsFirstData}
 use Rattle.explain.specs.Spaces.{AreSpacesOf, counted}
-use Rattle.explain.proofs.Firsts.{first_by, first_map, first_along, first_failing, first_got, first_here, right_here, right_got}
+use Rattle.explain.proofs.Firsts.{first_by, first_map, first_along, first_failing, first_got, first_here, right_here}
 use Rattle.explain.proofs.Initials.{decides}
 
 pub count_is : {m : ModuleShape} {s : Spaces} (are : AreSpacesOf m s) (k : ExportKind) → counted s k ≡ count_of m k

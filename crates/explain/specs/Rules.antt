@@ -11,7 +11,6 @@ use Rattle.wsyntax.specs.Binary.Shell.{Shell}
 use Rattle.wsyntax.specs.Validation.ModuleContext.{imported_functions, imported_globals, functions_of, tables_of, memories_of, empty_type}
 use Rattle.wsyntax.specs.Validation.Rules.{InOrder, WithinRange, ConstantOf, count_of, HasType, ElementValid, DataValid}
 use Rattle.wcontext.specs.Constants.{immutable_type}
-use Rattle.explain.specs.declared.explanation.Signature.{Signature}
 use Rattle.explain.specs.declared.broken_item.Initial.{Initial}
 use Rattle.explain.specs.declared.broken_item.Initial.TheVariants.{Constant, Get, Other}
 use Rattle.explain.specs.declared.broken_item.ItemFault.{ItemFault}

@@ -69,7 +69,8 @@ fn name_of<'a>(exports: &[Export<'a>], number: usize) -> Option<&'a [u8]>
 
 /// The name of the export of that number, where an earlier one has it.
 fn shared_name<'a>(exports: &[Export<'a>], number: usize, earlier: usize) -> Option<&'a [u8]>
-    ensures { IfSome result (λ name. (earlier < number) × (name_at exports.now number ≡ Some name.now) × (name_at exports.now earlier ≡ Some name.now)) }
+    ensures { IfSome result (λ name. (earlier < number) × (name_at exports.now number ≡ Some name.now)
+        × (name_at exports.now earlier ≡ Some name.now)) }
 {
     let name = name_of(exports, number)?;
     let first = name_of(exports, earlier)?;

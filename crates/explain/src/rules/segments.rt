@@ -85,7 +85,8 @@ fn data_fault<'a>(
     memories: usize,
     globals: &[GlobalType],
 ) -> Option<ItemFault<'a>>
-    ensures { MatchOption result (IsDataValid memories globals.now (data_shape segment.now)) (IsDataFault memories globals.now (data_shape segment.now)) }
+    ensures { MatchOption result (IsDataValid memories globals.now (data_shape segment.now))
+        (IsDataFault memories globals.now (data_shape segment.now)) }
 {
     let memory = segment.memory;
     if memory as usize >= memories {

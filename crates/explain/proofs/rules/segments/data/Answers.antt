@@ -1,5 +1,4 @@
-use Rattle.std.proofs.Common.{◌≡◌, length, ap, map, rules, arith, ◌∙◌}
-use Rattle.std.proofs.lemmas.Grind.{common_steps}
+use Rattle.std.proofs.Common.{◌≡◌, length, ap, map, rules, ◌∙◌}
 use Rattle.wsyntax.specs.Modules.{data_shape, module_shape}
 use Rattle.wsyntax.specs.Validation.ModuleContext.{memories_of}
 use Rattle.explain.proofs.RuleFaults.{breaks_data, data_told, globals_are}

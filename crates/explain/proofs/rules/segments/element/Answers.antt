@@ -1,5 +1,4 @@
-use Rattle.std.proofs.Common.{◌≡◌, length, refl, rules, arith, ◌∙◌}
-use Rattle.std.proofs.lemmas.Grind.{common_steps}
+use Rattle.std.proofs.Common.{◌≡◌, length, refl, rules, ◌∙◌}
 use Rattle.wsyntax.specs.Modules.{module_shape}
 use Rattle.wsyntax.specs.Validation.ModuleContext.{functions_of, tables_of}
 use Rattle.explain.proofs.RuleFaults.{breaks_elements, element_told, globals_are}
