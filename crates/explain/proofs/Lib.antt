@@ -1,7 +1,11 @@
 pub mod Exports
+pub mod Firsts
 pub mod Fronts
+pub mod Initials
 pub mod Lefts
 pub mod Typings
 pub mod Misfits
 pub mod Refused
 pub mod Shells
+pub mod Repeats
+pub mod RuleFaults

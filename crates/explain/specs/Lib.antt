@@ -1,8 +1,12 @@
+pub mod Exported
 pub mod Headers
 pub mod Numbers
 pub mod Placed
 pub mod Places
 pub mod Shells
+pub mod Rules
+pub mod Segments
+pub mod Spaces
 pub mod Texts
 pub mod Told
 pub mod Typed

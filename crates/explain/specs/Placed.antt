@@ -1,5 +1,5 @@
--- What an explanation says of a refused body is so of the module that the bytes spell.
-use Rattle.std.specs.Prelude.{◌≡◌, ◌+◌, ℕ, Bool, true, false, List, [], ◌∷◌, Option, Some, None, IfSome, slice_get, option_map, ◌&&◌, ◌==◌, length, if◌then◌else◌}
+-- What an explanation says of a refused body, or of an item that breaks a rule, is so of the module that the bytes spell.
+use Rattle.std.specs.Prelude.{◌≡◌, ◌+◌, ℕ, Bool, true, false, List, [], ◌∷◌, Option, Some, None, IfSome, slice_get, ◌&&◌, ◌==◌, length, if◌then◌else◌}
 use Rattle.std.specs.List.{between}
 use Rattle.wsyntax.specs.Types.{FuncType}
 use Rattle.wsyntax.specs.declared.module.LocalRun.{LocalRun}
@@ -19,6 +19,7 @@ use Rattle.explain.specs.declared.explanation.Explanation.TheVariants as told
 use Rattle.explain.specs.Headers.{TellsHeader}
 use Rattle.explain.specs.Places.{IsStopOf, IsTokenAt}
 use Rattle.explain.specs.Typed.{IsTypingOf, type_told}
+use Rattle.explain.specs.Rules.{Breaks}
 
 -- ---- the function
 
@@ -82,5 +83,6 @@ IsSo bytes r = (m : ModuleShape) → Shell bytes m → IsSoIn bytes m r
 abbrev pub AreSo : List ℕ → Explanation → Type 0
 AreSo bytes (told.TooLarge n) = n ≡ length bytes
 AreSo bytes (told.Malformed what) = TellsHeader bytes what
+AreSo bytes (told.Rule rule item) = IfSome item (Breaks bytes rule)
 AreSo bytes (told.Body r) = IsSo bytes r
 AreSo bytes _ = Unit {0}

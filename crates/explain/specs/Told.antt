@@ -22,7 +22,7 @@ abbrev pub verdict_told : Explanation → Option Verdict
 verdict_told Accepted = Some meant.Accepted
 verdict_told (TooLarge bytes) = Some meant.TooLarge
 verdict_told (Malformed what) = Some meant.Malformed
-verdict_told (Rule k) = Some (RuleBroken k)
+verdict_told (Rule k item) = Some (RuleBroken k)
 verdict_told (Body b) = Some (BodyRefused b.func (fault_of (refusal_told b.fault)))
 verdict_told Memory = None
 

@@ -11,6 +11,7 @@ use crate::faults::{Located, locate, not_located};
 use crate::functions::{first_export, signature_of};
 use crate::headers::no_module;
 use crate::names::name_of;
+use crate::rules::broken_item;
 use crate::shell::places::place_of;
 use std::alloc::{AllocError, Global};
 use verdict::{BodyRefusal, Refusal, examine_alone};
@@ -114,7 +115,10 @@ pub fn explain(alloc: Global, bytes: &[u8]) -> Explanation<'_>
             Ok(what) => Explanation::Malformed(what),
             Err(AllocError) => Explanation::Memory,
         },
-        Err(Refusal::Rule(rule)) => Explanation::Rule(rule),
+        Err(Refusal::Rule(rule)) => match broken_item(alloc, bytes, rule) {
+            Ok(item) => Explanation::Rule { rule, item },
+            Err(AllocError) => Explanation::Memory,
+        },
         Err(Refusal::Body { func, refusal }) => match refused_body(alloc, bytes, func, refusal) {
             Ok(body) => Explanation::Body(body),
             Err(AllocError) => Explanation::Memory,

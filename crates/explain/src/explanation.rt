@@ -1,5 +1,6 @@
 //! What is said of a module: its verdict, and of a refusal where and why.
 
+use crate::broken_item::BrokenItem;
 use crate::shell_place::Place;
 use crate::typing::Typing;
 use verdict::{BodyRefusal, Refusal};
@@ -115,11 +116,16 @@ pub struct RefusedBody<'a> {
 pub enum Explanation<'a> {
     Accepted,
     /// It has more bytes than a module may have: so many.
-    TooLarge { bytes: usize },
+    TooLarge {
+        bytes: usize,
+    },
     /// The bytes spell no module, the insides of bodies aside.
     Malformed(NoModule),
-    /// The least broken module rule, from 2 to 13.
-    Rule(u32),
+    /// The least broken module rule, from 2 to 13, and the first item that breaks it, where it could be found.
+    Rule {
+        rule: u32,
+        item: Option<BrokenItem<'a>>,
+    },
     /// The first body that is refused.
     Body(RefusedBody<'a>),
     /// An allocation was refused; nothing is said of the module.
@@ -156,7 +162,7 @@ impl Explanation<'_> {
             Explanation::Accepted => Ok(()),
             Explanation::TooLarge { .. } => Err(Refusal::TooLarge),
             Explanation::Malformed(_) => Err(Refusal::Malformed),
-            Explanation::Rule(rule) => Err(Refusal::Rule(*rule)),
+            Explanation::Rule { rule, .. } => Err(Refusal::Rule(*rule)),
             Explanation::Body(body) => Err(Refusal::Body {
                 func: body.func,
                 refusal: body.fault.refusal(),

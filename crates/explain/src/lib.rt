@@ -2,6 +2,7 @@
 #![tactic(auto)]
 
 mod bodies;
+mod broken_item;
 mod cause;
 mod cause_text;
 mod causes;
@@ -10,6 +11,8 @@ mod explanation;
 mod faults;
 mod functions;
 mod headers;
+mod imported;
+mod item_places;
 mod names;
 mod numbers;
 mod opcode_names;
@@ -17,11 +20,14 @@ mod operands;
 mod places;
 mod quoting;
 mod recheck;
+mod rule_text;
+mod rules;
 mod sections;
 mod shell;
 mod shell_place;
 mod shell_text;
 mod shell_words;
+mod spaces;
 mod stop_text;
 mod stops;
 mod text;
@@ -31,6 +37,7 @@ mod type_text;
 mod typing;
 mod typing_text;
 
+pub use broken_item::{BrokenItem, Initial, ItemFault};
 pub use cause::{Cause, Space};
 pub use explaining::explain;
 pub use explanation::{

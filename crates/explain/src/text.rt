@@ -8,6 +8,7 @@ ghost use Rattle.explain.specs.Told.{verdict_told};
 
 use crate::explanation::{BodyFault, Explanation, FoundToken, NoModule, RefusedBody};
 use crate::quoting::{push_hex, push_name};
+use crate::rule_text::push_broken_item;
 use crate::shell_text::push_place;
 use crate::stop_text::push_stop;
 use crate::token_text::push_token;
@@ -38,7 +39,7 @@ fn first_line(alloc: Global, explanation: &Explanation<'_>) -> Result<String, Al
         Explanation::Accepted => String::from_str(alloc, "accepted\n"),
         Explanation::TooLarge { .. } => String::from_str(alloc, "refused too-large\n"),
         Explanation::Malformed(_) => String::from_str(alloc, "refused malformed\n"),
-        Explanation::Rule(rule) => format!(in alloc; "refused rule {rule}\n"),
+        Explanation::Rule { rule, .. } => format!(in alloc; "refused rule {rule}\n"),
         Explanation::Body(body) => body_line(alloc, body.func, body.fault.refusal()),
         Explanation::Memory => Err(AllocError),
     }
@@ -168,7 +169,11 @@ fn push_details(text: &mut String, explanation: &Explanation<'_>) -> Result<(), 
             )
         }
         Explanation::Malformed(no_module) => push_no_module(text, *no_module),
-        Explanation::Rule(rule) => {
+        Explanation::Rule {
+            item: Some(item),
+            ..
+        } => push_broken_item(text, item),
+        Explanation::Rule { rule, item: None } => {
             text.push_str("because   this has to hold: ")?;
             text.push_str(rule_words(*rule))?;
             text.push_str("\n")

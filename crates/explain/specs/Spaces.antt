@@ -1,0 +1,23 @@
+-- 2.5.1 The index spaces of a module, as they are gathered.
+use Rattle.std.specs.Prelude.{◌≡◌, ℕ, length}
+use Rattle.wsyntax.specs.Modules.{ModuleShape}
+use Rattle.wsyntax.specs.Validation.ModuleContext.{imported_functions, imported_globals, functions_of, tables_of, memories_of, globals_of}
+use Rattle.wsyntax.specs.declared.module.ExportKind.{ExportKind}
+use Rattle.wsyntax.specs.declared.module.ExportKind.TheVariants.{Function, Table, Memory, Global}
+use Rattle.explain.specs.declared.spaces.Spaces.{Spaces}
+
+-- they are the index spaces of that module
+pub record AreSpacesOf (m : ModuleShape) (s : Spaces) : Type 0 where
+  pub functions : s.functions.items ≡ functions_of m
+  pub imported_functions : s.imported_functions ≡ length (imported_functions m)
+  pub tables : s.tables.items ≡ tables_of m
+  pub memories : s.memories.items ≡ memories_of m
+  pub globals : s.globals.items ≡ globals_of m
+  pub imported_globals : s.imported_globals ≡ length (imported_globals m)
+
+-- the number of items in the space of that kind
+abbrev pub counted : Spaces → ExportKind → ℕ
+counted s Function = length s.functions.items
+counted s Table = length s.tables.items
+counted s Memory = length s.memories.items
+counted s Global = length s.globals.items

@@ -1,0 +1,63 @@
+//! Rule 11: the start function.
+ghost use Rattle.std.specs.Prelude.{◌≡◌, IfOk, IfSome, Some};
+ghost use Rattle.wsyntax.specs.Modules.{module_shape};
+ghost use Rattle.explain.specs.Rules.{BreaksIn, TellsFault, rule_of};
+ghost use Rattle.explain.specs.Spaces.{AreSpacesOf};
+
+use crate::broken_item::{BrokenItem, ItemFault};
+use crate::explanation::Signature;
+use crate::item_places::START;
+use crate::spaces::Spaces;
+use std::alloc::{AllocError, Global};
+use wsyntax::Module;
+
+/// What is wrong with the start function of that index.
+fn start_fault<'a>(
+    alloc: Global,
+    module: &Module<'_>,
+    spaces: &Spaces,
+    func: u32,
+) -> Result<Option<ItemFault<'a>>, AllocError>
+    requires spaces { AreSpacesOf (module_shape «module».now) spaces.now }
+    requires start { (module_shape «module».now).start ≡ Some func }
+    ensures { IfOk result (λ o. IfSome o (λ f. (rule_of f ≡ 11) × TellsFault (module_shape «module».now) 0 f)) }
+{
+    let functions = spaces.functions.len();
+    let Some(type_index) = spaces.functions.get(func as usize) else {
+        return Ok(Some(ItemFault::StartMissing { func, functions }));
+    };
+    let Some(found) = module.types.get(*type_index as usize) else {
+        return Ok(None);
+    };
+    if found.params.is_empty() && found.results.is_empty() {
+        return Ok(None);
+    }
+    let signature = Signature {
+        params: Vec::from_slice(alloc, found.params)?,
+        results: Vec::from_slice(alloc, found.results)?,
+    };
+    Ok(Some(ItemFault::StartTyped { func, signature }))
+}
+
+/// The start function, where it does not exist or has another type than `[] -> []`.
+pub(crate) fn start<'a>(
+    alloc: Global,
+    module: &Module<'a>,
+    spaces: &Spaces,
+) -> Result<Option<BrokenItem<'a>>, AllocError>
+    requires { AreSpacesOf (module_shape «module».now) spaces.now }
+    ensures { IfOk result (λ o. IfSome o (BreaksIn (module_shape «module».now) 11)) }
+{
+    let Some(func) = module.start else {
+        return Ok(None);
+    };
+    let Some(fault) = start_fault(alloc, module, spaces, func)? else {
+        return Ok(None);
+    };
+    Ok(Some(BrokenItem {
+        section: START,
+        number: 0,
+        at: None,
+        fault,
+    }))
+}
