@@ -41,7 +41,7 @@ abbrev pub kind_told : Explanation → Kind
 kind_told told.Accepted = kind.Accepted
 kind_told (told.TooLarge bytes) = kind.TooLarge
 kind_told (told.Malformed what) = kind_of_no_module what
-kind_told (told.Rule k) = kind.Rule
+kind_told (told.Rule k item) = kind.Rule
 kind_told (told.Body b) = kind_of_fault b.fault
 kind_told told.Memory = kind.Memory
 
@@ -63,6 +63,7 @@ place_of_fault _ = None
 
 abbrev pub place_told : Explanation → Option Span
 place_told (told.Malformed what) = place_of_no_module what
+place_told (told.Rule k (Some item)) = option_map at_offset item.at
 place_told (told.Body b) = place_of_fault b.fault
 place_told _ = None
 
@@ -70,6 +71,7 @@ place_told _ = None
 abbrev pub section_told : Explanation → Option ℕ
 section_told (told.Body b) = Some 10
 section_told (told.Malformed (header.Sections (Some p))) = option_map (λ s. s.id) p.section
+section_told (told.Rule k (Some item)) = Some item.section
 section_told _ = None
 
 abbrev pub item_of_part : SectionPart → Option ℕ
@@ -78,6 +80,7 @@ item_of_part _ = None
 
 abbrev pub item_told : Explanation → Option ℕ
 item_told (told.Malformed (header.Sections (Some p))) = item_of_part p.part
+item_told (told.Rule k (Some item)) = Some item.number
 item_told _ = None
 
 -- ---- the body

@@ -1,7 +1,8 @@
 //! The numbers of an explanation, one by one, for readers that no variant concerns. `None` says that a number is not told.
 ghost use Rattle.std.specs.Prelude.{◌≡◌, option_map};
-ghost use Rattle.explain.specs.Numbers.{item_of_part, kind_of_fault, kind_of_no_module, kind_of_stop, opcode_of_fault, opcode_of_stop, place_of_fault, place_of_no_module};
+ghost use Rattle.explain.specs.Numbers.{at_offset, item_of_part, kind_of_fault, kind_of_no_module, kind_of_stop, opcode_of_fault, opcode_of_stop, place_of_fault, place_of_no_module};
 
+use crate::broken_item::BrokenItem;
 use crate::explanation::{BodyFault, Explanation, NoModule, Span, Stop, Stopped};
 use crate::shell_place::{Place, SectionPart};
 
@@ -87,9 +88,8 @@ fn fault_kind(fault: &BodyFault<'_>) -> Kind
 }
 
 /// No bytes at an offset: where reading stopped.
-fn at_offset(at: usize) -> Span
-    ensures from { result.from ≡ at }
-    ensures to { result.to ≡ at }
+fn offset_alone(at: usize) -> Span
+    ensures { result ≡ at_offset at }
 {
     Span { from: at, to: at }
 }
@@ -99,8 +99,8 @@ fn no_module_place(what: NoModule) -> Option<Span>
     ensures { result ≡ place_of_no_module what }
 {
     match what {
-        NoModule::Magic { at, .. } | NoModule::Version { at, .. } => Some(at_offset(at)),
-        NoModule::Sections(Some(place)) => Some(at_offset(place.at)),
+        NoModule::Magic { at, .. } | NoModule::Version { at, .. } => Some(offset_alone(at)),
+        NoModule::Sections(Some(place)) => Some(offset_alone(place.at)),
         _ => None,
     }
 }
@@ -122,12 +122,19 @@ fn item_place(part: SectionPart) -> Option<usize>
     }
 }
 
+/// Where an item begins that breaks a rule.
+fn item_begins(item: &BrokenItem<'_>) -> Option<Span>
+    ensures { result ≡ option_map at_offset item.now.at }
+{
+    Some(offset_alone(item.at?))
+}
+
 /// The bytes of the token that is refused, or where reading stopped.
 fn fault_place(fault: &BodyFault<'_>) -> Option<Span>
     ensures { result ≡ place_of_fault fault.now }
 {
     match fault {
-        BodyFault::Malformed { stop: Some(stop) } => Some(at_offset(stop.at)),
+        BodyFault::Malformed { stop: Some(stop) } => Some(offset_alone(stop.at)),
         BodyFault::IllTyped {
             found: Some(found),
             ..
@@ -172,18 +179,22 @@ impl Explanation<'_> {
             Explanation::Accepted => Kind::Accepted,
             Explanation::TooLarge { .. } => Kind::TooLarge,
             Explanation::Malformed(what) => no_module_kind(*what),
-            Explanation::Rule(_) => Kind::Rule,
+            Explanation::Rule { .. } => Kind::Rule,
             Explanation::Body(body) => fault_kind(&body.fault),
             Explanation::Memory => Kind::Memory,
         }
     }
 
-    /// The bytes of the module that the refusal is about: a token, or none where reading stopped.
+    /// The bytes of the module that the refusal is about: a token; none where reading stopped, or where an item begins.
     pub fn place(&self) -> Option<Span>
         ensures { result ≡ place_told self.now }
     {
         match self {
             Explanation::Malformed(what) => no_module_place(*what),
+            Explanation::Rule {
+                item: Some(item),
+                ..
+            } => item_begins(item),
             Explanation::Body(body) => fault_place(&body.fault),
             _ => None,
         }
@@ -210,6 +221,10 @@ impl Explanation<'_> {
         match self {
             Explanation::Body(_) => Some(CODE_SECTION),
             Explanation::Malformed(NoModule::Sections(Some(place))) => section_id(place),
+            Explanation::Rule {
+                item: Some(item),
+                ..
+            } => Some(item.section),
             _ => None,
         }
     }
@@ -220,6 +235,10 @@ impl Explanation<'_> {
     {
         match self {
             Explanation::Malformed(NoModule::Sections(Some(place))) => item_place(place.part),
+            Explanation::Rule {
+                item: Some(item),
+                ..
+            } => Some(item.number),
             _ => None,
         }
     }
