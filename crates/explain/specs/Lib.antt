@@ -3,3 +3,8 @@ pub mod Placed
 pub mod Places
 pub mod Texts
 pub mod Told
+pub mod Types
+pub mod Starting
+pub mod Exports
+pub mod CallFaults
+pub mod CallsTold
