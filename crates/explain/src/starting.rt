@@ -2,7 +2,8 @@
 ghost use Rattle.std.specs.Prelude.{◌≡◌, [], IfSome, option_map, position};
 ghost use Rattle.wsyntax.specs.FuncTypes.{func_type_of};
 ghost use Rattle.wsyntax.specs.Modules.{body_shape, global_shape, module_shape, seen};
-ghost use Rattle.wsyntax.specs.Execution.Start.{any, has_floats, is_float, run_has_floats, start_refusal, token_has_floats, type_has_floats};
+ghost use Rattle.wsyntax.specs.Execution.Start.{any, has_floats, is_float, run_has_floats, start_refusal};
+ghost use Rattle.wsyntax.specs.Execution.Start.{token_has_floats, type_has_floats};
 ghost use Rattle.accepted.specs.Floats.{global_has_floats};
 ghost use Rattle.accepted.specs.Judgement.{shapes_of};
 ghost use Rattle.accepted.specs.Layouts.{IsLayoutOf};
