@@ -9,3 +9,8 @@ pub mod Refused
 pub mod Shells
 pub mod Repeats
 pub mod RuleFaults
+pub mod Positions
+pub mod Refusals
+pub mod CallsTold
+pub mod FloatPlaces
+pub mod ExportLines

@@ -11,3 +11,8 @@ pub mod Texts
 pub mod Told
 pub mod Typed
 pub mod Causes
+pub mod Types
+pub mod Starting
+pub mod Exports
+pub mod CallFaults
+pub mod CallsTold

@@ -3,11 +3,15 @@
 
 mod bodies;
 mod broken_item;
+mod calls_fault;
+mod calls_text;
 mod cause;
 mod cause_text;
 mod causes;
 mod explaining;
+mod explaining_calls;
 mod explanation;
+mod exports_text;
 mod faults;
 mod functions;
 mod headers;
@@ -28,6 +32,8 @@ mod shell_place;
 mod shell_text;
 mod shell_words;
 mod spaces;
+mod starting;
+mod starting_text;
 mod stop_text;
 mod stops;
 mod text;
@@ -38,13 +44,17 @@ mod typing;
 mod typing_text;
 
 pub use broken_item::{BrokenItem, Initial, ItemFault};
+pub use calls_fault::{LineFault, TextFault, WordFault, fault_of_calls};
 pub use cause::{Cause, Space};
 pub use explaining::explain;
+pub use explaining_calls::{CallsExplanation, Refused, explain_calls};
 pub use explanation::{
     BodyFault, Explanation, FoundToken, NoModule, RefusedBody, Signature, Span, Stop, Stopped,
 };
+pub use exports_text::text_of_exports;
 pub use numbers::Kind;
 pub use shell_place::{FoundSection, OtherSegment, Place, SectionPart, Wanted, Wrong};
+pub use starting::{FloatPlace, NotStarting, not_starting};
 pub use text::explanation_text;
 pub use typing::{BlockKind, Giver, OpenBlock, Opening, Typing};
 

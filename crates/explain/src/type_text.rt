@@ -1,4 +1,6 @@
 //! Types as words.
+ghost use Rattle.std.specs.Prelude.{◌≡◌, ◌++◌, OnOk, flat_map, string_bytes};
+ghost use Rattle.explain.specs.Types.{lists_text, others_text, shown_text, type_word, types_text};
 
 use crate::explanation::Signature;
 use std::alloc::AllocError;
@@ -8,7 +10,9 @@ use wsyntax::ValType;
 const SHOWN: usize = 16;
 
 /// The name of a value type (6.4.1).
-pub(crate) fn type_name(of_type: ValType) -> &'static str {
+pub(crate) fn type_name(of_type: ValType) -> &'static str
+    ensures { result.now ≡ type_word of_type }
+{
     match of_type {
         ValType::I32 => "i32",
         ValType::I64 => "i64",
@@ -17,19 +21,62 @@ pub(crate) fn type_name(of_type: ValType) -> &'static str {
     }
 }
 
-/// A list of types between brackets.
-pub(crate) fn push_types(text: &mut String, types: &[ValType]) -> Result<(), AllocError> {
-    text.push_str("[")?;
-    for (place, of_type) in types.get(..SHOWN).unwrap_or(types).iter().enumerate() {
-        text.push_str(if place == 0 { "" } else { " " })?;
+/// Types, each with a blank before it.
+fn push_others(text: &mut String, types: &[ValType]) -> Result<(), AllocError>
+    ensures { OnOk result (string_bytes text.new ≡ string_bytes text.old ++ flat_map others_text types.now) }
+{
+    for of_type in types {
+        text.push_str(" ")?;
         text.push_str(type_name(*of_type))?;
     }
-    text.push_str(if types.len() > SHOWN { " ..]" } else { "]" })
+    Ok(())
+}
+
+/// Types with blanks between them.
+fn push_shown(text: &mut String, types: &[ValType]) -> Result<(), AllocError>
+    ensures { OnOk result (string_bytes text.new ≡ string_bytes text.old ++ shown_text types.now) }
+{
+    match types {
+        [] => Ok(()),
+        [first, others @ ..] => {
+            text.push_str(type_name(*first))?;
+            push_others(text, others)
+        }
+    }
+}
+
+/// A list of types between brackets; two dots stand for those that are too many to be shown.
+pub(crate) fn push_types(text: &mut String, types: &[ValType]) -> Result<(), AllocError>
+    ensures { OnOk result (string_bytes text.new ≡ string_bytes text.old ++ types_text types.now) }
+{
+    text.push_str("[")?;
+    if types.len() > SHOWN {
+        push_shown(text, &types[..SHOWN])?;
+        text.push_str(" ..]")
+    } else {
+        push_shown(text, types)?;
+        text.push_str("]")
+    }
+}
+
+/// The types of parameters and of results.
+pub(crate) fn push_lists(
+    text: &mut String,
+    params: &[ValType],
+    results: &[ValType],
+) -> Result<(), AllocError>
+    ensures { OnOk result (string_bytes text.new ≡ string_bytes text.old ++ lists_text params.now results.now) }
+{
+    push_types(text, params)?;
+    text.push_str(" -> ")?;
+    push_types(text, results)
 }
 
 /// The type of a function.
 pub(crate) fn push_signature(text: &mut String, signature: &Signature) -> Result<(), AllocError> {
-    push_types(text, signature.params.as_slice())?;
-    text.push_str(" -> ")?;
-    push_types(text, signature.results.as_slice())
+    push_lists(
+        text,
+        signature.params.as_slice(),
+        signature.results.as_slice(),
+    )
 }

@@ -1,0 +1,48 @@
+-- What is told of a module and of a text of calls.
+use Rattle.std.proofs.Common.{◌≡◌, ℕ, Bool, true, false, List, Option, Some, None, Result, Ok, Err, IfOk, IfSome, refl, sym, ap, ◌∙◌}
+use Rattle.std.specs.Prelude.{IsSomeAnd, string_bytes}
+use Rattle.std.specs.declared.alloc.AllocError.{AllocError}
+use Rattle.wsyntax.specs.Texts.Calls.{TooLong, BadLine, Good}
+use Rattle.wsyntax.specs.Texts.Lines.{verdict_line}
+use Rattle.wsyntax.specs.Validation.Verdict.{Verdict, Accepted, TooLarge, Malformed, RuleBroken, BodyRefused, IsVerdict}
+use Rattle.explain.specs.CallFaults.{IsFault}
+use Rattle.explain.specs.CallsTold.{RefusedBy, TellsBoth, TellsRefusal, is_refused}
+use Rattle.explain.specs.Texts.{BeginsWith}
+use Rattle.explain.specs.declared.calls_fault.TextFault.{TextFault}
+use Rattle.explain.specs.declared.calls_fault.TextFault.TheVariants as fault
+use Rattle.explain.specs.declared.explaining_calls.CallsExplanation.{CallsExplanation}
+use Rattle.explain.specs.declared.explaining_calls.Refused.{Refused}
+use Rattle.explain.specs.declared.explaining_calls.Refused.TheVariants.{Module, Calls}
+
+-- the calls of an accepted module
+
+pub bad_calls : (text : List ℕ) (f : TextFault) → IsFault text (Some f) → RefusedBy text Accepted (Some Calls)
+bad_calls text (fault.TooLarge bytes) h = (TooLong, h.0, refl)
+bad_calls text (fault.Line k why) h = (BadLine k, h, refl)
+
+pub good_calls : (text : List ℕ) → IsFault text None → RefusedBy text Accepted None
+good_calls text h = (Good h.0, h.1, refl)
+
+-- both
+
+pub both_accepted : (bytes calls : List ℕ) (r : Result CallsExplanation AllocError) → IsVerdict bytes Accepted → IfOk r (λ e. RefusedBy calls Accepted e.refused) → IfOk r (λ e. BeginsWith (verdict_line Accepted) (string_bytes e.text))
+    → IfOk r (λ e. TellsBoth bytes calls e.refused (string_bytes e.text))
+both_accepted bytes calls (Ok e) verdict refused begins = (Accepted, verdict, refused, begins)
+both_accepted bytes calls (Err f) verdict refused begins = tt
+
+one_refused : (bytes calls : List ℕ) (refused : Option Refused) (text : List ℕ) → TellsRefusal bytes refused text → TellsBoth bytes calls refused text
+one_refused bytes calls refused text (Accepted, verdict, is, told, begins) = absurd cc
+one_refused bytes calls refused text (TooLarge, verdict, is, told, begins) = (TooLarge, verdict, told, begins)
+one_refused bytes calls refused text (Malformed, verdict, is, told, begins) = (Malformed, verdict, told, begins)
+one_refused bytes calls refused text (RuleBroken k, verdict, is, told, begins) = (RuleBroken k, verdict, told, begins)
+one_refused bytes calls refused text (BodyRefused f why, verdict, is, told, begins) = (BodyRefused f why, verdict, told, begins)
+
+pub both_refused : (bytes calls : List ℕ) (r : Result CallsExplanation AllocError) → IfOk r (λ e. TellsRefusal bytes e.refused (string_bytes e.text)) → IfOk r (λ e. TellsBoth bytes calls e.refused (string_bytes e.text))
+both_refused bytes calls (Ok e) told = one_refused bytes calls e.refused (string_bytes e.text) told
+both_refused bytes calls (Err f) told = tt
+
+-- the verdict that is told is a refusal
+pub refusal_is_told : (bytes text : List ℕ) (told : Option Verdict) (b : Bool) → IfSome told (IsVerdict bytes) → IsSomeAnd told (λ v. BeginsWith (verdict_line v) text) → ((v : Verdict) → told ≡ Some v → b ≡ is_refused v) → b ≡ true
+    → TellsRefusal bytes (Some Module) text
+refusal_is_told bytes text None b verdict begins says is = absurd begins
+refusal_is_told bytes text (Some v) b verdict begins says is = (v, verdict, sym (says v refl) ∙ is, refl, begins)

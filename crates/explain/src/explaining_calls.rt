@@ -1,0 +1,120 @@
+//! The explanation of a module and of a text of calls.
+ghost use Rattle.std.specs.Prelude.{◌≡◌, ◌++◌, IfOk, Some, string_bytes};
+ghost use Rattle.wsyntax.specs.Validation.Verdict.{Accepted as IsGood, Verdict};
+ghost use Rattle.wsyntax.specs.Texts.Lines.{verdict_line};
+ghost use Rattle.explain.specs.Texts.{BeginsWith};
+ghost use Rattle.explain.specs.Told.{verdict_told};
+ghost use Rattle.explain.specs.CallsTold.{RefusedBy, TellsBoth, TellsRefusal, is_refused};
+
+use crate::calls_fault::fault_of_calls;
+use crate::calls_text::push_calls_fault;
+use crate::explaining::explain;
+use crate::explanation::Explanation;
+use crate::starting_text::push_not_starting;
+use crate::text::explanation_text;
+use accepted::Accepted;
+use std::alloc::{AllocError, Global};
+use verdict::judge_alone;
+
+/// What is refused.
+#[derive(Clone, Copy)]
+pub enum Refused {
+    Module,
+    Calls,
+}
+
+/// What is told of a module and of a text of calls.
+#[derive(Drop)]
+pub struct CallsExplanation {
+    pub text: String,
+    /// What is refused; `None` where the calls are reported.
+    pub refused: Option<Refused>,
+}
+
+/// The text on an accepted module, whose details are these.
+fn accepted_text(alloc: Global, details: &String) -> Result<String, AllocError>
+    ensures { IfOk result (λ text. BeginsWith (verdict_line IsGood) (string_bytes text)) }
+{
+    let mut text = String::from_str(alloc, "accepted\n")?;
+    text.push_str(details.as_str())?;
+    Ok(text)
+}
+
+/// Writes what is told of the calls of an accepted module below its line, and says what is refused.
+fn push_calls(
+    text: &mut String,
+    alloc: Global,
+    bytes: &[u8],
+    accepted: &Accepted<'_>,
+    calls: &[u8],
+    pages: u32,
+) -> Result<Option<Refused>, AllocError>
+    ensures { IfOk result (RefusedBy calls.now IsGood) }
+{
+    match fault_of_calls(alloc, calls)? {
+        Some(fault) => {
+            push_calls_fault(text, fault)?;
+            Ok(Some(Refused::Calls))
+        }
+        None => {
+            push_not_starting(text, alloc, bytes, accepted, pages)?;
+            Ok(None)
+        }
+    }
+}
+
+/// What is told of an accepted module and of a text of calls.
+fn explain_on(
+    alloc: Global,
+    bytes: &[u8],
+    accepted: &Accepted<'_>,
+    calls: &[u8],
+    pages: u32,
+) -> Result<CallsExplanation, AllocError>
+    ensures refused { IfOk result (λ e. RefusedBy calls.now IsGood e.refused) }
+    ensures text { IfOk result (λ e. BeginsWith (verdict_line IsGood) (string_bytes e.text)) }
+{
+    let mut details = String::new(alloc);
+    let refused = push_calls(&mut details, alloc, bytes, accepted, calls, pages)?;
+    let text = accepted_text(alloc, &details)?;
+    Ok(CallsExplanation { text, refused })
+}
+
+/// Whether an explanation tells of a refusal.
+fn tells_refusal(explanation: &Explanation<'_>) -> bool
+    ensures { (v : Verdict) → verdict_told explanation.now ≡ Some v → result ≡ is_refused v }
+{
+    !matches!(explanation, Explanation::Accepted)
+}
+
+/// What is told of a module that is refused.
+fn explain_refused(alloc: Global, bytes: &[u8]) -> Result<CallsExplanation, AllocError>
+    ensures { IfOk result (λ e. TellsRefusal bytes.now e.refused (string_bytes e.text)) }
+{
+    let explanation = explain(alloc, bytes);
+    if !tells_refusal(&explanation) {
+        return Err(AllocError);
+    }
+    let text = explanation_text(alloc, &explanation)?;
+    Ok(CallsExplanation {
+        text,
+        refused: Some(Refused::Module),
+    })
+}
+
+/// Judges a module, on the calling thread, and reads a text of calls of it. Of a refused module it tells what `explain`
+/// tells; of an accepted one what is wrong with the calls, or why an instance does not start whose memory may have so many
+/// pages.
+pub fn explain_calls(
+    alloc: Global,
+    bytes: &[u8],
+    calls: &[u8],
+    pages: u32,
+) -> Result<CallsExplanation, AllocError>
+    ensures { IfOk result (λ e. TellsBoth bytes.now calls.now e.refused (string_bytes e.text)) }
+{
+    match judge_alone(alloc, bytes) {
+        Ok(accepted) => explain_on(alloc, bytes, &accepted, calls, pages),
+        Err(_refusal) => explain_refused(alloc, bytes),
+    }
+}

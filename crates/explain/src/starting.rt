@@ -1,0 +1,190 @@
+//! Why no instance of an accepted module starts (4.5.4), and where what hinders it stands.
+ghost use Rattle.std.specs.Prelude.{◌≡◌, [], IfSome, option_map, position};
+ghost use Rattle.wsyntax.specs.FuncTypes.{func_type_of};
+ghost use Rattle.wsyntax.specs.Modules.{body_shape, global_shape, module_shape, seen};
+ghost use Rattle.wsyntax.specs.Execution.Start.{any, has_floats, is_float, run_has_floats, start_refusal};
+ghost use Rattle.wsyntax.specs.Execution.Start.{token_has_floats, type_has_floats};
+ghost use Rattle.accepted.specs.Floats.{global_has_floats};
+ghost use Rattle.accepted.specs.Judgement.{shapes_of};
+ghost use Rattle.accepted.specs.Layouts.{IsLayoutOf};
+ghost use Rattle.explain.specs.Starting.{IsNamed, first_float, first_in, float_in, refusal_named};
+
+use accepted::{Accepted, Layout, memory_pages, table_size};
+use checked::{CheckedBody, is_float, token_has_floats};
+use wsyntax::{FuncType, FuncTypes, Global, Import, LocalRun, Module, Token, ValType};
+
+/// The most entries that the table of an instance may have.
+pub(crate) const TABLE_LIMIT: u32 = 65_536;
+
+/// Where f32 or f64 stands first in a module without imports, in which the index of a function is the place of its body.
+#[derive(Clone, Copy)]
+pub enum FloatPlace {
+    /// In the function type of that index.
+    Type(usize),
+    /// In the type of the global of that index.
+    Global(usize),
+    /// In that run of the declared locals of that function.
+    Local { func: usize, run: usize },
+    /// In the token of that number of the body of that function.
+    Token { func: usize, number: usize },
+}
+
+/// Why no instance of a module starts.
+#[derive(Clone, Copy)]
+pub enum NotStarting<'a> {
+    /// It has imports: the first.
+    Import(Import<'a>),
+    /// It mentions floats: first there.
+    Floats(Option<FloatPlace>),
+    /// Its table has at least so many entries.
+    TableLimit(u32),
+    /// Its memory has at least so many pages.
+    MemoryLimit(u32),
+    /// The element segment of that number ends past the table.
+    ElementOutside(u32),
+    /// The data segment of that number ends past the memory.
+    DataOutside(u32),
+}
+
+/// Whether one of the types is a float.
+fn any_is_float(types: &[ValType]) -> bool
+    ensures { result ≡ any is_float types.now }
+{
+    types.iter().any(|of_type| is_float(*of_type))
+}
+
+/// Whether a function type has floats.
+fn type_has_floats(of_type: FuncType<'_>) -> bool
+    ensures { result ≡ type_has_floats (func_type_of of_type.entry) }
+{
+    any_is_float(of_type.params) || any_is_float(of_type.results)
+}
+
+/// The index of the first function type that has floats.
+fn float_type(types: &FuncTypes) -> Option<usize>
+    ensures { result ≡ position type_has_floats types.now }
+{
+    for index in 0..types.len() {
+        let Some(of_type) = types.get(index) else {
+            unreachable!()
+        };
+        if type_has_floats(of_type) {
+            return Some(index);
+        }
+    }
+    None
+}
+
+/// The index of the first global that is a float.
+fn float_global(globals: &[Global<'_>]) -> Option<usize>
+    ensures { result ≡ position (λ g. global_has_floats (global_shape g)) globals.now }
+{
+    globals
+        .iter()
+        .position(|global| is_float(global.content.content))
+}
+
+/// The number of the first run of locals that are floats.
+fn float_run(runs: &[LocalRun]) -> Option<usize>
+    ensures { result ≡ position run_has_floats runs.now }
+{
+    runs.iter()
+        .position(|run| run.count > 0 && is_float(run.content))
+}
+
+/// The number of the first token that has floats.
+fn float_token(tokens: &[Token]) -> Option<usize>
+    ensures { result ≡ position (λ t. token_has_floats (seen [] t)) tokens.now }
+{
+    tokens.iter().position(|token| token_has_floats(*token))
+}
+
+/// Where floats stand first in the body of that function.
+fn float_in_body(func: usize, body: &CheckedBody) -> FloatPlace
+    ensures { result ≡ float_in func (body_shape body.now.body) }
+{
+    match float_run(body.locals()) {
+        Some(run) => FloatPlace::Local { func, run },
+        None => FloatPlace::Token {
+            func,
+            number: float_token(body.tokens()).unwrap_or(0),
+        },
+    }
+}
+
+/// Where floats stand first in these bodies.
+fn float_in_bodies(bodies: &[CheckedBody]) -> Option<FloatPlace>
+    ensures { result ≡ first_in 0 (shapes_of bodies.now) }
+{
+    for (func, body) in bodies.iter().enumerate() {
+        if body.has_floats() {
+            return Some(float_in_body(func, body));
+        }
+    }
+    None
+}
+
+/// Where floats stand first in a module with these bodies.
+fn float_place(module: &Module<'_>, bodies: &[CheckedBody]) -> Option<FloatPlace>
+    ensures { result ≡ first_float (module_shape «module».now) (shapes_of bodies.now) }
+{
+    if let Some(index) = float_type(&module.types) {
+        return Some(FloatPlace::Type(index));
+    }
+    if let Some(index) = float_global(&module.globals) {
+        return Some(FloatPlace::Global(index));
+    }
+    float_in_bodies(bodies)
+}
+
+/// Why no instance starts of a valid module with these bodies. `uses_floats` says whether it mentions floats.
+fn reason_of<'a>(
+    module: &Module<'a>,
+    layout: &Layout,
+    bodies: &[CheckedBody],
+    uses_floats: bool,
+    pages: u32,
+) -> Option<NotStarting<'a>>
+    requires { IsLayoutOf (module_shape «module».now) layout.now }
+    ensures reason { uses_floats ≡ has_floats (module_shape «module».now) (shapes_of bodies.now)
+        → option_map refusal_named result ≡ start_refusal pages (module_shape «module».now) (shapes_of bodies.now) }
+    ensures named { IfSome result (IsNamed (module_shape «module».now) (shapes_of bodies.now)) }
+{
+    if let Some(import) = module.imports.first() {
+        return Some(NotStarting::Import(*import));
+    }
+    if uses_floats {
+        return Some(NotStarting::Floats(float_place(module, bodies)));
+    }
+    if table_size(module) > TABLE_LIMIT {
+        return Some(NotStarting::TableLimit(table_size(module)));
+    }
+    if memory_pages(module) > pages {
+        return Some(NotStarting::MemoryLimit(memory_pages(module)));
+    }
+    if let Some(segment) = layout.element_outside() {
+        return Some(NotStarting::ElementOutside(segment));
+    }
+    if let Some(segment) = layout.data_outside() {
+        return Some(NotStarting::DataOutside(segment));
+    }
+    None
+}
+
+/// Why no instance of an accepted module starts whose memory may have so many pages; `None` where one does.
+pub fn not_starting<'a>(accepted: &Accepted<'a>, pages: u32) -> Option<NotStarting<'a>>
+    // It is the first reason, as a run has it.
+    ensures reason { option_map refusal_named result
+        ≡ start_refusal pages (module_shape accepted.now.module) (shapes_of accepted.now.bodies.items) }
+    // What it names hinders the start, and is the first that does.
+    ensures named { IfSome result (IsNamed (module_shape accepted.now.module) (shapes_of accepted.now.bodies.items)) }
+{
+    accepted.is_laid_out();
+    reason_of(
+        accepted.module(),
+        accepted.layout(),
+        accepted.bodies(),
+        accepted.has_floats(),
+        pages,
+    )
+}
