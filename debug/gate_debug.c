@@ -102,13 +102,13 @@ static void look_at(site here, const area *areas, size_t count) {
 
 /* Handles. */
 
-static const char MODULE[] = "the module", REPORT[] = "the report";
+static const char MODULE[] = "the module", REPORT[] = "the report", INSTANCE[] = "the instance";
 
 typedef struct handle {
     const void *at;
-    const char *kind; /* MODULE or REPORT */
+    const char *kind; /* MODULE, REPORT or INSTANCE */
     bool is_called, is_freed;
-    const uint8_t *bytes; /* of a module, with their sum when it was judged */
+    const uint8_t *bytes; /* of a module, or of that of an instance, with their sum when it was judged */
     size_t length;
     uint64_t sum;
     struct handle *next;
@@ -381,4 +381,99 @@ uint32_t gate_debug_module_starts(const char *file, int line, gate_module module
     const uint32_t status = (gate_module_starts)(module, settings, ended);
     finish(used);
     return status;
+}
+
+uint32_t gate_debug_instance_new(const char *file, int line, gate_module module, const gate_settings *settings,
+                                 gate_instance *instance, gate_call *ended) {
+    const site here = { file, line, "gate_instance_new" };
+    handle *used = begin(here, module.at, MODULE, false);
+    const area areas[] = {
+        READS_BYTES_OF(used), READS(gate_settings, settings, 1), WRITES(gate_instance, instance, 1), WRITES(gate_call, ended, 1),
+    };
+    look_at(here, areas, COUNT_OF(areas));
+    const uint32_t status = (gate_instance_new)(module, settings, instance, ended);
+    if (status == GATE_OK)
+        keep((handle){ .at = instance->at, .kind = INSTANCE, .bytes = used->bytes, .length = used->length, .sum = used->sum });
+    finish(used);
+    return status;
+}
+
+uint32_t gate_debug_instance_call(const char *file, int line, gate_instance instance, const uint8_t *name, size_t name_length,
+                                  const gate_value *args, size_t args_count, const gate_settings *settings, gate_value *results,
+                                  size_t results_room, gate_call *ended) {
+    const site here = { file, line, "gate_instance_call" };
+    handle *used = begin(here, instance.at, INSTANCE, false);
+    const area areas[] = {
+        READS_BYTES_OF(used), READS(uint8_t, name, name_length), READS(gate_value, args, args_count),
+        READS(gate_settings, settings, 1), WRITES(gate_value, results, results_room), WRITES(gate_call, ended, 1),
+    };
+    look_at(here, areas, COUNT_OF(areas));
+    const uint32_t status = (gate_instance_call)(instance, name, name_length, args, args_count, settings, results, results_room, ended);
+    finish(used);
+    return status;
+}
+
+uint32_t gate_debug_instance_memory_size(const char *file, int line, gate_instance instance, uint64_t *size) {
+    const site here = { file, line, "gate_instance_memory_size" };
+    handle *used = begin(here, instance.at, INSTANCE, false);
+    const area areas[] = { READS_BYTES_OF(used), WRITES(uint64_t, size, 1) };
+    look_at(here, areas, COUNT_OF(areas));
+    const uint32_t status = (gate_instance_memory_size)(instance, size);
+    finish(used);
+    return status;
+}
+
+uint32_t gate_debug_instance_read(const char *file, int line, gate_instance instance, uint64_t at, uint8_t *out, size_t length) {
+    const site here = { file, line, "gate_instance_read" };
+    handle *used = begin(here, instance.at, INSTANCE, false);
+    const area areas[] = { READS_BYTES_OF(used), WRITES(uint8_t, out, length) };
+    look_at(here, areas, COUNT_OF(areas));
+    const uint32_t status = (gate_instance_read)(instance, at, out, length);
+    finish(used);
+    return status;
+}
+
+uint32_t gate_debug_instance_write(const char *file, int line, gate_instance instance, uint64_t at, const uint8_t *bytes,
+                                   size_t length) {
+    const site here = { file, line, "gate_instance_write" };
+    handle *used = begin(here, instance.at, INSTANCE, false);
+    const area areas[] = { READS_BYTES_OF(used), READS(uint8_t, bytes, length) };
+    look_at(here, areas, COUNT_OF(areas));
+    const uint32_t status = (gate_instance_write)(instance, at, bytes, length);
+    finish(used);
+    return status;
+}
+
+uint32_t gate_debug_instance_global(const char *file, int line, gate_instance instance, const uint8_t *name, size_t name_length,
+                                    gate_value *value) {
+    const site here = { file, line, "gate_instance_global" };
+    handle *used = begin(here, instance.at, INSTANCE, false);
+    const area areas[] = { READS_BYTES_OF(used), READS(uint8_t, name, name_length), WRITES(gate_value, value, 1) };
+    look_at(here, areas, COUNT_OF(areas));
+    const uint32_t status = (gate_instance_global)(instance, name, name_length, value);
+    finish(used);
+    return status;
+}
+
+uint32_t gate_debug_instance_reset(const char *file, int line, gate_instance instance, gate_call *ended) {
+    const site here = { file, line, "gate_instance_reset" };
+    handle *used = begin(here, instance.at, INSTANCE, false);
+    const area areas[] = { READS_BYTES_OF(used), WRITES(gate_call, ended, 1) };
+    look_at(here, areas, COUNT_OF(areas));
+    const uint32_t status = (gate_instance_reset)(instance, ended);
+    finish(used);
+    return status;
+}
+
+static void free_instance(site here, gate_instance instance) {
+    begin(here, instance.at, INSTANCE, true);
+    (gate_instance_free)(instance);
+}
+
+void gate_debug_instance_free(const char *file, int line, gate_instance instance) {
+    free_instance((site){ file, line, "gate_instance_free" }, instance);
+}
+
+void gate_debug_instance_drop(const char *file, int line, gate_instance instance) {
+    if (instance.at) free_instance((site){ file, line, "gate_instance_drop" }, instance);
 }

@@ -11,7 +11,7 @@
  * or in another call; bytes of a module that changed. With AddressSanitizer (-fsanitize=address) also: buffers that are shorter than told,
  * or freed. Not found is a handle that goes to another thread without a lock; a detector of races finds that.
  *
- * The host is C99, C++11 or later. Each call of a module reads all bytes of it.
+ * The host is C99, C++11 or later. Each call of a module or of an instance reads all bytes of it.
  */
 #ifndef GATE_DEBUG_H
 #define GATE_DEBUG_H
@@ -52,6 +52,20 @@ uint32_t gate_debug_module_find(const char *file, int line, gate_module module, 
 uint32_t gate_debug_module_types(const char *file, int line, gate_module module, uint32_t function, uint8_t *params,
                                  size_t params_room, uint8_t *results, size_t results_room);
 uint32_t gate_debug_module_starts(const char *file, int line, gate_module module, const gate_settings *settings, gate_call *ended);
+uint32_t gate_debug_instance_new(const char *file, int line, gate_module module, const gate_settings *settings,
+                                 gate_instance *instance, gate_call *ended);
+uint32_t gate_debug_instance_call(const char *file, int line, gate_instance instance, const uint8_t *name, size_t name_length,
+                                  const gate_value *args, size_t args_count, const gate_settings *settings, gate_value *results,
+                                  size_t results_room, gate_call *ended);
+uint32_t gate_debug_instance_memory_size(const char *file, int line, gate_instance instance, uint64_t *size);
+uint32_t gate_debug_instance_read(const char *file, int line, gate_instance instance, uint64_t at, uint8_t *out, size_t length);
+uint32_t gate_debug_instance_write(const char *file, int line, gate_instance instance, uint64_t at, const uint8_t *bytes,
+                                   size_t length);
+uint32_t gate_debug_instance_global(const char *file, int line, gate_instance instance, const uint8_t *name, size_t name_length,
+                                    gate_value *value);
+uint32_t gate_debug_instance_reset(const char *file, int line, gate_instance instance, gate_call *ended);
+void gate_debug_instance_free(const char *file, int line, gate_instance instance);
+void gate_debug_instance_drop(const char *file, int line, gate_instance instance);
 
 #ifdef __cplusplus
 }
@@ -77,5 +91,14 @@ uint32_t gate_debug_module_starts(const char *file, int line, gate_module module
 #define gate_module_find(...) gate_debug_module_find(__FILE__, __LINE__, __VA_ARGS__)
 #define gate_module_types(...) gate_debug_module_types(__FILE__, __LINE__, __VA_ARGS__)
 #define gate_module_starts(...) gate_debug_module_starts(__FILE__, __LINE__, __VA_ARGS__)
+#define gate_instance_new(...) gate_debug_instance_new(__FILE__, __LINE__, __VA_ARGS__)
+#define gate_instance_call(...) gate_debug_instance_call(__FILE__, __LINE__, __VA_ARGS__)
+#define gate_instance_memory_size(...) gate_debug_instance_memory_size(__FILE__, __LINE__, __VA_ARGS__)
+#define gate_instance_read(...) gate_debug_instance_read(__FILE__, __LINE__, __VA_ARGS__)
+#define gate_instance_write(...) gate_debug_instance_write(__FILE__, __LINE__, __VA_ARGS__)
+#define gate_instance_global(...) gate_debug_instance_global(__FILE__, __LINE__, __VA_ARGS__)
+#define gate_instance_reset(...) gate_debug_instance_reset(__FILE__, __LINE__, __VA_ARGS__)
+#define gate_instance_free(...) gate_debug_instance_free(__FILE__, __LINE__, __VA_ARGS__)
+#define gate_instance_drop(...) gate_debug_instance_drop(__FILE__, __LINE__, __VA_ARGS__)
 
 #endif

@@ -18,10 +18,11 @@
  *          meanwhile, in this process or in another one (of a mapped file). A length is below 2^63 bytes. A null pointer is allowed
  *          with length 0 only. `verdict` of gate_verdict_line and `settings` are never null.
  * Written  `out` and `results` have room for as many elements as their room says, and are null with room 0 only. A room, too, is below
- *          2^63 bytes. `verdict`, `explanation`, `length`, `kept`, `module`, `other`, `found` and `ended` are never null. None of them
- *          overlaps another one, or anything that the call reads. All pointers are aligned as their types ask.
- * Handles  A gate_report or gate_module is one that the library wrote and that is not freed yet: { NULL } is none. Who got it, frees it,
- *          once; a copy of the struct is the same handle. Its `at` is the library's.
+ *          2^63 bytes. `verdict`, `explanation`, `length`, `kept`, `module`, `other`, `found`, `ended`, `instance`, `size` and
+ *          `value` are never null. None of them overlaps another one, or anything that the call reads. All pointers are aligned as
+ *          their types ask.
+ * Handles  A gate_report, gate_module or gate_instance is one that the library wrote and that is not freed yet: { NULL } is none. Who
+ *          got it, frees it, once; a copy of the struct is the same handle. Its `at` is the library's.
  * Threads  A handle is in one call at a time; any thread may make that call. It goes from thread to thread by a lock, by the start or
  *          the join of a thread, or by a sequentially consistent atomic, so that each call happens before the next one.
  *          gate_module_share gives another thread a handle of its own of the same module. Else all calls may run at once, on the same
@@ -112,6 +113,9 @@ enum gate_status {
     GATE_BAD_ARGUMENT = 64,   /* a limit is out of its range, or numbers are of no verdict or value; nothing is written */
     GATE_NO_MEMORY = 70,      /* a block was refused that the function cannot do without; nothing is written */
     GATE_SHORT_BUFFER = 75,   /* *length bytes are wanted; out is as it was */
+    GATE_OUTSIDE = 80,        /* bytes do not lie in the memory of an instance; nothing is done */
+    GATE_NO_INSTANCE = 81,    /* there is no instance */
+    GATE_NO_GLOBAL = 82,      /* no global is exported under the name; nothing is written */
     /* The same by names that say what they are of: GATE_BAD_ARGUMENTS is an end. */
     GATE_STATUS_OK = GATE_OK,
     GATE_STATUS_MODULE_REFUSED = GATE_MODULE_REFUSED,
@@ -119,7 +123,10 @@ enum gate_status {
     GATE_STATUS_NOTHING = GATE_NOTHING,
     GATE_STATUS_BAD_ARGUMENT = GATE_BAD_ARGUMENT,
     GATE_STATUS_NO_MEMORY = GATE_NO_MEMORY,
-    GATE_STATUS_SHORT_BUFFER = GATE_SHORT_BUFFER
+    GATE_STATUS_SHORT_BUFFER = GATE_SHORT_BUFFER,
+    GATE_STATUS_OUTSIDE = GATE_OUTSIDE,
+    GATE_STATUS_NO_INSTANCE = GATE_NO_INSTANCE,
+    GATE_STATUS_NO_GLOBAL = GATE_NO_GLOBAL
 };
 
 enum gate_kind {
@@ -414,6 +421,58 @@ uint32_t gate_module_types(gate_module module, uint32_t function, uint8_t *param
  *   GATE_BAD_ARGUMENT  a limit is out of its range, fuel and frames too, which change nothing here */
 uint32_t gate_module_starts(gate_module module, const gate_settings *settings, gate_call *ended) GATE_NOT_NULL((2, 3)) GATE_ANSWERS;
 
+/* An instance of a module that goes on from call to call: what one call leaves in memory, globals and table, the next one finds. */
+typedef struct gate_instance { void *at; } gate_instance;
+
+/* Makes an instance, and runs the start function of its module. It holds the module too, which may be freed before it; the module's
+ * bytes stay readable, and as they are, until both are freed.
+ *   GATE_OK            *instance has a handle, and ended->fuel says what the start function cost. The caller frees it by
+ *                      gate_instance_free
+ *   GATE_NO_INSTANCE   ended says why: GATE_NOT_STARTED, GATE_CALL_NO_MEMORY, or how the start function ended; *instance is as it was
+ *   GATE_BAD_ARGUMENT  a limit is out of its range
+ *   GATE_NO_MEMORY     nothing is written */
+uint32_t gate_instance_new(gate_module module, const gate_settings *settings, gate_instance *instance, gate_call *ended)
+    GATE_NOT_NULL((2, 3, 4)) GATE_ANSWERS;
+
+/* Calls an export. As gate_module_call, but on this instance as it is, under the fuel and the frames of settings; how many pages its
+ * memory may have, gate_instance_new was told. After a trap, or where fuel or frames ran out, it is as the call left it, and goes on.
+ * After GATE_CALL_NO_MEMORY each further call ends so, until a reset.
+ *   GATE_NO_INSTANCE  the last reset made none; nothing is written */
+uint32_t gate_instance_call(gate_instance instance, const uint8_t *name, size_t name_length, const gate_value *args,
+                            size_t args_count, const gate_settings *settings, gate_value *results, size_t results_room,
+                            gate_call *ended)
+    GATE_READS(2, 3) GATE_READS(4, 5) GATE_WRITES(7, 8) GATE_NOT_NULL((6, 9)) GATE_ANSWERS;
+
+/* Writes the number of bytes of its memory: 0 where it has none. It answers GATE_OK. */
+uint32_t gate_instance_memory_size(gate_instance instance, uint64_t *size) GATE_NOT_NULL((2));
+
+/* Copies bytes of its memory from place `at` on.
+ *   GATE_OUTSIDE  they reach past its end, or there is no memory; out is as it was */
+uint32_t gate_instance_read(gate_instance instance, uint64_t at, uint8_t *out, size_t length) GATE_WRITES(3, 4) GATE_ANSWERS;
+
+/* Writes bytes to its memory from place `at` on.
+ *   GATE_OUTSIDE  they would reach past its end, or there is no memory; nothing is done */
+uint32_t gate_instance_write(gate_instance instance, uint64_t at, const uint8_t *bytes, size_t length)
+    GATE_READS(3, 4) GATE_ANSWERS;
+
+/* Writes the value of an exported global.
+ *   GATE_NO_GLOBAL  no global has this name */
+uint32_t gate_instance_global(gate_instance instance, const uint8_t *name, size_t name_length, gate_value *value)
+    GATE_READS(2, 3) GATE_NOT_NULL((4)) GATE_ANSWERS;
+
+/* Ends the instance, and makes a new one of its module in its memory, which is clean again: as gate_instance_new with the same
+ * settings.
+ *   GATE_NO_INSTANCE  ended says why. The handle stays: it can be reset again, and is to be freed */
+uint32_t gate_instance_reset(gate_instance instance, gate_call *ended) GATE_NOT_NULL((2)) GATE_ANSWERS;
+
+/* Frees an instance. */
+void gate_instance_free(gate_instance instance);
+
+/* The same, but for { NULL } nothing. */
+GATE_INLINE void gate_instance_drop(gate_instance instance) {
+    if (instance.at) gate_instance_free(instance);
+}
+
 #undef GATE_READS
 #undef GATE_WRITES
 #undef GATE_NOT_NULL
@@ -452,6 +511,7 @@ GATE_HOLDS(offsetof(gate_explanation, why) == 24 && offsetof(gate_explanation, s
 GATE_HOLDS(offsetof(gate_explanation, opcode) == 32 && offsetof(gate_explanation, item) == 40);
 GATE_HOLDS(offsetof(gate_explanation, body_from) == 48 && offsetof(gate_explanation, body_to) == 56);
 GATE_HOLDS(offsetof(gate_explanation, from) == 64 && offsetof(gate_explanation, to) == 72);
+GATE_IS(gate_instance, 8, 8);
 #undef GATE_HOLDS
 #undef GATE_IS
 #endif

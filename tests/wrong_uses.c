@@ -98,6 +98,20 @@ static void counted_after_free(void) {
     WRONG("gate_module_export_count: the module was freed before", gate_module_export_count(module));
 }
 
+static void instance_called_after_free(void) {
+    gate_instance it = { NULL };
+    if (gate_instance_new(module, &USUAL, &it, &ended) != GATE_OK) return;
+    gate_module_free(module);
+    gate_instance_free(it);
+    WRONG("gate_instance_call: the instance was freed before", gate_instance_call(it, bytes, 1, NULL, 0, &USUAL, NULL, 0, &ended));
+}
+
+static void null_bytes_written(void) {
+    gate_instance it = { NULL };
+    if (gate_instance_new(module, &USUAL, &it, &ended) != GATE_OK) return;
+    WRONG("gate_instance_write: bytes is null", gate_instance_write(it, 0, NULL, 8));
+}
+
 static void null_found(void) { WRONG("gate_module_find: found is null", gate_module_find(module, bytes, 1, NULL)); }
 
 static void types_in_one_place(void) {
@@ -195,7 +209,7 @@ static void (*const uses[])(void) = {
     null_module_freed, null_report_freed, module_freed_twice, report_freed_twice, called_after_free, shared_after_free, read_after_free,
     null_verdict, null_explanation, null_text, null_bytes, null_settings, null_line, length_within_out, out_within_module,
     verdict_within_bytes, misaligned, too_long, bytes_unmapped, calls_unmapped, bytes_changed, own_handle, other_handle, two_threads,
-    counted_after_free, null_found, types_in_one_place,
+    counted_after_free, null_found, types_in_one_place, instance_called_after_free, null_bytes_written,
 #ifdef HAS_SANITIZER
     out_shorter, bytes_freed,
 #endif

@@ -5,3 +5,7 @@ pub mod ReportValues
 pub mod Spelled
 pub mod CountValues
 pub mod ExportedTypes
+pub mod InstanceValues
+pub mod Instances
+pub mod InstanceOperations
+pub mod CallsThatGoOn

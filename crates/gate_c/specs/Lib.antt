@@ -11,3 +11,7 @@ pub mod Calls
 pub mod Exported
 pub mod Starts
 pub mod Explained
+pub mod Beginnings
+pub mod CallsOn
+pub mod Instances
+pub mod Made

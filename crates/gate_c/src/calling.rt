@@ -21,7 +21,7 @@ use wsyntax::Value;
 
 /// Why numbers are no arguments.
 #[derive(Clone, Copy)]
-enum ArgsFault {
+pub(crate) enum ArgsFault {
     /// One of them is no value.
     NoValue,
     /// An allocation was refused.
@@ -29,7 +29,7 @@ enum ArgsFault {
 }
 
 /// The arguments that these are the numbers of.
-fn arguments(alloc: Global, numbers: &[GateValue]) -> Result<Args, ArgsFault>
+pub(crate) fn arguments(alloc: Global, numbers: &[GateValue]) -> Result<Args, ArgsFault>
     ensures ok { IfOk result (λ args. map value_numbers (args_of args) ≡ numbers.now) }
     ensures words { IfOk result (λ args. AreWords (args_of args)) }
     ensures no_value { IsErrOf result ArgsFault.NoValue → AreNoArguments numbers.now }

@@ -58,6 +58,8 @@ fn numbers_of_refusal(refusal: StartRefusal) -> (u32, u32)
 }
 
 impl GateCall {
+    ghost use Rattle.gate_c.specs.Beginnings.{begun_numbers};
+
     /// An end of which only the number is told.
     fn plain(end: u32) -> GateCall
         ensures end { result.end ≡ end }
@@ -90,6 +92,13 @@ impl GateCall {
             fuel,
             results,
         }
+    }
+
+    /// A start function that ended well, or that there is none.
+    pub(crate) fn begun(fuel: u32) -> GateCall
+        ensures { result ≡ begun_numbers fuel }
+    {
+        GateCall::ran(0, 0, fuel, 0)
     }
 
     /// The end of a call that ran and came to this.

@@ -5,19 +5,25 @@
 //! nothing; a call on a handle leaves it alive and the same. What C owes, `gate.h` says, and nothing checks.
 #![tactic(auto)]
 
+mod beginning;
 mod calling;
+mod calling_on;
 mod counted;
 mod ending;
-mod exported;
 mod explained;
 mod explaining;
+mod exported;
 mod exports;
 mod handing;
 mod held;
+mod instance;
+mod instance_exports;
 mod judged;
 mod kept;
+mod live;
 mod loose;
 mod module;
+mod operating;
 mod queries;
 mod report;
 mod sending;
@@ -29,11 +35,13 @@ mod value;
 
 pub use counted::ModuleCount;
 pub use ending::GateCall;
-pub use exported::GateExport;
 pub use explained::GateExplanation;
+pub use exported::GateExport;
 pub use held::Held;
+pub use instance::{GateInstance, InstanceSlot, InstanceStatus};
 pub use judged::GateVerdict;
 pub use kept::Kept;
+pub use live::Live;
 pub use module::{GateModule, ModuleSlot, ModuleStatus};
 pub use report::{GateReport, ReportSlot, ReportStatus};
 pub use settings::GateSettings;

@@ -19,6 +19,12 @@ pub(crate) const BAD_ARGUMENT: u32 = 64;
 pub(crate) const NO_MEMORY: u32 = 70;
 /// The buffer is shorter than the text.
 pub(crate) const SHORT_BUFFER: u32 = 75;
+/// Bytes do not lie in the memory of an instance.
+pub(crate) const OUTSIDE: u32 = 80;
+/// There is no instance.
+pub(crate) const NO_INSTANCE: u32 = 81;
+/// No global is exported under that name.
+pub(crate) const NO_GLOBAL: u32 = 82;
 
 /// The number of the status of an answer.
 pub(crate) fn status_number(status: Status) -> u32
