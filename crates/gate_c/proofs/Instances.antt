@@ -1,28 +1,23 @@
 -- Instances that are taken from their modules and put back.
-use Rattle.std.proofs.Common.{◌≡◌, ℕ, Bool, true, false, Option, Some, None, sym, ap, ◌∙◌, subst}
+use Rattle.std.proofs.Common.{◌≡◌, ℕ, Option, Some, None, sym, ap, ◌∙◌, subst}
 use Rattle.std.specs.Prelude.{IfSome}
 use Rattle.std.proofs.Math.Logic.{∥∥₁_elim}
 use Rattle.std.proofs.Props.{props}
 use Rattle.wsyntax.specs.Modules.{module_shape}
 use Rattle.wsyntax.specs.Validation.ModuleContext.{module_context}
-use Rattle.wsyntax.specs.Execution.Store.{Store}
 use Rattle.wsyntax.specs.Texts.Answer.{Limits}
 use Rattle.wsyntax.specs.declared.outcome.Outcome.{Outcome}
 use Rattle.interpreter.specs.Seen.{seen}
 use Rattle.accepted.specs.Judgement.{shapes_of}
 use Rattle.accepted.specs.declared.accepted.Accepted.{Accepted}
 use Rattle.wmachine.specs.Starts.{StartsOnEach}
-use Rattle.wstore.specs.Detached.{IsDetached, IsInstanceOf, store_as}
+use Rattle.wstore.specs.Detached.{IsInstanceOf, store_as}
 use Rattle.wstore.specs.Held.{store_of}
 use Rattle.wstore.specs.Views.{module_in, bodies_in, store_in}
 use Rattle.wstore.specs.declared.detached.Detached.{Detached}
 use Rattle.wstore.specs.declared.instance.Instance.{Instance}
-use Rattle.texts.specs.declared.line.Line.{Line}
 use Rattle.texts.specs.declared.line.Line.TheVariants.{Ran}
-use Rattle.wstore.specs.Faults.{IsFault}
-use Rattle.wstore.specs.declared.fault.StartFault.{StartFault}
-use Rattle.wstore.specs.declared.fault.StartFault.TheVariants.{Refused, Memory}
-use Rattle.gate_c.specs.Beginnings.{Begins, FailsToBegin, IsLineOf, refusal_in}
+use Rattle.gate_c.specs.Beginnings.{FailsToBegin, refusal_in}
 
 -- what is held where there is an instance
 pub is_instance : (a : Accepted) (state : Option Detached) (d : Detached) → ∥ IfSome state (IsInstanceOf a) ∥₁ → state ≡ Some d → IsInstanceOf a d
@@ -32,40 +27,14 @@ is_instance a state d held is =
       ∥∥₁_elim there (hlevel props) (λ h. h.1),
     )
 
--- the same of an equal module
-pub of_same : (a b : Accepted) (d : Detached) → b ≡ a → IsInstanceOf b d → IsInstanceOf a d
-of_same a b d same h = subst (λ (x : Accepted). IsInstanceOf x d) same h
-
 -- its store is that of the instance
 pub store_same : (a : Accepted) (i : Instance) (d : Detached) → i.accepted.now ≡ a → d.parts ≡ i.parts → store_in i ≡ store_as a d
 store_same a i d same parts =
     ap (λ (x : Accepted). store_of (module_context (module_shape x.«module»)) (seen i.parts)) same
     ∙ ap (λ p. store_of (module_context (module_shape a.«module»)) (seen p)) (sym parts)
 
--- what is detached and was attached is the same
-pub same_detached : (d e : Detached) → d.parts ≡ e.parts → d.lent ≡ e.lent → d.failed ≡ e.failed → d.dispatches ≡ e.dispatches → d ≡ e
-same_detached d e parts lent failed dispatches = cc
-
--- an instance that began
-pub begins : (a : Accepted) (old new : Instance) (d : Detached) (l : Limits) (k : ℕ) → old.accepted.now ≡ a → new.accepted.now ≡ old.accepted.now → IsDetached new d → IsInstanceOf new.accepted.now d
-    → refusal_in a l ≡ None → old.failed ≡ false → new.failed ≡ old.failed → StartsOnEach (module_in old) (bodies_in old) l (store_in new) k None → Begins a l d k
-begins a old new d l k is same detached of allowed fine kept ends =
-    let all : new.accepted.now ≡ a = same ∙ is in
-    let on : StartsOnEach (module_shape a.«module») (shapes_of a.bodies.items) l (store_in new) k None =
-    subst (λ (x : Accepted). StartsOnEach (module_shape x.«module») (shapes_of x.bodies.items) l (store_in new) k None) is ends in (
-      of_same a new.accepted.now d all of,
-      allowed,
-      detached.2 ∙ kept ∙ fine,
-      subst (λ (s : Store). StartsOnEach (module_shape a.«module») (shapes_of a.bodies.items) l s k None) (store_same a new d all detached.0) on,
-    )
-
 -- a start function that does not end in values
 pub ends_otherwise : (a : Accepted) (old new : Instance) (l : Limits) (o : Outcome) (k : ℕ) → old.accepted.now ≡ a → refusal_in a l ≡ None
     → StartsOnEach (module_in old) (bodies_in old) l (store_in new) k (Some o) → FailsToBegin a l (Ran o k)
 ends_otherwise a old new l o k is allowed ends =
     (allowed, store_in new, subst (λ (x : Accepted). StartsOnEach (module_shape x.«module») (shapes_of x.bodies.items) l (store_in new) k (Some o)) is ends)
-
--- an instance that is refused
-pub fails_as : (a : Accepted) (l : Limits) (fault : StartFault) (line : Line) → IsFault l.pages (module_shape a.«module») (shapes_of a.bodies.items) fault → IsLineOf fault line → FailsToBegin a l line
-fails_as a l (Refused r) line h e = subst (FailsToBegin a l) (sym e) h
-fails_as a l Memory line h e = subst (FailsToBegin a l) (sym e) h

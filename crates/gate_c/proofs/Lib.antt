@@ -9,3 +9,4 @@ pub mod InstanceValues
 pub mod Instances
 pub mod InstanceOperations
 pub mod CallsThatGoOn
+pub mod PutBack

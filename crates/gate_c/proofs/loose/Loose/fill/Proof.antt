@@ -4,9 +4,9 @@ use base.Fraction.{full_share}
 use mir.Val.{Val, vptr}
 use mir.MapTy.{inst_fn}
 use base.Logic.{SProp, ent, emp, id⊢}
-use base.Fml.{ftrue, flft, froom}
+use base.Fml.{ftrue, flft}
 use prog.Wp.{WpFn}
-use types.Kit.{‵, raw, ◌⊛◌, at_ret, ◌$◌, ◌∵◌, !, qed, by, move, keep, drop, split, join, fsplit, fjoin, suffices, use0, use2}
+use types.Kit.{‵, raw, ◌⊛◌, at_ret, ◌$◌, ◌∵◌, !, qed, by, move, keep, split, join, fsplit, fjoin, suffices, use0, use2}
 use types.Run.{init, stop, fld, of_opd, no_more, and_then, assigns_last, first, blocks, exec, returns, enter}
 use types.ByLocal.{alloc_all, pass_all, free_all, look_at, get, get_in, through, sets, env}
 use types.Part.{agg, sub, whole}
@@ -27,7 +27,7 @@ use Rattle.std_alloc.proofs.BoxSteps.Steps.{el_in, el_tells}
 use Rattle.std_alloc.proofs.OfVacant.{Vacant, vacant_val, vacant_typed, Vacant-had}
 use Rattle.std_alloc.proofs.RawLayout.{as_written}
 use Rattle.std.proofs.raw_atomic.Walks.{proved_at, leaves}
-use Rattle.gate_c.proofs.Values.{both, Loose, loose_good, loose_in}
+use Rattle.gate_c.proofs.Values.{both, loose_good, loose_in}
 use Rattle.gate_c.specs.contracts.loose.Loose.fill.{ended, clauses}
 use Rattle.gate_c.specs.contracts.loose.Loose.fill.Key.{name as #self}
 use Rattle.gate_c.proofs.loose.Loose.fill.Statement.{statement}
