@@ -9,12 +9,11 @@ use Rattle.wstore.specs.CallLimits.{limits_of}
 use Rattle.wstore.specs.Detached.{store_as}
 use Rattle.wstore.specs.ExportedGlobals.{IsGlobalOf}
 use Rattle.wstore.specs.declared.detached.Detached.{Detached}
-use Rattle.accepted.specs.declared.accepted.Accepted.{Accepted as AcceptedModule}
 use Rattle.texts.specs.declared.line.Line.{Line}
 use Rattle.gate_c.specs.Beginnings.{Begins, FailsToBegin, begun_numbers}
 use Rattle.gate_c.specs.Calls.{RefusesCall, TellsCall}
 use Rattle.gate_c.specs.CallsOn.{EndsExport}
-use Rattle.gate_c.specs.Ends.{end_numbers, plain}
+use Rattle.gate_c.specs.Ends.{end_numbers}
 use Rattle.gate_c.specs.Runs as runs
 use Rattle.gate_c.specs.Values.{value_numbers}
 use Rattle.gate_c.specs.declared.ending.GateCall.{GateCall}

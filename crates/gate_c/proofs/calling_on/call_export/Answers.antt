@@ -1,6 +1,5 @@
 use Rattle.std.proofs.Common.{◌≡◌, Bool, true, false, refl}
 use Rattle.std.specs.Prelude.{IsTrue}
-use Rattle.wsyntax.specs.declared.module.ExportKind.TheVariants.{Function}
 use Rattle.wstore.specs.CallLimits.{limits_of}
 use Rattle.wstore.specs.Views.{store_in}
 use Rattle.gate_c.proofs.CallsThatGoOn.{called}
