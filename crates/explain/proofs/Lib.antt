@@ -5,7 +5,7 @@ pub mod Initials
 pub mod Lefts
 pub mod Typings
 pub mod Misfits
-pub mod Refused
+pub mod Misses
 pub mod Shells
 pub mod Repeats
 pub mod RuleFaults

@@ -1,5 +1,5 @@
 use Rattle.wsyntax.specs.Modules.{seen}
-use Rattle.explain.proofs.Refused.{refused_all}
+use Rattle.explain.proofs.Misses.{refused_all}
 use Rattle.explain.proofs.causes.cause_of.Goals as goal
 
 pub returns-clause-refused : goal.returns-clause-refused

@@ -1,4 +1,4 @@
-use Rattle.explain.proofs.Refused.{lacks}
+use Rattle.explain.proofs.Misses.{lacks}
 use Rattle.explain.proofs.causes.end_cause.Goals as goal
 
 pub returns-then-differ : goal.returns-then-differ
