@@ -36,6 +36,13 @@ static BRANCHES: [u8; 45] = [
     0x0E, 0x09, 0x00, 0x00, 0x00, 0x00, 0x00, 0x00, 0x00, 0x00, 0x00, 0x00, 0x0B,
 ];
 
+// Function 0, of no name, has a block that takes an i32 and an i64, and drops the i64.
+static PARAMETERS: [u8; 46] = [
+    0x00, 0x61, 0x73, 0x6D, 0x01, 0x00, 0x00, 0x00, 0x01, 0x0A, 0x02, 0x60, 0x00, 0x00, 0x60, 0x02,
+    0x7F, 0x7E, 0x01, 0x7D, 0x03, 0x02, 0x01, 0x00, 0x0A, 0x14, 0x01, 0x12, 0x00, 0x41, 0x01, 0x42,
+    0x02, 0x02, 0x01, 0x1A, 0x50, 0x1A, 0x1A, 0x43, 0x00, 0x00, 0x00, 0x00, 0x0B, 0x0B,
+];
+
 /// A module of one function [] -> [], whose body has these bytes, fewer than 100.
 fn with_body(alloc: Global, body: &[u8]) -> Result<Vec<u8>, Fail> {
     let size = u8::try_from(body.len()).unwrap_or(0);
@@ -61,7 +68,10 @@ fn bodies_are_explained(rt: HostRuntime) -> Result<(), Fail> {
             ADDS.as_slice(),
             "refused body 1 ill-typed at 8\n\
              function  1 \"compute_total\", exported as \"run\", [i32 i64] -> [i32], bytes 48 to 65\n\
-             token     8 i32.add, bytes 63 to 64 (0x3f)\n",
+             token     8 i32.add, bytes 63 to 64 (0x3f)\n\
+             takes     i32 i32\n\
+             finds     i32 i64\n\
+             given by  token 6 local.get 0, token 7 local.get 1\n",
         ),
         (
             FILLS.as_slice(),
@@ -75,7 +85,20 @@ fn bodies_are_explained(rt: HostRuntime) -> Result<(), Fail> {
             BRANCHES.as_slice(),
             "refused body 0 ill-typed at 1\n\
              function  0, [i64] -> [], bytes 29 to 45\n\
-             token     1 br_table 0 0 0 0 0 0 0 0 .., bytes 32 to 44 (0x20)\n",
+             token     1 br_table 0 0 0 0 0 0 0 0 .., bytes 32 to 44 (0x20)\n\
+             takes     i32\n\
+             finds     i64\n\
+             given by  token 0 local.get 0\n",
+        ),
+        (
+            PARAMETERS.as_slice(),
+            "refused body 0 ill-typed at 4\n\
+             function  0, [] -> [], bytes 28 to 46\n\
+             token     4 i64.eqz, bytes 36 to 37 (0x24)\n\
+             takes     i64\n\
+             finds     i32\n\
+             given by  token 2 block (type 1)\n\
+             within    block at byte 33, [i32 i64] -> [f32]\n",
         ),
     ];
     for (bytes, wanted) in cases {
@@ -85,7 +108,7 @@ fn bodies_are_explained(rt: HostRuntime) -> Result<(), Fail> {
 }
 
 // Of bodies of function 0, [] -> [], which begin at byte 22: their bytes, the end of the first line, and the lines after the second.
-static BODIES: [(&[u8], &str, &str); 18] = [
+static BODIES: [(&[u8], &str, &str); 25] = [
     (
         &[0x00, 0x05, 0x0B],
         "malformed",
@@ -176,12 +199,19 @@ static BODIES: [(&[u8], &str, &str); 18] = [
             0x00, 0x02, 0x7F, 0x43, 0x00, 0x00, 0xC0, 0x7F, 0x0B, 0x1A, 0x0B,
         ],
         "ill-typed at 2",
-        "token     2 end, bytes 30 to 31 (0x1e)\n",
+        "token     2 end, bytes 30 to 31 (0x1e)\n\
+         takes     i32\n\
+         finds     f32\n\
+         given by  token 1 f32.const 0x7fc00000\n\
+         within    block at byte 23, [] -> [i32]\n",
     ),
     (
         &[0x00, 0x43, 0x00, 0x00, 0xC0, 0x7F, 0x0B],
         "ill-typed at 1",
-        "token     1 end, bytes 28 to 29 (0x1c)\n",
+        "token     1 end, bytes 28 to 29 (0x1c)\n\
+         takes     nothing\n\
+         finds     f32\n\
+         given by  token 0 f32.const 0x7fc00000\n",
     ),
     (
         &[0x00, 0x02, 0x07, 0x0B, 0x0B],
@@ -192,6 +222,78 @@ static BODIES: [(&[u8], &str, &str); 18] = [
         &[0x00, 0x11, 0x05, 0x00, 0x0B],
         "ill-typed at 0",
         "token     0 call_indirect (type 5), bytes 23 to 26 (0x17)\n",
+    ),
+    (
+        &[0x00, 0x41, 0x01, 0x42, 0x02, 0x6A, 0x1A, 0x0B],
+        "ill-typed at 2",
+        "token     2 i32.add, bytes 27 to 28 (0x1b)\n\
+         takes     i32 i32\n\
+         finds     i32 i64\n\
+         given by  token 0 i32.const 1, token 1 i64.const 2\n",
+    ),
+    (
+        &[0x00, 0x41, 0x01, 0x6A, 0x1A, 0x0B],
+        "ill-typed at 1",
+        "token     1 i32.add, bytes 25 to 26 (0x19)\n\
+         takes     i32 i32\n\
+         finds     i32\n\
+         given by  token 0 i32.const 1\n",
+    ),
+    (
+        &[0x00, 0x02, 0x40, 0x41, 0x01, 0x41, 0x02, 0x0B, 0x0B],
+        "ill-typed at 3",
+        "token     3 end, bytes 29 to 30 (0x1d)\n\
+         takes     nothing\n\
+         finds     i32 i32\n\
+         given by  token 1 i32.const 1, token 2 i32.const 2\n\
+         within    block at byte 23, [] -> []\n",
+    ),
+    (
+        &[0x00, 0x00, 0x42, 0x01, 0x6A, 0x1A, 0x0B],
+        "ill-typed at 2",
+        "token     2 i32.add, bytes 26 to 27 (0x1a)\n\
+         takes     i32 i32\n\
+         finds     ? i64\n\
+         given by  token 1 i64.const 1\n",
+    ),
+    (
+        &[0x00, 0x41, 0x01, 0x42, 0x02, 0x41, 0x03, 0x1B, 0x1A, 0x0B],
+        "ill-typed at 3",
+        "token     3 select, bytes 29 to 30 (0x1d)\n\
+         takes     any any i32\n\
+         finds     i32 i64 i32\n\
+         given by  token 0 i32.const 1, token 1 i64.const 2, token 2 i32.const 3\n",
+    ),
+    (
+        &[
+            0x00, 0x02, 0x7F, 0x43, 0x00, 0x00, 0x00, 0x00, 0x41, 0x00, 0x0E, 0x00, 0x00, 0x0B,
+            0x1A, 0x0B,
+        ],
+        "ill-typed at 3",
+        "token     3 br_table 0, bytes 32 to 35 (0x20)\n\
+         takes     i32 i32\n\
+         finds     f32 i32\n\
+         given by  token 1 f32.const 0x00000000, token 2 i32.const 0\n\
+         within    block at byte 23, [] -> [i32]\n",
+    ),
+    (
+        &[
+            0x00, 0x02, 0x40, 0x02, 0x40, 0x02, 0x40, 0x02, 0x40, 0x02, 0x40, 0x02, 0x40, 0x02,
+            0x40, 0x02, 0x40, 0x03, 0x40, 0x6A, 0x0B, 0x0B, 0x0B, 0x0B, 0x0B, 0x0B, 0x0B, 0x0B,
+            0x0B, 0x0B,
+        ],
+        "ill-typed at 9",
+        "token     9 i32.add, bytes 41 to 42 (0x29)\n\
+         takes     i32 i32\n\
+         finds     nothing\n\
+         within    loop at byte 39, [] -> []\n\
+         within    block at byte 37, [] -> []\n\
+         within    block at byte 35, [] -> []\n\
+         within    block at byte 33, [] -> []\n\
+         within    block at byte 31, [] -> []\n\
+         within    block at byte 29, [] -> []\n\
+         within    block at byte 27, [] -> []\n\
+         within    block at byte 25, [] -> []\n",
     ),
 ];
 
