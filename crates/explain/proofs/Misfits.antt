@@ -94,6 +94,10 @@ pub some_more : {A : Type 0} (P Q : A → Type 0) (r : Option A) → ((x : A) �
 some_more P Q None f h = h
 some_more P Q (Some x) f h = f x h
 
+pub some_both : {A : Type 0} (P Q R : A → Type 0) (r : Option A) → ((x : A) → P x → Q x → R x) → IfSome r P → IfSome r Q → IfSome r R
+some_both P Q R None f p q = p
+some_both P Q R (Some x) f p q = f x p q
+
 pub misfit_some : (C : Context) (t : Token) (fs : List Frame) (takes finds : List (Option ValType)) (r : Option Cause) → Some (reverse takes) ≡ pops C t fs → reverse finds ≡ topmost (length takes) fs → IfSome r (IsMisfit (reverse takes) (reverse finds))
     → IfSome r (IsCause C t fs)
 misfit_some C t fs takes finds r e k h =

@@ -1,5 +1,6 @@
 //! What is said of a module: its verdict, and of a refusal where and why.
 
+use crate::cause::Cause;
 use crate::typing::Typing;
 use verdict::{BodyRefusal, Refusal};
 use wsyntax::{Token, ValType};
@@ -91,6 +92,7 @@ pub enum BodyFault<'a> {
         number: usize,
         found: Option<FoundToken>,
         typing: Option<Typing>,
+        cause: Option<Cause>,
     },
 }
 

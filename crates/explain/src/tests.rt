@@ -69,6 +69,7 @@ fn bodies_are_explained(rt: HostRuntime) -> Result<(), Fail> {
             "refused body 1 ill-typed at 8\n\
              function  1 \"compute_total\", exported as \"run\", [i32 i64] -> [i32], bytes 48 to 65\n\
              token     8 i32.add, bytes 63 to 64 (0x3f)\n\
+             because   i32.add takes an i32 on top, and finds an i64\n\
              takes     i32 i32\n\
              finds     i32 i64\n\
              given by  token 6 local.get 0, token 7 local.get 1\n",
@@ -86,6 +87,7 @@ fn bodies_are_explained(rt: HostRuntime) -> Result<(), Fail> {
             "refused body 0 ill-typed at 1\n\
              function  0, [i64] -> [], bytes 29 to 45\n\
              token     1 br_table 0 0 0 0 0 0 0 0 .., bytes 32 to 44 (0x20)\n\
+             because   br_table takes an i32 on top, and finds an i64\n\
              takes     i32\n\
              finds     i64\n\
              given by  token 0 local.get 0\n",
@@ -95,6 +97,7 @@ fn bodies_are_explained(rt: HostRuntime) -> Result<(), Fail> {
             "refused body 0 ill-typed at 4\n\
              function  0, [] -> [], bytes 28 to 46\n\
              token     4 i64.eqz, bytes 36 to 37 (0x24)\n\
+             because   i64.eqz takes an i64 on top, and finds an i32\n\
              takes     i64\n\
              finds     i32\n\
              given by  token 2 block (type 1)\n\
@@ -108,7 +111,7 @@ fn bodies_are_explained(rt: HostRuntime) -> Result<(), Fail> {
 }
 
 // Of bodies of function 0, [] -> [], which begin at byte 22: their bytes, the end of the first line, and the lines after the second.
-static BODIES: [(&[u8], &str, &str); 25] = [
+static BODIES: [(&[u8], &str, &str); 28] = [
     (
         &[0x00, 0x05, 0x0B],
         "malformed",
@@ -192,7 +195,8 @@ static BODIES: [(&[u8], &str, &str); 25] = [
     (
         &[0x00, 0x28, 0x02, 0x04, 0x0B],
         "ill-typed at 0",
-        "token     0 i32.load offset=4 align=4, bytes 23 to 26 (0x17)\n",
+        "token     0 i32.load offset=4 align=4, bytes 23 to 26 (0x17)\n\
+         because   memory 0 does not exist\n",
     ),
     (
         &[
@@ -200,6 +204,7 @@ static BODIES: [(&[u8], &str, &str); 25] = [
         ],
         "ill-typed at 2",
         "token     2 end, bytes 30 to 31 (0x1e)\n\
+         because   end takes an i32 on top, and finds an f32\n\
          takes     i32\n\
          finds     f32\n\
          given by  token 1 f32.const 0x7fc00000\n\
@@ -209,6 +214,7 @@ static BODIES: [(&[u8], &str, &str); 25] = [
         &[0x00, 0x43, 0x00, 0x00, 0xC0, 0x7F, 0x0B],
         "ill-typed at 1",
         "token     1 end, bytes 28 to 29 (0x1c)\n\
+         because   1 operand is left over at end\n\
          takes     nothing\n\
          finds     f32\n\
          given by  token 0 f32.const 0x7fc00000\n",
@@ -216,17 +222,20 @@ static BODIES: [(&[u8], &str, &str); 25] = [
     (
         &[0x00, 0x02, 0x07, 0x0B, 0x0B],
         "ill-typed at 0",
-        "token     0 block (type 7), bytes 23 to 25 (0x17)\n",
+        "token     0 block (type 7), bytes 23 to 25 (0x17)\n\
+         because   type 7 does not exist: there is 1 type\n",
     ),
     (
         &[0x00, 0x11, 0x05, 0x00, 0x0B],
         "ill-typed at 0",
-        "token     0 call_indirect (type 5), bytes 23 to 26 (0x17)\n",
+        "token     0 call_indirect (type 5), bytes 23 to 26 (0x17)\n\
+         because   type 5 does not exist: there is 1 type\n",
     ),
     (
         &[0x00, 0x41, 0x01, 0x42, 0x02, 0x6A, 0x1A, 0x0B],
         "ill-typed at 2",
         "token     2 i32.add, bytes 27 to 28 (0x1b)\n\
+         because   i32.add takes an i32 on top, and finds an i64\n\
          takes     i32 i32\n\
          finds     i32 i64\n\
          given by  token 0 i32.const 1, token 1 i64.const 2\n",
@@ -235,6 +244,7 @@ static BODIES: [(&[u8], &str, &str); 25] = [
         &[0x00, 0x41, 0x01, 0x6A, 0x1A, 0x0B],
         "ill-typed at 1",
         "token     1 i32.add, bytes 25 to 26 (0x19)\n\
+         because   i32.add takes an i32 below the top, and the block has 1 operand\n\
          takes     i32 i32\n\
          finds     i32\n\
          given by  token 0 i32.const 1\n",
@@ -243,6 +253,7 @@ static BODIES: [(&[u8], &str, &str); 25] = [
         &[0x00, 0x02, 0x40, 0x41, 0x01, 0x41, 0x02, 0x0B, 0x0B],
         "ill-typed at 3",
         "token     3 end, bytes 29 to 30 (0x1d)\n\
+         because   2 operands are left over at end\n\
          takes     nothing\n\
          finds     i32 i32\n\
          given by  token 1 i32.const 1, token 2 i32.const 2\n\
@@ -252,6 +263,7 @@ static BODIES: [(&[u8], &str, &str); 25] = [
         &[0x00, 0x00, 0x42, 0x01, 0x6A, 0x1A, 0x0B],
         "ill-typed at 2",
         "token     2 i32.add, bytes 26 to 27 (0x1a)\n\
+         because   i32.add takes an i32 on top, and finds an i64\n\
          takes     i32 i32\n\
          finds     ? i64\n\
          given by  token 1 i64.const 1\n",
@@ -260,6 +272,7 @@ static BODIES: [(&[u8], &str, &str); 25] = [
         &[0x00, 0x41, 0x01, 0x42, 0x02, 0x41, 0x03, 0x1B, 0x1A, 0x0B],
         "ill-typed at 3",
         "token     3 select, bytes 29 to 30 (0x1d)\n\
+         because   select takes two operands of one type, and finds i64 and i32\n\
          takes     any any i32\n\
          finds     i32 i64 i32\n\
          given by  token 0 i32.const 1, token 1 i64.const 2, token 2 i32.const 3\n",
@@ -271,6 +284,7 @@ static BODIES: [(&[u8], &str, &str); 25] = [
         ],
         "ill-typed at 3",
         "token     3 br_table 0, bytes 32 to 35 (0x20)\n\
+         because   br_table takes an i32 below the top, and finds an f32\n\
          takes     i32 i32\n\
          finds     f32 i32\n\
          given by  token 1 f32.const 0x00000000, token 2 i32.const 0\n\
@@ -284,6 +298,7 @@ static BODIES: [(&[u8], &str, &str); 25] = [
         ],
         "ill-typed at 9",
         "token     9 i32.add, bytes 41 to 42 (0x29)\n\
+         because   i32.add takes an i32, and the stack of the block is empty\n\
          takes     i32 i32\n\
          finds     nothing\n\
          within    loop at byte 39, [] -> []\n\
@@ -294,6 +309,31 @@ static BODIES: [(&[u8], &str, &str); 25] = [
          within    block at byte 29, [] -> []\n\
          within    block at byte 27, [] -> []\n\
          within    block at byte 25, [] -> []\n",
+    ),
+    (
+        &[
+            0x00, 0x02, 0x7F, 0x41, 0x00, 0x41, 0x00, 0x0E, 0x01, 0x01, 0x00, 0x0B, 0x1A, 0x0B,
+        ],
+        "ill-typed at 3",
+        "token     3 br_table 1 0, bytes 29 to 33 (0x1d)\n\
+         because   label 1 of the branch table takes [], and its default [i32]\n\
+         within    block at byte 23, [] -> [i32]\n",
+    ),
+    (
+        &[0x00, 0x41, 0x01, 0x04, 0x7F, 0x41, 0x02, 0x0B, 0x1A, 0x0B],
+        "ill-typed at 3",
+        "token     3 end, bytes 29 to 30 (0x1d)\n\
+         because   the if has type [] -> [i32], and an else is missing\n\
+         takes     i32\n\
+         finds     i32\n\
+         given by  token 2 i32.const 2\n\
+         within    if at byte 25, [] -> [i32]\n",
+    ),
+    (
+        &[0x00, 0x20, 0x07, 0x0B],
+        "ill-typed at 0",
+        "token     0 local.get 7, bytes 23 to 25 (0x17)\n\
+         because   local 7 does not exist: there are 0 locals\n",
     ),
 ];
 
