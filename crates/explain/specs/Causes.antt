@@ -1,5 +1,5 @@
 -- Why a token is ill typed: each cause alone refuses it (7.3).
-use Rattle.std.specs.Prelude.{◌≡◌, ◌≢◌, ◌⊎◌, ◌<◌, ◌≤◌, ◌-◌, ◌^◌, ℕ, Bool, true, false, List, [], ◌∷◌, Option, Some, None, IsSomeAnd, length, reverse, slice_get}
+use Rattle.std.specs.Prelude.{◌≡◌, ◌≢◌, ◌⊎◌, ◌<◌, ◌≤◌, ◌-◌, ◌^◌, ℕ, false, List, [], ◌∷◌, Option, Some, None, IsSomeAnd, length, reverse, slice_get}
 use Rattle.wsyntax.specs.declared.ValType.{ValType}
 use Rattle.wsyntax.specs.Types.{same_type}
 use Rattle.wsyntax.specs.declared.instructions.BlockType.TheVariants.{Index}
