@@ -8,9 +8,9 @@
 mod calling;
 mod counted;
 mod ending;
-mod exported;
 mod explained;
 mod explaining;
+mod exported;
 mod exports;
 mod handing;
 mod held;
@@ -29,8 +29,8 @@ mod value;
 
 pub use counted::ModuleCount;
 pub use ending::GateCall;
-pub use exported::GateExport;
 pub use explained::GateExplanation;
+pub use exported::GateExport;
 pub use held::Held;
 pub use judged::GateVerdict;
 pub use kept::Kept;
