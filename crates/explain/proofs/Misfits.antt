@@ -2,7 +2,7 @@
 use Rattle.std.proofs.Common.{◌≡◌, inl, inr, ℕ, zero, suc, ◌+◌, ◌-◌, ◌^◌, ◌<◌, Bool, true, false, List, [], ◌∷◌, reverse, length, get_or, slice_get, Option, Some, None, refl, sym, ap, ◌∙◌, subst, arith}
 use Rattle.std.proofs.lemmas.List.{get_or-reverse, length-reverse}
 use Rattle.std.proofs.lemmas.Option.{slice_get-get_or}
-use Rattle.std.specs.Prelude.{IfSome, IsSomeAnd, option_map, slice_range, slice_index_or}
+use Rattle.std.specs.Prelude.{IfSome, IsSomeAnd, slice_range, slice_index_or}
 use Rattle.wsyntax.specs.declared.ValType.{ValType}
 use Rattle.wsyntax.specs.declared.ValType.TheVariants.{I32}
 use Rattle.wsyntax.specs.Instructions.{Token, Do, BrTable, Select, OpenBlock, OpenLoop, OpenIf, Else, End}
@@ -93,6 +93,10 @@ misfit_causes C t fs ps xs (cause.Select above below) e k h = absurd h
 pub some_more : {A : Type 0} (P Q : A → Type 0) (r : Option A) → ((x : A) → P x → Q x) → IfSome r P → IfSome r Q
 some_more P Q None f h = h
 some_more P Q (Some x) f h = f x h
+
+pub some_both : {A : Type 0} (P Q R : A → Type 0) (r : Option A) → ((x : A) → P x → Q x → R x) → IfSome r P → IfSome r Q → IfSome r R
+some_both P Q R None f p q = p
+some_both P Q R (Some x) f p q = f x p q
 
 pub misfit_some : (C : Context) (t : Token) (fs : List Frame) (takes finds : List (Option ValType)) (r : Option Cause) → Some (reverse takes) ≡ pops C t fs → reverse finds ≡ topmost (length takes) fs → IfSome r (IsMisfit (reverse takes) (reverse finds))
     → IfSome r (IsCause C t fs)

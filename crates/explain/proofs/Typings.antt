@@ -1,5 +1,5 @@
 -- What is told of a token, step by step.
-use Rattle.std.proofs.Common.{◌≡◌, ℕ, zero, suc, ◌+◌, ◌-◌, ◌<◌, ◌≤◌, Bool, true, false, List, [], ◌∷◌, ◌++◌, map, reverse, take, drop, option_map, length, Option, Some, None, refl, sym, ap, ◌∙◌, subst, append_assoc, add-one, sub-one, arith}
+use Rattle.std.proofs.Common.{◌≡◌, ℕ, zero, suc, ◌+◌, ◌-◌, ◌<◌, Bool, true, false, List, [], ◌∷◌, ◌++◌, map, reverse, take, drop, option_map, Option, Some, None, refl, sym, ap, ◌∙◌, subst, append_assoc, add-one, arith}
 use Rattle.std.proofs.lemmas.List.{reverse-append, map-append, reverse-reverse}
 use Rattle.wsyntax.specs.declared.ValType.{ValType}
 use Rattle.wsyntax.specs.declared.ValType.TheVariants.{I32}
@@ -14,12 +14,12 @@ use Rattle.wsyntax.specs.Binary.Nesting.{token_at}
 use Rattle.wsyntax.specs.Validation.Context.{Context, enter, block_sig}
 use Rattle.wsyntax.specs.Validation.Algorithm.{Operands, Frame, Rule, on, when, run, step, context_in, take_any}
 use Rattle.wcheck.specs.Checking.{Checking, begun, with_frames}
-use Rattle.wcheck.specs.Inspected.{IsInnermost, take_top, TakesOperand}
+use Rattle.wcheck.specs.Inspected.{IsInnermost, TakesOperand}
 use Rattle.wcheck.specs.declared.checker.inspect.OpenFrame.{OpenFrame}
 use Rattle.wcheck.specs.OperandRules.{indexed}
 use Rattle.wcheck.specs.Views.{token_rule}
 use Rattle.explain.specs.Places.{left_after}
-use Rattle.explain.specs.Typed.{asked, pops, first_tokens, with_next, PassesTo, StepsTo, topmost, and_others, frame_type, block_types, without_last}
+use Rattle.explain.specs.Typed.{asked, pops, first_tokens, PassesTo, StepsTo, topmost, and_others, frame_type, block_types}
 
 -- ---- the tokens before
 

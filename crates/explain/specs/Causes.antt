@@ -1,18 +1,23 @@
 -- Why a token is ill typed: each cause alone refuses it (7.3).
-use Rattle.std.specs.Prelude.{◌≡◌, ◌≢◌, ◌⊎◌, ◌<◌, ◌≤◌, ◌-◌, ◌^◌, ℕ, Bool, true, false, List, [], ◌∷◌, Option, Some, None, IsSomeAnd, length, reverse, slice_get}
+use Rattle.std.specs.Prelude.{◌≡◌, ◌≢◌, ◌⊎◌, ◌<◌, ◌≤◌, ◌-◌, ◌^◌, ℕ, false, List, [], ◌∷◌, Option, Some, None, IsSomeAnd, length, reverse, slice_get}
 use Rattle.wsyntax.specs.declared.ValType.{ValType}
 use Rattle.wsyntax.specs.Types.{same_type}
 use Rattle.wsyntax.specs.declared.instructions.BlockType.TheVariants.{Index}
 use Rattle.wsyntax.specs.Instructions.{Access, Token, Do, OpenBlock, OpenLoop, OpenIf, Else, End, Br, BrIf, BrTable, Call, CallIndirect, Select, LocalGet, LocalSet, LocalTee, GlobalGet, GlobalSet, MemoryLoad, MemoryStore, MemorySize, MemoryGrow}
 use Rattle.wsyntax.specs.Validation.Context.{Context}
-use Rattle.wsyntax.specs.Validation.Algorithm.{Frame, may_lack_else}
+use Rattle.wsyntax.specs.Validation.Algorithm.{Frame, may_lack_else, step}
+use Rattle.wsyntax.specs.declared.module.LocalRun.{LocalRun}
+use Rattle.wsyntax.specs.Binary.Nesting.{token_at}
+use Rattle.wsyntax.specs.Binary.Sections.{locals}
+use Rattle.wcheck.specs.Checking.{Checking, begun}
 use Rattle.wcheck.specs.Inspected.{labels_of}
 use Rattle.explain.specs.declared.explanation.Signature.{Signature}
 use Rattle.explain.specs.declared.cause.Space.{Space}
 use Rattle.explain.specs.declared.cause.Space.TheVariants.{Types, Functions, Globals, Locals, Labels}
 use Rattle.explain.specs.declared.cause.Cause.{Cause}
 use Rattle.explain.specs.declared.cause.Cause.TheVariants as cause
-use Rattle.explain.specs.Typed.{pops}
+use Rattle.explain.specs.Places.{left_after}
+use Rattle.explain.specs.Typed.{PassesTo, pops}
 
 -- ---- the operands
 
@@ -94,6 +99,22 @@ IsCause C t fs (cause.Labels label takes others) =
     × (takes.items ≢ others.items)
 IsCause C t fs (cause.Select above below) =
     (t ≡ Do Select) × (operand_at fs 1 ≡ Some (Some above)) × (operand_at fs 2 ≡ Some (Some below)) × (same_type above below ≡ false)
+
+-- why the token of that number in the body of function f is refused: the frames are those after the tokens before it, and the cause
+-- alone refuses it
+pub record IsCauseOf (C : Context) (f : ℕ) (body : List ℕ) (number : ℕ) (why : Cause) : Type 0 where
+  pub runs : List LocalRun
+  pub code : List ℕ
+  pub declared : locals.read body ≡ Some (runs, code)
+  pub now : Checking
+  pub before : PassesTo (begun C f runs) code number now
+  pub left : List ℕ
+  pub rest : left_after number code ≡ Some left
+  pub token : Token
+  pub after : List ℕ
+  pub next : ◌≡◌ {A = Option (Token × List ℕ)} (token_at left) (Some (token, after))
+  pub so : IsCause now.inside token now.frames why
+  pub refused : step now.inside token now.frames ≡ None
 
 -- ---- in the code
 

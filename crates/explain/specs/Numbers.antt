@@ -35,7 +35,7 @@ abbrev pub kind_of_fault : BodyFault → Kind
 kind_of_fault (fault.Malformed (Some s)) = kind_of_stop s.why
 kind_of_fault (fault.Malformed None) = kind.BodyMalformed
 kind_of_fault (fault.TooManyLocals count) = kind.TooManyLocals
-kind_of_fault (fault.IllTyped number found typing) = kind.IllTyped
+kind_of_fault (fault.IllTyped number found typing cause) = kind.IllTyped
 
 abbrev pub kind_told : Explanation → Kind
 kind_told told.Accepted = kind.Accepted
@@ -58,7 +58,7 @@ place_of_no_module _ = None
 
 abbrev pub place_of_fault : BodyFault → Option Span
 place_of_fault (fault.Malformed (Some s)) = Some (at_offset s.at)
-place_of_fault (fault.IllTyped number (Some f) typing) = Some f.span
+place_of_fault (fault.IllTyped number (Some f) typing cause) = Some f.span
 place_of_fault _ = None
 
 abbrev pub place_told : Explanation → Option Span
@@ -92,7 +92,7 @@ opcode_of_stop _ rest = None
 
 abbrev pub opcode_of_fault : BodyFault → Option ℕ
 opcode_of_fault (fault.Malformed (Some s)) = opcode_of_stop s.why s.rest.now
-opcode_of_fault (fault.IllTyped number (Some f) typing) = Some f.opcode
+opcode_of_fault (fault.IllTyped number (Some f) typing cause) = Some f.opcode
 opcode_of_fault _ = None
 
 abbrev pub opcode_told : Explanation → Option ℕ

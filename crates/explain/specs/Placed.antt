@@ -19,6 +19,7 @@ use Rattle.explain.specs.declared.explanation.Explanation.TheVariants as told
 use Rattle.explain.specs.Headers.{TellsHeader}
 use Rattle.explain.specs.Places.{IsStopOf, IsTokenAt}
 use Rattle.explain.specs.Typed.{IsTypingOf, type_told}
+use Rattle.explain.specs.Causes.{IsCauseOf}
 use Rattle.explain.specs.Rules.{Breaks}
 
 -- ---- the function
@@ -48,13 +49,14 @@ Declares body count = (runs : List LocalRun) × (code : List ℕ) × (locals.rea
 abbrev pub TellsPlaces : Context → ℕ → List ℕ → ℕ → BodyFault → Type 0
 TellsPlaces C f body start (Malformed stop) = IfSome stop (IsStopOf body start)
 TellsPlaces C f body start (TooManyLocals count) = IfSome count (Declares body)
-TellsPlaces C f body start (IllTyped number found typing) = IfSome found (IsTokenAt body start number) × IfSome typing (IsTypingOf C f body number)
+TellsPlaces C f body start (IllTyped number found typing cause) =
+    IfSome found (IsTokenAt body start number) × IfSome typing (IsTypingOf C f body number) × IfSome cause (IsCauseOf C f body number)
 
 -- it tells none
 abbrev pub TellsNoPlaces : BodyFault → Type 0
 TellsNoPlaces (Malformed stop) = stop ≡ None
 TellsNoPlaces (TooManyLocals count) = count ≡ None
-TellsNoPlaces (IllTyped number found typing) = (found ≡ None) × (typing ≡ None)
+TellsNoPlaces (IllTyped number found typing cause) = (found ≡ None) × (typing ≡ None) × (cause ≡ None)
 
 -- the bytes of the module in the span are the body of the function; without a span no place is told
 abbrev pub TellsBody : List ℕ → Context → ℕ → List (List ℕ) → ℕ → Option Span → BodyFault → Type 0

@@ -1,7 +1,7 @@
 -- Where tokens stand among the bytes of a body, and where reading a body stops.
 use Rattle.std.specs.Prelude.{◌≡◌, ◌≢◌, ◌⊎◌, ℕ, zero, suc, ◌+◌, ◌-◌, List, [], ◌∷◌, length, Option, Some, None}
 use Rattle.wsyntax.specs.declared.module.LocalRun.{LocalRun}
-use Rattle.wsyntax.specs.Instructions.{Token, Else}
+use Rattle.wsyntax.specs.Instructions.{Token}
 use Rattle.wsyntax.specs.Modules.{seen}
 use Rattle.wsyntax.specs.Binary.Nesting.{token_at}
 use Rattle.wsyntax.specs.Binary.Sections.{locals}

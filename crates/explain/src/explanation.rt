@@ -1,6 +1,7 @@
 //! What is said of a module: its verdict, and of a refusal where and why.
 
 use crate::broken_item::BrokenItem;
+use crate::cause::Cause;
 use crate::shell_place::Place;
 use crate::typing::Typing;
 use verdict::{BodyRefusal, Refusal};
@@ -93,6 +94,7 @@ pub enum BodyFault<'a> {
         number: usize,
         found: Option<FoundToken>,
         typing: Option<Typing>,
+        cause: Option<Cause>,
     },
 }
 

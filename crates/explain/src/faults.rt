@@ -8,7 +8,7 @@ ghost use Rattle.explain.specs.Placed.{Declares, TellsBody, TellsNoPlaces, Tells
 use crate::bodies::body_span;
 use crate::explanation::{BodyFault, Span};
 use crate::places::find_token;
-use crate::recheck::typing_of;
+use crate::recheck::{cause_in, typing_of};
 use crate::stops::stop_of;
 use std::alloc::{AllocError, Global};
 use verdict::BodyRefusal;
@@ -28,6 +28,7 @@ fn bare_fault<'a>(refusal: BodyRefusal) -> BodyFault<'a>
             number: at,
             found: None,
             typing: None,
+            cause: None,
         },
     }
 }
@@ -69,10 +70,12 @@ fn placed_token<'a>(
     match find_token(alloc, body, start, number) {
         Ok(found) => {
             let typing = typing_of(alloc, context, func, body, start, number)?;
+            let cause = cause_in(alloc, context, func, body, number)?;
             Ok(BodyFault::IllTyped {
                 number,
                 found: Some(found),
                 typing,
+                cause,
             })
         }
         Err(Fault::Malformed) => Ok(bare_fault(BodyRefusal::IllTyped { at: number })),

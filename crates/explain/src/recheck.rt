@@ -2,8 +2,11 @@
 ghost use Rattle.std.specs.Prelude.{◌≡◌, IfOk, IfSome, Some, map, take};
 ghost use Rattle.wsyntax.specs.Modules.{seen};
 ghost use Rattle.explain.specs.Places.{left_after};
+ghost use Rattle.explain.specs.Causes.{IsCauseOf};
 ghost use Rattle.explain.specs.Typed.{IsTypingIn, IsTypingOf, PassesTo, StepsTo, block_types, type_told};
 
+use crate::cause::Cause;
+use crate::causes::cause_of;
 use crate::explanation::Signature;
 use crate::operands::{count_told, finds_of, takes_of};
 use crate::trail::{Passed, Trail};
@@ -205,6 +208,47 @@ pub(crate) fn typing_of(
 {
     match find_typing(alloc, context, func, body, start, number) {
         Ok(typing) => Ok(Some(typing)),
+        Err(Fault::Malformed) => Ok(None),
+        Err(Fault::Memory) => Err(AllocError),
+    }
+}
+
+/// Why the token of that number in a body is refused; Malformed where there is no such token.
+fn find_cause(
+    alloc: Global,
+    context: &Context,
+    func: u32,
+    body: &[u8],
+    number: usize,
+) -> Result<Option<Cause>, Fault>
+    ensures { IfOk result (λ r. IfSome r (IsCauseOf context.now.context func body.now number)) }
+{
+    if func as usize >= context.function_count() {
+        return Err(Fault::Malformed);
+    }
+    let (runs, code) = locals_at(alloc, body)?;
+    let mut checker = Checker::new(alloc, context);
+    checker.begin(func, &runs)?;
+    let mut trail = Trail::new(alloc);
+    let rest = pass_tokens(alloc, &mut checker, &mut trail, code, code.len(), number)?;
+    let mut targets = Vec::new(alloc);
+    let (token, _after) = token_at(&mut targets, rest)?;
+    let cause = cause_of(alloc, &mut checker, token, &targets)?;
+    Ok(cause)
+}
+
+/// Why the token of that number in a body is refused, where that can be named.
+pub(crate) fn cause_in(
+    alloc: Global,
+    context: &Context,
+    func: u32,
+    body: &[u8],
+    number: usize,
+) -> Result<Option<Cause>, AllocError>
+    ensures { IfOk result (λ r. IfSome r (IsCauseOf context.now.context func body.now number)) }
+{
+    match find_cause(alloc, context, func, body, number) {
+        Ok(cause) => Ok(cause),
         Err(Fault::Malformed) => Ok(None),
         Err(Fault::Memory) => Err(AllocError),
     }

@@ -6,6 +6,7 @@ ghost use Rattle.verdict.specs.Refusals.{fault_of};
 ghost use Rattle.explain.specs.Texts.{BeginsWith};
 ghost use Rattle.explain.specs.Told.{verdict_told};
 
+use crate::cause_text::push_cause;
 use crate::explanation::{BodyFault, Explanation, FoundToken, NoModule, RefusedBody};
 use crate::quoting::{push_hex, push_name};
 use crate::rule_text::push_broken_item;
@@ -89,10 +90,14 @@ fn push_fault(text: &mut String, fault: &BodyFault<'_>) -> Result<(), AllocError
             number,
             found: Some(found),
             typing,
+            cause,
         } => {
             push_found(text, *number, found)?;
-            match typing {
-                Some(typing) => push_typing(text, typing),
+            if let Some(typing) = typing {
+                push_typing(text, typing)?;
+            }
+            match cause {
+                Some(cause) => push_cause(text, found, cause),
                 None => Ok(()),
             }
         }
