@@ -4,15 +4,15 @@ _gate() {
     local place=0 at
     COMPREPLY=()
     if ((COMP_CWORD == 1)); then
-        mapfile -t COMPREPLY < <(compgen -W 'check explain run help --help --version' -- "$current")
+        mapfile -t COMPREPLY < <(compgen -W 'check explain exports run help --help --version' -- "$current")
         return
     fi
     case ${COMP_WORDS[1]} in
         check) ;;
-        explain) options=--help ;;
+        explain | exports) options=--help ;;
         run) options+=' --fuel --frames --pages' ;;
         help)
-            ((COMP_CWORD > 2)) || mapfile -t COMPREPLY < <(compgen -W 'check explain run' -- "$current")
+            ((COMP_CWORD > 2)) || mapfile -t COMPREPLY < <(compgen -W 'check explain exports run' -- "$current")
             return
             ;;
         *) return ;;
@@ -38,7 +38,7 @@ _gate() {
     done
     if ((place == 0)); then
         mapfile -t COMPREPLY < <(compgen -f -X '!*.wasm' -- "$current"; compgen -d -- "$current")
-    elif ((place == 1)) && [[ ${COMP_WORDS[1]} == run ]]; then
+    elif ((place == 1)) && [[ ${COMP_WORDS[1]} == @(run|explain) ]]; then
         mapfile -t COMPREPLY < <(compgen -f -- "$current")
     fi
 }

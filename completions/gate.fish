@@ -2,15 +2,16 @@
 complete -c gate -f
 complete -c gate -n __fish_use_subcommand -a check -d 'Print the verdict on a module'
 complete -c gate -n __fish_use_subcommand -a explain -d 'Print why a module is refused'
+complete -c gate -n __fish_use_subcommand -a exports -d 'Print what a module exports'
 complete -c gate -n __fish_use_subcommand -a run -d 'Run calls of a module'
 complete -c gate -n __fish_use_subcommand -a help -d 'Help on a command'
 complete -c gate -n __fish_use_subcommand -s V -l version -d 'The version'
 complete -c gate -s h -l help -d Help
-complete -c gate -n '__fish_seen_subcommand_from help' -a 'check explain run'
+complete -c gate -n '__fish_seen_subcommand_from help' -a 'check explain exports run'
 
 set -l judging '__fish_seen_subcommand_from check run; and not __fish_seen_subcommand_from help'
 set -l running '__fish_seen_subcommand_from run; and not __fish_seen_subcommand_from help'
-complete -c gate -n '__fish_seen_subcommand_from explain; and not __fish_seen_subcommand_from help' -k -a '(__fish_complete_suffix .wasm)'
+complete -c gate -n '__fish_seen_subcommand_from explain exports; and not __fish_seen_subcommand_from help' -k -a '(__fish_complete_suffix .wasm)'
 complete -c gate -n $judging -k -a '(__fish_complete_suffix .wasm)'
 complete -c gate -n $judging -l workers -x -d 'How many threads work: 1 to 64, by default 4'
 complete -c gate -n $judging -l piece -x -d 'How many bodies or calls a thread takes at once: 1 to 65535, by default 16'

@@ -5,9 +5,12 @@ check.tsv    name, the module as bytes in hexadecimal, what `gate check` prints,
              and once more with stacks of 64 KiB, on 64 workers, with a custom section that makes it long enough for them
 run.tsv      name, the module, the calls, the options, what `gate run` prints, its status; each is run with twelve plans,
              and once more with stacks of 64 KiB, on 64 workers
-explain.tsv  in tests/: name, the module, what `gate explain` prints, its status
-Bytes are in hexadecimal; `xNN*K` stands for K times the bytes NN. In calls and in what is printed \\t is a tab and \\n a
-newline. Lines that begin with # are comments.
+In tests/:
+explain.tsv        name, the module, what `gate explain` prints, its status
+explain_calls.tsv  name, the module, the calls, what `gate explain` prints of both, its status
+exports.tsv        name, the module, what `gate exports` prints, its status
+Bytes are in hexadecimal; `xNN*K` stands for K times the bytes NN. In calls and in what is printed \\t is a tab, \\n a
+newline and \\r the byte 0d. Lines that begin with # are comments.
 """
 import argparse
 import os
@@ -32,7 +35,7 @@ def bytes_of(text):
 
 
 def text_of(escaped):
-    return escaped.replace('\\t', '\t').replace('\\n', '\n').encode()
+    return escaped.replace('\\t', '\t').replace('\\n', '\n').replace('\\r', '\r').encode()
 
 
 def rows(name, folder=tables):
@@ -91,15 +94,23 @@ def main(gate):
                     expect(name, words + ['--workers', workers, '--piece', piece], text_of(text), int(status))
             expect(name, words + many, text_of(text), int(status), preexec_fn=small_stack, env={})
 
-    def explain(path):
-        for name, module, text, status in rows('explain.tsv', here):
+    def tell(command, path):
+        for name, module, text, status in rows(f'{command}.tsv', here):
             write(path, bytes_of(module))
-            expect(name, ['explain', path], text_of(text), int(status))
+            expect(name, [command, path], text_of(text), int(status))
+
+    def explain_calls(path, calls_path):
+        for name, module, calls, text, status in rows('explain_calls.tsv', here):
+            write(path, bytes_of(module))
+            write(calls_path, text_of(calls))
+            expect(name, ['explain', path, calls_path], text_of(text), int(status))
 
     with tempfile.TemporaryDirectory() as folder:
         path = os.path.join(folder, 'module.wasm')
         check(path)
-        explain(path)
+        tell('explain', path)
+        tell('exports', path)
+        explain_calls(path, os.path.join(folder, 'calls'))
         run(path, os.path.join(folder, 'calls'))
     print(f'{passed} passed, {failed} failed')
     return 1 if failed or not passed else 0

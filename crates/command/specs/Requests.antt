@@ -2,7 +2,7 @@
 use Rattle.std.specs.Prelude.{◌≡◌, ◌⊎◌, ℕ, ◌<◌, List, [], ◌++◌, Contains, codes, length, slice_index_or}
 use Rattle.command.specs.Options.{SaysLimits, SaysPlan, option_words}
 use Rattle.command.specs.declared.request.Request.{Request}
-use Rattle.command.specs.declared.request.Request.TheVariants.{Check, Explain, Run, Text}
+use Rattle.command.specs.declared.request.Request.TheVariants.{Check, Explain, ExplainCalls, Exports, Run, Text}
 
 -- the word begins with this text
 abbrev pub BeginsWith : List ℕ → List ℕ → Type 0
@@ -40,6 +40,8 @@ AreOperands words path calls = (i : ℕ) × (j : ℕ) × (0 < i) × (i < j) × S
 abbrev pub IsRequestOf : List (List ℕ) → Request → Type 0
 IsRequestOf words (Check path plan) = IsOperand words path.now × SaysPlan words plan.workers plan.piece
 IsRequestOf words (Explain path) = IsOperand words path.now
+IsRequestOf words (ExplainCalls path calls) = AreOperands words path.now calls.now
+IsRequestOf words (Exports path) = IsOperand words path.now
 IsRequestOf words (Run path calls settings plan) =
     AreOperands words path.now calls.now × (SaysLimits words settings.fuel settings.frames settings.pages × SaysPlan words plan.workers plan.piece)
 IsRequestOf words (Text text) = AsksHelp words ⊎ AsksVersion words

@@ -52,7 +52,24 @@ The first line is that of `gate check`. The others, where the module is refused,
 
 Tokens and functions count from 0, and bytes are offsets in the file. New keys may come.
 
-The status is that of `gate check`.";
+With CALLS, of an accepted module the text of calls is read too, and what is wrong with it is told:
+
+    accepted
+    calls     line 1 word 2 \"i32:0x10\" is no decimal number
+
+The status is that of `gate check`; with CALLS it is that of `gate run`.";
+
+/// What `gate exports --help` ends with.
+const EXPORTS_EXAMPLE: &str = "\
+Each export has a line: its kind, its index, its name as a string of the text format, and the type of a
+function or of a global. The last line is `starts`, or why no call of the module runs:
+
+    function 0 \"add\" [i32 i32] -> [i32]
+    memory 0 \"memory\"
+    global 1 \"counter\" i64 mut
+    not-started imports: import 0 \"env\" \"log\" is a function
+
+Of a module that is refused the verdict line is printed. The status is that of `gate check`.";
 
 /// What `gate run --help` ends with.
 const RUN_EXAMPLE: &str = "\
@@ -88,6 +105,7 @@ pub fn gate_command<'a>(alloc: Global) -> Result<Command<'a>, AllocError> {
         .subcommand_required(true)
         .subcommand(check_command(alloc)?)?
         .subcommand(explain_command(alloc)?)?
+        .subcommand(exports_command(alloc)?)?
         .subcommand(run_command(alloc)?)
 }
 
@@ -106,10 +124,19 @@ fn check_command<'a>(alloc: Global) -> Result<Command<'a>, AllocError> {
 
 /// `gate explain`.
 fn explain_command<'a>(alloc: Global) -> Result<Command<'a>, AllocError> {
-    let words = vec![in alloc; module_word(alloc)]?;
+    let words = vec![in alloc; module_word(alloc), calls_word(alloc).required(false)]?;
     Command::new(alloc, "explain")
         .about("Prints the verdict on a module, and where and why it is refused")
         .after_long_help(EXPLAIN_EXAMPLE)
+        .args(words)
+}
+
+/// `gate exports`.
+fn exports_command<'a>(alloc: Global) -> Result<Command<'a>, AllocError> {
+    let words = vec![in alloc; module_word(alloc)]?;
+    Command::new(alloc, "exports")
+        .about("Prints what a module exports, and whether its calls run")
+        .after_long_help(EXPORTS_EXAMPLE)
         .args(words)
 }
 

@@ -26,14 +26,31 @@ pub fn check_of<'a>(words: &'a [&'a str], matches: &ArgMatches<'a>) -> Option<Re
     })
 }
 
-/// The file that `gate explain` is given.
+/// The file that `gate exports` is given.
+pub fn exports_of<'a>(words: &'a [&'a str], matches: &ArgMatches<'a>) -> Option<Request<'a>>
+    ensures { IfSome result (IsRequestOf (map (λ w. w.now) words.now)) }
+{
+    let matches = matches.subcommand_matches("exports")?;
+    let module = find_word(words, 1, matches.get_str("module")?)?;
+    let path = words[module];
+    Some(Request::Exports { path })
+}
+
+/// The files that `gate explain` is given: of a module, and perhaps of calls.
 pub fn explain_of<'a>(words: &'a [&'a str], matches: &ArgMatches<'a>) -> Option<Request<'a>>
     ensures { IfSome result (IsRequestOf (map (λ w. w.now) words.now)) }
 {
     let matches = matches.subcommand_matches("explain")?;
     let module = find_word(words, 1, matches.get_str("module")?)?;
-    Some(Request::Explain {
+    let Some(text) = matches.get_str("calls") else {
+        return Some(Request::Explain {
+            path: words[module],
+        });
+    };
+    let second = find_word(words, module + 1, text)?;
+    Some(Request::ExplainCalls {
         path: words[module],
+        calls: words[second],
     })
 }
 

@@ -4,7 +4,7 @@ ghost use Rattle.command.specs.Requests.{AsksHelp, AsksVersion, IsRequestOf};
 
 use crate::commands::gate_command;
 use crate::fault::{WordsFault, usage};
-use crate::matched::{check_of, explain_of, run_of};
+use crate::matched::{check_of, explain_of, exports_of, run_of};
 use crate::request::Request;
 use crate::said::option_words;
 use crate::words::{begins_with, contains_front, contains_word, first_word};
@@ -35,6 +35,9 @@ fn request_of<'a>(
         return Ok(request);
     }
     if let Some(request) = explain_of(words, matches) {
+        return Ok(request);
+    }
+    if let Some(request) = exports_of(words, matches) {
         return Ok(request);
     }
     match run_of(words, matches) {

@@ -20,6 +20,15 @@ pub enum Request<'a> {
     Explain {
         path: &'a str,
     },
+    /// `gate explain` with calls: the verdict on the module at `path`, and why it, or the text of calls at `calls`, is refused.
+    ExplainCalls {
+        path: &'a str,
+        calls: &'a str,
+    },
+    /// `gate exports`: what the module at `path` exports.
+    Exports {
+        path: &'a str,
+    },
     /// The text of help, or the version.
     Text(String),
 }

@@ -1,5 +1,5 @@
 -- What is explained is what was read.
-use Rattle.std.proofs.Common.{◌≡◌, ℕ, List, Option, Some, None, Result, Ok, Err, IfSome, refl, subst, ◌∙◌}
+use Rattle.std.proofs.Common.{◌≡◌, ℕ, List, Option, Some, None, Result, Ok, Err, IfSome, refl, sym, ap, subst, ◌∙◌}
 use Rattle.std.specs.Prelude.{IsSomeAnd}
 use Rattle.wsyntax.specs.Binary.Shell.{module_limit}
 use Rattle.wsyntax.specs.Texts.Lines.{verdict_line}
@@ -8,7 +8,12 @@ use Rattle.batch.specs.Report.{status_of}
 use Rattle.batch.specs.declared.status.Status.{Status}
 use Rattle.explain.specs.Texts.{BeginsWith}
 use Rattle.gate.specs.Checks.{Judges}
-use Rattle.gate.specs.Explains.{Explains}
+use Rattle.wsyntax.specs.Texts.Calls.{CallsText, TooLong, BadLine, Good as GoodCalls, calls_limit}
+use Rattle.wsyntax.specs.Validation.Verdict.{Accepted, TooLarge, Malformed, RuleBroken, BodyRefused}
+use Rattle.batch.specs.Answers.{StatusBy, calls_status}
+use Rattle.explain.specs.CallsTold.{RefusedBy, TellsBoth, refused_calls}
+use Rattle.explain.specs.declared.explaining_calls.Refused.{Refused}
+use Rattle.gate.specs.Explains.{Explains, ExplainsCalls, IsCallsExplained, refused_status}
 use Rattle.gate.specs.Prints.{Shows}
 use Rattle.gate.specs.Reads.{IsRead}
 use Rattle.gate.specs.declared.fault.Fault.{Fault}
@@ -32,3 +37,48 @@ pub explained : (held : Option (List ℕ)) (bytes slice text shown : List ℕ) (
 explained held bytes slice text shown old new None s r read same is status begins e done = absurd begins
 explained held bytes slice text shown old new (Some v) s r read same is status begins e done =
     told held text old new v s r (judges held bytes slice v read same is) (status v refl) begins (subst (λ x. Shows x s old new r) e done)
+
+-- With calls.
+
+status_of_calls : (c : CallsText) → refused_status (refused_calls c) ≡ calls_status c
+status_of_calls TooLong = refl
+status_of_calls (BadLine k) = refl
+status_of_calls (GoodCalls calls) = refl
+
+-- the status goes by what is refused
+by_refused : (text : List ℕ) (v : Verdict) (refused : Option Refused) (s : Status) → s ≡ refused_status refused → RefusedBy text v refused → StatusBy text v s
+by_refused text Accepted refused s e (c, is, told) = (c, is, e ∙ ap refused_status told ∙ status_of_calls c)
+by_refused text TooLarge refused s e told = e ∙ ap refused_status told
+by_refused text Malformed refused s e told = e ∙ ap refused_status told
+by_refused text (RuleBroken k) refused s e told = e ∙ ap refused_status told
+by_refused text (BodyRefused f fault) refused s e told = e ∙ ap refused_status told
+
+-- what is told of what was read
+calls_told : (held_module held_calls : Option (List ℕ)) (bytes text out : List ℕ) (refused : Option Refused) (s : Status) → IsRead module_limit held_module bytes → IsRead calls_limit held_calls text → TellsBoth bytes text refused out → s ≡ refused_status refused
+    → IsCallsExplained held_module held_calls s out
+calls_told held_module held_calls bytes text out refused s read_module read_calls (v, verdict, told, begins) e = record {
+  bytes = bytes;
+  text = text;
+  read_module = read_module;
+  read_calls = read_calls;
+  v = v;
+  verdict = verdict;
+  status_is = by_refused text v refused s e told;
+  begins = begins;
+}
+
+shown_calls : (held_module held_calls : Option (List ℕ)) (out : List ℕ) (old new : Option (List ℕ)) (s : Status) (r : Result Status Fault) → IsCallsExplained held_module held_calls s out → Shows out s old new r → ExplainsCalls held_module held_calls old new r
+shown_calls held_module held_calls out old new s (Ok t) told shown = (out, subst (λ (x : Status). IsCallsExplained held_module held_calls x out) (sym shown.0) told, shown.1)
+shown_calls held_module held_calls out old new s (Err Write) told shown = (s, out, told, shown)
+shown_calls held_module held_calls out old new s (Err (Usage t)) told shown = absurd shown
+shown_calls held_module held_calls out old new s (Err (Unreadable path)) told shown = absurd shown
+shown_calls held_module held_calls out old new s (Err Memory) told shown = absurd shown
+
+pub explained_calls : (held_module held_calls held_later : Option (List ℕ)) (bytes slice text text_slice out shown : List ℕ) (old new : Option (List ℕ)) (refused : Option Refused) (s : Status) (r : Result Status Fault)
+    → IsRead module_limit held_module bytes → IsRead calls_limit held_later text → held_later ≡ held_calls → slice ≡ bytes → text_slice ≡ text → TellsBoth slice text_slice refused out → s ≡ refused_status refused → shown ≡ out → Shows shown s old new r
+    → ExplainsCalls held_module held_calls old new r
+explained_calls held_module held_calls held_later bytes slice text text_slice out shown old new refused s r read_module read_calls same same_bytes same_text told e is done =
+    shown_calls held_module held_calls out old new s r
+    (calls_told held_module held_calls bytes text out refused s read_module (subst (λ (x : Option (List ℕ)). IsRead calls_limit x text) same read_calls)
+    (subst (λ (x : List ℕ). TellsBoth bytes x refused out) same_text (subst (λ (x : List ℕ). TellsBoth x text_slice refused out) same_bytes told)) e)
+    (subst (λ (x : List ℕ). Shows x s old new r) is done)

@@ -1,3 +1,4 @@
 pub mod Explained
 pub mod Finished
+pub mod Listed
 pub mod Printed

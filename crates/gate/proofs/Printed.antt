@@ -9,14 +9,15 @@ use Rattle.batch.specs.Report.{status_of}
 use Rattle.batch.specs.declared.status.Status.{Status}
 use Rattle.batch.specs.declared.status.Status.TheVariants.{Good, ModuleRefused, CallsRefused}
 use Rattle.command.specs.Options.{SaysLimits}
-use Rattle.command.specs.Requests.{AreOperands, IsRequestOf}
+use Rattle.command.specs.Requests.{AreOperands, IsOperand, IsRequestOf}
 use Rattle.command.specs.declared.request.Request.{Request}
-use Rattle.command.specs.declared.request.Request.TheVariants.{Check, Explain, Run, Text}
+use Rattle.command.specs.declared.request.Request.TheVariants.{Check, Explain, ExplainCalls, Exports, Run, Text}
 use Rattle.gate.specs.Sources.{ReadsPaths}
 use Rattle.gate.specs.Checks.{Judges}
-use Rattle.gate.specs.Explains.{IsExplained}
+use Rattle.gate.specs.Explains.{IsCallsExplained, IsExplained}
+use Rattle.gate.specs.Lists.{IsList, IsListBy}
 use Rattle.gate.specs.Endings.{answer_status}
-use Rattle.gate.specs.Prints.{AsksFor, AnswersRequest, PrintsAnswer, PrintsCallsRefusal, PrintsGood, PrintsRefusal}
+use Rattle.gate.specs.Prints.{AsksFor, AnswersRequest, PrintsAnswer, PrintsCallsExplained, PrintsCallsRefusal, PrintsGood, PrintsRefusal, PrintsVerdict}
 use Rattle.gate.specs.Runs.{RunsOn}
 
 only_good : (s : Status) → answer_status s ≡ 0 → s ≡ Good
@@ -72,6 +73,37 @@ answer words path calls settings holds asked asked' old new s t named said done 
   answered = subst (λ (x : Status). RunsOn (holds path.now) (holds calls.now) (limits_of settings) old new (Ok x)) e done;
 }
 
+-- an explanation of calls
+calls_explained : (words : List (List ℕ)) (path calls : Bor (List ℕ)) (holds : List ℕ → Option (List ℕ)) (asked asked' : Option (List (List ℕ))) (old new : Option (List ℕ)) (s t : Status) (text : List ℕ)
+    → AreOperands words path.now calls.now → IsCallsExplained (holds path.now) (holds calls.now) s text → Appends old new text → ReadsPaths asked asked' (path.now ∷ calls.now ∷ []) → s ≡ t → PrintsCallsExplained words holds asked asked' old new t
+calls_explained words path calls holds asked asked' old new s t text named explained written order e = record {
+  path = path.now;
+  calls = calls.now;
+  named = named;
+  in_order = order;
+  text = text;
+  explained = subst (λ (x : Status). IsCallsExplained (holds path.now) (holds calls.now) x text) e explained;
+  written = written;
+}
+
+-- a refused module has no list
+line_of : (bytes : List ℕ) (v : Verdict) (text : List ℕ) → status_of v ≡ ModuleRefused → IsListBy bytes v text → text ≡ verdict_line v
+line_of bytes Accepted text e list = absurd cc
+line_of bytes TooLarge text e list = list
+line_of bytes Malformed text e list = list
+line_of bytes (RuleBroken k) text e list = list
+line_of bytes (BodyRefused f fault) text e list = list
+
+refused_list : (words : List (List ℕ)) (path : Bor (List ℕ)) (holds : List ℕ → Option (List ℕ)) (asked asked' : Option (List (List ℕ))) (old new : Option (List ℕ)) (v : Verdict) (text : List ℕ)
+    → IsOperand words path.now → IsList (holds path.now) v text → status_of v ≡ ModuleRefused → Appends old new text → ReadsPaths asked asked' (path.now ∷ []) → PrintsVerdict words holds asked asked' old new v
+refused_list words path holds asked asked' old new v text named list refused written order = record {
+  path = path.now;
+  named = named;
+  only = order;
+  judged = record { bytes = list.bytes; read = list.read; verdict = list.verdict };
+  written = subst (λ (x : List ℕ). Appends old new x) (line_of list.bytes v text refused list.list) written;
+}
+
 pub good : (words : List (List ℕ)) (request : Request) (holds : List ℕ → Option (List ℕ)) (asked asked' : Option (List (List ℕ))) (old new : Option (List ℕ)) (s : Status) → IsRequestOf words request → AnswersRequest request holds old new (Ok s) → AsksFor request asked asked' (Ok s) → answer_status s ≡ 0 → PrintsGood words holds asked asked' old new
 good words (Check path plan) holds asked asked' old new s named (v, judged, is, written) order e =
     let same : v ≡ Accepted = only_accepted v (sym is ∙ only_good s e) in
@@ -92,8 +124,20 @@ good words (Explain path) holds asked asked' old new s named (v, text, explained
       explained = subst (λ (x : Verdict). IsExplained (Judges (holds path.now)) x text) same explained;
       written = written;
     }))
+good words (ExplainCalls path calls) holds asked asked' old new s named (text, explained, written) order e =
+    inr (inr (inr (inr (inr (calls_explained words path calls holds asked asked' old new s Good text named explained written order (only_good s e))))))
+good words (Exports path) holds asked asked' old new s named (v, text, list, is, written) order e =
+    let same : v ≡ Accepted = only_accepted v (sym is ∙ only_good s e) in
+    inr (inr (inr (inr (inl record {
+      path = path.now;
+      named = named;
+      only = order;
+      text = text;
+      list = subst (λ (x : Verdict). IsList (holds path.now) x text) same list;
+      written = written;
+    }))))
 good words (Run path calls settings plan) holds asked asked' old new s (named, said) done order e =
-    inr (inr (inr (answer words path calls settings holds asked asked' old new s Good named said.0 done order (only_good s e))))
+    inr (inr (inr (inl (answer words path calls settings holds asked asked' old new s Good named said.0 done order (only_good s e)))))
 good words (Text text) holds asked asked' old new s asks shown order e = inl asks
 
 pub refusal : (words : List (List ℕ)) (request : Request) (holds : List ℕ → Option (List ℕ)) (asked asked' : Option (List (List ℕ))) (old new : Option (List ℕ)) (s : Status) → IsRequestOf words request → AnswersRequest request holds old new (Ok s) → AsksFor request asked asked' (Ok s) → answer_status s ≡ 2 → PrintsRefusal words holds asked asked' old new
@@ -101,8 +145,13 @@ refusal words (Check path plan) holds asked asked' old new s named (v, judged, i
     inl (v, sym is ∙ only_refused s e, inl record { path = path.now; named = named.0; only = order; judged = judged; written = written })
 refusal words (Explain path) holds asked asked' old new s named (v, text, explained, is, written) order e =
     inl (v, sym is ∙ only_refused s e, inr record { path = path.now; named = named; only = order; text = text; explained = explained; written = written })
+refusal words (ExplainCalls path calls) holds asked asked' old new s named (text, explained, written) order e =
+    inr (inr (calls_explained words path calls holds asked asked' old new s ModuleRefused text named explained written order (only_refused s e)))
+refusal words (Exports path) holds asked asked' old new s named (v, text, list, is, written) order e =
+    let refused : status_of v ≡ ModuleRefused = sym is ∙ only_refused s e in
+    inl (v, refused, inl (refused_list words path holds asked asked' old new v text named list refused written order))
 refusal words (Run path calls settings plan) holds asked asked' old new s (named, said) done order e =
-    inr (answer words path calls settings holds asked asked' old new s ModuleRefused named said.0 done order (only_refused s e))
+    inr (inl (answer words path calls settings holds asked asked' old new s ModuleRefused named said.0 done order (only_refused s e)))
 refusal words (Text text) holds asked asked' old new s asks shown order e = absurd (not_refused s shown.0 (only_refused s e))
 
 pub calls_refusal : (words : List (List ℕ)) (request : Request) (holds : List ℕ → Option (List ℕ)) (asked asked' : Option (List (List ℕ))) (old new : Option (List ℕ)) (s : Status) → IsRequestOf words request → AnswersRequest request holds old new (Ok s) → AsksFor request asked asked' (Ok s) → answer_status s ≡ 3 → PrintsCallsRefusal words holds asked asked' old new
@@ -110,6 +159,10 @@ calls_refusal words (Check path plan) holds asked asked' old new s named (v, jud
     absurd (no_verdict v (sym is ∙ only_calls_refused s e))
 calls_refusal words (Explain path) holds asked asked' old new s named (v, text, explained, is, written) order e =
     absurd (no_verdict v (sym is ∙ only_calls_refused s e))
+calls_refusal words (ExplainCalls path calls) holds asked asked' old new s named (text, explained, written) order e =
+    inr (calls_explained words path calls holds asked asked' old new s CallsRefused text named explained written order (only_calls_refused s e))
+calls_refusal words (Exports path) holds asked asked' old new s named (v, text, list, is, written) order e =
+    absurd (no_verdict v (sym is ∙ only_calls_refused s e))
 calls_refusal words (Run path calls settings plan) holds asked asked' old new s (named, said) done order e =
-    answer words path calls settings holds asked asked' old new s CallsRefused named said.0 done order (only_calls_refused s e)
+    inl (answer words path calls settings holds asked asked' old new s CallsRefused named said.0 done order (only_calls_refused s e))
 calls_refusal words (Text text) holds asked asked' old new s asks shown order e = absurd (not_calls_refused s shown.0 (only_calls_refused s e))

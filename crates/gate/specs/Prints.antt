@@ -12,10 +12,11 @@ use Rattle.batch.specs.declared.status.Status.TheVariants.{Good, ModuleRefused, 
 use Rattle.command.specs.Options.{SaysLimits}
 use Rattle.command.specs.Requests.{AreOperands, AsksHelp, AsksVersion, IsOperand, IsRequestOf}
 use Rattle.command.specs.declared.request.Request.{Request}
-use Rattle.command.specs.declared.request.Request.TheVariants.{Check, Explain, Run, Text}
+use Rattle.command.specs.declared.request.Request.TheVariants.{Check, Explain, ExplainCalls, Exports, Run, Text}
 use Rattle.gate.specs.Sources.{ReadsPaths}
 use Rattle.gate.specs.Checks.{Checks, Judges}
-use Rattle.gate.specs.Explains.{Explains, IsExplained}
+use Rattle.gate.specs.Explains.{Explains, ExplainsCalls, IsCallsExplained, IsExplained}
+use Rattle.gate.specs.Lists.{IsList, Lists}
 use Rattle.gate.specs.Reads.{ReadsInOrder}
 use Rattle.gate.specs.Endings.{result_status}
 use Rattle.gate.specs.Runs.{RunsOn, AnswersRead}
@@ -34,6 +35,8 @@ Shows text status old new (Err _) = ⊥
 abbrev pub AnswersRequest : Request → (List ℕ → Option (List ℕ)) → Option (List ℕ) → Option (List ℕ) → Result Status Fault → Type 0
 AnswersRequest (Check path plan) holds old new r = Checks (holds path.now) old new r
 AnswersRequest (Explain path) holds old new r = Explains (holds path.now) old new r
+AnswersRequest (ExplainCalls path calls) holds old new r = ExplainsCalls (holds path.now) (holds calls.now) old new r
+AnswersRequest (Exports path) holds old new r = Lists (holds path.now) old new r
 AnswersRequest (Run path calls s plan) holds old new r = RunsOn (holds path.now) (holds calls.now) (limits_of s) old new r
 AnswersRequest (Text text) holds old new r = Shows (string_bytes text) Good old new r
 
@@ -41,6 +44,8 @@ AnswersRequest (Text text) holds old new r = Shows (string_bytes text) Good old 
 abbrev pub AsksFor : Request → Option (List (List ℕ)) → Option (List (List ℕ)) → Result Status Fault → Type 0
 AsksFor (Check path plan) old new r = ReadsPaths old new (path.now ∷ [])
 AsksFor (Explain path) old new r = ReadsPaths old new (path.now ∷ [])
+AsksFor (ExplainCalls path calls) old new r = ReadsInOrder path.now calls.now old new r
+AsksFor (Exports path) old new r = ReadsPaths old new (path.now ∷ [])
 AsksFor (Run path calls s plan) old new r = ReadsInOrder path.now calls.now old new r
 AsksFor (Text text) old new r = ReadsPaths old new []
 
@@ -69,6 +74,25 @@ pub record PrintsExplained (words : List (List ℕ)) (holds : List ℕ → Optio
   pub explained : IsExplained (Judges (holds path)) v text
   pub written : Appends old new text
 
+-- the list of exports of that module is written, which is accepted
+pub record PrintsList (words : List (List ℕ)) (holds : List ℕ → Option (List ℕ)) (asked asked' : Option (List (List ℕ))) (old new : Option (List ℕ)) : Type 0 where
+  pub path : List ℕ
+  pub named : IsOperand words path
+  pub only : ReadsPaths asked asked' (path ∷ [])
+  pub text : List ℕ
+  pub list : IsList (holds path) Accepted text
+  pub written : Appends old new text
+
+-- the module whose path is a word after the command's name, and the calls whose path is a word after that, are explained with this status; the module was asked for first, and then the calls
+pub record PrintsCallsExplained (words : List (List ℕ)) (holds : List ℕ → Option (List ℕ)) (asked asked' : Option (List (List ℕ))) (old new : Option (List ℕ)) (status : Status) : Type 0 where
+  pub path : List ℕ
+  pub calls : List ℕ
+  pub named : AreOperands words path calls
+  pub in_order : ReadsPaths asked asked' (path ∷ calls ∷ [])
+  pub text : List ℕ
+  pub explained : IsCallsExplained (holds path) (holds calls) status text
+  pub written : Appends old new text
+
 -- the answer with this status is written to the module whose path is a word after the command's name, and to the calls whose path is a word after that, within the limits that the words say; the module was asked for first, and then the calls
 pub record PrintsAnswer (words : List (List ℕ)) (holds : List ℕ → Option (List ℕ)) (asked asked' : Option (List (List ℕ))) (old new : Option (List ℕ)) (status : Status) : Type 0 where
   pub path : List ℕ
@@ -82,16 +106,18 @@ pub record PrintsAnswer (words : List (List ℕ)) (holds : List ℕ → Option (
   pub in_range : AreSettings fuel frames pages
   pub answered : AnswersRead (holds path) (holds calls) (limits fuel frames pages) old new (Ok status)
 
--- status 0: a word asks for help or the version, or the module is accepted, explained or not, or the calls are reported
+-- status 0: a word asks for help or the version, or the module is accepted, explained or not, or its exports are listed, or the calls are reported or explained
 abbrev pub PrintsGood : List (List ℕ) → (List ℕ → Option (List ℕ)) → Option (List (List ℕ)) → Option (List (List ℕ)) → Option (List ℕ) → Option (List ℕ) → Type 0
 PrintsGood words holds asked asked' old new =
-    (AsksHelp words ⊎ AsksVersion words) ⊎ (PrintsVerdict words holds asked asked' old new Accepted ⊎ (PrintsExplained words holds asked asked' old new Accepted ⊎ PrintsAnswer words holds asked asked' old new Good))
+    (AsksHelp words ⊎ AsksVersion words) ⊎ (PrintsVerdict words holds asked asked' old new Accepted ⊎ (PrintsExplained words holds asked asked' old new Accepted ⊎ (PrintsAnswer words holds asked asked' old new Good
+    ⊎ (PrintsList words holds asked asked' old new ⊎ PrintsCallsExplained words holds asked asked' old new Good))))
 
--- status 2: the module is refused, of a check, explained or not, or of a run
+-- status 2: the module is refused, of a check or a list, explained or not, with calls or without, or of a run
 abbrev pub PrintsRefusal : List (List ℕ) → (List ℕ → Option (List ℕ)) → Option (List (List ℕ)) → Option (List (List ℕ)) → Option (List ℕ) → Option (List ℕ) → Type 0
 PrintsRefusal words holds asked asked' old new =
-    ((v : Verdict) × (status_of v ≡ ModuleRefused) × (PrintsVerdict words holds asked asked' old new v ⊎ PrintsExplained words holds asked asked' old new v)) ⊎ PrintsAnswer words holds asked asked' old new ModuleRefused
+    ((v : Verdict) × (status_of v ≡ ModuleRefused) × (PrintsVerdict words holds asked asked' old new v ⊎ PrintsExplained words holds asked asked' old new v))
+    ⊎ (PrintsAnswer words holds asked asked' old new ModuleRefused ⊎ PrintsCallsExplained words holds asked asked' old new ModuleRefused)
 
--- status 3: the calls are refused
+-- status 3: the calls are refused, of a run, or explained
 abbrev pub PrintsCallsRefusal : List (List ℕ) → (List ℕ → Option (List ℕ)) → Option (List (List ℕ)) → Option (List (List ℕ)) → Option (List ℕ) → Option (List ℕ) → Type 0
-PrintsCallsRefusal words holds asked asked' old new = PrintsAnswer words holds asked asked' old new CallsRefused
+PrintsCallsRefusal words holds asked asked' old new = PrintsAnswer words holds asked asked' old new CallsRefused ⊎ PrintsCallsExplained words holds asked asked' old new CallsRefused

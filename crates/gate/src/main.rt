@@ -13,6 +13,7 @@ mod disk;
 mod explaining;
 mod fault;
 mod finishing;
+mod listing;
 mod program;
 mod reading;
 mod source;

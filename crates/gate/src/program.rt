@@ -6,9 +6,10 @@ ghost use Rattle.gate.specs.Prints.{AsksFor, AnswersRequest, AnswersWords, Print
 
 use crate::answer::answer_files;
 use crate::check::check_file;
-use crate::explaining::explain_file;
+use crate::explaining::{explain_file, explain_files};
 use crate::fault::{Fault, end};
 use crate::finishing::show;
+use crate::listing::list_file;
 use crate::source::Source;
 use batch::Status;
 use command::{Request, read_words};
@@ -71,6 +72,8 @@ fn obey<'a, R: Threads + Wait + Sync, S: Source, O: Write>(
             plan,
         } => answer_files(rt, alloc, path, calls, settings, plan, source, out),
         Request::Explain { path } => explain_file(alloc, path, source, out),
+        Request::ExplainCalls { path, calls } => explain_files(alloc, path, calls, source, out),
+        Request::Exports { path } => list_file(alloc, path, source, out),
         Request::Text(text) => show(text.as_bytes(), Status::Good, out),
     }
 }

@@ -1,13 +1,14 @@
 //! An explanation as numbers: `gate_explanation` of gate.h.
 
 ghost use Rattle.std.specs.Prelude.{◌≡◌, IfSome, option_map};
+ghost use Rattle.explain.specs.Numbers.{body_told, item_told, kind_told, opcode_told, place_told, section_told};
 ghost use Rattle.explain.specs.Told.{verdict_told};
 ghost use Rattle.gate_c.specs.Explained.{kind_number, numbers_with, short, wide};
 ghost use Rattle.gate_c.specs.Verdicts.{numbers_of, status_of};
 
 use crate::judged::GateVerdict;
 use crate::status::{MODULE_REFUSED, OK};
-use explain::{Explanation, Kind};
+use explain::{Explanation, Kind, Span};
 
 /// An explanation. Of what is not told the number is the greatest of its width.
 #[repr(C)]
@@ -97,22 +98,97 @@ pub(crate) fn status_with(found: &Explanation<'_>) -> u32
     }
 }
 
+/// The number of what is said.
+fn why(found: &Explanation<'_>) -> u32
+    ensures { result ≡ kind_number (kind_told found.now) }
+{
+    number_of_kind(found.kind())
+}
+
+/// The number of the section.
+fn section(found: &Explanation<'_>) -> u32
+    ensures { result ≡ short (section_told found.now) }
+{
+    short_number(found.section())
+}
+
+/// The number of the first byte of the token.
+fn opcode(found: &Explanation<'_>) -> u32
+    ensures { result ≡ short (opcode_told found.now) }
+{
+    short_number(found.opcode())
+}
+
+/// The number of the item.
+fn item(found: &Explanation<'_>) -> u64
+    ensures { result ≡ wide (item_told found.now) }
+{
+    wide_number(found.item())
+}
+
+/// The offset of the first byte of a span.
+fn first_of(span: Option<Span>) -> u64
+    ensures { result ≡ wide (option_map (λ s. s.from) span) }
+{
+    match span {
+        Some(span) => span.from as u64,
+        None => u64::MAX,
+    }
+}
+
+/// The offset after the last byte of a span.
+fn last_of(span: Option<Span>) -> u64
+    ensures { result ≡ wide (option_map (λ s. s.to) span) }
+{
+    match span {
+        Some(span) => span.to as u64,
+        None => u64::MAX,
+    }
+}
+
+/// The first byte of the body.
+fn body_from(found: &Explanation<'_>) -> u64
+    ensures { result ≡ wide (option_map (λ s. s.from) (body_told found.now)) }
+{
+    first_of(found.body())
+}
+
+/// The end of the body.
+fn body_to(found: &Explanation<'_>) -> u64
+    ensures { result ≡ wide (option_map (λ s. s.to) (body_told found.now)) }
+{
+    last_of(found.body())
+}
+
+/// The first byte of what is refused.
+fn from(found: &Explanation<'_>) -> u64
+    ensures { result ≡ wide (option_map (λ s. s.from) (place_told found.now)) }
+{
+    first_of(found.place())
+}
+
+/// The end of what is refused.
+fn to(found: &Explanation<'_>) -> u64
+    ensures { result ≡ wide (option_map (λ s. s.to) (place_told found.now)) }
+{
+    last_of(found.place())
+}
+
 impl GateExplanation {
     /// The numbers of an explanation; `None` where memory was refused.
     pub(crate) fn of(found: &Explanation<'_>) -> Option<GateExplanation>
         ensures { result ≡ option_map (numbers_with found.now) (verdict_told found.now) }
     {
-        let body = found.body();
         Some(GateExplanation {
             verdict: verdict_of(found)?,
-            why: number_of_kind(found.kind()),
-            section: short_number(found.section()),
-            opcode: short_number(found.opcode()),
-            item: wide_number(found.item()),
-            body_from: wide_number(body.map(|span| span.from)),
-            body_to: wide_number(body.map(|span| span.to)),
-            from: wide_number(found.offset()),
-            to: wide_number(found.end()),
+            why: why(found),
+            section: section(found),
+            opcode: opcode(found),
+            item: item(found),
+            body_from: body_from(found),
+            body_to: body_to(found),
+            from: from(found),
+            to: to(found),
         })
     }
 }
