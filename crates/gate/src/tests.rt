@@ -132,11 +132,13 @@ fn help_goes_to_standard_output(rt: HostRuntime) {
 
 #[test]
 fn words_that_are_no_command(rt: HostRuntime) {
-    let wrong: [&[&str]; 36] = [
+    let wrong: [&[&str]; 38] = [
         &[],
         &["judge"],
         &["explain"],
-        &["explain", "x.wasm", "y.wasm"],
+        &["explain", "x.wasm", "x.calls", "y"],
+        &["exports"],
+        &["exports", "x.wasm", "y.wasm"],
         &["explain", "x.wasm", "--workers", "1"],
         &["check"],
         &["check", "x.wasm", "y.wasm"],
