@@ -64,7 +64,7 @@ class FunctionType:
 def _argument(named: str, of_type: ValueType, given: object) -> Value:
     """The argument of that type."""
     kind = VALUES.get(of_type)
-    if kind is not None and isinstance(given, kind):
+    if isinstance(given, (I32, I64)) and kind is not None and isinstance(given, kind):
         return given
     if kind is None or not is_plain(given):
         raise TypeError(f'{named} is an {of_type}, and not {given!r}')

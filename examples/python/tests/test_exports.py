@@ -1,5 +1,6 @@
 """What modules export, and calls by plain numbers."""
 import unittest
+from collections.abc import Callable
 from unittest import mock
 
 import gate
@@ -46,7 +47,8 @@ class Exports(unittest.TestCase):
     def test_closed(self) -> None:
         module = gate.Module(HEADER)
         module.close()
-        for use in (lambda: module.exports), (lambda: module.find('f')), module.starts:
+        uses: tuple[Callable[[], object], ...] = (lambda: module.exports), (lambda: module.find('f')), module.starts
+        for use in uses:
             with self.assertRaisesRegex(ValueError, 'closed'):
                 use()
 
