@@ -102,7 +102,8 @@ def place_of(text):
     span = re.search(r', bytes (\d+) to (\d+) \(', lines.get('token', ''))
     if span:
         return Place(kind, int(span[1]), int(span[2]))
-    stop = re.search(r', byte (\d+) \(', lines.get('token', '')) or re.match(r'byte (\d+) ', lines.get('because', ''))
+    stop = (re.search(r', byte (\d+) \(', lines.get('token') or lines.get('item', ''))
+            or re.match(r'byte (\d+) ', lines.get('because', '')))
     return Place(kind, int(stop[1]), int(stop[1])) if stop else Place(kind, None, None)
 
 
