@@ -7,6 +7,8 @@ unpacked   `sha256sum -c` holds, and the program judges and runs the examples, a
            gate.3 names all functions of the header, and `man` has no warning, where it is there. What is written of the command line
            holds (manual.py). Each relative link of a document leads to something packed; what the user's pages name of the sources
            is packed too, or the same line says that it is in the repository. The packages install and work (packages.py).
+Debian     `dpkg` installs the three packages below a folder, where it is there, and takes them away; the program and the library answer
+           from there; `lintian` finds nothing but what is written here, where it is there.
 installed  `install.sh` below a DESTDIR: the example of gate.3 is compiled by what pkg-config says, for the shared library and for
            the static one, where `cc` and `pkg-config` are there, and says what the program says. What others have is not written
            over. An uninstall leaves what was there before.
@@ -24,6 +26,8 @@ import textwrap
 here = os.path.dirname(os.path.abspath(__file__))
 root = os.path.join(here, '..')
 MODULES = ['add', 'fold', 'primes']
+# What lintian says of the packages: no licence and no address are stated, and there is no release of Debian that they are of.
+LINTIAN = set()
 # The pages of which all that they name is looked for.
 PAGES = ['README.md', 'docs/FORMATS.md', 'docs/HOSTS.md', 'docs/SECURITY.md']
 LINK = re.compile(r'\]\(([^()\s#]+)(?:#[^()\s]*)?\)')
@@ -83,7 +87,7 @@ def packed(count, program, library, work):
     count.expect(ended[0] == 0, 'a packing of a copy of the tree', ended)
     name = os.path.basename(glob.glob(os.path.join(first, '*.sha256'))[0]).removesuffix('.sha256')
     sums = os.path.join(first, f'{name}.sha256')
-    for path in (f'{name}.tar.gz', f'{name}.sha256'):
+    for path in os.listdir(first):
         count.expect(read(os.path.join(first, path)) == read(os.path.join(second, path)), f'{path} of two packings')
     ended = pack(root, program, library, '--check', sums)
     count.expect(ended[0] == 0, '--check of the same', ended)
@@ -242,10 +246,51 @@ def hosts(count, there, prefix, host, top):
                 count.expect(ended == wanted, f'the example of gate.3 on {module}, {way} {linking}', (ended, wanted))
 
 
+def debian(count, folder, work):
+    """Installs the packages for Debian below a folder, uses them, and takes them away."""
+    debs = sorted(glob.glob(os.path.join(folder, '*.deb')))
+    count.expect([os.path.basename(it).partition('_')[0] for it in debs] == ['gate', 'libgate-dev', 'libgate1'], 'the packages', debs)
+    top = os.path.join(work, 'debian')
+    dpkg = ['dpkg', f'--root={top}', '--force-not-root', '--force-depends', f'--log={os.path.join(work, "log")}']
+    for part in ('info', 'updates', 'triggers', 'parts'):
+        os.makedirs(os.path.join(top, 'var/lib/dpkg', part))
+    for name in ('status', 'available'):
+        open(os.path.join(top, 'var/lib/dpkg', name), 'x').close()
+    ended = run(*dpkg, '--install', *debs)
+    count.expect(ended[0] == 0, 'dpkg --install', ended)
+    answers(count, os.path.join(top, 'usr'))
+    if is_there('cc', 'pkg-config'):
+        compiled(count, top, os.path.join(work, 'debian_host'))
+    ended = run(*dpkg, '--remove', 'gate', 'libgate1', 'libgate-dev')
+    left = [it for it in everything(top) if not it.startswith(os.path.join(top, 'var')) and not os.path.isdir(it)]
+    count.expect(ended[0] == 0 and not left, 'what dpkg --remove leaves', (ended, left))
+    if is_there('lintian'):
+        said = run('lintian', '--no-cfg', '--allow-root', *debs)[1]
+        tags = set(re.findall(r'^[EW]: (\S+: \S+)', said, re.MULTILINE))
+        count.expect(tags == LINTIAN, 'what lintian says', (tags ^ LINTIAN, said))
+
+
+def compiled(count, top, host):
+    """Compiles the example of gate.3 by what the packages have, and runs it over their library."""
+    with open(f'{host}.c', 'w') as file:
+        file.write(next(it for it in blocks('gate.3') if '#include' in it))
+    libraries = os.path.join(top, 'usr/lib/x86_64-linux-gnu')
+    at = {**os.environ, 'PKG_CONFIG_LIBDIR': os.path.join(libraries, 'pkgconfig'), 'PKG_CONFIG_SYSROOT_DIR': top}
+    said = run('pkg-config', '--cflags', '--libs', 'gate', env=at)
+    # gate.pc is of /usr, where a compiler looks anyhow.
+    flags = [*said[1].split(), f'-I{os.path.join(top, "usr/include")}', f'-L{libraries}']
+    ended = run('cc', '-o', host, f'{host}.c', *flags)
+    count.expect((said[0], *ended) == (0, 0, ''), 'the example of gate.3 over the packages', (said, ended))
+    ended = run(host, 'examples/add.wasm', cwd=root, env={**os.environ, 'LD_LIBRARY_PATH': libraries})
+    count.expect(ended == (0, 'accepted\n'), 'the example of gate.3 over the packages on add', ended)
+
+
 def main(program, library):
     count = Count()
     with tempfile.TemporaryDirectory() as work:
         folder, name = packed(count, os.path.abspath(program), os.path.abspath(library), work)
+        if is_there('dpkg'):
+            debian(count, folder, work)
         installed(count, unpacked(count, folder, name), work)
     print(f'{count.passed} passed, {count.failed} failed')
     return 1 if count.failed or not count.passed else 0
