@@ -21,6 +21,7 @@ mod call;
 mod error;
 mod explanation;
 mod export;
+mod instance;
 mod module;
 mod report;
 mod settings;
@@ -29,14 +30,15 @@ mod verdict;
 
 use gate_sys as ffi;
 
-pub use call::{Call, End, NotStarted, Trap};
-pub use error::{CheckError, NoMemory};
-pub use export::{Export, FunctionType, Item, ValueType};
+pub use call::{Call, CallError, End, NotStarted, Trap};
+pub use error::{CheckError, InstanceError, NoMemory};
 pub use explanation::{explain, Explanation};
+pub use export::{Export, FunctionType, Item, ValueType};
+pub use instance::Instance;
 pub use module::{Module, SharedModule};
 pub use report::{run, Report, Status};
 pub use settings::{Settings, SettingsError};
-pub use value::{Value, ValueError};
+pub use value::{Value, ValueError, WidthError};
 pub use verdict::{check, judge, BodyFault, Refusal, Verdict};
 
 /// The number of the library's interface. This crate is written for 1.
