@@ -4,6 +4,7 @@ package gate
 import "C"
 
 import (
+	"errors"
 	"fmt"
 	"strconv"
 	"strings"
@@ -13,6 +14,27 @@ import (
 type Call struct {
 	Results []Value // the lowest first
 	Fuel    uint32  // the start function included; also where the call was stopped, and 0 where nothing ran
+}
+
+// ErrResults says that a call did not give the one number that One was asked for.
+var ErrResults = errors.New("not the one number that is asked for")
+
+// One is the number of a call that gave one number of that type. It takes what Call gives:
+//
+//	address, err := gate.One[gate.I32](instance.Call("alloc", settings, length))
+//
+// The error is that of the call, or wraps ErrResults.
+func One[T Value](call Call, err error) (T, error) {
+	var number T
+	if err != nil {
+		return number, err
+	}
+	if len(call.Results) == 1 {
+		if number, is := call.Results[0].(T); is {
+			return number, nil
+		}
+	}
+	return number, fmt.Errorf("%w: %v", ErrResults, call.Results)
 }
 
 // End is why a call was stopped or did not run, where that needs no further word.

@@ -19,7 +19,7 @@ extern "C" {
     fn setrlimit(resource: i32, limit: *const Limit) -> i32;
 }
 
-/// What `act` gives where the process gets some megabyte more of addresses.
+/// What `act` gives where the process gets 32 megabytes more of addresses.
 fn in_short_memory<T>(act: impl FnOnce() -> T) -> T {
     let mut usual = Limit { now: 0, most: 0 };
     let pages: u64 = fs::read_to_string("/proc/self/statm")
@@ -32,7 +32,7 @@ fn in_short_memory<T>(act: impl FnOnce() -> T) -> T {
     // SAFETY: the struct is that of x86-64 Linux.
     assert_eq!(unsafe { getrlimit(RLIMIT_AS, &mut usual) }, 0);
     let short = Limit {
-        now: pages * 4096 + (1 << 20),
+        now: pages * 4096 + (32 << 20),
         most: usual.most,
     };
     // SAFETY: likewise.
@@ -62,18 +62,18 @@ fn wants_much() -> Vec<u8> {
 }
 
 fn grow(instance: &mut Instance<'_>, pages: i32) -> Result<String, InstanceError> {
-    let limits = Settings::new(1000, 1000, 1000).unwrap();
+    let limits = Settings::new(1000, 1000, 1024).unwrap();
     instance.call("grow", &[pages.into()], limits).map(|call| call.to_string())
 }
 
 #[test]
 fn no_memory() {
     let module = Module::from_vec(wants_much()).unwrap();
-    let limits = Settings::new(1000, 1000, 1000).unwrap();
+    let limits = Settings::new(1000, 1000, 1024).unwrap();
     let mut instance = module.instance(limits).unwrap();
     assert_eq!((instance.start_fuel(), instance.memory_size()), (401, 65_536));
     // A call that runs short of memory, and each one after it.
-    let short = in_short_memory(|| grow(&mut instance, 900));
+    let short = in_short_memory(|| grow(&mut instance, 1023));
     assert_eq!(short, Err(InstanceError::NoMemory));
     assert_eq!(grow(&mut instance, 1), Err(InstanceError::NoMemory));
     instance.reset().unwrap();
