@@ -8,6 +8,7 @@ import (
 	"fmt"
 	"strconv"
 	"strings"
+	"unsafe"
 )
 
 // Call is what a call gave and cost.
@@ -19,22 +20,34 @@ type Call struct {
 // ErrResults says that a call did not give the one number that One was asked for.
 var ErrResults = errors.New("not the one number that is asked for")
 
-// One is the number of a call that gave one number of that type. It takes what Call gives:
+// Number is what One may be asked for: a number of either width, with a sign or without one.
+type Number interface {
+	~int32 | ~uint32 | ~int64 | ~uint64
+}
+
+// One is the number of a call that gave one, of that width. It takes what Call gives:
 //
-//	address, err := gate.One[gate.I32](instance.Call("alloc", settings, length))
+//	address, err := gate.One[uint32](instance.Call("alloc", settings, length))
 //
 // The error is that of the call, or wraps ErrResults.
-func One[T Value](call Call, err error) (T, error) {
+func One[T Number](call Call, err error) (T, error) {
 	var number T
 	if err != nil {
 		return number, err
 	}
 	if len(call.Results) == 1 {
-		if number, is := call.Results[0].(T); is {
-			return number, nil
+		switch result := call.Results[0].(type) {
+		case I32:
+			if unsafe.Sizeof(number) == 4 {
+				return T(result), nil
+			}
+		case I64:
+			if unsafe.Sizeof(number) == 8 {
+				return T(result), nil
+			}
 		}
 	}
-	return number, fmt.Errorf("%w: %v", ErrResults, call.Results)
+	return 0, fmt.Errorf("%w: %v", ErrResults, call.Results)
 }
 
 // End is why a call was stopped or did not run, where that needs no further word.

@@ -21,11 +21,11 @@ func ExampleInstance() {
 	defer module.Close()
 	plugin := must(module.NewInstance(limits))
 	defer plugin.Close()
-	address := must(gate.One[gate.I32](plugin.Call("alloc", limits, gate.I32(5))))
-	if err := plugin.Write(uint64(uint32(address)), []byte("hello")); err != nil {
+	address := must(gate.One[uint32](plugin.Call("alloc", limits, gate.I32(5))))
+	if err := plugin.Write(uint64(address), []byte("hello")); err != nil {
 		panic(err)
 	}
-	answer := must(gate.One[gate.I64](plugin.Call("handle", limits, address, gate.I32(5))))
-	fmt.Printf("%s\n", must(plugin.ReadBytes(uint64(answer)>>32, uint64(uint32(answer)))))
+	answer := must(gate.One[uint64](plugin.Call("handle", limits, gate.I32(address), gate.I32(5))))
+	fmt.Printf("%s\n", must(plugin.ReadBytes(answer>>32, answer&0xFFFF_FFFF)))
 	// Output: HELLO
 }

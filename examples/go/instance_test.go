@@ -316,21 +316,28 @@ func TestInstancesOfGoroutines(t *testing.T) {
 }
 
 func TestOne(t *testing.T) {
-	if number, err := One[I32](Call{[]Value{I32(-1)}, 1}, nil); err != nil || number != -1 {
+	narrow, wide := Call{[]Value{I32(-1)}, 1}, Call{[]Value{I64(-1)}, 1}
+	if number, err := One[int32](narrow, nil); err != nil || number != -1 {
 		t.Error(number, err)
 	}
-	if number, err := One[I64](Call{[]Value{I64(5)}, 1}, nil); err != nil || number != 5 {
+	if number, err := One[uint32](narrow, nil); err != nil || number != 0xFFFF_FFFF {
+		t.Error(number, err)
+	}
+	if number, err := One[I64](wide, nil); err != nil || number != -1 {
+		t.Error(number, err)
+	}
+	if number, err := One[uint64](wide, nil); err != nil || number != 0xFFFF_FFFF_FFFF_FFFF {
 		t.Error(number, err)
 	}
 	for _, results := range [][]Value{{}, {I64(1)}, {I32(1), I32(1)}} {
-		if _, err := One[I32](Call{results, 1}, nil); !errors.Is(err, ErrResults) {
-			t.Error(results, err)
+		if number, err := One[uint32](Call{results, 1}, nil); !errors.Is(err, ErrResults) || number != 0 {
+			t.Error(results, number, err)
 		}
 	}
-	if _, err := One[I32](Call{[]Value{I64(1)}, 1}, nil); err.Error() != "not the one number that is asked for: [i64:1]" {
+	if _, err := One[uint64](narrow, nil); !errors.Is(err, ErrResults) || err.Error() != "not the one number that is asked for: [i32:-1]" {
 		t.Error(err)
 	}
-	if _, err := One[I32](Call{}, Unreachable); err != Unreachable {
+	if _, err := One[uint32](Call{}, Unreachable); err != Unreachable {
 		t.Error(err)
 	}
 }
@@ -417,18 +424,18 @@ func TestInstanceNoMemory(t *testing.T) {
 func ask(t *testing.T, plugin *Instance, request string) string {
 	t.Helper()
 	length := I32(len(request))
-	address, err := One[I32](plugin.Call("alloc", DefaultSettings(), length))
+	address, err := One[uint32](plugin.Call("alloc", DefaultSettings(), length))
 	if err != nil {
 		t.Fatal(err)
 	}
-	if err := plugin.Write(uint64(uint32(address)), []byte(request)); err != nil {
+	if err := plugin.Write(uint64(address), []byte(request)); err != nil {
 		t.Fatal(err)
 	}
-	answer, err := One[I64](plugin.Call("handle", DefaultSettings(), address, length))
+	answer, err := One[uint64](plugin.Call("handle", DefaultSettings(), I32(address), length))
 	if err != nil {
 		t.Fatal(err)
 	}
-	text, err := plugin.ReadBytes(uint64(answer)>>32, uint64(uint32(answer)))
+	text, err := plugin.ReadBytes(answer>>32, answer&0xFFFF_FFFF)
 	if err != nil {
 		t.Fatal(err)
 	}
@@ -444,7 +451,7 @@ func TestPlugins(t *testing.T) {
 		t.Error(got)
 	}
 	// The room of 8,192 bytes is used up, and is there again after a reset.
-	if address, err := One[I32](pick.Call("alloc", DefaultSettings(), I32(8192-37-39))); err != nil || address == 0 {
+	if address, err := One[uint32](pick.Call("alloc", DefaultSettings(), I32(8192-37-39))); err != nil || address == 0 {
 		t.Error(address, err)
 	}
 	expectNumber(t, pick, "alloc", 1, 0)

@@ -28,24 +28,24 @@ func ask(plugin *gate.Instance, text []byte, limits gate.Settings) ([]byte, erro
 		return nil, errNoRoom
 	}
 	length := gate.I32(len(text))
-	address, err := gate.One[gate.I32](plugin.Call("alloc", limits, length))
+	address, err := gate.One[uint32](plugin.Call("alloc", limits, length))
 	if err != nil {
 		return nil, fmt.Errorf("alloc: %w", err)
 	}
 	if address == 0 {
 		return nil, errNoRoom
 	}
-	if err := plugin.Write(uint64(uint32(address)), text); err != nil {
+	if err := plugin.Write(uint64(address), text); err != nil {
 		return nil, err
 	}
-	answer, err := gate.One[gate.I64](plugin.Call("handle", limits, address, length))
+	answer, err := gate.One[uint64](plugin.Call("handle", limits, gate.I32(address), length))
 	if err != nil {
 		return nil, fmt.Errorf("handle: %w", err)
 	}
-	if answer == -1 {
+	if answer == math.MaxUint64 {
 		return nil, errNoAnswer
 	}
-	return plugin.ReadBytes(uint64(answer)>>32, uint64(uint32(answer)))
+	return plugin.ReadBytes(answer>>32, answer&0xFFFF_FFFF)
 }
 
 func opened(path string, limits gate.Settings) (*gate.Instance, error) {
