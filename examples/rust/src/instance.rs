@@ -21,8 +21,24 @@ use std::ptr;
 /// ```
 ///
 /// It borrows the bytes of its module, and not the [`Module`], which may be dropped before it. Of a module that owns its bytes
-/// ([`Module::from_vec`]) it is an `Instance<'static>`, which can be kept anywhere. It may go to another thread, but two threads share
-/// none.
+/// ([`Module::from_vec`]) it is an `Instance<'static>`, which can be kept anywhere.
+///
+/// ```compile_fail
+/// # let mut bytes = std::fs::read("../add.wasm").unwrap();
+/// let instance = gate::Module::new(&bytes).unwrap().instance(gate::Settings::default()).unwrap();
+/// bytes.clear(); // error: the instance borrows them
+/// instance.memory_size();
+/// ```
+///
+/// It may go to another thread, but two threads share none.
+///
+/// ```compile_fail
+/// # let bytes = std::fs::read("../add.wasm").unwrap();
+/// let instance = gate::Module::new(&bytes).unwrap().instance(gate::Settings::default()).unwrap();
+/// std::thread::scope(|scope| {
+///     scope.spawn(|| instance.memory_size()); // error: `Instance` cannot be shared between threads
+/// });
+/// ```
 #[derive(Debug)]
 pub struct Instance<'a> {
     handle: ffi::gate_instance,

@@ -14,6 +14,8 @@
 //! # Ok::<(), Box<dyn std::error::Error>>(())
 //! ```
 //!
+//! An [`Instance`] goes on from call to call, and a host hands it bytes through its memory.
+//!
 //! The library is proved; this crate is not: its `unsafe` blocks say what they rest on. Every function may be called from many
 //! threads at once, and a [`SharedModule`] gives each thread a [`Module`] of its own. The library stops no process, and nothing
 //! unwinds out of it. Fuel and pages bound a call; a check has no limit but the module's length, and nothing interrupts either.
