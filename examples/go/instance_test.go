@@ -5,6 +5,7 @@ import (
 	"errors"
 	"fmt"
 	"os"
+	"os/exec"
 	"reflect"
 	"runtime"
 	"runtime/debug"
@@ -182,13 +183,13 @@ func expectOutside(t *testing.T, instance *Instance, at uint64, length int) {
 
 func TestInstanceBytesOutside(t *testing.T) {
 	instance := instanceOf(t, goesOn())
-	const most = 1<<64 - 1
+	const last = 1<<64 - 1
 	expectOutside(t, instance, 65_535, 2)
 	expectOutside(t, instance, 65_536, 1)
 	expectOutside(t, instance, 65_537, 0)
-	expectOutside(t, instance, most, 1)
-	for _, at := range []uint64{0, most} {
-		if got, err := instance.ReadBytes(at, most); err != ErrOutside {
+	expectOutside(t, instance, last, 1)
+	for _, at := range []uint64{0, last} {
+		if got, err := instance.ReadBytes(at, last); err != ErrOutside {
 			t.Error(at, got, err)
 		}
 	}
@@ -342,10 +343,10 @@ func TestOne(t *testing.T) {
 	}
 }
 
-// wantsMuch is a module whose start function enters itself 400 times, with 50,000 locals each time. `grow` grows its memory, which has a
-// page.
-func wantsMuch() []byte {
-	// `if (count) { count -= 1; start() }`, where the global `count` is 400 at first.
+// enters is a module whose start function enters itself so many times, up to 8,191, with 50,000 locals each time. `grow` grows its
+// memory, which has a page.
+func enters(count int) []byte {
+	// `if (count) { count -= 1; start() }`, where `count` is a global.
 	locals := bytes.Join([][]byte{{1}, unsigned(50_000), {0x7f}}, nil)
 	code := []byte{0x23, 0, 0x04, 0x40, 0x23, 0, 0x41, 0x7f, 0x6a, 0x24, 0, 0x10, 0, 0x0b, 0x0b}
 	grow := []byte{6, 0, 0x20, 0, 0x40, 0, 0x0b}
@@ -354,14 +355,14 @@ func wantsMuch() []byte {
 		section(1, []byte{2, 0x60, 0, 0, 0x60, 1, 0x7f, 1, 0x7f}),
 		section(3, []byte{2, 0, 1}),
 		section(5, []byte{1, 0, 1}),
-		section(6, []byte{1, 0x7f, 1, 0x41, 0x90, 3, 0x0b}),
-		section(7, []byte("\x02\x05count\x03\x00\x04grow\x00\x01")),
+		section(6, []byte{1, 0x7f, 1, 0x41, 0x80 | byte(count), byte(count >> 7), 0x0b}),
+		section(7, []byte("\x01\x04grow\x00\x01")),
 		section(8, []byte{0}),
 		section(10, []byte{2}, unsigned(len(locals)+len(code)), locals, code, grow),
 	}, nil)
 }
 
-// inShortMemory acts where the process gets 32 megabytes more of addresses.
+// inShortMemory acts where the process gets 16 megabytes more of addresses.
 func inShortMemory(t *testing.T, act func()) {
 	t.Helper()
 	defer debug.SetGCPercent(debug.SetGCPercent(-1))
@@ -377,7 +378,7 @@ func inShortMemory(t *testing.T, act func()) {
 	if err := syscall.Getrlimit(syscall.RLIMIT_AS, &usual); err != nil {
 		t.Fatal(err)
 	}
-	if err := syscall.Setrlimit(syscall.RLIMIT_AS, &syscall.Rlimit{Cur: pages*4096 + 32<<20, Max: usual.Max}); err != nil {
+	if err := syscall.Setrlimit(syscall.RLIMIT_AS, &syscall.Rlimit{Cur: pages*4096 + 16<<20, Max: usual.Max}); err != nil {
 		t.Fatal(err)
 	}
 	act()
@@ -386,35 +387,73 @@ func inShortMemory(t *testing.T, act func()) {
 	}
 }
 
-func TestInstanceNoMemory(t *testing.T) {
-	limits := Settings{1000, 1000, 1024}
-	module := opened(t, wantsMuch())
-	instance, err := module.NewInstance(limits)
-	if err != nil || instance.StartFuel() != 401 {
+// inOwnProcess says whether the process is this test's own; else it runs the test in such a one. There malloc keeps nothing back of
+// what was freed, and has no other place for large blocks.
+func inOwnProcess(t *testing.T) bool {
+	t.Helper()
+	if os.Getenv("MALLOC_MMAP_THRESHOLD_") == "65536" && os.Getenv("MALLOC_ARENA_MAX") == "1" {
+		return true
+	}
+	again := exec.Command(os.Args[0], "-test.run=^"+t.Name()+"$")
+	again.Env = append(os.Environ(), "MALLOC_MMAP_THRESHOLD_=65536", "MALLOC_ARENA_MAX=1")
+	if said, err := again.CombinedOutput(); err != nil {
+		t.Errorf("%v: %s", err, said)
+	}
+	return false
+}
+
+var most = Settings{1000, 1000, MostPages}
+
+// A call that runs short of memory, and each one after it.
+func TestInstanceCallNoMemory(t *testing.T) {
+	if !inOwnProcess(t) {
+		return
+	}
+	instance, err := opened(t, enters(0)).NewInstance(most)
+	if err != nil {
 		t.Fatal(err)
 	}
 	defer instance.Close()
-	// A call that runs short of memory, and each one after it.
-	inShortMemory(t, func() { _, err = instance.Call("grow", limits, I32(1023)) })
-	if _, next := instance.Call("grow", limits, I32(1)); err != ErrNoMemory || next != ErrNoMemory {
+	inShortMemory(t, func() { _, err = instance.Call("grow", most, I32(1023)) })
+	if _, next := instance.Call("grow", most, I32(1)); err != ErrNoMemory || next != ErrNoMemory {
 		t.Error(err, next)
 	}
 	if err := instance.Reset(); err != nil {
-		t.Fatal(err)
+		t.Error(err)
 	}
 	expectNumber(t, instance, "grow", 1, 1)
-	// A reset that makes no instance; another one does.
+}
+
+// A reset that makes no instance; another one does.
+func TestInstanceResetNoMemory(t *testing.T) {
+	if !inOwnProcess(t) {
+		return
+	}
+	instance := instanceOf(t, enters(64))
+	var err error
 	inShortMemory(t, func() { err = instance.Reset() })
-	if _, next := instance.Call("grow", limits, I32(1)); err != (NoInstance{ErrNoMemory, 0}) || next != err || !errors.Is(err, ErrNoMemory) {
-		t.Error(err, next)
+	if err != (NoInstance{ErrNoMemory, 0}) || !errors.Is(err, ErrNoMemory) || err.Error() != "no instance: no memory" {
+		t.Error(err)
+	}
+	if _, next := instance.Call("grow", DefaultSettings(), I32(1)); next != err {
+		t.Error(next)
 	}
 	expectSize(t, instance, 0)
 	expectOutside(t, instance, 0, 1)
-	if err := instance.Reset(); err != nil || instance.StartFuel() != 401 {
-		t.Fatal(err)
+	if err := instance.Reset(); err != nil || instance.StartFuel() != 65 {
+		t.Error(err)
 	}
 	expectNumber(t, instance, "grow", 1, 1)
-	inShortMemory(t, func() { _, err = module.NewInstance(limits) })
+}
+
+func TestNewInstanceNoMemory(t *testing.T) {
+	if !inOwnProcess(t) {
+		return
+	}
+	// Its memory has 1,024 pages.
+	module := opened(t, bytes.Join([][]byte{[]byte(header), section(5, []byte{1, 0, 0x80, 8})}, nil))
+	var err error
+	inShortMemory(t, func() { _, err = module.NewInstance(most) })
 	if !errors.Is(err, ErrNoMemory) {
 		t.Error(err)
 	}

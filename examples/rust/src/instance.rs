@@ -60,8 +60,8 @@ impl<'a> Module<'a> {
     /// ```
     /// use gate::{End, InstanceError, Module, NotStarted, Settings};
     ///
-    /// let bytes = std::fs::read("../guests/upper.wasm")?; // its memory has 17 pages
-    /// match Module::new(&bytes)?.instance(Settings::new(0, 1, 16)?) {
+    /// let bytes = std::fs::read("../guests/upper.wasm")?; // its memory has a page
+    /// match Module::new(&bytes)?.instance(Settings::new(0, 1, 0)?) {
     ///     Err(InstanceError::NoInstance(call)) => assert_eq!(call.end, End::NotStarted(NotStarted::MemoryLimit)),
     ///     other => panic!("{other:?}"),
     /// }
