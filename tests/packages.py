@@ -30,10 +30,11 @@ root = os.path.dirname(here)
 GO_FOLDERS = '/usr/local/go/bin:/usr/lib/go/bin'
 # What could name a library, or a package, that is not the one under test.
 NAMES = ('CGO_', 'GATE_', 'GO', 'LD_', 'PKG_CONFIG', 'PYTHON', 'VIRTUAL_ENV')
-# What the hosts of HOSTS.md print on examples/add.wasm: the Core Specification's sum, one unit of fuel for the one entry.
+# What the hosts of HOSTS.md print. On examples/add.wasm: the Core Specification's sum, one unit of fuel for the one entry.
 PYTHON_PRINTS = 'accepted\n0 values i32:42 fuel 1\ntotal 1 values 1 traps 0 exhausted 0 refused 0 no-memory 0 fuel 1\n'
-RUST_PRINTS = 'values i32:42 fuel 1\n'
-GO_PRINTS = '{[i32:42] 1} <nil>\n'
+# Of examples/guests/upper.wasm: the texts `hello` and `again` in upper case.
+RUST_PRINTS = 'HELLO\nAGAIN\n'
+GO_PRINTS = 'HELLO\n'
 
 CONSUMER_CRATE = """\
 [package]

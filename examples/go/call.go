@@ -4,15 +4,50 @@ package gate
 import "C"
 
 import (
+	"errors"
 	"fmt"
 	"strconv"
 	"strings"
+	"unsafe"
 )
 
 // Call is what a call gave and cost.
 type Call struct {
 	Results []Value // the lowest first
 	Fuel    uint32  // the start function included; also where the call was stopped, and 0 where nothing ran
+}
+
+// ErrResults says that a call did not give the one number that One was asked for.
+var ErrResults = errors.New("not the one number that is asked for")
+
+// Number is what One may be asked for: a number of either width, with a sign or without one.
+type Number interface {
+	~int32 | ~uint32 | ~int64 | ~uint64
+}
+
+// One is the number of a call that gave one, of that width. It takes what Call gives:
+//
+//	address, err := gate.One[uint32](instance.Call("alloc", settings, length))
+//
+// The error is that of the call, or wraps ErrResults.
+func One[T Number](call Call, err error) (T, error) {
+	var number T
+	if err != nil {
+		return number, err
+	}
+	if len(call.Results) == 1 {
+		switch result := call.Results[0].(type) {
+		case I32:
+			if unsafe.Sizeof(number) == 4 {
+				return T(result), nil
+			}
+		case I64:
+			if unsafe.Sizeof(number) == 8 {
+				return T(result), nil
+			}
+		}
+	}
+	return 0, fmt.Errorf("%w: %v", ErrResults, call.Results)
 }
 
 // End is why a call was stopped or did not run, where that needs no further word.

@@ -13,6 +13,8 @@
 //	defer add.Close()
 //	call, err := add.Call("add", gate.DefaultSettings(), gate.I32(40), gate.I32(2)) // call.Results[0] is gate.I32(42)
 //
+// An Instance goes on from call to call, and a host hands it bytes through its memory.
+//
 // The library is proved; this package is not. All functions may be called by many goroutines at once.
 package gate
 

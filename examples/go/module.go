@@ -12,11 +12,11 @@ import (
 	"unsafe"
 )
 
-// ErrClosed says that a module was used after its Close.
-var ErrClosed = errors.New("the module is closed")
+// ErrClosed says that a module or an instance was used after its Close.
+var ErrClosed = errors.New("the module or the instance is closed")
 
 // Module is an accepted module: judged once, called often. Each call has an instance of its own, so no call sees what another one
-// wrote.
+// wrote. An Instance, by NewInstance, goes on from call to call.
 //
 // Calls of one Module wait for one another, since a call has its handle to itself; goroutines that call at the same time have one
 // each, by Share. What is not closed is freed when the garbage collector finds it, which sees nothing of what it takes: Close it.
@@ -65,27 +65,34 @@ func (m *Module) Call(name string, settings Settings, args ...Value) (Call, erro
 	if m.bytes == nil {
 		return Call{}, ErrClosed
 	}
-	ended, results, err := m.called([]byte(name), argsInC(args), &limits)
-	if err != nil {
-		return Call{}, err
-	}
-	return Call{valuesOf(results), uint32(ended.fuel)}, endOf(&ended)
+	return m.called(name, args, func(in operands, results []C.gate_value, ended *C.gate_call) C.uint32_t {
+		resultsAt, resultsRoom := valuesInC(results)
+		return C.gate_module_call(m.handle, in.name, in.nameLength, in.args, in.argsCount, &limits, resultsAt, resultsRoom, ended)
+	})
+}
+
+// operands are a call's name and arguments as C takes them.
+type operands struct {
+	name       *C.uint8_t
+	nameLength C.size_t
+	args       *C.gate_value
+	argsCount  C.size_t
 }
 
 // called calls with as much room as the results need.
-func (m *Module) called(name []byte, args []C.gate_value, limits *C.gate_settings) (C.gate_call, []C.gate_value, error) {
+func (m *Module) called(name string, args []Value, call func(operands, []C.gate_value, *C.gate_call) C.uint32_t) (Call, error) {
 	var ended C.gate_call
-	told, _ := m.told(name)
+	var in operands
+	told, _ := m.told([]byte(name))
 	results := make([]C.gate_value, told.results)
-	nameAt, nameLength := inC(name)
-	argsAt, argsCount := valuesInC(args)
-	resultsAt, resultsRoom := valuesInC(results)
-	status := C.gate_module_call(m.handle, nameAt, nameLength, argsAt, argsCount, limits, resultsAt, resultsRoom, &ended)
+	in.name, in.nameLength = inC([]byte(name))
+	in.args, in.argsCount = valuesInC(argsInC(args))
+	status := call(in, results, &ended)
 	if status == C.GATE_NO_MEMORY {
-		return ended, nil, ErrNoMemory
+		return Call{}, ErrNoMemory
 	}
 	expectOK(status)
-	return ended, results[:ended.results], nil
+	return Call{valuesOf(results[:ended.results]), uint32(ended.fuel)}, endOf(&ended)
 }
 
 // valuesInC is a slice as C takes it, for one call.

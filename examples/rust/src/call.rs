@@ -1,5 +1,5 @@
 //! How a call ends.
-use crate::error::beyond_interface;
+use crate::error::{self, beyond_interface};
 use crate::{ffi, NoMemory, Value};
 use std::error::Error;
 use std::fmt;
@@ -71,6 +71,27 @@ pub enum NotStarted {
 }
 
 impl Call {
+    /// The number that a function of one result gave; an error for each other end, and for a number of the other width.
+    ///
+    /// ```
+    /// use gate::{Module, Settings};
+    ///
+    /// let bytes = std::fs::read("../add.wasm")?;
+    /// let module = Module::new(&bytes)?;
+    /// let add = |one: i32, other: i32| module.call("add", &[one.into(), other.into()], Settings::default());
+    /// assert_eq!(add(-1, -1)?.value(), Ok(-2_i32));
+    /// assert_eq!(add(-1, -1)?.value(), Ok(0xFFFF_FFFE_u32));
+    /// assert!(add(-1, -1)?.value::<i64>().is_err());
+    /// # Ok::<(), Box<dyn std::error::Error>>(())
+    /// ```
+    pub fn value<T: TryFrom<Value>>(self) -> Result<T, CallError> {
+        let number = match &self.end {
+            End::Values(values) if values.len() == 1 => T::try_from(values[0]).ok(),
+            _ => None,
+        };
+        number.ok_or(CallError(self))
+    }
+
     /// The call that the numbers of the library tell.
     pub(crate) fn of(ended: &ffi::gate_call, results: Vec<ffi::gate_value>) -> Result<Self, NoMemory> {
         let end = match ended.end {
@@ -98,6 +119,48 @@ impl Call {
             },
             None => beyond_interface("line", line),
         }
+    }
+}
+
+/// The call did not give the one number that is asked for; it says how it ended.
+#[derive(Clone, Debug, PartialEq, Eq, Hash)]
+pub struct CallError(pub Call);
+
+impl fmt::Display for CallError {
+    fn fmt(&self, f: &mut fmt::Formatter<'_>) -> fmt::Result {
+        if let End::Values(_) = self.0.end {
+            f.write_str("not the one number that is asked for: ")?;
+        }
+        self.0.fmt(f)
+    }
+}
+
+impl Error for CallError {}
+
+/// What the library is given for a call beside its name and limits.
+pub(crate) struct Operands {
+    pub(crate) args: Vec<ffi::gate_value>,
+    /// As many as the function has results.
+    pub(crate) results: Vec<ffi::gate_value>,
+    pub(crate) ended: ffi::gate_call,
+}
+
+impl Operands {
+    pub(crate) fn new(args: &[Value], results_count: usize) -> Result<Self, NoMemory> {
+        let (mut numbers, mut results) = (error::room(args.len())?, error::room(results_count)?);
+        numbers.extend(args.iter().map(|value| value.to_c()));
+        results.resize(results_count, ffi::gate_value::default());
+        Ok(Operands {
+            args: numbers,
+            results,
+            ended: ffi::gate_call::default(),
+        })
+    }
+
+    /// The call, after the library has written how it ended.
+    pub(crate) fn call(mut self) -> Result<Call, NoMemory> {
+        self.results.truncate(usize::try_from(self.ended.results).unwrap_or(usize::MAX));
+        Call::of(&self.ended, self.results)
     }
 }
 

@@ -1,5 +1,5 @@
 //! What else than an answer may come.
-use crate::{Explanation, Refusal};
+use crate::{Call, Explanation, Refusal};
 use std::error::Error;
 use std::fmt;
 
@@ -20,6 +20,13 @@ pub(crate) fn room<T>(count: usize) -> Result<Vec<T>, NoMemory> {
     let mut items = Vec::new();
     items.try_reserve_exact(count).map_err(|_| NoMemory)?;
     Ok(items)
+}
+
+/// That many bytes, 0 each.
+pub(crate) fn zeros(count: usize) -> Result<Vec<u8>, NoMemory> {
+    let mut bytes = room(count)?;
+    bytes.resize(count, 0);
+    Ok(bytes)
 }
 
 /// Where the library answers what interface 1 does not have: another library was linked.
@@ -76,5 +83,37 @@ impl From<Explanation> for CheckError {
 impl From<NoMemory> for CheckError {
     fn from(_: NoMemory) -> Self {
         CheckError::NoMemory
+    }
+}
+
+/// Why an [`Instance`](crate::Instance) is not made, or does not do what it is asked.
+#[derive(Clone, Debug, PartialEq, Eq, Hash)]
+pub enum InstanceError {
+    /// There is no instance: none can be made, or its start function gave no values. The call says which, and what that cost.
+    NoInstance(Call),
+    /// The bytes do not lie in the memory. Nothing is read or written.
+    Outside,
+    /// No global is exported under the name.
+    NoGlobal,
+    /// Memory was refused. An instance whose call ran out of it runs nothing more until a reset.
+    NoMemory,
+}
+
+impl fmt::Display for InstanceError {
+    fn fmt(&self, f: &mut fmt::Formatter<'_>) -> fmt::Result {
+        match self {
+            InstanceError::NoInstance(call) => write!(f, "no instance: {call}"),
+            InstanceError::Outside => f.write_str("the bytes do not lie in the memory"),
+            InstanceError::NoGlobal => f.write_str("no global is exported under the name"),
+            InstanceError::NoMemory => NoMemory.fmt(f),
+        }
+    }
+}
+
+impl Error for InstanceError {}
+
+impl From<NoMemory> for InstanceError {
+    fn from(_: NoMemory) -> Self {
+        InstanceError::NoMemory
     }
 }

@@ -68,13 +68,6 @@ fn types_of(bytes: &[u8]) -> Result<Vec<ValueType>, NoMemory> {
     Ok(types)
 }
 
-/// That many bytes, 0 each.
-fn zeros(count: usize) -> Result<Vec<u8>, NoMemory> {
-    let mut bytes = error::room(count)?;
-    bytes.resize(count, 0);
-    Ok(bytes)
-}
-
 impl Module<'_> {
     /// What the module exports, in its order.
     ///
@@ -135,14 +128,14 @@ impl Module<'_> {
     }
 
     fn export_name(&self, number: u64) -> Result<String, NoMemory> {
-        let mut bytes = zeros(64)?;
+        let mut bytes = error::zeros(64)?;
         loop {
             let mut length = 0;
             // SAFETY: the handle is not freed, and no other call has it; the vector has as many bytes as are told.
             match unsafe { ffi::gate_module_export_name(self.handle, number, bytes.as_mut_ptr(), bytes.len(), &mut length) } {
                 ffi::GATE_OK => bytes.truncate(length),
                 ffi::GATE_SHORT_BUFFER => {
-                    bytes = zeros(length)?;
+                    bytes = error::zeros(length)?;
                     continue;
                 }
                 status => beyond_interface("status", status),
@@ -152,7 +145,7 @@ impl Module<'_> {
     }
 
     fn type_of(&self, told: &ffi::gate_export) -> Result<FunctionType, NoMemory> {
-        let (mut params, mut results) = (zeros(told.params as usize)?, zeros(told.results as usize)?);
+        let (mut params, mut results) = (error::zeros(told.params as usize)?, error::zeros(told.results as usize)?);
         // SAFETY: the handle is not freed, and no other call has it; the vectors have as many bytes as are told.
         let status = unsafe {
             ffi::gate_module_types(

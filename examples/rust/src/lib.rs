@@ -14,6 +14,8 @@
 //! # Ok::<(), Box<dyn std::error::Error>>(())
 //! ```
 //!
+//! An [`Instance`] goes on from call to call, and a host hands it bytes through its memory.
+//!
 //! The library is proved; this crate is not: its `unsafe` blocks say what they rest on. Every function may be called from many
 //! threads at once, and a [`SharedModule`] gives each thread a [`Module`] of its own. The library stops no process, and nothing
 //! unwinds out of it. Fuel and pages bound a call; a check has no limit but the module's length, and nothing interrupts either.
@@ -21,6 +23,7 @@ mod call;
 mod error;
 mod explanation;
 mod export;
+mod instance;
 mod module;
 mod report;
 mod settings;
@@ -29,14 +32,15 @@ mod verdict;
 
 use gate_sys as ffi;
 
-pub use call::{Call, End, NotStarted, Trap};
-pub use error::{CheckError, NoMemory};
-pub use export::{Export, FunctionType, Item, ValueType};
+pub use call::{Call, CallError, End, NotStarted, Trap};
+pub use error::{CheckError, InstanceError, NoMemory};
 pub use explanation::{explain, Explanation};
+pub use export::{Export, FunctionType, Item, ValueType};
+pub use instance::Instance;
 pub use module::{Module, SharedModule};
 pub use report::{run, Report, Status};
 pub use settings::{Settings, SettingsError};
-pub use value::{Value, ValueError};
+pub use value::{Value, ValueError, WidthError};
 pub use verdict::{check, judge, BodyFault, Refusal, Verdict};
 
 /// The number of the library's interface. This crate is written for 1.

@@ -1,5 +1,6 @@
 //! An accepted module: judged once, called often.
-use crate::error::{self, beyond_interface};
+use crate::call::Operands;
+use crate::error::beyond_interface;
 use crate::ffi;
 use crate::{explain, Call, CheckError, End, NoMemory, NotStarted, Report, Settings, Value};
 use std::marker::PhantomData;
@@ -7,7 +8,8 @@ use std::ptr;
 use std::slice;
 use std::sync::{Arc, Mutex, PoisonError};
 
-/// An accepted module. Each call has an instance of its own, so no call sees what another one wrote.
+/// An accepted module. Each call has an instance of its own, so no call sees what another one wrote; an
+/// [`Instance`](crate::Instance), by [`Module::instance`], goes on from call to call.
 ///
 /// ```
 /// use gate::{End, Module, Settings, Value};
@@ -79,13 +81,34 @@ impl<'a> Module<'a> {
         }
     }
 
-    /// Calls an export. Which arguments it takes, [`find`](Module::find) tells.
+    /// Calls an export on an instance of its own. Which arguments it takes, [`find`](Module::find) tells.
     pub fn call(&self, name: &str, args: &[Value], settings: Settings) -> Result<Call, NoMemory> {
-        let mut numbers = error::room(args.len())?;
-        numbers.extend(args.iter().map(|value| value.to_c()));
-        let room = self.told(name).map_or(0, |told| told.results as usize);
-        let (ended, results) = self.call_with_room(name, &numbers, &settings.to_c(), room)?;
-        Call::of(&ended, results)
+        let mut operands = Operands::new(args, self.results_of(name))?;
+        // SAFETY: the handle is not freed, and no other call has it; the slices are borrowed for the call; `results` and `ended`
+        // are reached by nobody else.
+        let status = unsafe {
+            ffi::gate_module_call(
+                self.handle,
+                name.as_ptr(),
+                name.len(),
+                operands.args.as_ptr(),
+                operands.args.len(),
+                &settings.to_c(),
+                operands.results.as_mut_ptr(),
+                operands.results.len(),
+                &mut operands.ended,
+            )
+        };
+        match status {
+            ffi::GATE_OK => operands.call(),
+            ffi::GATE_NO_MEMORY => Err(NoMemory),
+            status => beyond_interface("status", status),
+        }
+    }
+
+    /// How many results the function of that name has; 0 where there is none.
+    pub(crate) fn results_of(&self, name: &str) -> usize {
+        self.told(name).map_or(0, |told| told.results as usize)
     }
 
     /// Whether a call would have an instance, and if not, why. Nothing runs: a start function may still end each call.
@@ -100,42 +123,6 @@ impl<'a> Module<'a> {
             End::NotStarted(reason) => Ok(Some(reason)),
             _ => Ok(None),
         }
-    }
-
-    /// How a call ended, and as many of its results as there is room for.
-    fn call_with_room(
-        &self,
-        name: &str,
-        args: &[ffi::gate_value],
-        settings: &ffi::gate_settings,
-        room: usize,
-    ) -> Result<(ffi::gate_call, Vec<ffi::gate_value>), NoMemory> {
-        let mut results: Vec<ffi::gate_value> = error::room(room)?;
-        let mut ended = ffi::gate_call::default();
-        // SAFETY: the handle is not freed, and no other call has it; the slices are borrowed for the call, and `results` has
-        // the room that is told.
-        let status = unsafe {
-            ffi::gate_module_call(
-                self.handle,
-                name.as_ptr(),
-                name.len(),
-                args.as_ptr(),
-                args.len(),
-                settings,
-                results.as_mut_ptr(),
-                room,
-                &mut ended,
-            )
-        };
-        match status {
-            ffi::GATE_OK => {}
-            ffi::GATE_NO_MEMORY => return Err(NoMemory),
-            status => beyond_interface("status", status),
-        }
-        let written = usize::try_from(ended.results).map_or(room, |count| count.min(room));
-        // SAFETY: the library has written as many results as there are and there is room for.
-        unsafe { results.set_len(written) };
-        Ok((ended, results))
     }
 
     /// Runs the calls of a text, as [`run`](crate::run) does.

@@ -7,7 +7,7 @@ use std::str::FromStr;
 
 /// A number of 32 or 64 bits. Wasm's numbers have no sign of their own; here they are read with one.
 ///
-/// It displays, and is parsed, as a text of calls has it.
+/// It displays, and is parsed, as a text of calls has it. Numbers of Rust with and without a sign come from it, and become one.
 ///
 /// ```
 /// use gate::Value;
@@ -15,6 +15,8 @@ use std::str::FromStr;
 /// assert_eq!(Value::I32(-5).to_string(), "i32:-5");
 /// assert_eq!("i64:9223372036854775807".parse(), Ok(Value::I64(i64::MAX)));
 /// assert!("i32:2147483648".parse::<Value>().is_err());
+/// assert_eq!(u32::try_from(Value::I32(-1)), Ok(u32::MAX));
+/// assert_eq!(Value::from(u32::MAX), Value::I32(-1));
 /// ```
 #[derive(Clone, Copy, Debug, PartialEq, Eq, Hash)]
 pub enum Value {
@@ -53,11 +55,73 @@ impl From<i32> for Value {
     }
 }
 
+impl From<u32> for Value {
+    fn from(number: u32) -> Self {
+        Value::I32(number as i32)
+    }
+}
+
 impl From<i64> for Value {
     fn from(number: i64) -> Self {
         Value::I64(number)
     }
 }
+
+impl From<u64> for Value {
+    fn from(number: u64) -> Self {
+        Value::I64(number as i64)
+    }
+}
+
+impl TryFrom<Value> for i32 {
+    type Error = WidthError;
+
+    fn try_from(value: Value) -> Result<Self, WidthError> {
+        match value {
+            Value::I32(number) => Ok(number),
+            Value::I64(_) => Err(WidthError),
+        }
+    }
+}
+
+impl TryFrom<Value> for u32 {
+    type Error = WidthError;
+
+    fn try_from(value: Value) -> Result<Self, WidthError> {
+        i32::try_from(value).map(|number| number as u32)
+    }
+}
+
+impl TryFrom<Value> for i64 {
+    type Error = WidthError;
+
+    fn try_from(value: Value) -> Result<Self, WidthError> {
+        match value {
+            Value::I32(_) => Err(WidthError),
+            Value::I64(number) => Ok(number),
+        }
+    }
+}
+
+impl TryFrom<Value> for u64 {
+    type Error = WidthError;
+
+    fn try_from(value: Value) -> Result<Self, WidthError> {
+        i64::try_from(value).map(|number| number as u64)
+    }
+}
+
+/// The number has the other width.
+#[derive(Clone, Copy, Debug, PartialEq, Eq, Hash)]
+pub struct WidthError;
+
+impl fmt::Display for WidthError {
+    fn fmt(&self, f: &mut fmt::Formatter<'_>) -> fmt::Result {
+        f.write_str("the number has the other width")
+    }
+}
+
+impl Error for WidthError {}
 
 impl fmt::Display for Value {
     fn fmt(&self, f: &mut fmt::Formatter<'_>) -> fmt::Result {
@@ -107,6 +171,20 @@ mod tests {
         for number in [i64::MIN, -1, 0, 1, i64::MAX] {
             assert_eq!(Value::of(Value::I64(number).to_c()), number.into());
         }
+    }
+
+    #[test]
+    fn numbers_of_rust() {
+        assert_eq!(Value::from(0x8000_0000_u32), Value::I32(i32::MIN));
+        assert_eq!(Value::from(1_u64 << 63), Value::I64(i64::MIN));
+        assert_eq!(i32::try_from(Value::I32(-2)), Ok(-2));
+        assert_eq!(u32::try_from(Value::I32(-2)), Ok(0xFFFF_FFFE));
+        assert_eq!(i64::try_from(Value::I64(-2)), Ok(-2));
+        assert_eq!(u64::try_from(Value::I64(-2)), Ok(0xFFFF_FFFF_FFFF_FFFE));
+        assert_eq!(i32::try_from(Value::I64(1)), Err(WidthError));
+        assert_eq!(u32::try_from(Value::I64(1)), Err(WidthError));
+        assert_eq!(i64::try_from(Value::I32(1)), Err(WidthError));
+        assert_eq!(u64::try_from(Value::I32(1)), Err(WidthError));
     }
 
     #[test]

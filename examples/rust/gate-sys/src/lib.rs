@@ -1,5 +1,5 @@
-//! The declarations of `gate.h`, of interface 1 and revision 1, and its archive. What a function answers, and what a caller owes, stands in that
-//! header. The crate `gate` is the safe one.
+//! The declarations of `gate.h`, of interface 1 and revision 1, and its archive. What a function answers, and what a caller owes, stands
+//! in that header. The crate `gate` is the safe one.
 #![no_std]
 #![allow(non_camel_case_types)]
 use core::ffi::c_void;
@@ -19,6 +19,12 @@ pub const GATE_BAD_ARGUMENT: u32 = 64;
 pub const GATE_NO_MEMORY: u32 = 70;
 /// The buffer is short, and is as it was.
 pub const GATE_SHORT_BUFFER: u32 = 75;
+/// Bytes do not lie in the memory of an instance.
+pub const GATE_OUTSIDE: u32 = 80;
+/// There is no instance.
+pub const GATE_NO_INSTANCE: u32 = 81;
+/// No global is exported under the name.
+pub const GATE_NO_GLOBAL: u32 = 82;
 
 /// What is said of a module. Numbers that do not belong to the kind are 0.
 #[repr(C)]
@@ -91,6 +97,14 @@ pub struct gate_module {
     pub at: *mut c_void,
 }
 
+/// An instance that goes on from call to call.
+#[repr(C)]
+#[derive(Clone, Copy, Debug)]
+pub struct gate_instance {
+    /// The library's.
+    pub at: *mut c_void,
+}
+
 /// An argument or a result.
 #[repr(C)]
 #[derive(Clone, Copy, Debug, Default)]
@@ -138,6 +152,7 @@ const fn is_laid_out<T>(size: usize, alignment: usize) -> bool {
 const _: () = assert!(is_laid_out::<gate_verdict>(24, 8) && is_laid_out::<gate_settings>(12, 4));
 const _: () = assert!(is_laid_out::<gate_explanation>(80, 8));
 const _: () = assert!(is_laid_out::<gate_report>(8, 8) && is_laid_out::<gate_module>(8, 8));
+const _: () = assert!(is_laid_out::<gate_instance>(8, 8));
 const _: () = assert!(is_laid_out::<gate_value>(16, 8) && is_laid_out::<gate_call>(24, 8));
 const _: () = assert!(is_laid_out::<gate_export>(16, 4));
 
@@ -237,4 +252,43 @@ extern "C" {
 
     /// Says whether a call would have an instance.
     pub fn gate_module_starts(module: gate_module, settings: *const gate_settings, ended: *mut gate_call) -> u32;
+
+    /// Makes an instance, and runs the start function.
+    pub fn gate_instance_new(
+        module: gate_module,
+        settings: *const gate_settings,
+        instance: *mut gate_instance,
+        ended: *mut gate_call,
+    ) -> u32;
+
+    /// Calls an export on an instance as it is.
+    pub fn gate_instance_call(
+        instance: gate_instance,
+        name: *const u8,
+        name_length: usize,
+        args: *const gate_value,
+        args_count: usize,
+        settings: *const gate_settings,
+        results: *mut gate_value,
+        results_room: usize,
+        ended: *mut gate_call,
+    ) -> u32;
+
+    /// Writes the number of bytes of the memory.
+    pub fn gate_instance_memory_size(instance: gate_instance, size: *mut u64) -> u32;
+
+    /// Copies bytes of the memory.
+    pub fn gate_instance_read(instance: gate_instance, at: u64, out: *mut u8, length: usize) -> u32;
+
+    /// Writes bytes to the memory.
+    pub fn gate_instance_write(instance: gate_instance, at: u64, bytes: *const u8, length: usize) -> u32;
+
+    /// Writes the value of an exported global.
+    pub fn gate_instance_global(instance: gate_instance, name: *const u8, name_length: usize, value: *mut gate_value) -> u32;
+
+    /// Makes a new instance in the memory of this one.
+    pub fn gate_instance_reset(instance: gate_instance, ended: *mut gate_call) -> u32;
+
+    /// Frees an instance.
+    pub fn gate_instance_free(instance: gate_instance);
 }
