@@ -12,6 +12,8 @@ All functions raise `MemoryError` where memory is refused. ctypes lets other thr
 from gate.ends import End, EndKind, NotStarted, Trap
 from gate.exports import Export, ExportKind, FunctionType, ValueType
 from gate.explanation import Explanation, ModuleRefused, explain
+from gate.handle import Closed
+from gate.instance import Instance, NoGlobal, NoInstance, OutsideMemory
 from gate.module import Module
 from gate.report import Report, Status, run
 from gate.settings import Settings
@@ -19,6 +21,6 @@ from gate.values import I32, I64, Value, call_line, value_of
 from gate.verdict import Refusal, Verdict, check
 
 __version__ = '0.1.0'
-__all__ = ['End', 'EndKind', 'Explanation', 'Export', 'ExportKind', 'FunctionType', 'I32', 'I64', 'Module', 'ModuleRefused', 'NotStarted',
-           'Refusal', 'Report', 'Settings', 'Status', 'Trap', 'Value', 'ValueType', 'Verdict', '__version__', 'call_line', 'check',
-           'explain', 'run', 'value_of']
+__all__ = ['Closed', 'End', 'EndKind', 'Explanation', 'Export', 'ExportKind', 'FunctionType', 'I32', 'I64', 'Instance', 'Module',
+           'ModuleRefused', 'NoGlobal', 'NoInstance', 'NotStarted', 'OutsideMemory', 'Refusal', 'Report', 'Settings', 'Status', 'Trap',
+           'Value', 'ValueType', 'Verdict', '__version__', 'call_line', 'check', 'explain', 'run', 'value_of']
