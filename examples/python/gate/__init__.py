@@ -7,7 +7,8 @@
     ...     print(module.exports[0], module.call('add', 40, 2), sep='; ')
     add: function (i32, i32) -> (i32); values i32:42 fuel 1
 
-All functions raise `MemoryError` where memory is refused. ctypes lets other threads run during a call.
+`Module.call` takes a fresh instance each time. `Module.instance` gives one that goes on from call to call, and whose memory is read and
+written. All functions raise `MemoryError` where memory is refused. ctypes lets other threads run during a call.
 """
 from gate.ends import End, EndKind, NotStarted, Trap
 from gate.exports import Export, ExportKind, FunctionType, ValueType
