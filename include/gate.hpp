@@ -2,9 +2,10 @@
 ///
 ///     gate::Module module(bytes);                                             // throws gate::Refused
 ///     gate::Call call = module.call("add", {gate_i32(40), gate_i32(2)});      // call.results[0].bits == 42
+///     gate::Instance instance = module.instance();                            // goes on from call to call; throws gate::NoInstance
 ///
 /// Where a block of memory is refused std::bad_alloc is thrown, and where a limit or a value is out of its range std::invalid_argument.
-/// gate.h says what a caller owes. A Module keeps its bytes; what remains is that it is in one call at a time.
+/// gate.h says what a caller owes. A Module keeps its bytes; what remains is that it, or an Instance, is in one call at a time.
 #ifndef GATE_HPP
 #define GATE_HPP
 
@@ -144,6 +145,37 @@ struct Export { std::string name; gate_export item; FunctionType type; };
 /// How a call ended; with GATE_END_VALUES all results are there.
 struct Call { gate_call ended; std::vector<gate_value> results; };
 
+/// How a call ended, as the line of a report says it, but for its values and its fuel: `trap unreachable`.
+inline std::string words(const gate_call &ended) {
+    static constexpr const char *ENDS[] = {"values", "trap", "out-of-fuel", "out-of-frames", "no-export", "not-a-function",
+                                           "bad-arguments", "not-started", "no-memory"};
+    static constexpr const char *TRAPS[] = {"unreachable", "out-of-bounds", "undefined-element", "uninitialized-element",
+                                            "type-mismatch", "divide-by-zero", "integer-overflow"};
+    static constexpr const char *REASONS[] = {"imports", "floats", "table-limit", "memory-limit", "element-outside", "data-outside"};
+    const std::string end = ENDS[ended.end];
+    if (ended.end == GATE_END_TRAP) return end + ' ' + TRAPS[ended.reason];
+    if (ended.end != GATE_END_NOT_STARTED) return end;
+    const bool has_place = ended.reason == GATE_ELEMENT_OUTSIDE || ended.reason == GATE_DATA_OUTSIDE;
+    return end + ' ' + REASONS[ended.reason] + (has_place ? ' ' + std::to_string(ended.place) : "");
+}
+
+/// There is no instance; `ended` says why: GATE_END_NOT_STARTED, GATE_END_NO_MEMORY, or how the start function ended.
+struct NoInstance : std::runtime_error {
+    explicit NoInstance(const gate_call &why) : std::runtime_error("no instance: " + words(why)), ended(why) {}
+    gate_call ended;
+};
+
+/// Bytes do not lie in the memory of an instance, which has `size` of them.
+struct Outside : std::runtime_error {
+    Outside(std::uint64_t from, std::uint64_t count, std::uint64_t of)
+        : std::runtime_error(std::to_string(count) + " bytes at " + std::to_string(from) + " do not lie in a memory of " +
+                            std::to_string(of) + " bytes"),
+          at(from), length(count), size(of) {}
+    std::uint64_t at, length, size;
+};
+
+class Instance;
+
 /// An accepted module, which goes from thread to thread; share() gives another thread its own. One that was moved from is assigned to or
 /// destroyed, and no more. The name begins large since `module` is a word of C++20.
 class Module {
@@ -196,6 +228,8 @@ public:
     Call call(std::string_view name, std::initializer_list<gate_value> args, const gate_settings &settings = usual) {
         return call(name, Values(args.begin(), args.size()), settings);
     }
+    /// An instance that goes on from call to call, once its start function has run.
+    Instance instance(const gate_settings &settings = usual);
     Answer run(std::string_view calls, const gate_settings &settings = usual) {
         return answer_of([&, text = Bytes(calls)](std::uint8_t *out, std::size_t room, std::size_t *length, gate_report *kept) {
             return gate_module_run(handle_, text.at, text.length, &settings, out, room, length, kept);
@@ -203,6 +237,7 @@ public:
     }
 
 private:
+    friend Instance;
     using Shared = std::shared_ptr<const std::vector<std::uint8_t>>; // as long as the last handle
     Module(Shared bytes, gate_module handle) noexcept : bytes_(std::move(bytes)), handle_(handle) {}
     bool told(std::string_view name, gate_export &item) {
@@ -227,5 +262,85 @@ private:
     Shared bytes_;
     gate_module handle_ = {nullptr};
 };
+
+/// An instance of a module, which may go before it: what one call leaves in memory, globals and table, the next one finds. It goes from
+/// thread to thread. One that was moved from is assigned to or destroyed, and no more. After a reset that threw NoInstance each use but
+/// another reset throws it too.
+class Instance {
+public:
+    /// Makes it, and runs the start function; throws NoInstance. It has these settings for each call that has none of its own.
+    Instance(const Module &module, const gate_settings &settings) : module_(module.share()), settings_(settings) {
+        tell(gate_instance_new(module_.handle_, &settings_, &handle_, &started_));
+    }
+    Instance(Instance &&other) noexcept
+        : module_(std::move(other.module_)), settings_(other.settings_), started_(other.started_),
+          handle_(std::exchange(other.handle_, gate_instance{nullptr})) {}
+    Instance &operator=(Instance &&other) noexcept {
+        std::swap(module_, other.module_), std::swap(settings_, other.settings_);
+        return std::swap(started_, other.started_), std::swap(handle_, other.handle_), *this;
+    }
+    ~Instance() { gate_instance_drop(handle_); }
+    /// How making it, or its last reset, ended, with the fuel of the start function.
+    const gate_call &started() const noexcept { return started_; }
+    /// Calls an export on this instance as it is. It goes on after a trap, and where fuel or frames ran out; after GATE_END_NO_MEMORY
+    /// each call ends so, until a reset.
+    Call call(std::string_view name, Values args, const gate_settings &settings) {
+        const Bytes text(name);
+        gate_export item = {};
+        Call made = {{}, std::vector<gate_value>(module_.told(name, item) ? item.results : 0)};
+        live(gate_instance_call(handle_, text.at, text.length, args.at, args.length, &settings, made.results.data(),
+                                made.results.size(), &made.ended));
+        made.results.resize(made.ended.results);
+        return made;
+    }
+    Call call(std::string_view name, Values args) { return call(name, args, settings_); }
+    Call call(std::string_view name, std::initializer_list<gate_value> args) { return call(name, args, settings_); }
+    Call call(std::string_view name, std::initializer_list<gate_value> args, const gate_settings &settings) {
+        return call(name, Values(args.begin(), args.size()), settings);
+    }
+    /// How many bytes its memory has; 0 where it has none.
+    std::uint64_t memory_size() {
+        std::uint64_t size = 0;
+        return live(gate_instance_memory_size(handle_, &size)), size;
+    }
+    /// So many bytes of its memory from place `at` on, as a std::vector or, by read<std::string>, as text; throws Outside.
+    template <class Items = std::vector<std::uint8_t>> Items read(std::uint64_t at, std::uint64_t length) {
+        const std::uint64_t size = memory_size();
+        Items items;
+        items.resize(static_cast<std::size_t>(length <= size ? length : 0));
+        auto *out = reinterpret_cast<std::uint8_t *>(items.data());
+        if (length > size || gate_instance_read(handle_, at, out, items.size()) != GATE_STATUS_OK) throw Outside(at, length, size);
+        return items;
+    }
+    /// Writes bytes to its memory from place `at` on; where they would not lie in it, writes nothing and throws Outside.
+    void write(std::uint64_t at, Bytes bytes) {
+        const std::uint64_t size = memory_size();
+        if (gate_instance_write(handle_, at, bytes.at, bytes.length) != GATE_STATUS_OK) throw Outside(at, bytes.length, size);
+    }
+    /// The value of the global that is exported under that name.
+    std::optional<gate_value> global(std::string_view name) {
+        const Bytes text(name);
+        gate_value value = {};
+        if (live(gate_instance_global(handle_, text.at, text.length, &value)) != GATE_STATUS_OK) return std::nullopt;
+        return value;
+    }
+    /// Makes it anew, as it was made. Throws NoInstance where there is none then.
+    void reset() { tell(gate_instance_reset(handle_, &started_)); }
+
+private:
+    void tell(std::uint32_t status) {
+        if (answered(status) == GATE_STATUS_NO_INSTANCE) throw NoInstance(started_);
+    }
+    std::uint32_t live(std::uint32_t status) const {
+        if (started_.end != GATE_END_VALUES) throw NoInstance(started_);
+        return answered(status);
+    }
+    Module module_; // of its own, for the types of exports
+    gate_settings settings_;
+    gate_call started_ = {};
+    gate_instance handle_ = {nullptr};
+};
+
+inline Instance Module::instance(const gate_settings &settings) { return Instance(*this, settings); }
 } // namespace gate
 #endif

@@ -6,12 +6,14 @@ hosts       Each host whose compiler is on the machine prints the verdicts of al
             A host is asked in three ways: `check -`, with names of files on standard input, one verdict line each on standard output;
             `run MODULE CALLS FUEL FRAMES PAGES`, a report on standard output; and `call MODULE NAME [i32:N | i64:N ..]`, the line
             of that call in a report, without its number.
+plug-ins    The hosts of plug-ins (examples/*/plugin_host.*) hand texts to plug-ins that answer, that lie, that trap and that have no room,
+            and go on after each of them.
 header      gate.h by the compilers of C and C++, with all warnings; the compiler warns of wrong uses that it sees. The shared library
             exports the functions of gate.h and nothing else, wants six functions of the C library, and says which processor it wants.
-C++         gate.hpp by wrapper.cpp, and examples/cpp as it is shown, with all warnings.
+C++         gate.hpp by wrapper.cpp, in which memory is refused too, and examples/cpp as it is shown, with all warnings.
 interface   interface.c calls each function, with short buffers, null pointers and numbers that are none, and on four threads.
 debug       interface.c and the hosts in C over debug/gate_debug.c, which has to find no fault; wrong_uses.c, of which it finds each.
-packages    the tests of the packages for Rust and Go.
+packages    the tests of the packages for Rust, Go and Python, and of the addon for Node; what mypy says of the one for Python.
 refused     refuse_through_c.c refuses each request for memory in turn.
 valgrind    where it is on the machine: no error and no leak in the hosts in C and in interface.c, and no race in the latter.
 What is left out, for want of a tool, is counted and named at the end; with --all nothing may be.
@@ -76,8 +78,37 @@ MEMCHECK = VALGRIND + ['--leak-check=full', '--errors-for-leak-kinds=all', '--sh
 AT_ONCE = 4
 VALGRIND_RUNS, VALGRIND_CALLS = 5, 3
 MANY_ROUNDS, FEW_ROUNDS = 20_000, 50
-# What the head of examples/cpp/host.cpp shows.
-SHOWN = re.compile(r'^//     \$ \./host (.*)\n//     (.*)\n', re.MULTILINE)
+# What the head of an example in C++ shows.
+SHOWN = re.compile(r'^//     \$ \./(?:host|plugin_host) (.*)\n//     (.*)\n', re.MULTILINE)
+# The library asks the wrapped ones for memory.
+WRAPPED = ['-Wl,--wrap=malloc', '-Wl,--wrap=realloc']
+NODE_HEADERS = '/usr/include/node'
+
+# Plug-ins by hand: a memory of one page, and `alloc` of type [i32] -> [i32], `handle` of type [i32 i32] -> [i64], with these bodies.
+PLUG_IN = bytes.fromhex('0061736d01000000 01 0c 02 60 01 7f 01 7f 60 02 7f 7f 01 7e 03 03 02 00 01 05 03 01 00 01'
+                        '07 12 02 05 616c6c6f63 00 00 06 68616e646c65 00 01')
+BODIES = {
+    # alloc gives 8; handle says that the answer is two bytes at 65,535, or 4,294,967,295 bytes at 0.
+    'lies': '0a 13 02 04 00 41 08 0b 0c 00 42 ff ff 03 42 20 86 42 02 84 0b',
+    'boasts': '0a 0f 02 04 00 41 08 0b 08 00 42 ff ff ff ff 0f 0b',
+    # handle is `unreachable`.
+    'traps': '0a 0a 02 04 00 41 08 0b 03 00 00 0b',
+    # alloc gives 65,535, or 0.
+    'points outside': '0a 0d 02 06 00 41 ff ff 03 0b 04 00 42 7f 0b',
+    'has no room': '0a 0b 02 04 00 41 00 0b 04 00 42 7f 0b',
+    # handle gives -1.
+    'has no answer': '0a 0b 02 04 00 41 08 0b 04 00 42 7f 0b',
+}
+OBJECT = '{"name": "gate", "room": 8192}'
+# Of each plug-in the texts, the lines that are wanted, of which a fault has words of the host's own, and the status.
+PLUG_INS = {
+    'examples/guests/upper.wasm': [(['hello', 'and again', 'a-\u00fc'], ['HELLO', 'AND AGAIN', 'A-\u00fc'], 0),
+                                   (['x' * 8193, 'y'], ['fault', 'Y'], 1), ([], [], 0)],
+    'examples/guests/pick.wasm': [([f'name\n{OBJECT}', f'room\n{OBJECT}'], ['gate', '8192'], 0),
+                                  ([f'size\n{OBJECT}', f'name\n{OBJECT}'], ['no answer', 'gate'], 1)],
+    'examples/add.wasm': [(['ab', 'cd'], ['fault', 'fault'], 1)],
+    **{name: [(['ab', 'cd'], ['no answer' if name == 'has no answer' else 'fault'] * 2, 1)] for name in BODIES},
+}
 
 
 class Left(Exception):
@@ -90,11 +121,12 @@ class Host(NamedTuple):
     run: list
     call: list
     environment: dict = {}
+    plug_in: list = []
 
 
-def by_words(name, words, environment=None):
+def by_words(name, words, environment=None, plug_in=()):
     """A host whose first word says what it is to do."""
-    return Host(name, [*words, 'check', '-'], [*words, 'run'], [*words, 'call'], environment or {})
+    return Host(name, [*words, 'check', '-'], [*words, 'run'], [*words, 'call'], environment or {}, list(plug_in))
 
 
 class Module(NamedTuple):
@@ -161,9 +193,9 @@ def compile_c(source, target, folder, more=()):
     built(words + [*more, os.path.join(folder, library.ARCHIVE), '-pthread'])
 
 
-def compile_cpp(source, target, folder, standard):
+def compile_cpp(source, target, folder, standard, more=()):
     words = [needs('c++'), f'-std={standard}', *WARNINGS, *MORE_WARNINGS, f'-I{INCLUDE}', '-o', target, source]
-    built([*words, os.path.join(folder, library.ARCHIVE), '-pthread'])
+    built([*words, *more, os.path.join(folder, library.ARCHIVE), '-pthread'])
 
 
 def debugged():
@@ -178,8 +210,8 @@ def c_host(name, folder, work, linked):
     target = os.path.join(work, re.sub(r'\W', '_', name))
     flags = 'CFLAGS=' + ' '.join(['-O2'] + WARNINGS)
     built([needs('make'), '-s', '-C', needs_folder('c'), f'LIBRARY={folder}', f'TO={target}', flags] + linked)
-    judge_folder, run_batch, call = [os.path.join(target, it) for it in ('judge_folder', 'run_batch', 'call')]
-    return Host(name, [judge_folder, '-'], [run_batch], [call])
+    judge_folder, run_batch, call, plug_in = [os.path.join(target, it) for it in ('judge_folder', 'run_batch', 'call', 'plugin_host')]
+    return Host(name, [judge_folder, '-'], [run_batch], [call], plug_in=[plug_in])
 
 
 def static_host(folder, work):
@@ -208,9 +240,24 @@ def rust_host(folder, work):
     return by_words('Rust', [os.path.join(cargo(folder, work, 'build'), 'release', 'gate-host')])
 
 
+def of_python(folder):
+    return {'GATE_LIBRARY': os.path.join(folder, library.SHARED)}
+
+
 def python_host(folder, work):
-    words = [sys.executable, os.path.join(needs_folder('python'), 'host.py')]
-    return by_words('Python', words, {'GATE_LIBRARY': os.path.join(folder, library.SHARED)})
+    host, plug_in = [[sys.executable, os.path.join(needs_folder('python'), name)] for name in ('host.py', 'plugin_host.py')]
+    return by_words('Python', host, of_python(folder), plug_in)
+
+
+def node_addon(folder, work):
+    """Builds the addon, where Node and its headers are; what its users are told of it."""
+    if not os.path.exists(os.path.join(NODE_HEADERS, 'node_api.h')):
+        raise Left('no headers of Node')
+    needs('node')
+    target, source = os.path.join(work, 'gate.node'), os.path.join(needs_folder('node'), 'addon.c')
+    words = [needs('cc'), '-std=c11', '-O2', *WARNINGS, '-shared', '-fPIC', f'-I{INCLUDE}', f'-I{NODE_HEADERS}', '-o', target, source]
+    built([*words, os.path.join(folder, library.ARCHIVE)])
+    return {'GATE_NODE': target}
 
 
 def go(folder, *words):
@@ -232,8 +279,30 @@ def tests_of_rust(tally, folder, work):
 
 
 def tests_of_go(tally, folder):
-    go(folder, 'test', '.')
+    go(folder, 'test', './...')
     tally.expect(True, 'go test')
+
+
+def tests_of_python(tally, folder):
+    needs_folder('python')
+    words = [sys.executable, '-m', 'unittest', 'discover', '-s', 'tests', '-t', '.']
+    got = started(words, None, of_python(folder), cwd=needs_folder('python'))
+    tally.expect(got[1] == 0, 'the tests of the package for Python', got[2][-600:])
+
+
+def types_of_python(tally, work):
+    words = [needs('mypy'), '--strict', '--cache-dir', os.path.join(work, 'mypy'), 'gate', 'tests', 'host.py', 'plugin_host.py']
+    got = started(words, cwd=needs_folder('python'))
+    tally.expect(got[1] == 0, 'the types of the package for Python', got[0])
+
+
+def node(tally, folder, work, place):
+    """The tests of the addon, and the host of plug-ins over it."""
+    environment = node_addon(folder, work)
+    got = started(['node', '--test', os.path.join(needs_folder('node'), 'test.js')], None, environment)
+    tally.expect(got[1] == 0 and b'# fail 0' in got[0], 'the tests of the addon for Node', got[0][-600:])
+    words = ['node', os.path.join(needs_folder('node'), 'plugin_host.js')]
+    compare_plug_ins(tally, Host('Node', [], [], [], environment, words), place)
 
 
 HOSTS = {'C': static_host, 'C (shared)': shared_host, 'C (debug)': debugged_host, 'Rust': rust_host, 'Python': python_host,
@@ -337,6 +406,22 @@ def compare_calls(tally, host, it, before=()):
         tally.expect(got == wanted, f'{host.name}: {it.name}: {call}', f'{got}, wanted {wanted}')
 
 
+def plug_ins(place):
+    """Writes the plug-ins by hand there."""
+    for name, body in BODIES.items():
+        rows.write(os.path.join(place, name), PLUG_IN + bytes.fromhex(body))
+
+
+def compare_plug_ins(tally, host, place, before=()):
+    """A host of plug-ins, over those by hand and those of examples/."""
+    for name, cases in PLUG_INS.items():
+        path = os.path.join(place if name in BODIES else root, name)
+        for texts, wanted, status in cases:
+            out, got, error = started([*before, *host.plug_in, path, *texts], None, host.environment)
+            lines = ['fault' if line.startswith('fault: ') else line for line in out.decode().splitlines()]
+            tally.expect((lines, got, error) == (wanted, status, b''), f'{host.name}: the plug-in {name}', (out, got, error))
+
+
 def symbols(path, *options):
     return {line.split()[-1].split('@')[0] for line in started(['nm', *options, path])[0].decode().splitlines() if ' ' in line}
 
@@ -387,18 +472,26 @@ def level(tally, folder):
     tally.expect(b'x86-64-v2' in notes and b'Build ID' in notes, 'the notes of libgate.so.1', notes)
 
 
-def wrapper(tally, folder, work):
-    """gate.hpp in each standard, and the example as its head shows it."""
-    module, example = (os.path.join(root, 'examples', it) for it in ('add.wasm', 'cpp/host.cpp'))
+def as_shown(tally, name, folder, work, standard):
+    """An example in C++, built as its head says, and run so."""
+    example, target = os.path.join(root, 'examples', 'cpp', f'{name}.cpp'), os.path.join(work, f'{name}-{standard}')
     with open(example) as file:
         (shown, printed), = SHOWN.findall(file.read())
+    compile_cpp(example, target, folder, standard)
+    got = started([target, *shown.split()], cwd=root)
+    tally.expect(got == (printed.encode() + b'\n', 0, b''), f'examples/cpp/{name} by -std={standard}', got)
+    return target
+
+
+def wrapper(tally, folder, work, place):
+    """gate.hpp in each standard, and the examples."""
     for standard in OF_WRAPPER:
+        as_shown(tally, 'host', folder, work, standard)
+        plug_in = as_shown(tally, 'plugin_host', folder, work, standard)
+        compare_plug_ins(tally, Host(f'C++ by -std={standard}', [], [], [], {}, [plug_in]), place)
         target = os.path.join(work, f'wrapper-{standard}')
-        compile_cpp(example, target, folder, standard)
-        got = started([target, *shown.split()], cwd=root)
-        tally.expect(got == (printed.encode() + b'\n', 0, b''), f'examples/cpp by -std={standard}', got)
-        compile_cpp(os.path.join(here, 'wrapper.cpp'), target, folder, standard)
-        got = started([target, module])
+        compile_cpp(os.path.join(here, 'wrapper.cpp'), target, folder, standard, WRAPPED)
+        got = started([target, os.path.join(root, 'examples', 'add.wasm')])
         tally.expect(got[1] == 0 and not got[2] and int(got[0]) > 0, f'wrapper.cpp by -std={standard}', got)
 
 
@@ -461,9 +554,11 @@ class Jobs:
         return None
 
 
-def begin_hosts(jobs, found, folder, modules, runs):
+def begin_hosts(jobs, found, folder, work, modules, runs):
     for host in found:
         jobs.begin(host.name, compare_checks, host, modules)
+        if host.plug_in:
+            jobs.begin(host.name, compare_plug_ins, host, work)
         if host.name == 'C':
             jobs.begin(host.name, compare_folder, host, folder, modules)
         for it in runs:
@@ -477,7 +572,7 @@ def runs_by_call(runs):
     return [it for it in runs if it.status == 0 and it.limits == limits_of('') and len(it.text) < SHORT]
 
 
-def begin_valgrind(jobs, found, checker, modules, runs):
+def begin_valgrind(jobs, found, work, checker, modules, runs):
     for host in found:
         if host.name == 'C':
             jobs.begin('valgrind', compare_checks, host, [it for it in modules if it.length <= SHORT], MEMCHECK)
@@ -485,6 +580,7 @@ def begin_valgrind(jobs, found, checker, modules, runs):
                 jobs.begin('valgrind', compare_run, host, it, MEMCHECK)
             for it in runs_by_call(runs)[:VALGRIND_CALLS]:
                 jobs.begin('valgrind', compare_calls, host, it, MEMCHECK)
+            jobs.begin('valgrind', compare_plug_ins, host, work, MEMCHECK)
     jobs.begin('valgrind', interface, checker, MEMCHECK, FEW_ROUNDS)
     jobs.begin('valgrind', interface, checker, VALGRIND + ['--tool=helgrind'], FEW_ROUNDS)
 
@@ -509,16 +605,20 @@ def all_parts(tally, pool, program, folder, work):
     jobs.begin('warnings', warned)
     jobs.begin('exports', exports, folder)
     jobs.begin('the notes of the shared library', level, folder)
-    jobs.begin('C++', wrapper, folder, work)
+    plug_ins(work)
+    jobs.begin('C++', wrapper, folder, work, work)
+    jobs.begin('Node', node, folder, work, work)
+    jobs.begin('Python', tests_of_python, folder)
+    jobs.begin('mypy', types_of_python, work)
     jobs.begin('debug', debug, folder, work, [])
     jobs.begin('debug with AddressSanitizer', debug, folder, work, SANITIZER)
     jobs.begin('cargo test', tests_of_rust, folder, work)
     jobs.begin('go test', tests_of_go, folder)
     if shutil.which('valgrind'):
-        begin_valgrind(jobs, found, checker, modules, runs)
+        begin_valgrind(jobs, found, work, checker, modules, runs)
     else:
         tally.leave_out('valgrind', 'it is not there')
-    begin_hosts(jobs, found, place, modules, runs)
+    begin_hosts(jobs, found, place, work, modules, runs)
     refused, held, *_ = jobs.all()
     names = ', '.join(it.name for it in found)
     return f'{names}: {len(modules)} verdicts and {len(runs)} reports each; {refused} requests refused; {held} statements on gate.h'

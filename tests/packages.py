@@ -30,10 +30,8 @@ root = os.path.dirname(here)
 GO_FOLDERS = '/usr/local/go/bin:/usr/lib/go/bin'
 # What could name a library, or a package, that is not the one under test.
 NAMES = ('CGO_', 'GATE_', 'GO', 'LD_', 'PKG_CONFIG', 'PYTHON', 'VIRTUAL_ENV')
-# What the hosts of HOSTS.md print. On examples/add.wasm: the Core Specification's sum, one unit of fuel for the one entry.
-PYTHON_PRINTS = 'accepted\n0 values i32:42 fuel 1\ntotal 1 values 1 traps 0 exhausted 0 refused 0 no-memory 0 fuel 1\n'
-# Of examples/guests/upper.wasm: the texts `hello` and `again` in upper case.
-RUST_PRINTS = 'HELLO\nAGAIN\n'
+# What the hosts of HOSTS.md print: of examples/guests/upper.wasm the texts `hello` and `again` in upper case.
+PYTHON_PRINTS = RUST_PRINTS = 'HELLO\nAGAIN\n'
 GO_PRINTS = 'HELLO\n'
 
 CONSUMER_CRATE = """\
@@ -152,7 +150,8 @@ def python(tally, release, work):
     tally.ends('pip', run([interpreter, '-m', 'pip', '-q', 'install', '--no-index', '--no-cache-dir', path], work))
     consumer = os.path.join(work, 'consumer', 'main.py')
     write(consumer, shown(release, 'python'))
-    tally.prints('the host in Python of HOSTS', run([interpreter, consumer, 'examples/add.wasm'], release), PYTHON_PRINTS)
+    words = [interpreter, consumer, 'examples/guests/upper.wasm', 'hello', 'again']
+    tally.prints('the host in Python of HOSTS', run(words, release), PYTHON_PRINTS)
     # The tests take the package that is installed, and the tables of the repository.
     shutil.rmtree(os.path.join(folder, 'gate'))
     for part in ('tests/rows.py', 'crates/suite/data', 'include/gate.h'):
@@ -176,7 +175,7 @@ def types(tally, interpreter, folder, consumer):
     checker = needs('mypy')
     words = [checker, '--strict', '--no-error-summary', '--python-executable', interpreter]
     tally.ends('mypy of the package', run([*words, '-p', 'gate'], folder))
-    tally.ends('mypy of what uses it', run([*words, 'host.py', 'tests', consumer], folder))
+    tally.ends('mypy of what uses it', run([*words, 'host.py', 'plugin_host.py', 'tests', consumer], folder))
 
 
 # Rust.

@@ -16,7 +16,7 @@ LONGEST_SENTENCE = 35
 MOST_NUMBERS = 2
 # The most words of each document, as `wc -w` counts; None is no limit.
 MOST_WORDS = {'README.md': 700, 'CONTRIBUTING.md': 1300, 'CHANGELOG.md': 300, 'docs/ARCHITECTURE.md': 1500, 'docs/PROVED.md': 1500,
-              'docs/DEFINITIONS.md': 5000, 'docs/DECISIONS.md': 2500, 'docs/FORMATS.md': 2450, 'docs/HOSTS.md': 2000, 'docs/GUESTS.md': 900,
+              'docs/DEFINITIONS.md': 5000, 'docs/DECISIONS.md': 2500, 'docs/FORMATS.md': 2450, 'docs/HOSTS.md': 2400, 'docs/GUESTS.md': 900,
               'docs/SECURITY.md': 1000, 'docs/SPEED.md': 1300, 'bench/LAB.md': 2500, 'crates/pieces/README.md': 1000,
               'tests/README.md': None, 'bench/README.md': None, 'examples/README.md': None}
 # Where a figure may be typed: what an operator plans with, and what trials gave.

@@ -5,12 +5,15 @@
 
 #include <array>
 #include <cstdio>
+#include <cstdlib>
 #include <fstream>
 #include <iterator>
 #include <thread>
 #if __cplusplus >= 202002L
 #include <span>
 #endif
+
+using namespace std::string_view_literals;
 
 #define HOLDS(what) holds(what, #what, __LINE__)
 
@@ -30,6 +33,15 @@ template <class Exception, class Work> static bool throws(Work work) {
         return true;
     }
     return false;
+}
+
+// What the library asks for, where it is to be refused: the linker wraps malloc and realloc (see hosts.py).
+static bool refuses = false;
+extern "C" {
+void *__real_malloc(std::size_t size);
+void *__real_realloc(void *old, std::size_t size);
+void *__wrap_malloc(std::size_t size) { return refuses ? nullptr : __real_malloc(size); }
+void *__wrap_realloc(void *old, std::size_t size) { return refuses ? nullptr : __real_realloc(old, size); }
 }
 
 static const char EMPTY[] = "total 0 values 0 traps 0 exhausted 0 refused 0 no-memory 0 fuel 0\n";
@@ -143,6 +155,128 @@ static void move(gate::Module module) {
     HOLDS(is_forty_two(module.call("add", {gate_i32(2), gate_i32(40)})) && is_forty_two(third.call("add", {gate_i32(0), gate_i32(42)})));
 }
 
+// A memory of one page, of at most two, with 5 at 8, and a global count, exported. The start function stores 7 at 0. handle stores the
+// byte at 16 and its argument, added, at 32, and adds 1 to count, which it gives; trap sets count to 100, and traps; grow is memory.grow.
+static const std::vector<std::uint8_t> GOES_ON = {
+    0, 'a', 's', 'm', 1, 0, 0, 0, 1, 9, 2, 0x60, 1, 0x7F, 1, 0x7F, 0x60, 0, 0, 3, 5, 4, 0, 1, 0, 1, 5, 4, 1, 1, 1, 2, 6, 6, 1, 0x7F, 1,
+    0x41, 0, 0x0B, 7, 32, 4, 6, 'h', 'a', 'n', 'd', 'l', 'e', 0, 0, 4, 't', 'r', 'a', 'p', 0, 1, 4, 'g', 'r', 'o', 'w', 0, 2, 5, 'c', 'o',
+    'u', 'n', 't', 3, 0, 8, 1, 3, 0x0A, 52, 4, 24, 0, 0x41, 32, 0x41, 16, 0x2D, 0, 0, 0x20, 0, 0x6A, 0x3A, 0, 0, 0x23, 0, 0x41, 1, 0x6A,
+    0x24, 0, 0x23, 0, 0x0B, 8, 0, 0x41, 0xE4, 0, 0x24, 0, 0, 0x0B, 6, 0, 0x20, 0, 0x40, 0, 0x0B, 9, 0, 0x41, 0, 0x41, 7, 0x3A, 0, 0, 0x0B,
+    0x0B, 7, 1, 0, 0x41, 8, 0x0B, 1, 5};
+// The start function is `unreachable`.
+static const std::vector<std::uint8_t> START_TRAPS = {0, 'a', 's', 'm', 1, 0, 0, 0, 1, 4, 1, 0x60, 0, 0, 3, 2, 1, 0, 8, 1, 0, 0x0A, 5, 1,
+                                                      3, 0, 0, 0x0B};
+// A memory of one page, and a second data segment, of two bytes at 65,535.
+static const std::vector<std::uint8_t> SEGMENT_OUTSIDE = {0, 'a', 's', 'm', 1, 0, 0, 0, 5, 3, 1, 0, 1, 0x0B, 0x10, 2, 0, 0x41, 0, 0x0B, 1,
+                                                          0, 0, 0x41, 0xFF, 0xFF, 3, 0x0B, 2, 0, 0};
+static const std::uint64_t PAGE = 65536;
+
+static bool gives(const gate::Call &call, std::uint32_t wanted) {
+    return call.ended.end == GATE_END_VALUES && call.ended.fuel == 1 && call.results.size() == 1 && call.results[0].width == 32 &&
+           call.results[0].bits == wanted;
+}
+
+static bool has_count(gate::Instance &it, std::uint32_t wanted) {
+    const std::optional<gate_value> count = it.global("count");
+    return count && count->width == 32 && count->bits == wanted;
+}
+
+// So many bytes from there on are neither read nor written, where the memory has this size.
+static bool lie_outside(gate::Instance &it, std::uint64_t at, std::size_t length, std::uint64_t size) {
+    unsigned told = 0;
+    for (const bool reads : {true, false}) {
+        try {
+            reads ? (void)it.read(at, length) : it.write(at, std::string(length, 'x'));
+        } catch (const gate::Outside &outside) {
+            told += outside.at == at && outside.length == length && outside.size == size;
+        }
+    }
+    return told == 2;
+}
+
+// A fresh instance of GOES_ON.
+static bool is_begun(gate::Instance &it) {
+    const gate_call &started = it.started();
+    return started.end == GATE_END_VALUES && started.fuel == 1 && it.memory_size() == PAGE && has_count(it, 0) &&
+           it.read(0, 9) == std::vector<std::uint8_t>{7, 0, 0, 0, 0, 0, 0, 0, 5};
+}
+
+static void memory(gate::Instance &it) {
+    it.write(16, std::array<std::uint8_t, 1>{40});
+    HOLDS(gives(it.call("handle", {gate_i32(2)}), 1) && it.read(32, 1)[0] == 42);
+    it.write(PAGE - 2, "ab"sv);
+    HOLDS(it.read<std::string>(PAGE - 3, 3) == std::string("\0ab", 3));
+    const std::uint8_t cd[] = {'c', 'd'};
+    it.write(PAGE - 2, {cd, 2});
+    HOLDS(it.read<std::string>(PAGE - 2, 2) == "cd" && it.read(PAGE, 0).empty());
+    it.write(PAGE, ""sv);
+    HOLDS(lie_outside(it, PAGE - 1, 2, PAGE) && lie_outside(it, PAGE, 1, PAGE) && lie_outside(it, PAGE + 1, 0, PAGE));
+    HOLDS(lie_outside(it, UINT64_MAX, 1, PAGE) && it.read<std::string>(PAGE - 2, 2) == "cd");
+    HOLDS(throws<gate::Outside>([&] { it.read(0, std::uint64_t{1} << 40); }));
+    HOLDS(throws<std::runtime_error>([&] { it.read(0, UINT64_MAX); }));
+}
+
+// What stands there after a trap is what the call left.
+static void goes_on(gate::Instance &it) {
+    const gate::Call trap = it.call("trap", {});
+    HOLDS(trap.ended.end == GATE_END_TRAP && gate::words(trap.ended) == "trap unreachable" && trap.results.empty() && has_count(it, 100));
+    HOLDS(gives(it.call("handle", {gate_i32(0)}), 101) && gives(it.call("grow", {gate_i32(1)}), 1) && it.memory_size() == 2 * PAGE);
+    HOLDS(gives(it.call("grow", {gate_i32(1)}), 0xFFFFFFFF));
+    HOLDS(gate::words(it.call("handle", {gate_i32(0)}, {0, 1, 0}).ended) == "out-of-fuel");
+    HOLDS(throws<std::invalid_argument>([&] { it.call("handle", {gate_i32(0)}, {1, 0, 0}); }));
+    HOLDS(it.call("handle", std::vector<gate_value>{}).ended.end == GATE_END_BAD_ARGUMENTS);
+    HOLDS(gate::words(it.call("f", {}).ended) == "no-export" && it.call("count", {}).ended.end == GATE_END_NOT_A_FUNCTION);
+    HOLDS(!it.global("trap") && !it.global("counts") && has_count(it, 101));
+    it.reset();
+    HOLDS(is_begun(it) && gives(it.call("handle", {gate_i32(0)}), 1));
+}
+
+// Why there is no instance, in words.
+static std::string no_instance(const std::vector<std::uint8_t> &bytes, const gate_settings &settings = gate::usual) {
+    try {
+        gate::Module(bytes).instance(settings);
+    } catch (const gate::NoInstance &none) {
+        return none.what() == "no instance: " + gate::words(none.ended) ? gate::words(none.ended) : "other words";
+    }
+    return {};
+}
+
+// Nothing that it had is left, until a reset makes it anew.
+static void fails_to_reset(gate::Instance &it) {
+    refuses = true;
+    const bool is_told = throws<gate::NoInstance>([&] { it.reset(); }), none = throws<gate::NoInstance>([&] { it.memory_size(); });
+    refuses = false;
+    HOLDS(is_told && none && it.started().end == GATE_END_NO_MEMORY && throws<gate::NoInstance>([&] { it.call("trap", {}); }));
+    HOLDS(throws<gate::NoInstance>([&] { it.read(0, 1); }) && throws<gate::NoInstance>([&] { it.write(0, "x"sv); }));
+    HOLDS(throws<gate::NoInstance>([&] { it.global("count"); }));
+    it.reset();
+    HOLDS(is_begun(it));
+}
+
+static void instances(const std::vector<std::uint8_t> &add) {
+    gate::Instance it = gate::Module(GOES_ON).instance(), without = gate::Module(add).instance();
+    HOLDS(is_begun(it));
+    memory(it);
+    goes_on(it);
+    fails_to_reset(it);
+    HOLDS(without.memory_size() == 0 && lie_outside(without, 0, 1, 0) && lie_outside(without, 0, 0, 0) && !without.global("add"));
+    HOLDS(is_forty_two(without.call("add", {gate_i32(40), gate_i32(2)})));
+    HOLDS(no_instance(START_TRAPS) == "trap unreachable" && no_instance(SEGMENT_OUTSIDE) == "not-started data-outside 1");
+    HOLDS(no_instance(GOES_ON, {1, 1, 0}) == "not-started memory-limit" && no_instance(GOES_ON, {0, 1, 1}) == "out-of-fuel");
+    HOLDS(throws<std::invalid_argument>([] { gate::Module(GOES_ON).instance({0, 0, 1}); }));
+    gate::Module module(GOES_ON);
+    refuses = true;
+    const bool is_refused = throws<std::bad_alloc>([&] { module.instance(); });
+    refuses = false;
+    HOLDS(is_refused && gives(module.instance().call("handle", {gate_i32(0)}), 1));
+    gate::Instance other = std::move(it);
+    HOLDS(gives(other.call("handle", {gate_i32(0)}), 1));
+    it = std::move(without);
+    HOLDS(it.memory_size() == 0);
+    std::thread thread([mine = std::move(other)]() mutable { HOLDS(gives(mine.call("handle", {gate_i32(0)}), 2)); });
+    thread.join();
+}
+
 int main(int count, char **words) {
     std::ifstream file(count > 1 ? words[1] : "", std::ios::binary);
     const std::vector<std::uint8_t> bytes(std::istreambuf_iterator<char>(file), {});
@@ -152,6 +286,7 @@ int main(int count, char **words) {
     call(module);
     exports(module);
     run(module, bytes);
+    instances(bytes);
     move(std::move(module));
     if (!failed) std::printf("%u\n", held);
     return failed != 0;

@@ -7,11 +7,14 @@
     ...     print(module.exports[0], module.call('add', 40, 2), sep='; ')
     add: function (i32, i32) -> (i32); values i32:42 fuel 1
 
-All functions raise `MemoryError` where memory is refused. ctypes lets other threads run during a call.
+`Module.call` takes a fresh instance each time. `Module.instance` gives one that goes on from call to call, and whose memory is read and
+written. All functions raise `MemoryError` where memory is refused. ctypes lets other threads run during a call.
 """
 from gate.ends import End, EndKind, NotStarted, Trap
 from gate.exports import Export, ExportKind, FunctionType, ValueType
 from gate.explanation import Explanation, ModuleRefused, explain
+from gate.handle import Closed
+from gate.instance import Instance, NoGlobal, NoInstance, OutsideMemory
 from gate.module import Module
 from gate.report import Report, Status, run
 from gate.settings import Settings
@@ -19,6 +22,6 @@ from gate.values import I32, I64, Value, call_line, value_of
 from gate.verdict import Refusal, Verdict, check
 
 __version__ = '0.1.0'
-__all__ = ['End', 'EndKind', 'Explanation', 'Export', 'ExportKind', 'FunctionType', 'I32', 'I64', 'Module', 'ModuleRefused', 'NotStarted',
-           'Refusal', 'Report', 'Settings', 'Status', 'Trap', 'Value', 'ValueType', 'Verdict', '__version__', 'call_line', 'check',
-           'explain', 'run', 'value_of']
+__all__ = ['Closed', 'End', 'EndKind', 'Explanation', 'Export', 'ExportKind', 'FunctionType', 'I32', 'I64', 'Instance', 'Module',
+           'ModuleRefused', 'NoGlobal', 'NoInstance', 'NotStarted', 'OutsideMemory', 'Refusal', 'Report', 'Settings', 'Status', 'Trap',
+           'Value', 'ValueType', 'Verdict', '__version__', 'call_line', 'check', 'explain', 'run', 'value_of']

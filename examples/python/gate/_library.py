@@ -22,6 +22,9 @@ NOTHING = 4
 BAD_ARGUMENT = 64
 NO_MEMORY = 70
 SHORT_BUFFER = 75
+OUTSIDE = 80
+NO_INSTANCE = 81
+NO_GLOBAL = 82
 
 Bytes = Union[bytes, bytearray, memoryview]
 
@@ -48,6 +51,10 @@ class CModule(Structure):
     _fields_ = [('at', c_void_p)]
 
 
+class CInstance(Structure):
+    _fields_ = [('at', c_void_p)]
+
+
 class CValue(Structure):
     _fields_ = [('width', c_uint32), ('bits', c_uint64)]
 
@@ -62,6 +69,7 @@ class CExport(Structure):
 
 TEXT = [c_char_p, c_size_t]
 WRITTEN = [c_char_p, c_size_t, POINTER(c_size_t)]
+CALL = TEXT + [POINTER(CValue), c_size_t, POINTER(CSettings), POINTER(CValue), c_size_t, POINTER(CCall)]
 
 # The result and the parameters of each function, in the order of gate.h.
 FUNCTIONS = {
@@ -75,8 +83,7 @@ FUNCTIONS = {
     'gate_report_free': (None, [CReport]),
     'gate_module_new': (c_uint32, TEXT + [POINTER(CVerdict), POINTER(CModule)]),
     'gate_module_run': (c_uint32, [CModule] + TEXT + [POINTER(CSettings)] + WRITTEN + [POINTER(CReport)]),
-    'gate_module_call': (c_uint32, [CModule] + TEXT + [POINTER(CValue), c_size_t, POINTER(CSettings), POINTER(CValue), c_size_t,
-                                                       POINTER(CCall)]),
+    'gate_module_call': (c_uint32, [CModule] + CALL),
     'gate_module_share': (c_uint32, [CModule, POINTER(CModule)]),
     'gate_module_free': (None, [CModule]),
     'gate_revision': (c_uint32, []),
@@ -86,6 +93,14 @@ FUNCTIONS = {
     'gate_module_find': (c_uint32, [CModule] + TEXT + [POINTER(CExport)]),
     'gate_module_types': (c_uint32, [CModule, c_uint32, c_char_p, c_size_t, c_char_p, c_size_t]),
     'gate_module_starts': (c_uint32, [CModule, POINTER(CSettings), POINTER(CCall)]),
+    'gate_instance_new': (c_uint32, [CModule, POINTER(CSettings), POINTER(CInstance), POINTER(CCall)]),
+    'gate_instance_call': (c_uint32, [CInstance] + CALL),
+    'gate_instance_memory_size': (c_uint32, [CInstance, POINTER(c_uint64)]),
+    'gate_instance_read': (c_uint32, [CInstance, c_uint64, c_char_p, c_size_t]),
+    'gate_instance_write': (c_uint32, [CInstance, c_uint64, c_char_p, c_size_t]),
+    'gate_instance_global': (c_uint32, [CInstance] + TEXT + [POINTER(CValue)]),
+    'gate_instance_reset': (c_uint32, [CInstance, POINTER(CCall)]),
+    'gate_instance_free': (None, [CInstance]),
 }
 
 

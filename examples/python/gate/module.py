@@ -1,34 +1,29 @@
 """A module that is judged once and called often."""
 from __future__ import annotations
 
-import contextlib
 import ctypes
-import threading
-import weakref
-from collections.abc import Iterator
-from types import TracebackType
-from typing import Any, NoReturn
+from typing import Any
 
 from gate._library import MODULE_REFUSED, OK, Bytes, CCall, CModule, CValue, CVerdict, expect, library, whole
 from gate.ends import End, end_of
 from gate.explanation import ModuleRefused, explain
 from gate.exports import Export, arguments_for, exports_of, find
+from gate.handle import Handle
+from gate.instance import Instance
 from gate.report import Report, fetch
 from gate.settings import DEFAULT, Settings
 from gate.values import Value, name_bytes
 
 
-def _free(handle: CModule, _held: object) -> None:
-    # `_held` are the bytes, which have to stay until here.
-    library.gate_module_free(handle)
-
-
-class Module:
+class Module(Handle[CModule]):
     """An accepted module. A refused one raises `ModuleRefused`, which says where and why.
 
     The object keeps a copy of the bytes. It is used by one thread at a time: a lock makes the others wait. For calls side by
-    side each thread has a `Module` of its own, by `share`. `close`, or leaving a `with`, frees it; later uses raise `ValueError`.
+    side each thread has a `Module` of its own, by `share`. `close`, or leaving a `with`, frees it; later uses raise `Closed`.
     """
+
+    NAME = 'module'
+    INSTEAD = '`share` it, or hand on its bytes'
 
     def __init__(self, module: Bytes) -> None:
         data = whole(module)
@@ -36,23 +31,12 @@ class Module:
         said, handle = CVerdict(), CModule()
         if expect(library.gate_module_new(held, len(data), said, handle), OK, MODULE_REFUSED) == MODULE_REFUSED:
             raise ModuleRefused(explain(data))
-        self._own(handle, held)
+        self._hold(handle, held)
 
-    def _own(self, handle: CModule, held: object) -> None:
-        self._lock = threading.Lock()
-        self._handle, self._held = handle, held
-        self._freed = weakref.finalize(self, _free, handle, held)
-        # A thread that outlives the main one may still be in a call.
-        self._freed.atexit = False
-        self._closed = False
+    def _hold(self, handle: CModule, held: object) -> None:
+        """Owns the handle, and keeps the bytes for as long."""
+        self._own(handle, library.gate_module_free, held)
         self._found: dict[bytes, Export] = {}
-
-    @contextlib.contextmanager
-    def _open(self) -> Iterator[CModule]:
-        with self._lock:
-            if self._closed:
-                raise ValueError('the module is closed')
-            yield self._handle
 
     @property
     def exports(self) -> tuple[Export, ...]:
@@ -86,6 +70,10 @@ class Module:
                                             len(results), ended), OK)
         return end_of(ended, list(results[:ended.results]))
 
+    def instance(self, settings: Settings = DEFAULT) -> Instance:
+        """An instance that goes on from call to call, once its start function has run. `NoInstance` where there is none."""
+        return Instance(self, settings)
+
     def starts(self, settings: Settings = DEFAULT) -> End:
         """Whether a call would have an instance: an end in no values, where there would be one, and else why not. Nothing runs."""
         ended = CCall()
@@ -109,21 +97,5 @@ class Module:
         with self._open() as own:
             expect(library.gate_module_share(own, handle), OK)
         other = object.__new__(Module)
-        other._own(handle, self._held)
+        other._hold(handle, self._held)
         return other
-
-    def close(self) -> None:
-        """Frees the module, once a call that still runs is over. Closing again does nothing."""
-        # Said before the lock is had: threads that call in a loop may keep a waiting one from it for ever.
-        self._closed = True
-        with self._lock:
-            self._freed()
-
-    def __enter__(self) -> Module:
-        return self
-
-    def __exit__(self, kind: type[BaseException] | None, fault: BaseException | None, trace: TracebackType | None) -> None:
-        self.close()
-
-    def __reduce__(self) -> NoReturn:
-        raise TypeError('a Module is neither copied nor pickled: `share` it, or hand on its bytes')
