@@ -1,0 +1,186 @@
+#!/usr/bin/env python3
+"""What is asked of instances of the library (gate_instance_new and what takes one), against a model and beside node.
+
+model    instances.c plays at random with four plug-ins, and holds each answer, the whole memory and all globals beside a model in C:
+         with buffers of their exact length under AddressSanitizer and under valgrind's memcheck, and at the ends of pages that nobody may
+         touch; on eight threads, also under helgrind; with each request for memory refused in turn; in little address space; and in rounds
+         without end, in which the resident memory stays as it is.
+node     sequences.py: calls, writes and reads on modules made at random, beside node. The first difference ends it, and its module and
+         steps are written to files.
+hosts    Where --hosts names a folder that has them: torture.c, guard.c, leak.c and speed.c, hosts of an embedder, over the library.
+What is left out, for want of a tool, is counted and named at the end.
+"""
+import argparse
+import collections
+import json
+import os
+import re
+import shutil
+import sys
+import tempfile
+from concurrent.futures import ThreadPoolExecutor
+
+here = os.path.dirname(os.path.abspath(__file__))
+root = os.path.dirname(here)
+sys.path.insert(0, root)
+import hosts
+import library
+import rows
+import sequences
+from hosts import Left
+
+EXAMPLES = os.path.join(root, 'examples')
+WRAPPED = [f'-Wl,--wrap={name}' for name in ('malloc', 'realloc', 'free')]
+SANITIZERS = ['-fsanitize=address,undefined', '-fno-sanitize-recover=all', '-g']
+HELGRIND = [*hosts.VALGRIND, '--tool=helgrind']
+# What is played: the compiler's flags, what runs before the program, the part, and its number (see instances.c).
+PLAYS = [('plain', [], 'heap', 20_000), ('plain', [], 'fence', 20_000), ('plain', [], 'threads', 3_000), ('plain', [], 'refuse', 48),
+         ('plain', [], 'limits', 512), ('sanitized', [], 'heap', 10_000), ('sanitized', [], 'fence', 5_000),
+         ('sanitized', [], 'threads', 1_000), ('sanitized', [], 'refuse', 12), ('plain', hosts.MEMCHECK, 'heap', 1_000),
+         ('plain', hosts.MEMCHECK, 'refuse', 4), ('plain', hosts.MEMCHECK, 'threads', 60), ('plain', HELGRIND, 'threads', 60),
+         ('plain', [], 'flat', 1_000_000)]
+STEPS, SEEDS = 4_000, [20261129]
+SHORT = 4096
+# What the hosts of an embedder run, in words of each; by default those that a run of this script has time for.
+MUTANTS, ROUNDS, TURNS = 20_000, 40_000, 1_000
+FLAT = re.compile(r'^leak: .*: RSS (\d+) KB after .*, (\d+) KB at the end; bytes in use (\d+) then, (\d+) now$', re.MULTILINE)
+MOST_GROWTH = 256
+
+
+def player(folder, work, name):
+    """Builds instances.c."""
+    target = os.path.join(work, name)
+    flags = {'plain': ['-g'], 'sanitized': SANITIZERS}[name]
+    hosts.compile_c('instances.c', target, folder, [os.path.join(here, 'instances_model.c'), *flags, *WRAPPED])
+    return target
+
+
+def play(tally, program, before, part, number, seed):
+    """Plays a part; answers how many statements held."""
+    if before and not shutil.which(before[0]):
+        raise Left(f'no {before[0]}')
+    got = hosts.started([*before, program, EXAMPLES, part, str(number), str(seed)])
+    tool = 'helgrind' if '--tool=helgrind' in before else 'memcheck' if before else os.path.basename(program)
+    tally.expect(got[1] == 0 and not got[2], f'{part}, {tool}, seed {seed}', got)
+    return int(got[0]) if got[1] == 0 else 0
+
+
+def model(tally, pool, folder, work, seeds):
+    programs = {name: player(folder, work, name) for name in ('plain', 'sanitized')}
+    jobs = hosts.Jobs(tally, pool)
+    for name, before, part, number in PLAYS:
+        for seed in seeds[:1] if part in ('limits', 'flat') else seeds:
+            jobs.begin(f'{part} by {before[0] if before else name}', play, programs[name], before, part, number, seed)
+    print(f'instances: {sum(it or 0 for it in jobs.all()):,} statements held beside the model', flush=True)
+
+
+def node(tally, folder, kept, seeds, steps):
+    hosts.needs('node')
+    count = collections.Counter()
+    try:
+        for seed in seeds:
+            sequences.sequences(os.path.join(folder, library.SHARED), seed, steps, count)
+        tally.expect(True, 'node')
+    except sequences.Difference as why:
+        path = os.path.join(kept, 'instances-difference')
+        rows.write(path + '.wasm', why.module)
+        rows.write(path + '.json', json.dumps(why.steps, indent=1).encode())
+        tally.expect(False, f'beside node, {path}.wasm and {path}.json', why)
+    megabytes = count.pop('bytes', 0) // 1_000_000
+    ends = ', '.join(f'{number} {name}' for name, number in sorted(count.items()))
+    print(f'instances: {count.total():,} steps beside node ({ends}), {megabytes:,} MB of memory compared', flush=True)
+
+
+# The hosts of an embedder.
+
+def host(folder, sources, name, work, flags=()):
+    if not os.path.exists(os.path.join(sources, name + '.c')):
+        raise Left(f'no {name}.c')
+    target = os.path.join(work, '-'.join([name, *flags[:1]]).replace('=', '-').replace(',', '-'))
+    words = [hosts.needs('cc'), '-std=gnu11', '-O2', '-g', *flags, f'-I{hosts.INCLUDE}', '-o', target, os.path.join(sources, name + '.c')]
+    hosts.built([*words, os.path.join(folder, library.ARCHIVE), '-pthread'])
+    return target
+
+
+def written_modules(work):
+    """The short modules of the tables, in folders as torture.c wants them."""
+    for table in ('check', 'run'):
+        os.makedirs(os.path.join(work, 'vectors', table))
+        for number, row in enumerate(rows.rows(table + '.tsv')):
+            module = rows.bytes_of(row[1])
+            if len(module) <= SHORT:
+                rows.write(os.path.join(work, 'vectors', table, f'{number:04}.wasm'), module)
+    return os.path.join(work, 'vectors')
+
+
+def tortured(tally, folder, sources, work, modules, flags, before, words, environment):
+    program = host(folder, sources, 'torture', work, flags)
+    got = hosts.started([*before, program, EXAMPLES, modules, *words], None, {'NO_WRONG': '1', **environment})
+    tally.expect(got[1] == 0 and not got[2], ' '.join(['torture.c', *flags[:1], *before[-1:], *words]), got)
+
+
+def guarded(tally, folder, sources, work, modules):
+    program = host(folder, sources, 'guard', work)
+    for kind in ('check', 'run'):
+        got = hosts.started([program, os.path.join(modules, kind), str(MUTANTS), '7'])
+        tally.expect(got[1] == 0 and not got[2] and b', 0 do not hold' in got[0], 'guard.c', got)
+
+
+def leaking(tally, folder, sources, work, modules):
+    got = hosts.started([host(folder, sources, 'leak', work), os.path.join(modules, 'run'), str(ROUNDS)])
+    parts = [[int(it) for it in part] for part in FLAT.findall(got[0].decode())]
+    tally.expect(got[1] == 0 and len(parts) == 4, 'leak.c', got)
+    for first, last, used, now in parts:
+        tally.expect(last - first <= MOST_GROWTH and used == now, 'leak.c: memory grows', got[0].decode())
+
+
+def fast(tally, folder, sources, work):
+    got = hosts.started([host(folder, sources, 'speed', work), os.path.join(EXAMPLES, 'add.wasm'), 'add'])
+    tally.expect(got[1] == 0 and b'(end 0)' in got[0], 'speed.c', got)
+
+
+def embedder(tally, pool, folder, sources, work):
+    if not sources or not os.path.isdir(sources):
+        raise Left('no folder of them')
+    modules, jobs = written_modules(work), hosts.Jobs(tally, pool)
+    few = {'TURNS': str(TURNS), 'NO_HUGE': '1'}
+    jobs.begin('torture.c', tortured, folder, sources, work, modules, [], [], ['all'], {})
+    jobs.begin('torture.c', tortured, folder, sources, work, modules, SANITIZERS[:1], [], ['all'], few)
+    if shutil.which('valgrind'):
+        for part in ('null', 'edges', 'threads'):
+            jobs.begin('torture.c', tortured, folder, sources, work, modules, [], hosts.MEMCHECK, [part], {'TURNS': '40'})
+        jobs.begin('torture.c', tortured, folder, sources, work, modules, [], HELGRIND, ['threads'], {'TURNS': '40'})
+    jobs.begin('guard.c', guarded, folder, sources, work, modules)
+    jobs.begin('leak.c', leaking, folder, sources, work, modules)
+    jobs.begin('speed.c', fast, folder, sources, work)
+    jobs.all()
+
+
+def main(folder, chosen):
+    tally = hosts.Tally()
+    with tempfile.TemporaryDirectory() as work, ThreadPoolExecutor(chosen.at_once) as pool:
+        parts = {'model': lambda: model(tally, pool, folder, work, chosen.seeds),
+                 'node': lambda: node(tally, folder, chosen.kept, chosen.seeds, chosen.steps),
+                 'hosts': lambda: embedder(tally, pool, folder, chosen.hosts, work)}
+        for name in chosen.parts:
+            try:
+                parts[name]()
+            except Left as why:
+                tally.leave_out(name, why)
+    left = f'{len(tally.left)} left out' + (f': {", ".join(tally.left)}' if tally.left else '')
+    print(f'instances: {tally.passed} passed, {tally.failed} failed, {left}')
+    return 1 if tally.failed else 0
+
+
+if __name__ == '__main__':
+    parser = argparse.ArgumentParser(description=__doc__, formatter_class=argparse.RawDescriptionHelpFormatter)
+    parser.add_argument('library', metavar='LIBRARY', help='the folder where library.py put the library')
+    parser.add_argument('--parts', nargs='+', choices=['model', 'node', 'hosts'], default=['model', 'node', 'hosts'], metavar='PART',
+                        help='model, node, hosts (default: all)')
+    parser.add_argument('--seeds', nargs='+', type=int, default=SEEDS, metavar='SEED', help='what is made at random (default: one seed)')
+    parser.add_argument('--steps', type=int, default=STEPS, help=f'steps beside node for each seed (default: {STEPS:,})')
+    parser.add_argument('--hosts', metavar='FOLDER', help='where torture.c and the other hosts of an embedder stand')
+    parser.add_argument('--kept', metavar='FOLDER', default='.', help='where a difference is written to (default: here)')
+    parser.add_argument('--at-once', type=int, default=2, metavar='N', help='how many processes run side by side (default: 2)')
+    words = parser.parse_args()
+    sys.exit(main(os.path.abspath(words.library), words))
