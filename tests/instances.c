@@ -387,10 +387,12 @@ static void judge_call(play *it, guest *on, const called *to, const call *wanted
                        const gate_value *results, size_t room) {
     if (on->state == GONE) {
         HOLDS(it, status == GATE_NO_INSTANCE && is_untouched(ended, sizeof *ended) && is_untouched(results, room * sizeof *results));
-    } else if (to->has_bad_value || (asks.was_refused && status == GATE_NO_MEMORY)) {
-        HOLDS(it, status == (to->has_bad_value ? GATE_BAD_ARGUMENT : GATE_NO_MEMORY) && is_untouched(ended, sizeof *ended));
+    } else if (asks.was_refused && status == GATE_NO_MEMORY) {
+        HOLDS(it, is_untouched(ended, sizeof *ended) && is_untouched(results, room * sizeof *results));
+        if (wanted->on) on->now = it->before;
+    } else if (to->has_bad_value) {
+        HOLDS(it, status == GATE_BAD_ARGUMENT && is_untouched(ended, sizeof *ended));
         HOLDS(it, is_untouched(results, room * sizeof *results));
-        if (!to->has_bad_value && wanted->on) on->now = it->before;
     } else if (to->end != GATE_VALUES) {
         HOLDS(it, status == GATE_OK && is_end(ended, to->end, 0, 0, 0) && is_untouched(results, room * sizeof *results));
     } else if (on->state == SHORT) {

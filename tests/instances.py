@@ -7,15 +7,16 @@ model    instances.c plays at random with four plug-ins, and holds each answer, 
          without end, in which the resident memory stays as it is.
 node     sequences.py: calls, writes and reads on modules made at random, beside node. The first difference ends it, and its module and
          steps are written to files.
+edges    edges.c: mutants of modules at the ends of pages, memory that stays as it is, many handles, and a painted stack.
 hosts    Where --hosts names a folder that has them: torture.c, guard.c, leak.c and speed.c, hosts of an embedder, over the library.
 What is left out, for want of a tool, is counted and named at the end.
 """
 import argparse
-import collections
 import json
 import os
 import re
 import shutil
+import subprocess
 import sys
 import tempfile
 from concurrent.futures import ThreadPoolExecutor
@@ -34,49 +35,74 @@ WRAPPED = [f'-Wl,--wrap={name}' for name in ('malloc', 'realloc', 'free')]
 SANITIZERS = ['-fsanitize=address,undefined', '-fno-sanitize-recover=all', '-g']
 HELGRIND = [*hosts.VALGRIND, '--tool=helgrind']
 # What is played: the compiler's flags, what runs before the program, the part, and its number (see instances.c).
-PLAYS = [('plain', [], 'heap', 20_000), ('plain', [], 'fence', 20_000), ('plain', [], 'threads', 3_000), ('plain', [], 'refuse', 48),
+PLAYS = [('plain', [], 'heap', 20_000), ('plain', [], 'fence', 20_000), ('plain', [], 'threads', 3_000), ('plain', [], 'refuse', 24),
          ('plain', [], 'limits', 512), ('sanitized', [], 'heap', 10_000), ('sanitized', [], 'fence', 5_000),
-         ('sanitized', [], 'threads', 1_000), ('sanitized', [], 'refuse', 12), ('plain', hosts.MEMCHECK, 'heap', 1_000),
-         ('plain', hosts.MEMCHECK, 'refuse', 4), ('plain', hosts.MEMCHECK, 'threads', 60), ('plain', HELGRIND, 'threads', 60),
+         ('sanitized', [], 'threads', 1_000), ('sanitized', [], 'refuse', 12), ('plain', hosts.MEMCHECK, 'heap', 400),
+         ('plain', hosts.MEMCHECK, 'refuse', 1), ('plain', hosts.MEMCHECK, 'threads', 60), ('plain', HELGRIND, 'threads', 60),
          ('plain', [], 'flat', 1_000_000)]
 STEPS, SEEDS = 4_000, [20261129]
+# The parts of edges.c: the compiler's flags, what runs before the program, the part, and its number.
+EDGES = [('plain', [], 'guard', 20_000), ('sanitized', [], 'guard', 4_000), ('plain', hosts.MEMCHECK, 'guard', 200),
+         ('plain', [], 'flat', 100_000), ('plain', [], 'handles', 20_000), ('plain', [], 'stack', 1)]
+PARTS = ['model', 'node', 'edges', 'hosts']
+# Where another seed makes nothing else.
+ONCE = ['limits', 'flat', 'handles', 'stack']
 SHORT = 4096
+# The seconds that a process may take.
+LONGEST = 3000
 # What the hosts of an embedder run, in words of each; by default those that a run of this script has time for.
 MUTANTS, ROUNDS, TURNS = 20_000, 40_000, 1_000
 FLAT = re.compile(r'^leak: .*: RSS (\d+) KB after .*, (\d+) KB at the end; bytes in use (\d+) then, (\d+) now$', re.MULTILINE)
 MOST_GROWTH = 256
 
 
-def player(folder, work, name):
-    """Builds instances.c."""
-    target = os.path.join(work, name)
-    flags = {'plain': ['-g'], 'sanitized': SANITIZERS}[name]
-    hosts.compile_c('instances.c', target, folder, [os.path.join(here, 'instances_model.c'), *flags, *WRAPPED])
-    return target
+def started(words, environment=None):
+    """What a process writes, its status, and what it says beside. Where the machine is busy it may take its time."""
+    ran = subprocess.run(words, capture_output=True, timeout=LONGEST, env={**os.environ, **(environment or {})})
+    return ran.stdout, ran.returncode, ran.stderr
 
 
-def play(tally, program, before, part, number, seed):
+def built(folder, work, name, sources):
+    """The program of a file in C, by the compiler's flags."""
+    found = {}
+    for flags, words in {'plain': ['-g'], 'sanitized': SANITIZERS}.items():
+        found[flags] = os.path.join(work, f'{name}-{flags}')
+        hosts.compile_c(sources[0], found[flags], folder, [*(os.path.join(here, it) for it in sources[1:]), *words, *WRAPPED])
+    return found
+
+
+def play(tally, program, before, given, part, number, seed):
     """Plays a part; answers how many statements held."""
     if before and not shutil.which(before[0]):
         raise Left(f'no {before[0]}')
-    got = hosts.started([*before, program, EXAMPLES, part, str(number), str(seed)])
-    tool = 'helgrind' if '--tool=helgrind' in before else 'memcheck' if before else os.path.basename(program)
-    tally.expect(got[1] == 0 and not got[2], f'{part}, {tool}, seed {seed}', got)
+    got = started([*before, program, given, part, str(number), str(seed)])
+    tool = 'helgrind ' if '--tool=helgrind' in before else 'memcheck ' if before else ''
+    tally.expect(got[1] == 0 and not got[2], f'{tool}{os.path.basename(program)} {part} {number} {seed}', got)
     return int(got[0]) if got[1] == 0 else 0
 
 
-def model(tally, pool, folder, work, seeds):
-    programs = {name: player(folder, work, name) for name in ('plain', 'sanitized')}
+def plays(tally, pool, programs, given, table, seeds):
+    """Plays all parts of a table; answers how many statements held."""
     jobs = hosts.Jobs(tally, pool)
-    for name, before, part, number in PLAYS:
-        for seed in seeds[:1] if part in ('limits', 'flat') else seeds:
-            jobs.begin(f'{part} by {before[0] if before else name}', play, programs[name], before, part, number, seed)
-    print(f'instances: {sum(it or 0 for it in jobs.all()):,} statements held beside the model', flush=True)
+    for flags, before, part, number in table:
+        for seed in seeds[:1] if part in ONCE else seeds:
+            jobs.begin(f'{part} by {before[0] if before else flags}', play, programs[flags], before, given, part, number, seed)
+    return sum(it or 0 for it in jobs.all())
+
+
+def model(tally, pool, folder, work, seeds):
+    programs = built(folder, work, 'instances', ['instances.c', 'instances_model.c'])
+    print(f'instances: {plays(tally, pool, programs, EXAMPLES, PLAYS, seeds):,} statements held beside the model', flush=True)
+
+
+def edges(tally, pool, folder, work, seeds):
+    programs, modules = built(folder, work, 'edges', ['edges.c']), os.path.join(written_modules(work), 'run')
+    print(f'instances: {plays(tally, pool, programs, modules, EDGES, seeds):,} statements held on modules', flush=True)
 
 
 def node(tally, folder, kept, seeds, steps):
     hosts.needs('node')
-    count = collections.Counter()
+    count = sequences.Count()
     try:
         for seed in seeds:
             sequences.sequences(os.path.join(folder, library.SHARED), seed, steps, count)
@@ -86,9 +112,8 @@ def node(tally, folder, kept, seeds, steps):
         rows.write(path + '.wasm', why.module)
         rows.write(path + '.json', json.dumps(why.steps, indent=1).encode())
         tally.expect(False, f'beside node, {path}.wasm and {path}.json', why)
-    megabytes = count.pop('bytes', 0) // 1_000_000
-    ends = ', '.join(f'{number} {name}' for name, number in sorted(count.items()))
-    print(f'instances: {count.total():,} steps beside node ({ends}), {megabytes:,} MB of memory compared', flush=True)
+    ends = ', '.join(f'{number} {name}' for name, number in sorted(count.ends.items()))
+    print(f'instances: {count.steps():,} steps beside node ({ends}), {count.bytes // 1_000_000:,} MB of memory compared', flush=True)
 
 
 # The hosts of an embedder.
@@ -105,7 +130,7 @@ def host(folder, sources, name, work, flags=()):
 def written_modules(work):
     """The short modules of the tables, in folders as torture.c wants them."""
     for table in ('check', 'run'):
-        os.makedirs(os.path.join(work, 'vectors', table))
+        os.makedirs(os.path.join(work, 'vectors', table), exist_ok=True)
         for number, row in enumerate(rows.rows(table + '.tsv')):
             module = rows.bytes_of(row[1])
             if len(module) <= SHORT:
@@ -115,19 +140,19 @@ def written_modules(work):
 
 def tortured(tally, folder, sources, work, modules, flags, before, words, environment):
     program = host(folder, sources, 'torture', work, flags)
-    got = hosts.started([*before, program, EXAMPLES, modules, *words], None, {'NO_WRONG': '1', **environment})
+    got = started([*before, program, EXAMPLES, modules, *words], {'NO_WRONG': '1', **environment})
     tally.expect(got[1] == 0 and not got[2], ' '.join(['torture.c', *flags[:1], *before[-1:], *words]), got)
 
 
 def guarded(tally, folder, sources, work, modules):
     program = host(folder, sources, 'guard', work)
     for kind in ('check', 'run'):
-        got = hosts.started([program, os.path.join(modules, kind), str(MUTANTS), '7'])
+        got = started([program, os.path.join(modules, kind), str(MUTANTS), '7'])
         tally.expect(got[1] == 0 and not got[2] and b', 0 do not hold' in got[0], 'guard.c', got)
 
 
 def leaking(tally, folder, sources, work, modules):
-    got = hosts.started([host(folder, sources, 'leak', work), os.path.join(modules, 'run'), str(ROUNDS)])
+    got = started([host(folder, sources, 'leak', work), os.path.join(modules, 'run'), str(ROUNDS)])
     parts = [[int(it) for it in part] for part in FLAT.findall(got[0].decode())]
     tally.expect(got[1] == 0 and len(parts) == 4, 'leak.c', got)
     for first, last, used, now in parts:
@@ -135,7 +160,7 @@ def leaking(tally, folder, sources, work, modules):
 
 
 def fast(tally, folder, sources, work):
-    got = hosts.started([host(folder, sources, 'speed', work), os.path.join(EXAMPLES, 'add.wasm'), 'add'])
+    got = started([host(folder, sources, 'speed', work), os.path.join(EXAMPLES, 'add.wasm'), 'add'])
     tally.expect(got[1] == 0 and b'(end 0)' in got[0], 'speed.c', got)
 
 
@@ -144,7 +169,7 @@ def embedder(tally, pool, folder, sources, work):
         raise Left('no folder of them')
     modules, jobs = written_modules(work), hosts.Jobs(tally, pool)
     few = {'TURNS': str(TURNS), 'NO_HUGE': '1'}
-    jobs.begin('torture.c', tortured, folder, sources, work, modules, [], [], ['all'], {})
+    jobs.begin('torture.c', tortured, folder, sources, work, modules, [], [], ['all'], {'TURNS': str(TURNS)})
     jobs.begin('torture.c', tortured, folder, sources, work, modules, SANITIZERS[:1], [], ['all'], few)
     if shutil.which('valgrind'):
         for part in ('null', 'edges', 'threads'):
@@ -161,6 +186,7 @@ def main(folder, chosen):
     with tempfile.TemporaryDirectory() as work, ThreadPoolExecutor(chosen.at_once) as pool:
         parts = {'model': lambda: model(tally, pool, folder, work, chosen.seeds),
                  'node': lambda: node(tally, folder, chosen.kept, chosen.seeds, chosen.steps),
+                 'edges': lambda: edges(tally, pool, folder, work, chosen.seeds),
                  'hosts': lambda: embedder(tally, pool, folder, chosen.hosts, work)}
         for name in chosen.parts:
             try:
@@ -175,8 +201,7 @@ def main(folder, chosen):
 if __name__ == '__main__':
     parser = argparse.ArgumentParser(description=__doc__, formatter_class=argparse.RawDescriptionHelpFormatter)
     parser.add_argument('library', metavar='LIBRARY', help='the folder where library.py put the library')
-    parser.add_argument('--parts', nargs='+', choices=['model', 'node', 'hosts'], default=['model', 'node', 'hosts'], metavar='PART',
-                        help='model, node, hosts (default: all)')
+    parser.add_argument('--parts', nargs='+', choices=PARTS, default=PARTS, metavar='PART', help=', '.join(PARTS) + ' (default: all)')
     parser.add_argument('--seeds', nargs='+', type=int, default=SEEDS, metavar='SEED', help='what is made at random (default: one seed)')
     parser.add_argument('--steps', type=int, default=STEPS, help=f'steps beside node for each seed (default: {STEPS:,})')
     parser.add_argument('--hosts', metavar='FOLDER', help='where torture.c and the other hosts of an embedder stand')

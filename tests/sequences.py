@@ -5,6 +5,7 @@ examples/guests. A sequence goes through the library first, up to where fuel, fr
 (instances.js): each step has to end alike, with the same values, the same globals, and the same memory, byte by byte.
 """
 import base64
+import collections
 import ctypes
 import glob
 import json
@@ -330,6 +331,16 @@ def difference(ours, others):
     return None
 
 
+class Count:
+    """How many steps were compared, by how they end, and how many bytes of memory."""
+
+    def __init__(self):
+        self.ends, self.bytes = collections.Counter(), 0
+
+    def steps(self):
+        return sum(self.ends.values())
+
+
 class Difference(Exception):
     """A module on which the two differ, with the steps up to there."""
 
@@ -350,20 +361,17 @@ def compare(library, node, module, r, count):
             differs = difference(ours, node.answer())
             if differs:
                 raise Wrong(f'step {number}: {differs}')
-            count[ours.end.split(' ')[0]] += 1
-            count['bytes'] += len(ours.memory)
+            count.ends[ours.end.split(' ')[0]] += 1
+            count.bytes += len(ours.memory)
     except Wrong as why:
         raise Difference(str(why), module, steps) from None
 
 
 def sequences(path, seed, least, count):
-    """Compares sequences that the seed makes, until so many steps are compared; raises the first difference."""
-    r, library, node, plugins, done = random.Random(seed), loaded(path), Node(), guests(), 0
+    """Compares sequences that the seed makes, until so many steps more are compared; raises the first difference."""
+    r, library, node, plugins, last = random.Random(seed), loaded(path), Node(), guests(), count.steps() + least
     try:
-        while done < least:
-            module = r.choice(plugins) if r.random() < 0.15 else Looping(r).module()
-            before = count.total() - count['bytes']
-            compare(library, node, module, r, count)
-            done += count.total() - count['bytes'] - before
+        while count.steps() < last:
+            compare(library, node, r.choice(plugins) if r.random() < 0.15 else Looping(r).module(), r, count)
     finally:
         node.end()
