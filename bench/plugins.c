@@ -1,17 +1,16 @@
 // What a plug-in costs a host that gives it a text and takes one back, by the library: 100 bytes in and 100 out at each call.
-// usage: plugins MODULE COUNT    MODULE is examples/guests/upper.wasm; prints microseconds a call, of COUNT calls, between tabs:
-//   kept     on one instance
+// usage: plugins MODULE WAY COUNT    MODULE is examples/guests/upper.wasm, and COUNT says how many calls are made
+//   kept     on an instance that is kept over 1,000 calls
 //   fresh    on a fresh instance each
 //   reset    on one that is reset before each call
-// Where an instance is new it is asked for room first. Of nine turns it is the median, after one before the clock starts.
-#define _GNU_SOURCE
+// Where an instance is new it is asked for room first. The time is taken by who starts it.
 #include "gate.h"
+#include <stdbool.h>
 #include <stdio.h>
 #include <stdlib.h>
 #include <string.h>
-#include <time.h>
 
-enum { LENGTH = 100, TURNS = 9, ROOM = 1 << 16 };
+enum { LENGTH = 100, KEPT = 1000, ROOM = 1 << 16 };
 
 typedef struct host {
     gate_module module;
@@ -20,19 +19,11 @@ typedef struct host {
     uint8_t in[LENGTH], out[LENGTH];
 } host;
 
-typedef void round_of(host *);
-
 static const gate_settings SETTINGS = { 1000000, 1024, 256 };
 
 static void refuse(const char *why) {
     fprintf(stderr, "plugins: %s\n", why);
     exit(2);
-}
-
-static double now(void) {
-    struct timespec t;
-    clock_gettime(CLOCK_MONOTONIC, &t);
-    return t.tv_sec * 1e6 + t.tv_nsec / 1e3;
 }
 
 static uint64_t call(host *it, const char *name, const gate_value *args, size_t count) {
@@ -55,65 +46,41 @@ static void filter(host *it) {
     if (gate_instance_read(it->instance, where >> 32, it->out, (uint32_t)where) != GATE_OK) refuse("there is no answer");
 }
 
-static void begin(host *it) {
+// Gives the call the instance that its way wants.
+static void prepare(host *it, char way, long number) {
     gate_call ended;
-    if (gate_instance_new(it->module, &SETTINGS, &it->instance, &ended) != GATE_OK) refuse("no instance");
-    ask_for_room(it);
-}
-
-static void fresh(host *it) {
-    begin(it);
-    filter(it);
-    gate_instance_free(it->instance);
-}
-
-static void reset(host *it) {
-    gate_call ended;
-    if (gate_instance_reset(it->instance, &ended) != GATE_OK) refuse("no instance");
-    ask_for_room(it);
-    filter(it);
-}
-
-// Each text is another one, and its first letter is looked at.
-static double turn(host *it, round_of *once, long count) {
-    double start = now();
-    for (long i = 0; i < count; i++) {
-        it->in[0] = (uint8_t)('a' + i % 26);
-        once(it);
-        if (it->out[0] != 'A' + i % 26 || it->out[LENGTH - 1] != 'Z') refuse("another answer");
+    bool is_new = !it->instance.at || way == 'f' || (way == 'k' && number % KEPT == 0);
+    if (is_new) {
+        gate_instance_drop(it->instance);
+        if (gate_instance_new(it->module, &SETTINGS, &it->instance, &ended) != GATE_OK) refuse("no instance");
+    } else if (way == 'r') {
+        is_new = true;
+        if (gate_instance_reset(it->instance, &ended) != GATE_OK) refuse("no instance");
     }
-    return (now() - start) / count;
+    if (is_new) ask_for_room(it);
 }
 
-static int by_size(const void *one, const void *other) {
-    double left = *(const double *)one, right = *(const double *)other;
-    return (left > right) - (left < right);
-}
-
-static double measured(host *it, round_of *once, long count) {
-    double took[TURNS];
-    turn(it, once, count);
-    for (int i = 0; i < TURNS; i++) took[i] = turn(it, once, count);
-    qsort(took, TURNS, sizeof *took, by_size);
-    return took[TURNS / 2];
+// Each text is another one, and its letters are looked at.
+static void one(host *it, char way, long number) {
+    it->in[0] = (uint8_t)('a' + number % 26);
+    prepare(it, way, number);
+    filter(it);
+    if (it->out[0] != 'A' + number % 26 || it->out[LENGTH - 1] != 'Z') refuse("another answer");
 }
 
 int main(int count, char **words) {
     static uint8_t bytes[ROOM];
     host it = { .at = 0 };
     gate_verdict verdict;
-    if (count != 3) refuse("two words are needed");
+    if (count != 4) refuse("three words are needed");
     FILE *file = fopen(words[1], "rb");
     if (!file) refuse("the module cannot be read");
     size_t length = fread(bytes, 1, sizeof bytes, file);
     fclose(file);
     memset(it.in, 'z', LENGTH);
     if (gate_module_new(bytes, length, &verdict, &it.module) != GATE_OK) refuse("the module is refused");
-    begin(&it);
-    double kept = measured(&it, filter, atol(words[2]));
-    double clean = measured(&it, reset, atol(words[2]));
-    gate_instance_free(it.instance);
-    printf("%.4f\t%.4f\t%.4f\n", kept, measured(&it, fresh, atol(words[2])), clean);
+    for (long i = 0; i < atol(words[3]); i++) one(&it, words[2][0], i);
+    gate_instance_drop(it.instance);
     gate_module_free(it.module);
     return 0;
 }

@@ -1,11 +1,9 @@
-// What plugins.c measures, by a JavaScript engine, which has no reset: kept and fresh. Made of JavaScript that node and jsc both have.
-// usage: node plugins.js MODULE COUNT | jsc plugins.js -- MODULE COUNT    prints microseconds a call, between tabs
+// What plugins.c does, by a JavaScript engine, which has no reset: kept and fresh. Of what node and jsc both have.
+// usage: node plugins.js MODULE WAY COUNT | jsc plugins.js -- MODULE WAY COUNT
 const isNode = typeof process !== 'undefined';
-const [path, count] = isNode ? process.argv.slice(2) : arguments;
+const [path, way, count] = isNode ? process.argv.slice(2) : arguments;
 const bytes = isNode ? require('fs').readFileSync(path) : readFile(path, 'binary');
-const now = isNode ? () => Number(process.hrtime.bigint()) / 1e3 : () => preciseTime() * 1e6;
-const say = isNode ? console.log : print;
-const LENGTH = 100, TURNS = 9, A = 65;
+const LENGTH = 100, KEPT = 1000, A = 65;
 
 const module_ = new WebAssembly.Module(bytes);
 const input = new Uint8Array(LENGTH).fill(122), output = new Uint8Array(LENGTH);
@@ -24,25 +22,9 @@ function filter() {
     output.set(memory.subarray(from, from + length));
 }
 
-function fresh() {
-    begin();
+for (let i = 0; i < Number(count); i++) {
+    input[0] = A + 32 + i % 26;
+    if (way !== 'kept' || i % KEPT === 0) begin();
     filter();
+    if (output[0] !== A + i % 26 || output[LENGTH - 1] !== 90) throw Error('another answer');
 }
-
-function turn(once) {
-    const start = now();
-    for (let i = 0; i < count; i++) {
-        input[0] = A + 32 + i % 26;
-        once();
-        if (output[0] !== A + i % 26 || output[LENGTH - 1] !== 90) throw Error('another answer');
-    }
-    return (now() - start) / count;
-}
-
-function measured(once) {
-    turn(once);
-    return Array.from({ length: TURNS }, () => turn(once)).sort((one, other) => one - other)[TURNS >> 1];
-}
-
-begin();
-say([measured(filter), measured(fresh)].map(it => it.toFixed(4)).join('\t'));

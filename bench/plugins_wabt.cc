@@ -1,11 +1,9 @@
-// What plugins.c measures, by wabt's interpreter, which has no reset: kept and fresh.
-// usage: plugins_wabt MODULE COUNT    prints microseconds a call, between tabs. The module is read and validated before the clock starts.
+// What plugins.c does, by wabt's interpreter, which has no reset: kept and fresh.
+// usage: plugins_wabt MODULE WAY COUNT
 // Instances that are over are collected after every sixteen, so that memories do not pile up.
-#include <algorithm>
 #include <cstdio>
 #include <cstdlib>
 #include <cstring>
-#include <ctime>
 #include "wabt/binary-reader.h"
 #include "wabt/common.h"
 #include "wabt/interp/binary-reader-interp.h"
@@ -15,17 +13,11 @@ using namespace wabt;
 using namespace wabt::interp;
 
 static const u32 LENGTH = 100;
-static const int TURNS = 9;
+static const long KEPT = 1000;
 
 static void refuse(const char *why) {
     fprintf(stderr, "plugins_wabt: %s\n", why);
     exit(2);
-}
-
-static double now() {
-    timespec t;
-    clock_gettime(CLOCK_MONOTONIC, &t);
-    return t.tv_sec * 1e6 + t.tv_nsec / 1e3;
 }
 
 struct Host {
@@ -67,49 +59,30 @@ struct Host {
         Trap::Ptr trap;
         instance = Instance::Instantiate(store, module.ref(), {}, &trap);
         if (!instance) refuse("no instance");
+        if (++begun % 16 == 0) store.Collect();
         ask_for_room();
     }
 
-    void fresh() {
-        begin();
+    void one(char way, long number) {
+        in[0] = (u8)('a' + number % 26);
+        if (way != 'k' || number % KEPT == 0) begin();
         filter();
-        if (++begun % 16) return;
-        instance.reset();
-        store.Collect();
-    }
-
-    double turn(void (Host::*once)(), long count) {
-        double start = now();
-        for (long i = 0; i < count; i++) {
-            in[0] = (u8)('a' + i % 26);
-            (this->*once)();
-            if (out[0] != 'A' + i % 26 || out[LENGTH - 1] != 'Z') refuse("another answer");
-        }
-        return (now() - start) / count;
-    }
-
-    double measured(void (Host::*once)(), long count) {
-        double took[TURNS];
-        turn(once, count);
-        for (double &it : took) it = turn(once, count);
-        std::sort(took, took + TURNS);
-        return took[TURNS / 2];
+        if (out[0] != 'A' + number % 26 || out[LENGTH - 1] != 'Z') refuse("another answer");
     }
 };
 
 int main(int count, char **words) {
-    if (count != 3) refuse("usage: plugins_wabt MODULE COUNT");
+    if (count != 4) refuse("usage: plugins_wabt MODULE WAY COUNT");
     std::vector<uint8_t> bytes;
     if (Failed(ReadFile(words[1], &bytes))) refuse("the module cannot be read");
     Host it;
     Errors errors;
-    if (Failed(ReadBinaryInterp(words[1], bytes.data(), bytes.size(), ReadBinaryOptions(), &errors, &it.desc))) refuse("an invalid module");
+    Result read = ReadBinaryInterp(words[1], bytes.data(), bytes.size(), ReadBinaryOptions(), &errors, &it.desc);
+    if (Failed(read)) refuse("the module is refused");
     it.module = Module::New(it.store, it.desc);
     it.alloc = it.exported("alloc");
     it.handle = it.exported("handle");
     memset(it.in, 'z', LENGTH);
-    it.begin();
-    double kept = it.measured(&Host::filter, atol(words[2]));
-    printf("%.4f\t%.4f\n", kept, it.measured(&Host::fresh, atol(words[2])));
+    for (long i = 0; i < atol(words[3]); i++) it.one(words[2][0], i);
     return 0;
 }

@@ -1,8 +1,8 @@
-/* Asks of modules what instances.c asks of instances: reads and writes at the edges of buffers, memory that may not grow, many handles, and
- * small stacks. The hosts of an embedder that instances.py takes where they are (--hosts) ask the same, and more.
+/* Asks of modules what instances.c asks of instances: reads and writes at the edges of buffers, memory that may not grow, many handles,
+ * and small stacks. The hosts of an embedder that instances.py takes where they are (--hosts) ask the same, and more.
  * usage: edges FOLDER PART NUMBER [SEED]    FOLDER has modules, the names of which end in .wasm
- *   guard    NUMBER mutants, each at the end and at the beginning of pages that nobody may write, beside pages that nobody may touch; so do
- *            the buffers for answers. gate_check, gate_explain, gate_module_new and gate_run have to agree
+ *   guard    NUMBER mutants, each at the end and at the beginning of pages that nobody may write, beside pages that nobody may touch, as
+ *            are the buffers for answers. gate_check, gate_explain, gate_module_new and gate_run have to agree
  *   flat     NUMBER rounds of all that takes memory, none of which may leave a block
  *   handles  NUMBER handles of one module, each shared from another one, freed in any order
  *   stack    all modules are judged, and called, on a painted stack: of it MOST_STACK bytes more may be written than by an idle thread
@@ -144,7 +144,8 @@ static void use(text bytes, uint32_t status, const gate_verdict *verdict, uint8_
     size_t length = 0, room = below(seed, 300), values = below(seed, 4);
     const gate_value args[] = { { 32, random_of(seed) & UINT32_MAX }, { 64, random_of(seed) } };
     HOLDS(gate_module_new(bytes.at, bytes.length, &other, &module) == status && is_same(verdict, &other));
-    const uint32_t ran = gate_run(bytes.at, bytes.length, (const uint8_t *)CALLS, sizeof CALLS - 1, &FEW, end - room, room, &length, &kept);
+    const uint32_t ran =
+        gate_run(bytes.at, bytes.length, (const uint8_t *)CALLS, sizeof CALLS - 1, &FEW, end - room, room, &length, &kept);
     HOLDS(ran == (length > room ? (uint32_t)GATE_SHORT_BUFFER : status));
     if (ran == GATE_SHORT_BUFFER) {
         HOLDS(length < ROOM && gate_report_read(kept, end - length, length, &length) == status);
@@ -205,8 +206,8 @@ static void part_flat(long count, uint64_t seed) {
 }
 
 static void part_handles(long count, uint64_t seed) {
-    static const uint8_t add[] = { 0, 'a', 's', 'm', 1, 0, 0, 0, 1, 7, 1, 0x60, 2, 0x7F, 0x7F, 1, 0x7F, 3, 2, 1, 0, 7, 7, 1, 3, 'a', 'd', 'd',
-                                   0, 0, 0x0A, 9, 1, 7, 0, 0x20, 0, 0x20, 1, 0x6A, 0x0B };
+    static const uint8_t add[] = { 0, 'a', 's', 'm', 1, 0, 0, 0, 1, 7, 1, 0x60, 2, 0x7F, 0x7F, 1, 0x7F, 3, 2, 1, 0,
+                                   7, 7,   1,   3,   'a', 'd', 'd', 0, 0, 0x0A, 9, 1, 7, 0, 0x20, 0, 0x20, 1, 0x6A, 0x0B };
     const gate_value args[] = { { 32, 40 }, { 32, 2 } };
     gate_module *all = malloc((size_t)count * sizeof *all);
     gate_verdict verdict;

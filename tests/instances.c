@@ -712,7 +712,8 @@ static size_t fill(play *it, hoard *of) {
         gate_instance on = { NULL };
         const uint32_t status = gate_instance_new(of->module, &USUAL, &on, &ended);
         if (status != GATE_OK) {
-            HOLDS(it, !on.at && ((status == GATE_NO_INSTANCE && is_short(&ended)) || (status == GATE_NO_MEMORY && ended.end == NOT_WRITTEN)));
+            const bool is_told = status == GATE_NO_INSTANCE && is_short(&ended);
+            HOLDS(it, !on.at && (is_told || (status == GATE_NO_MEMORY && ended.end == NOT_WRITTEN)));
             return made;
         }
         tag(it, on, of->count + 1);
@@ -755,9 +756,8 @@ static void reset_first(play *it, hoard *of) {
     tag(it, of->all[0], 1);
 }
 
-static void free_upper_half(hoard *of) {
-    const size_t half = of->count / 2;
-    while (of->count > half) gate_instance_free(of->all[--of->count]);
+static void free_down_to(hoard *of, size_t count) {
+    while (of->count > count) gate_instance_free(of->all[--of->count]);
 }
 
 /* In so many megabytes of address space beside what is taken already. */
@@ -773,12 +773,12 @@ static void in_little_space(play *it, hoard *of, size_t megabytes) {
         reset_first(it, of);
     }
     have_tags(it, of);
-    free_upper_half(of);
+    free_down_to(of, of->count / 2);
     HOLDS(it, fill(it, of) + 2 >= made / 2);
     have_tags(it, of);
-    while (of->count) gate_instance_free(of->all[--of->count]);
+    free_down_to(of, 0);
     HOLDS(it, fill(it, of) >= made / 2);
-    while (of->count) gate_instance_free(of->all[--of->count]);
+    free_down_to(of, 0);
 }
 
 /* A limit stays for the life of a process. */

@@ -59,7 +59,8 @@ class Play {
     }
 
     read(at, length) {
-        return this.lies(at, length) ? 'bytes ' + Buffer.from(this.bytes().slice(Number(at), Number(at) + length)).toString('hex') : 'outside';
+        if (!this.lies(at, length)) return 'outside';
+        return 'bytes ' + Buffer.from(this.bytes().slice(Number(at), Number(at) + length)).toString('hex');
     }
 
     write(at, hex) {

@@ -26,7 +26,8 @@ STEPS = 24
 FUEL, FRAMES, PAGES = 200_000, 200, 64
 # Above that a memory is compared at the last step of its sequence alone.
 LARGE = 1 << 20
-NUMBERS = [0, 1, 2, 3, 7, 8, 31, 64, 100, 255, 4096, 8192, 12288, 65528, 65535, 65536, 2 ** 31 - 1, 2 ** 31, 2 ** 32 - 1, 2 ** 63, 2 ** 64 - 1]
+NUMBERS = [0, 1, 2, 3, 7, 8, 31, 64, 100, 255, 4096, 8192, 12288, 65528, 65535, 65536, 2 ** 31 - 1, 2 ** 31, 2 ** 32 - 1, 2 ** 63,
+           2 ** 64 - 1]
 TEXTS = [b'name\n{ "name": "pick", "room": 8192 }', b'a\n{"b": [1], "a":2}', b'Hello, World!', b'k\n{"k":"\\"quoted\\""}', b'\0\xFF{z`a']
 KINDS = ['function', 'table', 'memory', 'global']
 TRAPS = ['unreachable', 'out-of-bounds', 'undefined-element', 'uninitialized-element or type-mismatch',
