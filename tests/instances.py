@@ -1,0 +1,214 @@
+#!/usr/bin/env python3
+"""What is asked of instances of the library (gate_instance_new and what takes one), against a model and beside node.
+
+model    instances.c plays at random with four plug-ins, and holds each answer, the whole memory and all globals beside a model in C:
+         with buffers of their exact length under AddressSanitizer and under valgrind's memcheck, and at the ends of pages that nobody may
+         touch; on eight threads, also under helgrind; with each request for memory refused in turn; in little address space; and in a
+         million rounds, in which the resident memory stays as it is. debug/gate_debug.c, which looks at each call, has to find no fault.
+node     sequences.py: calls, writes and reads on modules made at random, beside node. The first difference ends it, and its module and
+         steps are written to files.
+edges    edges.c: mutants of modules at the ends of pages, memory that stays as it is, many handles, and a painted stack.
+hosts    Where --hosts names a folder that has them: torture.c, guard.c, leak.c and speed.c, hosts of an embedder, over the library.
+What is left out, for want of a tool, is counted and named at the end.
+"""
+import argparse
+import json
+import os
+import re
+import shutil
+import subprocess
+import sys
+import tempfile
+from concurrent.futures import ThreadPoolExecutor
+
+here = os.path.dirname(os.path.abspath(__file__))
+root = os.path.dirname(here)
+sys.path.insert(0, root)
+import hosts
+import library
+import rows
+import sequences
+from hosts import Left
+
+EXAMPLES = os.path.join(root, 'examples')
+WRAPPED = [f'-Wl,--wrap={name}' for name in ('malloc', 'realloc', 'free')]
+SANITIZERS = ['-fsanitize=address,undefined', '-fno-sanitize-recover=all', '-g']
+HELGRIND = [*hosts.VALGRIND, '--tool=helgrind']
+# What is played: the compiler's flags, what runs before the program, and the number of each part (see instances.c).
+PLAYS = [('plain', [], {'flat': 1_000_000, 'heap': 20_000, 'fence': 20_000, 'threads': 3_000, 'refuse': 24, 'limits': 512}),
+         ('sanitized', [], {'heap': 10_000, 'fence': 5_000, 'threads': 1_000, 'refuse': 12}),
+         ('debug', [], {'fence': 2_000, 'threads': 200}),
+         ('plain', hosts.MEMCHECK, {'heap': 400, 'threads': 60, 'refuse': 1}),
+         ('plain', HELGRIND, {'threads': 60})]
+# The same of edges.c.
+EDGES = [('plain', [], {'guard': 20_000, 'flat': 100_000, 'handles': 20_000, 'stack': 1}),
+         ('sanitized', [], {'guard': 4_000}), ('debug', [], {'guard': 2_000}), ('plain', hosts.MEMCHECK, {'guard': 200})]
+STEPS, SEEDS = 4_000, [20261129]
+PARTS = ['model', 'node', 'edges', 'hosts']
+# Where another seed makes nothing else.
+ONCE = ['limits', 'flat', 'handles', 'stack']
+SHORT = 4096
+# The seconds that a process may take.
+LONGEST = 3000
+# How many mutants, rounds and turns the hosts of an embedder are asked for.
+MUTANTS, ROUNDS, TURNS, FEW_TURNS = 20_000, 40_000, 1_000, 40
+# The resident kilobytes in the beginning and at the end of each part of leak.c, and how many more they may be.
+FLAT = re.compile(r'^leak: .*: RSS (\d+) KB after .*, (\d+) KB at the end;', re.MULTILINE)
+MOST_GROWTH = 256
+
+
+def started(words, environment=None):
+    """What a process writes, its status, and what it says beside. Where the machine is busy it may take its time."""
+    ran = subprocess.run(words, capture_output=True, timeout=LONGEST, env={**os.environ, **(environment or {})})
+    return ran.stdout, ran.returncode, ran.stderr
+
+
+def built(folder, work, name, sources):
+    """The program of a file in C, by the compiler's flags."""
+    found = {}
+    for flags, words in {'plain': ['-g'], 'sanitized': SANITIZERS, 'debug': ['-g', *hosts.debugged()]}.items():
+        found[flags] = os.path.join(work, f'{name}-{flags}')
+        hosts.compile_c(sources[0], found[flags], folder, [*(os.path.join(here, it) for it in sources[1:]), *words, *WRAPPED])
+    return found
+
+
+def play(tally, program, before, given, part, number, seed):
+    """Plays a part; answers how many statements held."""
+    if before and not shutil.which(before[0]):
+        raise Left(f'no {before[0]}')
+    got = started([*before, program, given, part, str(number), str(seed)])
+    tool = 'helgrind ' if '--tool=helgrind' in before else 'memcheck ' if before else ''
+    tally.expect(got[1] == 0 and not got[2], f'{tool}{os.path.basename(program)} {part} {number} {seed}', got)
+    return int(got[0]) if got[1] == 0 else 0
+
+
+def plays(tally, pool, programs, given, table, seeds):
+    """Plays all parts of a table; answers how many statements held."""
+    jobs = hosts.Jobs(tally, pool)
+    for flags, before, numbers in table:
+        for part, seed in [(part, seed) for part in numbers for seed in (seeds[:1] if part in ONCE else seeds)]:
+            words = programs[flags], before, given, part, numbers[part], seed
+            jobs.begin(f'{part} by {before[0] if before else flags}', play, *words)
+    return sum(it or 0 for it in jobs.all())
+
+
+def model(tally, pool, folder, work, seeds):
+    programs = built(folder, work, 'instances', ['instances.c', 'instances_model.c'])
+    print(f'instances: {plays(tally, pool, programs, EXAMPLES, PLAYS, seeds):,} statements held beside the model', flush=True)
+
+
+def edges(tally, pool, folder, work, seeds):
+    programs, modules = built(folder, work, 'edges', ['edges.c']), os.path.join(written_modules(work), 'run')
+    print(f'instances: {plays(tally, pool, programs, modules, EDGES, seeds):,} statements held on modules', flush=True)
+
+
+def node(tally, folder, kept, seeds, steps):
+    hosts.needs('node')
+    count = sequences.Count()
+    try:
+        for seed in seeds:
+            sequences.sequences(os.path.join(folder, library.SHARED), seed, steps, count)
+        tally.expect(True, 'node')
+    except sequences.Difference as why:
+        path = os.path.join(kept, 'instances-difference')
+        rows.write(path + '.wasm', why.module)
+        rows.write(path + '.json', json.dumps(why.steps, indent=1).encode())
+        tally.expect(False, f'beside node, {path}.wasm and {path}.json', why)
+    ends = ', '.join(f'{number} {name}' for name, number in sorted(count.ends.items()))
+    print(f'instances: {count.steps():,} steps beside node ({ends}), {count.bytes // 1_000_000:,} MB of memory compared', flush=True)
+
+
+# The hosts of an embedder.
+
+def host(folder, sources, name, work, flags=()):
+    """Builds one of them."""
+    source, target = os.path.join(sources, name + '.c'), os.path.join(work, name + '-sanitized' * bool(flags))
+    if not os.path.exists(source):
+        raise Left(f'no {name}.c')
+    words = [hosts.needs('cc'), '-std=gnu11', '-O2', '-g', *flags, f'-I{hosts.INCLUDE}', '-o', target, source]
+    hosts.built([*words, os.path.join(folder, library.ARCHIVE), '-pthread'])
+    return target
+
+
+def written_modules(work):
+    """The short modules of the tables, in folders as torture.c wants them."""
+    for table in ('check', 'run'):
+        os.makedirs(os.path.join(work, 'vectors', table), exist_ok=True)
+        for number, row in enumerate(rows.rows(table + '.tsv')):
+            module = rows.bytes_of(row[1])
+            if len(module) <= SHORT:
+                rows.write(os.path.join(work, 'vectors', table, f'{number:04}.wasm'), module)
+    return os.path.join(work, 'vectors')
+
+
+def tortured(tally, words, part, modules, turns):
+    """Of torture.c what a caller may do; NO_HUGE where a sanitizer or valgrind would look at a gigabyte."""
+    environment = {'NO_WRONG': '1', 'TURNS': str(turns), **({'NO_HUGE': '1'} if turns != TURNS else {})}
+    got = started([*words, EXAMPLES, modules, part], environment)
+    tally.expect(got[1] == 0 and not got[2] and b', 0 do not hold' in got[0], ' '.join([*words, part]), got)
+
+
+def guarded(tally, program, modules):
+    for table in ('check', 'run'):
+        got = started([program, os.path.join(modules, table), str(MUTANTS), '7'])
+        tally.expect(got[1] == 0 and not got[2] and b', 0 do not hold' in got[0], f'guard.c, {table}', got)
+
+
+def leaking(tally, program, modules):
+    got = started([program, os.path.join(modules, 'run'), str(ROUNDS)])
+    parts = [(int(first), int(last)) for first, last in FLAT.findall(got[0].decode())]
+    tally.expect(got[1] == 0 and len(parts) == 4, 'leak.c', got)
+    tally.expect(all(last - first <= MOST_GROWTH for first, last in parts), 'leak.c: memory grows', got[0].decode())
+
+
+def fast(tally, program):
+    got = started([program, os.path.join(EXAMPLES, 'add.wasm'), 'add'])
+    tally.expect(got[1] == 0 and b'(end 0)' in got[0], 'speed.c', got)
+
+
+def embedder(tally, pool, folder, sources, work):
+    if not sources or not os.path.isdir(sources):
+        raise Left('no folder of them')
+    torture, guard, leak, speed = (host(folder, sources, name, work) for name in ('torture', 'guard', 'leak', 'speed'))
+    sanitized = host(folder, sources, 'torture', work, SANITIZERS)
+    modules, jobs = written_modules(work), hosts.Jobs(tally, pool)
+    jobs.begin('torture.c', tortured, [torture], 'all', modules, TURNS)
+    jobs.begin('torture.c', tortured, [sanitized], 'all', modules, TURNS // 4)
+    if shutil.which('valgrind'):
+        for part in ('null', 'edges', 'threads'):
+            jobs.begin('torture.c', tortured, [*hosts.MEMCHECK, torture], part, modules, FEW_TURNS)
+        jobs.begin('torture.c', tortured, [*HELGRIND, torture], 'threads', modules, FEW_TURNS)
+    jobs.begin('guard.c', guarded, guard, modules)
+    jobs.begin('leak.c', leaking, leak, modules)
+    jobs.begin('speed.c', fast, speed)
+    jobs.all()
+
+
+def main(folder, chosen):
+    tally = hosts.Tally()
+    with tempfile.TemporaryDirectory() as work, ThreadPoolExecutor(chosen.at_once) as pool:
+        parts = {'model': lambda: model(tally, pool, folder, work, chosen.seeds),
+                 'node': lambda: node(tally, folder, chosen.kept, chosen.seeds, chosen.steps),
+                 'edges': lambda: edges(tally, pool, folder, work, chosen.seeds),
+                 'hosts': lambda: embedder(tally, pool, folder, chosen.hosts, work)}
+        for name in chosen.parts:
+            try:
+                parts[name]()
+            except Left as why:
+                tally.leave_out(name, why)
+    left = f'{len(tally.left)} left out' + (f': {", ".join(tally.left)}' if tally.left else '')
+    print(f'instances: {tally.passed} passed, {tally.failed} failed, {left}')
+    return 1 if tally.failed else 0
+
+
+if __name__ == '__main__':
+    parser = argparse.ArgumentParser(description=__doc__, formatter_class=argparse.RawDescriptionHelpFormatter)
+    parser.add_argument('library', metavar='LIBRARY', help='the folder where library.py put the library')
+    parser.add_argument('--parts', nargs='+', choices=PARTS, default=PARTS, metavar='PART', help=', '.join(PARTS) + ' (default: all)')
+    parser.add_argument('--seeds', nargs='+', type=int, default=SEEDS, metavar='SEED', help='what is made at random (default: one seed)')
+    parser.add_argument('--steps', type=int, default=STEPS, help=f'steps beside node for each seed (default: {STEPS:,})')
+    parser.add_argument('--hosts', metavar='FOLDER', help='where torture.c and the other hosts of an embedder stand')
+    parser.add_argument('--kept', metavar='FOLDER', default='.', help='where a difference is written to (default: here)')
+    parser.add_argument('--at-once', type=int, default=2, metavar='N', help='how many processes run side by side (default: 2)')
+    words = parser.parse_args()
+    sys.exit(main(os.path.abspath(words.library), words))
