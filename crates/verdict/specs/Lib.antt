@@ -7,3 +7,5 @@ pub mod Parts
 pub mod OnePass
 pub mod WholeBodies
 pub mod Laws
+pub mod Steps
+pub mod JudgedBodies
