@@ -1,12 +1,14 @@
 -- The bodies of a module, judged in any order, and what is then known of the module.
-use Rattle.std.specs.Prelude.{◌≡◌, ◌+◌, ◌-◌, ◌<◌, ◌≤◌, ℕ, min, nat_le, List, [], ◌++◌, Option, Some, None, Result, Ok, Err, IfSome, IsSomeAnd, length, if◌then◌else◌}
+use Rattle.std.specs.Prelude.{◌≡◌, ◌+◌, ◌-◌, ◌<◌, ◌≤◌, ℕ, min, nat_le, List, [], ◌∷◌, ◌++◌, Option, Some, None, Result, Ok, Err, IfSome, IsSomeAnd, All, length, if◌then◌else◌}
 use Rattle.std.specs.List.{Contains, range_with_len}
 use Rattle.wsyntax.specs.Modules.{ModuleShape}
 use Rattle.wsyntax.specs.Binary.Shell.{Shell}
 use Rattle.wsyntax.specs.Validation.ModuleContext.{module_context, imported_functions}
 use Rattle.wsyntax.specs.Validation.Rules.{NoneBroken}
 use Rattle.wsyntax.specs.Validation.Verdict.{IsModule, IsVerdict, function_at, Accepted as accepted_verdict}
-use Rattle.accepted.specs.Judgement.{IsCheckedAt}
+use Rattle.accepted.specs.Judgement.{IsCheckedAt, AreChecked}
+use Rattle.wcheck.specs.Checking.{Checking}
+use Rattle.checked.specs.declared.body.CheckedBody.{CheckedBody}
 use Rattle.verdict.specs.declared.refusal.BodyRefusal.{BodyRefusal}
 use Rattle.verdict.specs.declared.refusal.Refusal.{Refusal}
 use Rattle.verdict.specs.declared.refusal.Refusal.TheVariants as refusal
@@ -41,6 +43,12 @@ Passes m place = (place < length m.bodies) × (refusal_in m place ≡ None)
 abbrev pub AllPassed : ModuleShape → List ℕ → Type 0
 AllPassed m passed = (place : ℕ) → place < length m.bodies → Contains passed place
 
+-- that is the first of `count` places that is not among these; it is `count` where all are
+pub record IsFirstGap (passed : List ℕ) (count gap : ℕ) : Type 0 where
+  pub within : gap ≤ count
+  pub before : (k : ℕ) → k < gap → Contains passed k
+  pub missing : gap < count → Contains passed gap → ⊥
+
 -- nothing is known of the body at that place, those before it pass, and none is known to be refused up to there
 pub record IsFirstOpen (m : ModuleShape) (p : Progress) (place : ℕ) : Type 0 where
   pub there : place < length m.bodies
@@ -67,6 +75,18 @@ IsKept bytes b = (m : ModuleShape) → Shell bytes m
 abbrev pub IsRefusedBody : List ℕ → RefusedBody → Type 0
 IsRefusedBody bytes r = (m : ModuleShape) → Shell bytes m → refusal_in m r.place ≡ Some r.refusal
 
+-- its bodies are checked under its context
+abbrev pub IsChecker : List ℕ → Checking → Type 0
+IsChecker bytes c = (m : ModuleShape) → Shell bytes m → c.outside ≡ module_context m
+
+-- what is noted of its bodies is so
+abbrev pub IsSound : Progress → Type 0
+IsSound p = (m : ModuleShape) → Shell p.bytes m → All (Passes m) p.passed × IfSome p.refused (λ r. refusal_in m r.place ≡ Some r.refusal)
+
+-- of each of its bodies the checked one
+abbrev pub AllChecked : List ℕ → List CheckedBody → Type 0
+AllChecked bytes all = (m : ModuleShape) → Shell bytes m → AreChecked (module_context m) (length (imported_functions m)) m.bodies (length m.bodies) all
+
 -- all of its bodies are among those that pass
 abbrev pub HasAll : Progress → Type 0
 HasAll p = (m : ModuleShape) → Shell p.bytes m → AllPassed m p.passed
@@ -90,6 +110,17 @@ with_passed p first n = record p { passed = p.passed ++ range_with_len first n }
 -- one body more that is refused
 abbrev pub with_refused : Progress → RefusedBody → Progress
 with_refused p r = record p { refused = least p.refused (Some r) }
+
+-- one body more: it passes, it is refused, or memory is
+abbrev pub JudgesAt : ℕ → Progress → Progress → Result (Unit {0}) Refusal → Type 0
+JudgesAt place old new (Ok _) = (new ≡ record old { passed = old.passed ++ place ∷ [] }) × ((m : ModuleShape) → Shell old.bytes m → Passes m place)
+JudgesAt place old new (Err (refusal.Body f c)) =
+    (new ≡ with_refused old record { place = place; refusal = c })
+    × ((m : ModuleShape) → Shell old.bytes m → (f ≡ function_at m place) × (refusal_in m place ≡ Some c))
+JudgesAt place old new (Err refusal.Memory) = new ≡ old
+JudgesAt place old new (Err refusal.TooLarge) = ⊥
+JudgesAt place old new (Err refusal.Malformed) = ⊥
+JudgesAt place old new (Err (refusal.Rule k)) = ⊥
 
 -- n bodies from the place `first` on pass
 abbrev pub PassFrom : ModuleShape → ℕ → ℕ → Type 0

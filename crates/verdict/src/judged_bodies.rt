@@ -1,12 +1,10 @@
 //! What was judged of the bodies of a module.
-ghost use Rattle.std.specs.Prelude.{◌≡◌, ◌++◌, ◌<◌, ◌≤◌, [], ◌∷◌, Some, IfOk, IfErr, MatchResult, MatchOption, length, slice_get};
-ghost use Rattle.std.specs.List.{Contains};
-ghost use Rattle.wsyntax.specs.Modules.{ModuleShape};
-ghost use Rattle.wsyntax.specs.Binary.Shell.{Shell};
-ghost use Rattle.verdict.specs.Steps.{no_progress, join, least, with_refused, HasBodies, IsKept, IsRefusedBody};
+ghost use Rattle.std.specs.Prelude.{◌≡◌, ◌++◌, [], ◌∷◌, MatchResult, IfOk};
+ghost use Rattle.verdict.specs.Steps.{no_progress, join, with_refused, IsSound, IsValidShell, HasBodies, HasAll, IsKept, IsRefusedBody, IsFirstGap, AllChecked};
 
 use crate::kept_body::KeptBody;
 use crate::refused_body::RefusedBody;
+use crate::slots::{emptied, first_of, first_unmarked, in_slots, marks_of};
 use checked::CheckedBody;
 use std::alloc::{AllocError, Global};
 use std::marker::Model;
@@ -15,6 +13,7 @@ use std::marker::Model;
 /// threads judged is joined.
 #[derive(Drop)]
 pub struct JudgedBodies<'a> {
+    /// All bytes of the module.
     bytes: &'a [u8],
     kept: Vec<KeptBody>,
     refused: Option<RefusedBody>,
@@ -32,18 +31,6 @@ impl<'a> Model for JudgedBodies<'a> {
     ghost invariant = { AreJudged };
 }
 
-/// Of two refused bodies the one that stands first.
-fn first_of(a: Option<RefusedBody>, b: Option<RefusedBody>) -> Option<RefusedBody>
-    ensures { result ≡ least a b }
-{
-    match (a, b) {
-        (None, _) => b,
-        (Some(_), None) => a,
-        (Some(one), Some(other)) if one.place <= other.place => Some(one),
-        (Some(_), Some(other)) => Some(other),
-    }
-}
-
 impl<'a> JudgedBodies<'a> {
     /// Nothing was judged of the module of these bytes.
     pub(crate) fn of_none(alloc: Global, bytes: &'a [u8]) -> JudgedBodies<'a>
@@ -54,6 +41,13 @@ impl<'a> JudgedBodies<'a> {
             kept: Vec::new(alloc),
             refused: None,
         }
+    }
+
+    /// What holds of it: the bodies that pass do, and so is the one refused that is refused.
+    pub fn are_sound(&self)
+        ensures { IsSound self.now }
+    {
+        let _ = &self.kept;
     }
 
     /// Keeps a body that passes.
@@ -77,7 +71,7 @@ impl<'a> JudgedBodies<'a> {
 
     /// The refused body that stands first.
     pub(crate) fn refused(&self) -> Option<RefusedBody>
-        ensures value { result ≡ self.now.refused }
+        ensures { result ≡ self.now.refused }
     {
         self.refused
     }
@@ -95,5 +89,26 @@ impl<'a> JudgedBodies<'a> {
         self.kept.append(&mut kept)?;
         self.refused = first_of(self.refused, refused);
         Ok(())
+    }
+
+    /// The first place at which no body passes of those that the module has; their count where all do.
+    pub(crate) fn first_gap(&self, alloc: Global, count: u32) -> Result<u32, AllocError>
+        requires valid { IsValidShell self.now.bytes }
+        requires count { HasBodies self.now.bytes count }
+        ensures { IfOk result (IsFirstGap self.now.passed count) }
+    {
+        let marks = marks_of(alloc, &self.kept, count as usize)?;
+        Ok(first_unmarked(&marks) as u32)
+    }
+
+    /// The checked bodies of a module all of whose bodies pass, in their order.
+    pub(crate) fn into_bodies(self, alloc: Global, count: u32) -> Result<Vec<CheckedBody>, AllocError>
+        requires valid { IsValidShell self.bytes }
+        requires count { HasBodies self.bytes count }
+        requires all { HasAll self }
+        ensures { IfOk result (λ v. AllChecked self.entry.bytes v.items) }
+    {
+        let slots = in_slots(alloc, self.kept, count as usize)?;
+        emptied(alloc, slots)
     }
 }

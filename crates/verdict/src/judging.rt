@@ -63,7 +63,7 @@ fn joined(
 }
 
 /// The refusal of a module for that of one of its bodies.
-fn refused(imported: u32, body: RefusedBody) -> Refusal
+pub(crate) fn refused(imported: u32, body: RefusedBody) -> Refusal
     requires { imported + body.place < 2 ^ 32 }
     ensures { result ≡ refused_body (imported + body.place) body.refusal }
 {

@@ -21,6 +21,7 @@ mod passing;
 mod refusal;
 mod refused_body;
 mod rest;
+mod slots;
 mod standing;
 mod steps;
 mod tuning;

@@ -1,17 +1,24 @@
 //! Judging in steps: a module but its bodies, then its bodies in any order, then the verdict on the whole.
-ghost use Rattle.std.specs.Prelude.{◌≡◌, MatchResult, IfOk, IfSome};
+ghost use Rattle.std.specs.Prelude.{◌≡◌, ◌<◌, MatchResult, IfOk, IfSome, length};
+ghost use Rattle.wsyntax.specs.Modules.{ModuleShape};
+ghost use Rattle.wsyntax.specs.Binary.Shell.{Shell};
 ghost use Rattle.wsyntax.specs.Validation.Verdict.{IsVerdict, Accepted as accepted_verdict};
 ghost use Rattle.accepted.specs.Kept.{IsAcceptedFrom};
 ghost use Rattle.verdict.specs.Refusals.{verdict_of};
-ghost use Rattle.verdict.specs.Steps.{no_progress, IsValidShell, HasBodies, HasAll, JudgesFrom, IsStanding};
+ghost use Rattle.verdict.specs.Steps.{no_progress, IsValidShell, HasBodies, HasAll, IsChecker, JudgesAt, JudgesFrom, IsStanding};
 
 use crate::judged_bodies::JudgedBodies;
-use crate::judging::decode_and_check;
+use crate::judging::{decode_and_check, refused};
+use crate::keeping::checked_body;
+use crate::kept_body::KeptBody;
 use crate::refusal::Refusal;
+use crate::refused_body::RefusedBody;
 use crate::standing::Standing;
 use accepted::Accepted;
+use pieces::JobFault;
 use std::alloc::{AllocError, Global};
 use std::marker::Model;
+use wcheck::Checker;
 use wcontext::Context;
 use wsyntax::Module;
 
@@ -54,11 +61,53 @@ impl<'a> Judging<'a> {
         let _ = &self.bytes;
     }
 
+    /// All bytes of the module.
+    pub fn bytes(&self) -> &'a [u8]
+        ensures { result.now ≡ self.now }
+    {
+        self.bytes
+    }
+
     /// How many bodies it has.
     pub fn body_count(&self) -> u32
         ensures { HasBodies self.now result }
     {
         self.module.bodies.len() as u32
+    }
+
+    /// A checker for its bodies.
+    fn checker(&self, alloc: Global) -> Checker<'_>
+        ensures { IsChecker self.now result }
+    {
+        Checker::new(alloc, &self.context)
+    }
+
+    /// Judges the body at a place, and keeps it where it passes.
+    fn judge_at(
+        &self,
+        alloc: Global,
+        checker: &mut Checker<'_>,
+        judged: &mut JudgedBodies<'_>,
+        place: u32,
+    ) -> Result<(), Refusal>
+        requires of { judged.old.bytes ≡ self.now }
+        requires checker { IsChecker self.now checker.old }
+        requires place { (m : ModuleShape) → Shell self.now m → place < length m.bodies }
+        ensures checker { IsChecker self.now checker.new }
+        ensures judged { JudgesAt place judged.old judged.new result }
+    {
+        let func = self.context.imported_functions() as u32 + place;
+        match checked_body(alloc, checker, func, self.module.bodies[place as usize]) {
+            Ok(checked) => {
+                judged.keep(KeptBody { place, checked })?;
+                Ok(())
+            }
+            Err(JobFault::Refused(refusal)) => {
+                judged.refuse(RefusedBody { place, refusal });
+                Err(Refusal::Body { func, refusal })
+            }
+            Err(JobFault::Memory) => Err(Refusal::Memory),
+        }
     }
 
     /// Judges the bodies from the place `first` on, `count` of them or as many as there are, up to the first that is refused.
@@ -73,7 +122,12 @@ impl<'a> Judging<'a> {
         requires { judged.old.bytes ≡ self.now }
         ensures { JudgesFrom first count judged.old judged.new result }
     {
-        Err(Refusal::Memory)
+        let mut checker = self.checker(alloc);
+        let end = first.saturating_add(count).min(self.body_count());
+        for place in first..end {
+            self.judge_at(alloc, &mut checker, judged, place)?;
+        }
+        Ok(())
     }
 
     /// How the module stands by what was judged of its bodies.
@@ -81,7 +135,17 @@ impl<'a> Judging<'a> {
         requires { judged.now.bytes ≡ self.now }
         ensures { IfOk result (IsStanding judged.now) }
     {
-        Err(AllocError)
+        judged.are_sound();
+        let imported = self.context.imported_functions() as u32;
+        let count = self.body_count();
+        let gap = judged.first_gap(alloc, count)?;
+        Ok(match judged.refused() {
+            Some(body) if body.place <= gap => Standing::Refused(refused(imported, body)),
+            _ if gap < count => Standing::Open {
+                func: imported + gap,
+            },
+            _ => Standing::Accepted,
+        })
     }
 
     /// The accepted module, of which all bodies pass. None is judged again.
@@ -91,7 +155,15 @@ impl<'a> Judging<'a> {
         ensures verdict { IfOk result (λ _. IsVerdict self.entry accepted_verdict) }
         ensures parts { IfOk result (IsAcceptedFrom self.entry) }
     {
-        Err(AllocError)
+        judged.are_sound();
+        let count = self.body_count();
+        let Judging {
+            bytes: _,
+            module,
+            context,
+        } = self;
+        let bodies = judged.into_bodies(alloc, count)?;
+        Accepted::of(alloc, module, context, bodies)
     }
 }
 
