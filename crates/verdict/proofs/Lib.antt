@@ -15,3 +15,4 @@ pub mod Judgements
 pub mod Rules
 pub mod CheckedBodies
 pub mod KeptGroups
+pub mod SlotSteps
