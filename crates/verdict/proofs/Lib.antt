@@ -16,3 +16,5 @@ pub mod Rules
 pub mod CheckedBodies
 pub mod KeptGroups
 pub mod SlotSteps
+pub mod InSteps
+pub mod Noted
