@@ -26,7 +26,7 @@ use Rattle.verdict.specs.Judged.{body_refusal_of, given_refusal, body_refusal_at
 use Rattle.verdict.specs.Refusals.{verdict_of}
 use Rattle.verdict.specs.Rules.{KeepsRules}
 use Rattle.verdict.specs.Steps.{Progress, refusal_in, Passes, AllPassed, IsFirstGap, IsFirstOpen, HasBodies, IsChecker, IsSound, IsKept, IsRefusedBody, AllChecked, HasAll, PassFrom, with_passed, clipped, JudgesAt, JudgesFrom}
-use Rattle.verdict.proofs.Firsts.{all_accepted, body_refused}
+use Rattle.verdict.proofs.Firsts.{all_accepted, body_refused, indices_fit}
 use Rattle.verdict.proofs.Groups.{bytes_there, refusal_there}
 use Rattle.verdict.proofs.Judgements.{accepted_from}
 use Rattle.verdict.proofs.Rules.{each_typed}
@@ -228,3 +228,39 @@ pub end_parts : {E : Type 0} (bytes now : List ℕ) (m : Module) (x : IndexedCon
 end_parts bytes now m x all (Err e) keeps is checked made = tt
 end_parts bytes now m x all (Ok a) keeps is checked made =
     subst (λ (b : List ℕ). IsAcceptedFrom b a) is (accepted_from bytes m x all a made keeps.known.whole.shell (judged_where_all bytes m x all.items keeps checked))
+
+-- How it stands.
+
+pub count_there : (bytes now : List ℕ) (m : Module) (x : IndexedContext) (count : ℕ) → KeepsRules bytes m x → bytes ≡ now → HasBodies now count → count ≡ length (module_shape m).bodies
+count_there bytes now m x count keeps is counted = counted (module_shape m) (subst (λ (b : List ℕ). Shell b (module_shape m)) is keeps.known.whole.shell)
+
+-- the indices of all functions fit
+pub funcs_fit : (bytes now : List ℕ) (m : Module) (x : IndexedContext) (count j : ℕ) → KeepsRules bytes m x → bytes ≡ now → HasBodies now count → j ≡ x.imported → j + count < 4294967296
+funcs_fit bytes now m x count j keeps is counted first =
+    let few = indices_fit bytes (module_shape m) x count keeps.known.whole keeps.context (count_there bytes now m x count keeps is counted) in
+    omega arith
+
+pub standing_refused : (bytes : List ℕ) (m : Module) (x : IndexedContext) (p : Progress) (count gap j : ℕ) (r : RefusedBody) (y : Refusal) → KeepsRules bytes m x → bytes ≡ p.bytes → IsSound p → IsFirstGap p.passed count gap
+    → j ≡ x.imported → p.refused ≡ Some r → r.place ≤ gap → y ≡ Body (j + r.place) r.refusal → IsSomeAnd (verdict_of y) (IsVerdict p.bytes)
+standing_refused bytes m x p count gap j r y keeps is sound g first some within e =
+    let s = module_shape m in
+    let noted = sound s (subst (λ (b : List ℕ). Shell b s) is keeps.known.whole.shell) in
+    let refused : refusal_in s r.place ≡ Some r.refusal = subst (λ (o : Option RefusedBody). IfSome o (λ q. refusal_in s q.place ≡ Some q.refusal)) some noted.1 in
+    subst (λ (z : Refusal). IsSomeAnd (verdict_of z) (IsVerdict p.bytes)) (sym e)
+    (subst (λ (b : List ℕ). IsSomeAnd (verdict_of (Body (j + r.place) r.refusal)) (IsVerdict b)) is
+    (refused_where_first bytes m x p.passed count gap j r keeps noted.0 g first refused within))
+
+pub standing_open : OneShell → (bytes : List ℕ) (m : Module) (x : IndexedContext) (p : Progress) (count gap j : ℕ) → KeepsRules bytes m x → bytes ≡ p.bytes → HasBodies p.bytes count → IsFirstGap p.passed count gap
+    → j ≡ x.imported → gap < count → IfSome p.refused (λ r. gap < r.place) → (n : ModuleShape) → Shell p.bytes n → (place : ℕ) × IsFirstOpen n p place × (j + gap ≡ function_at n place)
+standing_open one bytes m x p count gap j keeps is counted g first lt unrefused n shell =
+    open_at one bytes m x p count gap j keeps (count_there bytes p.bytes m x count keeps is counted) g first lt unrefused n (subst (λ (b : List ℕ). Shell b n) (sym is) shell)
+
+pub standing_accepted : OneShell → (bytes : List ℕ) (m : Module) (x : IndexedContext) (p : Progress) (count gap : ℕ) → KeepsRules bytes m x → bytes ≡ p.bytes → IsSound p → HasBodies p.bytes count → IsFirstGap p.passed count gap
+    → count ≤ gap → IsVerdict p.bytes accepted_verdict × HasAll p
+standing_accepted one bytes m x p count gap keeps is sound counted g over =
+    let s = module_shape m in
+    let noted = sound s (subst (λ (b : List ℕ). Shell b s) is keeps.known.whole.shell) in
+    let all : AllPassed s p.passed = has_all s p.passed count gap (count_there bytes p.bytes m x count keeps is counted) g over in (
+      subst (λ (b : List ℕ). IsVerdict b accepted_verdict) is (accepted_where_all bytes m x p.passed keeps noted.0 all),
+      λ n shell. everywhere one (λ (k : ModuleShape). AllPassed k p.passed) bytes m x keeps all n (subst (λ (b : List ℕ). Shell b n) (sym is) shell),
+    )

@@ -1,4 +1,5 @@
 use Rattle.std.proofs.Common.{ℕ, List, sym, subst, ◌∙◌, arith}
+use Rattle.wsyntax.specs.Binary.Shell.{Shell}
 use Rattle.verdict.specs.Steps.{IsKept, IsRefusedBody}
 use Rattle.verdict.proofs.Rules.{few_functions, short_bodies}
 use Rattle.verdict.proofs.InSteps.{body_is_kept, body_is_refused, place_there, outside_there, typed_there}
@@ -61,7 +62,7 @@ returns-in_ok-keep-in-Ok-clause-judged c =
     let x = c.self.inside.context in
     let bodies = c.deref-bodies.result.now in
     let found = c.in-Ok.ensures.verdict in (
-      c.in_ok-keep.ensures,
+      c.in_ok-keep-in-Ok.ensures,
       λ n shell. (subst (λ (b : List ℕ). IsKept b record { place = c.args.place; checked = c.in-Ok.checked }) (c.self.view_is ∙ sym c.requires.of)
           (body_is_kept c.shells_are_determined.ensures c.self.inside.bytes.now m x c.args.checker.now.outside c.imported_functions.result c.args.place bodies _ c.in-Ok.checked c.self.invariant c.deref-bodies.ensures.value
           (outside_there c.self.inside.bytes.now c.args.self.now m x c.args.checker.now c.self.invariant c.self.view_is c.requires.checker) c.imported_functions.ensures.count
@@ -69,4 +70,13 @@ returns-in_ok-keep-in-Ok-clause-judged c =
     )
 
 pub returns-in-Err-Refused-clause-judged : goal.returns-in-Err-Refused-clause-judged
-returns-in-Err-Refused-clause-judged c = (c.refuse.ensures, ?)
+returns-in-Err-Refused-clause-judged c =
+    let m = c.self.inside.module in
+    let x = c.self.inside.context in
+    let bodies = c.deref-bodies.result.now in (
+      c.refuse.ensures,
+      λ n shell. body_is_refused c.shells_are_determined.ensures c.self.inside.bytes.now m x c.args.checker.now.outside c.imported_functions.result c.args.place bodies _ c.in-Err-Refused.refusal c.self.invariant c.deref-bodies.ensures.value
+          (outside_there c.self.inside.bytes.now c.args.self.now m x c.args.checker.now c.self.invariant c.self.view_is c.requires.checker) c.imported_functions.ensures.count
+          (place_there c.self.inside.bytes.now c.args.self.now m x c.args.place bodies c.self.invariant c.self.view_is c.deref-bodies.ensures.value c.requires.place)
+          (rw c.in-Err-Refused.field-0-is at c.in-Err-Refused.ensures.verdict) n (subst (λ (b : List ℕ). Shell b n) (c.requires.of ∙ sym c.self.view_is) shell),
+    )
