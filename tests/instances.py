@@ -32,7 +32,7 @@ from hosts import Left
 
 EXAMPLES = os.path.join(root, 'examples')
 WRAPPED = [f'-Wl,--wrap={name}' for name in ('malloc', 'realloc', 'free')]
-SANITIZERS = ['-fsanitize=address,undefined', '-fno-sanitize-recover=all', '-g']
+SANITIZERS = ['-O1', '-g', '-fsanitize=address,undefined', '-fno-sanitize-recover=all']
 HELGRIND = [*hosts.VALGRIND, '--tool=helgrind']
 # What is played: the compiler's flags, what runs before the program, and the number of each part (see instances.c).
 PLAYS = [('plain', [], {'flat': 1_000_000, 'heap': 20_000, 'fence': 20_000, 'threads': 3_000, 'refuse': 24, 'limits': 512}),
@@ -63,13 +63,20 @@ def started(words, environment=None):
     return ran.stdout, ran.returncode, ran.stderr
 
 
+def compiled(folder, target, sources, flags):
+    words = [hosts.needs('cc'), *flags, f'-I{hosts.INCLUDE}', '-o', target, *sources, os.path.join(folder, library.ARCHIVE), '-pthread']
+    _, status, error = started(words)
+    if status:
+        raise RuntimeError(f'{words}: {error.decode(errors="replace")}')
+    return target
+
+
 def built(folder, work, name, sources):
-    """The program of a file in C, by the compiler's flags."""
-    found = {}
-    for flags, words in {'plain': ['-g'], 'sanitized': SANITIZERS, 'debug': ['-g', *hosts.debugged()]}.items():
-        found[flags] = os.path.join(work, f'{name}-{flags}')
-        hosts.compile_c(sources[0], found[flags], folder, [*(os.path.join(here, it) for it in sources[1:]), *words, *WRAPPED])
-    return found
+    """The program of files in C, by the compiler's flags."""
+    flags = {'plain': ['-O2', '-g'], 'sanitized': SANITIZERS, 'debug': ['-O2', '-g', *hosts.debugged()]}
+    paths = [os.path.join(here, it) for it in sources]
+    return {it: compiled(folder, os.path.join(work, f'{name}-{it}'), paths, ['-std=c11', *hosts.WARNINGS, *words, *WRAPPED])
+            for it, words in flags.items()}
 
 
 def play(tally, program, before, given, part, number, seed):
@@ -125,9 +132,7 @@ def host(folder, sources, name, work, flags=()):
     source, target = os.path.join(sources, name + '.c'), os.path.join(work, name + '-sanitized' * bool(flags))
     if not os.path.exists(source):
         raise Left(f'no {name}.c')
-    words = [hosts.needs('cc'), '-std=gnu11', '-O2', '-g', *flags, f'-I{hosts.INCLUDE}', '-o', target, source]
-    hosts.built([*words, os.path.join(folder, library.ARCHIVE), '-pthread'])
-    return target
+    return compiled(folder, target, [source], ['-std=gnu11', *(flags or ['-O2', '-g'])])
 
 
 def written_modules(work):
