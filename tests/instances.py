@@ -159,7 +159,9 @@ def guarded(tally, program, modules, mutants):
 
 
 def leaking(tally, program, modules, rounds):
-    got = started([program, os.path.join(modules, 'run'), str(rounds)])
+    """It takes the first measure after four rounds with each module, of a quarter of the rounds."""
+    folder = os.path.join(modules, 'run')
+    got = started([program, folder, str(max(rounds, 32 * len(os.listdir(folder))))])
     parts = [(int(first), int(last)) for first, last in FLAT.findall(got[0].decode())]
     tally.expect(got[1] == 0 and len(parts) == 4, 'leak.c', got)
     tally.expect(all(last - first <= MOST_GROWTH for first, last in parts), 'leak.c: memory grows', got[0].decode())
