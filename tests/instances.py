@@ -32,7 +32,7 @@ from hosts import Left
 
 EXAMPLES = os.path.join(root, 'examples')
 WRAPPED = [f'-Wl,--wrap={name}' for name in ('malloc', 'realloc', 'free')]
-SANITIZERS = ['-fsanitize=address,undefined', '-fno-sanitize-recover=all', '-g']
+SANITIZERS = ['-O1', '-g', '-fsanitize=address,undefined', '-fno-sanitize-recover=all']
 HELGRIND = [*hosts.VALGRIND, '--tool=helgrind']
 # What is played: the compiler's flags, what runs before the program, and the number of each part (see instances.c).
 PLAYS = [('plain', [], {'flat': 1_000_000, 'heap': 20_000, 'fence': 20_000, 'threads': 3_000, 'refuse': 24, 'limits': 512}),
@@ -63,13 +63,20 @@ def started(words, environment=None):
     return ran.stdout, ran.returncode, ran.stderr
 
 
+def compiled(folder, target, sources, flags):
+    words = [hosts.needs('cc'), *flags, f'-I{hosts.INCLUDE}', '-o', target, *sources, os.path.join(folder, library.ARCHIVE), '-pthread']
+    _, status, error = started(words)
+    if status:
+        raise RuntimeError(f'{words}: {error.decode(errors="replace")}')
+    return target
+
+
 def built(folder, work, name, sources):
-    """The program of a file in C, by the compiler's flags."""
-    found = {}
-    for flags, words in {'plain': ['-g'], 'sanitized': SANITIZERS, 'debug': ['-g', *hosts.debugged()]}.items():
-        found[flags] = os.path.join(work, f'{name}-{flags}')
-        hosts.compile_c(sources[0], found[flags], folder, [*(os.path.join(here, it) for it in sources[1:]), *words, *WRAPPED])
-    return found
+    """The program of files in C, by the compiler's flags."""
+    flags = {'plain': ['-O2', '-g'], 'sanitized': SANITIZERS, 'debug': ['-O2', '-g', *hosts.debugged()]}
+    paths = [os.path.join(here, it) for it in sources]
+    return {it: compiled(folder, os.path.join(work, f'{name}-{it}'), paths, ['-std=c11', *hosts.WARNINGS, *words, *WRAPPED])
+            for it, words in flags.items()}
 
 
 def play(tally, program, before, given, part, number, seed):
@@ -82,35 +89,35 @@ def play(tally, program, before, given, part, number, seed):
     return int(got[0]) if got[1] == 0 else 0
 
 
-def plays(tally, pool, programs, given, table, seeds):
+def plays(tally, pool, programs, given, table, chosen):
     """Plays all parts of a table; answers how many statements held."""
     jobs = hosts.Jobs(tally, pool)
     for flags, before, numbers in table:
-        for part, seed in [(part, seed) for part in numbers for seed in (seeds[:1] if part in ONCE else seeds)]:
-            words = programs[flags], before, given, part, numbers[part], seed
-            jobs.begin(f'{part} by {before[0] if before else flags}', play, *words)
+        for part, seed in [(part, seed) for part in numbers for seed in (chosen.seeds[:1] if part in ONCE else chosen.seeds)]:
+            number = max(1, numbers[part] // (1 if part == 'limits' else chosen.less))
+            jobs.begin(f'{part} by {before[0] if before else flags}', play, programs[flags], before, given, part, number, seed)
     return sum(it or 0 for it in jobs.all())
 
 
-def model(tally, pool, folder, work, seeds):
+def model(tally, pool, folder, work, chosen):
     programs = built(folder, work, 'instances', ['instances.c', 'instances_model.c'])
-    print(f'instances: {plays(tally, pool, programs, EXAMPLES, PLAYS, seeds):,} statements held beside the model', flush=True)
+    print(f'instances: {plays(tally, pool, programs, EXAMPLES, PLAYS, chosen):,} statements held beside the model', flush=True)
 
 
-def edges(tally, pool, folder, work, seeds):
+def edges(tally, pool, folder, work, chosen):
     programs, modules = built(folder, work, 'edges', ['edges.c']), os.path.join(written_modules(work), 'run')
-    print(f'instances: {plays(tally, pool, programs, modules, EDGES, seeds):,} statements held on modules', flush=True)
+    print(f'instances: {plays(tally, pool, programs, modules, EDGES, chosen):,} statements held on modules', flush=True)
 
 
-def node(tally, folder, kept, seeds, steps):
+def node(tally, folder, chosen):
     hosts.needs('node')
     count = sequences.Count()
     try:
-        for seed in seeds:
-            sequences.sequences(os.path.join(folder, library.SHARED), seed, steps, count)
+        for seed in chosen.seeds:
+            sequences.sequences(os.path.join(folder, library.SHARED), seed, chosen.steps // chosen.less, count)
         tally.expect(True, 'node')
     except sequences.Difference as why:
-        path = os.path.join(kept, 'instances-difference')
+        path = os.path.join(chosen.kept, 'instances-difference')
         rows.write(path + '.wasm', why.module)
         rows.write(path + '.json', json.dumps(why.steps, indent=1).encode())
         tally.expect(False, f'beside node, {path}.wasm and {path}.json', why)
@@ -125,9 +132,7 @@ def host(folder, sources, name, work, flags=()):
     source, target = os.path.join(sources, name + '.c'), os.path.join(work, name + '-sanitized' * bool(flags))
     if not os.path.exists(source):
         raise Left(f'no {name}.c')
-    words = [hosts.needs('cc'), '-std=gnu11', '-O2', '-g', *flags, f'-I{hosts.INCLUDE}', '-o', target, source]
-    hosts.built([*words, os.path.join(folder, library.ARCHIVE), '-pthread'])
-    return target
+    return compiled(folder, target, [source], ['-std=gnu11', *(flags or ['-O2', '-g'])])
 
 
 def written_modules(work):
@@ -141,21 +146,22 @@ def written_modules(work):
     return os.path.join(work, 'vectors')
 
 
-def tortured(tally, words, part, modules, turns):
-    """Of torture.c what a caller may do; NO_HUGE where a sanitizer or valgrind would look at a gigabyte."""
-    environment = {'NO_WRONG': '1', 'TURNS': str(turns), **({'NO_HUGE': '1'} if turns != TURNS else {})}
-    got = started([*words, EXAMPLES, modules, part], environment)
+def tortured(tally, words, part, modules, turns, more=None):
+    """Of torture.c what a caller may do."""
+    got = started([*words, EXAMPLES, modules, part], {'NO_WRONG': '1', 'TURNS': str(turns), **(more or {})})
     tally.expect(got[1] == 0 and not got[2] and b', 0 do not hold' in got[0], ' '.join([*words, part]), got)
 
 
-def guarded(tally, program, modules):
+def guarded(tally, program, modules, mutants):
     for table in ('check', 'run'):
-        got = started([program, os.path.join(modules, table), str(MUTANTS), '7'])
+        got = started([program, os.path.join(modules, table), str(mutants), '7'])
         tally.expect(got[1] == 0 and not got[2] and b', 0 do not hold' in got[0], f'guard.c, {table}', got)
 
 
-def leaking(tally, program, modules):
-    got = started([program, os.path.join(modules, 'run'), str(ROUNDS)])
+def leaking(tally, program, modules, rounds):
+    """It takes the first measure after four rounds with each module, of a quarter of the rounds."""
+    folder = os.path.join(modules, 'run')
+    got = started([program, folder, str(max(rounds, 32 * len(os.listdir(folder))))])
     parts = [(int(first), int(last)) for first, last in FLAT.findall(got[0].decode())]
     tally.expect(got[1] == 0 and len(parts) == 4, 'leak.c', got)
     tally.expect(all(last - first <= MOST_GROWTH for first, last in parts), 'leak.c: memory grows', got[0].decode())
@@ -166,20 +172,21 @@ def fast(tally, program):
     tally.expect(got[1] == 0 and b'(end 0)' in got[0], 'speed.c', got)
 
 
-def embedder(tally, pool, folder, sources, work):
+def embedder(tally, pool, folder, work, chosen):
+    sources, less = chosen.hosts, chosen.less
     if not sources or not os.path.isdir(sources):
         raise Left('no folder of them')
     torture, guard, leak, speed = (host(folder, sources, name, work) for name in ('torture', 'guard', 'leak', 'speed'))
     sanitized = host(folder, sources, 'torture', work, SANITIZERS)
-    modules, jobs = written_modules(work), hosts.Jobs(tally, pool)
-    jobs.begin('torture.c', tortured, [torture], 'all', modules, TURNS)
-    jobs.begin('torture.c', tortured, [sanitized], 'all', modules, TURNS // 4)
+    modules, jobs, no_huge = written_modules(work), hosts.Jobs(tally, pool), {'NO_HUGE': '1'}
+    jobs.begin('torture.c', tortured, [torture], 'all', modules, TURNS // less)
+    jobs.begin('torture.c', tortured, [sanitized], 'all', modules, TURNS // less // 4, no_huge)
     if shutil.which('valgrind'):
         for part in ('null', 'edges', 'threads'):
-            jobs.begin('torture.c', tortured, [*hosts.MEMCHECK, torture], part, modules, FEW_TURNS)
-        jobs.begin('torture.c', tortured, [*HELGRIND, torture], 'threads', modules, FEW_TURNS)
-    jobs.begin('guard.c', guarded, guard, modules)
-    jobs.begin('leak.c', leaking, leak, modules)
+            jobs.begin('torture.c', tortured, [*hosts.MEMCHECK, torture], part, modules, FEW_TURNS // less)
+        jobs.begin('torture.c', tortured, [*HELGRIND, torture], 'threads', modules, FEW_TURNS // less)
+    jobs.begin('guard.c', guarded, guard, modules, MUTANTS // less)
+    jobs.begin('leak.c', leaking, leak, modules, ROUNDS // less)
     jobs.begin('speed.c', fast, speed)
     jobs.all()
 
@@ -187,15 +194,15 @@ def embedder(tally, pool, folder, sources, work):
 def main(folder, chosen):
     tally = hosts.Tally()
     with tempfile.TemporaryDirectory() as work, ThreadPoolExecutor(chosen.at_once) as pool:
-        parts = {'model': lambda: model(tally, pool, folder, work, chosen.seeds),
-                 'node': lambda: node(tally, folder, chosen.kept, chosen.seeds, chosen.steps),
-                 'edges': lambda: edges(tally, pool, folder, work, chosen.seeds),
-                 'hosts': lambda: embedder(tally, pool, folder, chosen.hosts, work)}
+        parts = {'model': lambda: model(tally, pool, folder, work, chosen), 'node': lambda: node(tally, folder, chosen),
+                 'edges': lambda: edges(tally, pool, folder, work, chosen), 'hosts': lambda: embedder(tally, pool, folder, work, chosen)}
         for name in chosen.parts:
             try:
                 parts[name]()
             except Left as why:
                 tally.leave_out(name, why)
+            except (OSError, RuntimeError, subprocess.SubprocessError) as error:
+                tally.expect(False, name, repr(error))
     left = f'{len(tally.left)} left out' + (f': {", ".join(tally.left)}' if tally.left else '')
     print(f'instances: {tally.passed} passed, {tally.failed} failed, {left}')
     return 1 if tally.failed else 0
@@ -209,6 +216,7 @@ if __name__ == '__main__':
     parser.add_argument('--steps', type=int, default=STEPS, help=f'steps beside node for each seed (default: {STEPS:,})')
     parser.add_argument('--hosts', metavar='FOLDER', help='where torture.c and the other hosts of an embedder stand')
     parser.add_argument('--kept', metavar='FOLDER', default='.', help='where a difference is written to (default: here)')
+    parser.add_argument('--less', type=int, default=1, metavar='N', help='plays, steps and turns are divided by this (default: 1)')
     parser.add_argument('--at-once', type=int, default=2, metavar='N', help='how many processes run side by side (default: 2)')
     words = parser.parse_args()
     sys.exit(main(os.path.abspath(words.library), words))

@@ -24,7 +24,7 @@ from typed import I32, I64, NUMERIC, STORES, Maker
 GUESTS = os.path.join(here, '..', 'examples', 'guests')
 STEPS = 24
 FUEL, FRAMES, PAGES = 200_000, 200, 64
-# Above that a memory is compared at the last step of its sequence alone.
+# A sequence ends where a memory has more bytes.
 LARGE = 1 << 20
 NUMBERS = [0, 1, 2, 3, 7, 8, 31, 64, 100, 255, 4096, 8192, 12288, 65528, 65535, 65536, 2 ** 31 - 1, 2 ** 31, 2 ** 32 - 1, 2 ** 63,
            2 ** 64 - 1]
