@@ -67,9 +67,10 @@ body_is_kept one bytes m x D j place bodies d checked keeps same outside is lt n
     let first : j ≡ length (imported_functions s) = is ∙ ap (λ (y : IndexedContext). y.imported) keeps.context in
     let there : slice_get s.bodies place ≡ Some b = subst (λ (bs : List (List ℕ)). slice_get bs place ≡ Some b) (ap (map (λ b. b.now)) same) (bytes_there bodies place d lt) in
     let within : place < length s.bodies = let n = length-map bodies (λ (b : Bor (List ℕ)). b.now) in let e = ap (λ (bs : List (Bor (List ℕ))). length (map (λ b. b.now) bs)) same in omega arith in
-    everywhere one (λ (n : ModuleShape). Passes n place × IsCheckedAt (module_context n) (length (imported_functions n)) n.bodies place checked) bytes m x keeps
-    ((within, refusal_found bytes m x D j place bodies d keeps same outside is lt ∙ none),
-    (b, there, subst (λ (i : ℕ). IsCheckedFrom (module_context s) (i + place) b checked) first (subst (λ (C : Context). IsCheckedFrom C (j + place) b checked) outside from)))
+    everywhere one (λ (n : ModuleShape). Passes n place × IsCheckedAt (module_context n) (length (imported_functions n)) n.bodies place checked) bytes m x keeps (
+      (within, refusal_found bytes m x D j place bodies d keeps same outside is lt ∙ none),
+      (b, there, subst (λ (i : ℕ). IsCheckedFrom (module_context s) (i + place) b checked) first (subst (λ (C : Context). IsCheckedFrom C (j + place) b checked) outside from)),
+    )
 
 pub body_is_refused : OneShell → (bytes : List ℕ) (m : Module) (x : IndexedContext) (D : Context) (j place : ℕ) (bodies : List (Bor (List ℕ))) (d : Bor (List ℕ)) (c : BodyRefusal) → KeepsRules bytes m x → bodies ≡ m.bodies.items
     → D ≡ module_context (module_shape m) → j ≡ x.imported → place < length bodies → body_refusal_of D (j + place) (get_or bodies place d).now ≡ Some c
@@ -107,9 +108,13 @@ pub refused_where_first : (bytes : List ℕ) (m : Module) (x : IndexedContext) (
 refused_where_first bytes m x passed count gap j r keeps sound g is refused within =
     let s = module_shape m in
     let first : j ≡ length (imported_functions s) = is ∙ ap (λ (y : IndexedContext). y.imported) keeps.context in
-    body_refused bytes s (Body (j + r.place) r.refusal) keeps.known
-    (r.place, refused_within (module_context s) (length (imported_functions s)) r.place s.bodies r.refusal refused, ap (λ (k : ℕ). k + r.place) first, refused,
-    λ k lt. pass_to_gap s passed gap sound g.before k (omega arith))
+    body_refused bytes s (Body (j + r.place) r.refusal) keeps.known (
+      r.place,
+      refused_within (module_context s) (length (imported_functions s)) r.place s.bodies r.refusal refused,
+      ap (λ (k : ℕ). k + r.place) first,
+      refused,
+      λ k lt. pass_to_gap s passed gap sound g.before k (omega arith),
+    )
 
 -- the first body of which nothing is known
 pub open_at : OneShell → (bytes : List ℕ) (m : Module) (x : IndexedContext) (p : Progress) (count gap j : ℕ) → KeepsRules bytes m x → count ≡ length (module_shape m).bodies → IsFirstGap p.passed count gap

@@ -91,9 +91,9 @@ marked_more kept n count marks b is below old =
       set = λ j d below e. dite (dec_eq d.place b.place)
           (λ same. ap (slice_get (slice_set marks b.place true)) same ∙ set_there marks b.place true lt)
           (λ apart. set_elsewhere marks b.place d.place true apart ∙
-            dite (dec_eq j n)
-            (λ last. absurd (apart (let one : Some b ≡ Some d = sym is ∙ ap (slice_get kept) (sym last) ∙ e in ap (λ (x : KeptBody). x.place) (some_is d b (sym one)))))
-            (λ other. old.set j d (omega arith) e));
+          dite (dec_eq j n)
+          (λ last. absurd (apart (let one : Some b ≡ Some d = sym is ∙ ap (slice_get kept) (sym last) ∙ e in ap (λ (x : KeptBody). x.place) (some_is d b (sym one)))))
+          (λ other. old.set j d (omega arith) e));
     }
 
 pub marked_next : (kept : List KeptBody) (n count : ℕ) (marks : List Bool) (b : KeptBody) → n < length kept → b ≡ get_or kept n b → All (λ b. b.place < count) kept → MarkedSo kept n count marks → MarkedSo kept (n + 1) count (slice_set marks b.place true)

@@ -107,7 +107,11 @@ impl<'a> JudgedBodies<'a> {
     }
 
     /// The checked bodies of a module all of whose bodies pass, in their order.
-    pub(crate) fn into_bodies(self, alloc: Global, count: u32) -> Result<Vec<CheckedBody>, AllocError>
+    pub(crate) fn into_bodies(
+        self,
+        alloc: Global,
+        count: u32,
+    ) -> Result<Vec<CheckedBody>, AllocError>
         requires valid { IsValidShell self.bytes }
         requires count { HasBodies self.bytes count }
         requires all { HasAll self }

@@ -152,7 +152,10 @@ fn judge_bodies_alone<W: Watch>(
 }
 
 /// The module of these bytes, where it keeps all rules, and the context of its bodies.
-pub(crate) fn decode_and_check<'a>(alloc: Global, bytes: &'a [u8]) -> Result<(Module<'a>, Context), Refusal>
+pub(crate) fn decode_and_check<'a>(
+    alloc: Global,
+    bytes: &'a [u8],
+) -> Result<(Module<'a>, Context), Refusal>
     ensures { MatchResult result (λ m. KeepsRules bytes.now m.0 m.1) (λ r. IfSome (verdict_of r) (IsVerdict bytes.now)) }
 {
     grammar_is_read();

@@ -15,13 +15,7 @@ pub(crate) fn first_of(a: Option<RefusedBody>, b: Option<RefusedBody>) -> Option
     match (a, b) {
         (None, _) => b,
         (Some(_), None) => a,
-        (Some(one), Some(other)) => {
-            if one.place <= other.place {
-                a
-            } else {
-                b
-            }
-        }
+        (Some(one), Some(other)) => { if one.place <= other.place { a } else { b } }
     }
 }
 
