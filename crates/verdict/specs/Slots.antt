@@ -14,4 +14,5 @@ pub record AreMarks (places : List ℕ) (count : ℕ) (marks : List Bool) : Type
 pub record AreSlots (kept : List KeptBody) (count : ℕ) (slots : List (Option CheckedBody)) : Type 0 where
   pub long : length slots ≡ count
   pub filled : (j : ℕ) (b : KeptBody) → slice_get kept j ≡ Some b → (c : CheckedBody) × (slice_get slots b.place ≡ Some (Some c))
-  pub from : (k : ℕ) (c : CheckedBody) → slice_get slots k ≡ Some (Some c) → (j : ℕ) × (slice_get kept j ≡ Some record { place = k; checked = c })
+  pub from : (k : ℕ) (c : CheckedBody) → slice_get slots k ≡ Some (Some c)
+      → (j : ℕ) × (slice_get kept j ≡ Some record { place = k; checked = c })

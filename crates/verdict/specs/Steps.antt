@@ -1,5 +1,6 @@
 -- The bodies of a module, judged in any order, and what is then known of the module.
-use Rattle.std.specs.Prelude.{◌≡◌, ◌+◌, ◌-◌, ◌<◌, ◌≤◌, ℕ, min, nat_le, List, [], ◌∷◌, ◌++◌, Option, Some, None, Result, Ok, Err, IfSome, IsSomeAnd, All, length, if◌then◌else◌}
+use Rattle.std.specs.Prelude.{◌≡◌, ◌+◌, ◌-◌, ◌<◌, ◌≤◌, ℕ, min, nat_le, List, [], ◌∷◌, ◌++◌, length, All}
+use Rattle.std.specs.Prelude.{Option, Some, None, Result, Ok, Err, IfSome, IsSomeAnd, if◌then◌else◌}
 use Rattle.std.specs.List.{Contains, range_with_len}
 use Rattle.wsyntax.specs.Modules.{ModuleShape}
 use Rattle.wsyntax.specs.Binary.Shell.{Shell}
@@ -19,7 +20,8 @@ use Rattle.verdict.specs.declared.standing.Standing.TheVariants.{Accepted, Refus
 use Rattle.verdict.specs.Judged.{body_refusal_at}
 use Rattle.verdict.specs.Refusals.{verdict_of}
 
--- what was judged of the bodies of the module that these bytes spell: the places of bodies that pass, in the order in which they were judged, and of those that are refused the one with the least place
+-- what was judged of the bodies of the module that these bytes spell
+-- It is the places of bodies that pass, in the order in which they were judged, and the refused one with the least place.
 pub record Progress : Type 0 where
   pub bytes : List ℕ
   pub passed : List ℕ
@@ -85,7 +87,8 @@ IsSound p = (m : ModuleShape) → Shell p.bytes m → All (Passes m) p.passed ×
 
 -- of each of its bodies the checked one
 abbrev pub AllChecked : List ℕ → List CheckedBody → Type 0
-AllChecked bytes all = (m : ModuleShape) → Shell bytes m → AreChecked (module_context m) (length (imported_functions m)) m.bodies (length m.bodies) all
+AllChecked bytes all = (m : ModuleShape) → Shell bytes m
+    → AreChecked (module_context m) (length (imported_functions m)) m.bodies (length m.bodies) all
 
 -- all of its bodies are among those that pass
 abbrev pub HasAll : Progress → Type 0
@@ -113,7 +116,8 @@ with_refused p r = record p { refused = least p.refused (Some r) }
 
 -- one body more: it passes, it is refused, or memory is
 abbrev pub JudgesAt : ℕ → Progress → Progress → Result (Unit {0}) Refusal → Type 0
-JudgesAt place old new (Ok _) = (new ≡ record old { passed = old.passed ++ place ∷ [] }) × ((m : ModuleShape) → Shell old.bytes m → Passes m place)
+JudgesAt place old new (Ok _) =
+    (new ≡ record old { passed = old.passed ++ place ∷ [] }) × ((m : ModuleShape) → Shell old.bytes m → Passes m place)
 JudgesAt place old new (Err (refusal.Body f c)) =
     (new ≡ with_refused old record { place = place; refusal = c })
     × ((m : ModuleShape) → Shell old.bytes m → (f ≡ function_at m place) × (refusal_in m place ≡ Some c))
@@ -138,11 +142,13 @@ pub record StopsAt (m : ModuleShape) (first count : ℕ) (old new : Progress) (f
   pub before : PassFrom m first n
   pub known : new ≡ with_refused (with_passed old first n) record { place = first + n; refusal = c }
 
--- the bodies from the place `first` on, `count` at most, are judged in their order, up to the first that is refused. Where memory is refused, some of them were
+-- the bodies from the place `first` on, `count` at most, are judged in their order, up to the first that is refused
+-- Where memory is refused, some of them were judged.
 abbrev pub JudgesFrom : ℕ → ℕ → Progress → Progress → Result (Unit {0}) Refusal → Type 0
 JudgesFrom first count old new (Ok _) = (m : ModuleShape) → Shell old.bytes m
     → PassFrom m first (clipped m first count) × (new ≡ with_passed old first (clipped m first count))
-JudgesFrom first count old new (Err (refusal.Body f c)) = (m : ModuleShape) → Shell old.bytes m → (n : ℕ) × StopsAt m first count old new f c n
+JudgesFrom first count old new (Err (refusal.Body f c)) =
+    (m : ModuleShape) → Shell old.bytes m → (n : ℕ) × StopsAt m first count old new f c n
 JudgesFrom first count old new (Err refusal.Memory) = (n : ℕ) × (n ≤ count) × (new ≡ with_passed old first n)
 JudgesFrom first count old new (Err refusal.TooLarge) = ⊥
 JudgesFrom first count old new (Err refusal.Malformed) = ⊥

@@ -1,10 +1,11 @@
 //! What was judged of the bodies of a module.
 ghost use Rattle.std.specs.Prelude.{◌≡◌, ◌<◌, ◌≤◌, ◌++◌, [], ◌∷◌, MatchOption, MatchResult, IfOk, IfSome};
-ghost use Rattle.verdict.specs.Steps.{no_progress, join, with_refused, IsSound, IsValidShell, HasBodies, HasAll, IsKept, IsRefusedBody, IsFirstGap, AllChecked};
+ghost use Rattle.verdict.specs.Steps.{no_progress, join, least, with_refused, IsFirstGap};
+ghost use Rattle.verdict.specs.Steps.{IsSound, IsValidShell, HasBodies, HasAll, IsKept, IsRefusedBody, AllChecked};
 
 use crate::kept_body::KeptBody;
 use crate::refused_body::RefusedBody;
-use crate::slots::{emptied, first_of, first_unmarked, in_slots, marks_of};
+use crate::slots::{emptied, first_unmarked, in_slots, marks_of};
 use checked::CheckedBody;
 use std::alloc::{AllocError, Global};
 use std::marker::Model;
@@ -29,6 +30,17 @@ impl<'a> Model for JudgedBodies<'a> {
     ghost view = { progress_of };
 
     ghost invariant = { AreJudged };
+}
+
+/// Of two refused bodies the one that stands first.
+fn first_of(a: Option<RefusedBody>, b: Option<RefusedBody>) -> Option<RefusedBody>
+    ensures { result ≡ least a b }
+{
+    match (a, b) {
+        (Some(one), Some(other)) if other.place < one.place => b,
+        (Some(_), _) => a,
+        (None, _) => b,
+    }
 }
 
 impl<'a> JudgedBodies<'a> {

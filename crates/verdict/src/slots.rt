@@ -1,23 +1,10 @@
 //! The places of the bodies of a module, and what was kept for each.
 ghost use Rattle.std.specs.Prelude.{◌≡◌, ◌<◌, ◌≤◌, ℕ, IfOk, IsSome, All, length, map, slice_get, true, false};
-ghost use Rattle.verdict.specs.Steps.{least};
 ghost use Rattle.verdict.specs.Slots.{AreMarks, AreSlots};
 
 use crate::kept_body::KeptBody;
-use crate::refused_body::RefusedBody;
 use checked::CheckedBody;
 use std::alloc::{AllocError, Global};
-
-/// Of two refused bodies the one that stands first.
-pub(crate) fn first_of(a: Option<RefusedBody>, b: Option<RefusedBody>) -> Option<RefusedBody>
-    ensures { result ≡ least a b }
-{
-    match (a, b) {
-        (None, _) => b,
-        (Some(_), None) => a,
-        (Some(one), Some(other)) => { if one.place <= other.place { a } else { b } }
-    }
-}
 
 /// Of each place below `count` whether a body is kept there.
 pub(crate) fn marks_of(

@@ -117,7 +117,7 @@ impl<'a> Judging<'a> {
     }
 
     /// Judges the bodies from the place `first` on, `count` of them or as many as there are, up to the first that is refused.
-    /// Where memory is refused, some of them may have been judged.
+    /// One that was judged before is judged again. Where memory is refused, some of them may have been judged.
     pub fn judge_bodies(
         &self,
         alloc: Global,
