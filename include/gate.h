@@ -112,8 +112,8 @@ enum gate_status {
     GATE_MODULE_REFUSED = 2,  /* the module is refused, and verdict or text say why */
     GATE_CALLS_REFUSED = 3,   /* the text of calls is refused, and the text says why */
     GATE_NOTHING = 4,         /* there is no such export or function; nothing is written */
-    GATE_BAD_ARGUMENT = 64,   /* a limit is out of its range, numbers are of no verdict or value, or a handle is of another module; nothing
-                                 is written */
+    GATE_BAD_ARGUMENT = 64,   /* a limit is out of its range, numbers are of no verdict or value, or a handle is of other bytes; nothing is
+                                 written */
     GATE_NO_MEMORY = 70,      /* a block was refused that the function cannot do without; nothing is written */
     GATE_SHORT_BUFFER = 75,   /* *length bytes are wanted; out is as it was */
     GATE_OUTSIDE = 80,        /* bytes do not lie in the memory of an instance; nothing is done */
@@ -519,8 +519,8 @@ uint32_t gate_judging_join(gate_judging judging, gate_judging other) GATE_ANSWER
  *   GATE_MODULE_REFUSED  verdict is that of the first body that is refused: all bodies before it were judged
  *   GATE_NOT_JUDGED      a body on which the verdict hangs was not judged; nothing is written
  *   GATE_SHARED          all bodies were judged, but another handle of the check is neither joined nor freed; nothing is written
- *   GATE_NO_MEMORY       nothing is written. The handle is not freed, but its module may be: each call of it answers GATE_NO_MEMORY then
- * But with GATE_OK the handle stays. */
+ *   GATE_NO_MEMORY       nothing is written. What was judged may be lost: each call of the handle answers GATE_NO_MEMORY then
+ * With all but GATE_OK the handle stays, and is to be freed. */
 uint32_t gate_judging_end(gate_judging judging, gate_verdict *verdict, gate_module *module) GATE_NOT_NULL((2, 3)) GATE_ANSWERS;
 
 /* Frees a handle, and with the last one all that was judged. */
