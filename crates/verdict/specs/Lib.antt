@@ -7,3 +7,6 @@ pub mod Parts
 pub mod OnePass
 pub mod WholeBodies
 pub mod Laws
+pub mod Slots
+pub mod Steps
+pub mod JudgedBodies

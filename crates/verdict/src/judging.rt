@@ -63,7 +63,7 @@ fn joined(
 }
 
 /// The refusal of a module for that of one of its bodies.
-fn refused(imported: u32, body: RefusedBody) -> Refusal
+pub(crate) fn refused(imported: u32, body: RefusedBody) -> Refusal
     requires { imported + body.place < 2 ^ 32 }
     ensures { result ≡ refused_body (imported + body.place) body.refusal }
 {
@@ -152,7 +152,7 @@ fn judge_bodies_alone<W: Watch>(
 }
 
 /// The module of these bytes, where it keeps all rules, and the context of its bodies.
-fn decode_and_check<'a>(alloc: Global, bytes: &'a [u8]) -> Result<(Module<'a>, Context), Refusal>
+pub(crate) fn decode_and_check<'a>(alloc: Global, bytes: &'a [u8]) -> Result<(Module<'a>, Context), Refusal>
     ensures { MatchResult result (λ m. KeepsRules bytes.now m.0 m.1) (λ r. IfSome (verdict_of r) (IsVerdict bytes.now)) }
 {
     grammar_is_read();

@@ -1,0 +1,16 @@
+-- Places of bodies, marked or filled.
+use Rattle.std.specs.Prelude.{◌≡◌, ◌<◌, ◌↔◌, ℕ, Bool, List, Option, Some, IsTrue, length, slice_get, slice_index}
+use Rattle.std.specs.List.{Contains}
+use Rattle.checked.specs.declared.body.CheckedBody.{CheckedBody}
+use Rattle.verdict.specs.declared.kept_body.KeptBody.{KeptBody}
+
+-- of each place below `count` whether it is one of these
+pub record AreMarks (places : List ℕ) (count : ℕ) (marks : List Bool) : Type 0 where
+  pub long : length marks ≡ count
+  pub each : (k : ℕ) → k < count → IsTrue (slice_index marks k) ↔ Contains places k
+
+-- each of these bodies has filled the slot of its place, and no other body fills one
+pub record AreSlots (kept : List KeptBody) (count : ℕ) (slots : List (Option CheckedBody)) : Type 0 where
+  pub long : length slots ≡ count
+  pub filled : (j : ℕ) (b : KeptBody) → slice_get kept j ≡ Some b → (c : CheckedBody) × (slice_get slots b.place ≡ Some (Some c))
+  pub from : (k : ℕ) (c : CheckedBody) → slice_get slots k ≡ Some (Some c) → (j : ℕ) × (slice_get kept j ≡ Some record { place = k; checked = c })

@@ -1,0 +1,99 @@
+//! The places of the bodies of a module, and what was kept for each.
+ghost use Rattle.std.specs.Prelude.{◌≡◌, ◌<◌, ◌≤◌, ◌↔◌, ℕ, IfOk, IsTrue, IsSome, All, Some, None, length, map, nat_le, slice_index, vec_len};
+ghost use Rattle.verdict.specs.Steps.{least};
+ghost use Rattle.verdict.specs.Slots.{AreMarks, AreSlots};
+
+use crate::kept_body::KeptBody;
+use crate::refused_body::RefusedBody;
+use checked::CheckedBody;
+use std::alloc::{AllocError, Global};
+
+/// Of two refused bodies the one that stands first.
+pub(crate) fn first_of(a: Option<RefusedBody>, b: Option<RefusedBody>) -> Option<RefusedBody>
+    ensures { result ≡ least a b }
+{
+    match (a, b) {
+        (None, _) => b,
+        (Some(_), None) => a,
+        (Some(one), Some(other)) => {
+            if one.place <= other.place {
+                a
+            } else {
+                b
+            }
+        }
+    }
+}
+
+/// Of each place below `count` whether a body is kept there.
+pub(crate) fn marks_of(
+    alloc: Global,
+    kept: &[KeptBody],
+    count: usize,
+) -> Result<Vec<bool>, AllocError>
+    requires { All (λ b. b.place < count) kept.now }
+    ensures { IfOk result (λ v. AreMarks (map (λ b. b.place) kept.now) count v.items) }
+{
+    let mut marks = vec![in alloc; false; count]?;
+    for body in kept {
+        marks[body.place as usize] = true;
+    }
+    Ok(marks)
+}
+
+/// The first place that is not marked; their count where all are.
+pub(crate) fn first_unmarked(marks: &[bool]) -> usize
+    ensures within { result ≤ length marks.now }
+    ensures marked { (k : ℕ) → k < result → IsTrue (slice_index marks.now k) }
+    ensures unmarked { result < length marks.now → slice_index marks.now result ≡ false }
+{
+    for place in 0..marks.len() {
+        if !marks[place] {
+            return place;
+        }
+    }
+    marks.len()
+}
+
+/// So many slots with nothing in them.
+fn empty_slots(alloc: Global, count: usize) -> Result<Vec<Option<CheckedBody>>, AllocError>
+    ensures { IfOk result (λ v. vec_len v ≡ count) }
+{
+    let mut slots = Vec::with_capacity(alloc, count)?;
+    for _ in 0..count {
+        slots.push(None)?;
+    }
+    Ok(slots)
+}
+
+/// Each body in the slot of its place.
+pub(crate) fn in_slots(
+    alloc: Global,
+    kept: Vec<KeptBody>,
+    count: usize,
+) -> Result<Vec<Option<CheckedBody>>, AllocError>
+    requires { All (λ b. b.place < count) kept.items }
+    ensures { IfOk result (λ v. AreSlots kept.items count v.items) }
+{
+    let mut slots = empty_slots(alloc, count)?;
+    for body in kept {
+        slots[body.place as usize] = Some(body.checked);
+    }
+    Ok(slots)
+}
+
+/// What stands in the slots, of which none is empty.
+pub(crate) fn emptied(
+    alloc: Global,
+    slots: Vec<Option<CheckedBody>>,
+) -> Result<Vec<CheckedBody>, AllocError>
+    requires { All IsSome slots.items }
+    ensures { IfOk result (λ v. map Some v.items ≡ slots.items) }
+{
+    let mut bodies = Vec::with_capacity(alloc, slots.len())?;
+    for slot in slots {
+        let Some(body) = slot else { unreachable!() };
+        bodies.push(body)?;
+    }
+    Ok(bodies)
+}

@@ -1,0 +1,177 @@
+//! Judging in steps: a module but its bodies, then its bodies in any order, then the verdict on the whole.
+ghost use Rattle.std.specs.Prelude.{◌≡◌, ◌<◌, MatchResult, IfOk, IfSome, length};
+ghost use Rattle.wsyntax.specs.Modules.{ModuleShape};
+ghost use Rattle.wsyntax.specs.Binary.Shell.{Shell};
+ghost use Rattle.wsyntax.specs.Validation.Verdict.{IsVerdict, Accepted as accepted_verdict};
+ghost use Rattle.accepted.specs.Kept.{IsAcceptedFrom};
+ghost use Rattle.verdict.specs.Refusals.{verdict_of};
+ghost use Rattle.verdict.specs.Steps.{no_progress, IsValidShell, HasBodies, HasAll, IsChecker, JudgesAt, JudgesFrom, IsStanding};
+
+use crate::judged_bodies::JudgedBodies;
+use crate::judging::{decode_and_check, refused};
+use crate::keeping::checked_body;
+use crate::kept_body::KeptBody;
+use crate::refusal::Refusal;
+use crate::refused_body::RefusedBody;
+use crate::standing::Standing;
+use accepted::Accepted;
+use pieces::JobFault;
+use std::alloc::{AllocError, Global};
+use std::marker::Model;
+use wcheck::Checker;
+use wcontext::Context;
+use wsyntax::Module;
+
+/// A module that keeps all rules, of which the bodies are to be judged. To clauses it is the bytes of the module.
+#[derive(Drop)]
+pub struct Judging<'a> {
+    bytes: &'a [u8],
+    module: Module<'a>,
+    context: Context,
+}
+
+impl<'a> Model for Judging<'a> {
+    ghost use Rattle.std.specs.Prelude.{List, ℕ};
+    ghost use Rattle.verdict.specs.Rules.{KeepsRules};
+
+    ghost Value = { List ℕ };
+
+    ghost view = { λ j. j.bytes.now };
+
+    ghost invariant = { λ j. KeepsRules j.bytes.now j.«module» j.context };
+}
+
+impl<'a> Judging<'a> {
+    /// The module of these bytes, where it keeps all rules.
+    pub fn of(alloc: Global, bytes: &'a [u8]) -> Result<Judging<'a>, Refusal>
+        ensures { MatchResult result (λ j. j ≡ bytes.now) (λ r. IfSome (verdict_of r) (IsVerdict bytes.now)) }
+    {
+        let (module, context) = decode_and_check(alloc, bytes)?;
+        Ok(Judging {
+            bytes,
+            module,
+            context,
+        })
+    }
+
+    /// The law that its bytes spell a module that keeps all rules.
+    pub fn keeps_rules(&self)
+        ensures { IsValidShell self.now }
+    {
+        let _ = &self.bytes;
+    }
+
+    /// All bytes of the module.
+    pub fn bytes(&self) -> &'a [u8]
+        ensures { result.now ≡ self.now }
+    {
+        self.bytes
+    }
+
+    /// How many bodies it has.
+    pub fn body_count(&self) -> u32
+        ensures { HasBodies self.now result }
+    {
+        self.module.bodies.len() as u32
+    }
+
+    /// A checker for its bodies.
+    fn checker(&self, alloc: Global) -> Checker<'_>
+        ensures { IsChecker self.now result }
+    {
+        Checker::new(alloc, &self.context)
+    }
+
+    /// Judges the body at a place, and keeps it where it passes.
+    fn judge_at(
+        &self,
+        alloc: Global,
+        checker: &mut Checker<'_>,
+        judged: &mut JudgedBodies<'_>,
+        place: u32,
+    ) -> Result<(), Refusal>
+        requires of { judged.old.bytes ≡ self.now }
+        requires checker { IsChecker self.now checker.old }
+        requires place { (m : ModuleShape) → Shell self.now m → place < length m.bodies }
+        ensures checker { IsChecker self.now checker.new }
+        ensures judged { JudgesAt place judged.old judged.new result }
+    {
+        let func = self.context.imported_functions() as u32 + place;
+        match checked_body(alloc, checker, func, self.module.bodies[place as usize]) {
+            Ok(checked) => {
+                judged.keep(KeptBody { place, checked })?;
+                Ok(())
+            }
+            Err(JobFault::Refused(refusal)) => {
+                judged.refuse(RefusedBody { place, refusal });
+                Err(Refusal::Body { func, refusal })
+            }
+            Err(JobFault::Memory) => Err(Refusal::Memory),
+        }
+    }
+
+    /// Judges the bodies from the place `first` on, `count` of them or as many as there are, up to the first that is refused.
+    /// Where memory is refused, some of them may have been judged.
+    pub fn judge_bodies(
+        &self,
+        alloc: Global,
+        judged: &mut JudgedBodies<'_>,
+        first: u32,
+        count: u32,
+    ) -> Result<(), Refusal>
+        requires { judged.old.bytes ≡ self.now }
+        ensures { JudgesFrom first count judged.old judged.new result }
+    {
+        let mut checker = self.checker(alloc);
+        let end = first.saturating_add(count).min(self.body_count());
+        for place in first..end {
+            self.judge_at(alloc, &mut checker, judged, place)?;
+        }
+        Ok(())
+    }
+
+    /// How the module stands by what was judged of its bodies.
+    pub fn standing(&self, alloc: Global, judged: &JudgedBodies<'_>) -> Result<Standing, AllocError>
+        requires { judged.now.bytes ≡ self.now }
+        ensures { IfOk result (IsStanding judged.now) }
+    {
+        judged.are_sound();
+        let imported = self.context.imported_functions() as u32;
+        let count = self.body_count();
+        let gap = judged.first_gap(alloc, count)?;
+        Ok(match judged.refused() {
+            Some(body) if body.place <= gap => Standing::Refused(refused(imported, body)),
+            _ if gap < count => Standing::Open {
+                func: imported + gap,
+            },
+            _ => Standing::Accepted,
+        })
+    }
+
+    /// The accepted module, of which all bodies pass. None is judged again.
+    pub fn end(self, alloc: Global, judged: JudgedBodies<'_>) -> Result<Accepted<'a>, AllocError>
+        requires of { judged.bytes ≡ self }
+        requires all { HasAll judged }
+        ensures verdict { IfOk result (λ _. IsVerdict self.entry accepted_verdict) }
+        ensures parts { IfOk result (IsAcceptedFrom self.entry) }
+    {
+        judged.are_sound();
+        let count = self.body_count();
+        let Judging {
+            bytes: _,
+            module,
+            context,
+        } = self;
+        let bodies = judged.into_bodies(alloc, count)?;
+        Accepted::of(alloc, module, context, bodies)
+    }
+}
+
+impl<'a> JudgedBodies<'a> {
+    /// Nothing was judged of the bodies of this module.
+    pub fn none(alloc: Global, judging: &Judging<'a>) -> JudgedBodies<'a>
+        ensures { result ≡ no_progress judging.now }
+    {
+        JudgedBodies::of_none(alloc, judging.bytes)
+    }
+}
