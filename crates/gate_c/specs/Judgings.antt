@@ -1,5 +1,5 @@
 -- A check in steps.
-use Rattle.std.specs.Prelude.{◌≡◌, ◌⊎◌, ℕ, List, Option, Some, None, Unit, Result, Ok, Err, IfSome, IsSomeAnd, option_map}
+use Rattle.std.specs.Prelude.{◌≡◌, ◌⊎◌, ℕ, List, Option, Some, None, Result, Ok, Err, IfSome, IsSomeAnd, option_map}
 use Rattle.wsyntax.specs.Validation.Verdict.{Verdict, Accepted, BodyRefused, IsVerdict}
 use Rattle.accepted.specs.Kept.{IsAcceptedFrom}
 use Rattle.accepted.specs.declared.accepted.Accepted.{Accepted as AcceptedModule}
@@ -47,6 +47,10 @@ SharesJudging p was slot answered =
 abbrev pub Goes : Pending → Pending → (Progress → Progress → Type 0) → Type 0
 Goes old new P = (p : Progress) × (q : Progress) × (progress_in old ≡ Some p) × (progress_in new ≡ Some q) × P p q
 
+-- the bytes are those of a module that keeps all rules, and of its bodies from the place `first` on, `count` at most, those are judged
+abbrev pub JudgesSome : ℕ → ℕ → Result (Unit {0}) Refusal → Progress → Progress → Type 0
+JudgesSome first count r p q = IsValidShell p.bytes × JudgesFrom first count p q r
+
 abbrev pub HasNone : Pending → Pending → Type 0
 HasNone old new = (progress_in old ≡ None) × (progress_in new ≡ None)
 
@@ -58,10 +62,10 @@ TellsJudged (Err r) before after answered = TellsRefusal (verdict_of r) before a
 -- the bodies from the place `first` on, `count` at most, pass, and are judged; or one of them is the first that is refused, and that is written; or memory was refused, and some are judged
 abbrev pub AnswersBodies : ℕ → ℕ → Pending → Pending → GateVerdict → GateVerdict → ℕ → Type 0
 AnswersBodies first count old new before after answered =
-    ((answered ≡ 0) × (after ≡ before) × Goes old new (λ p q. JudgesFrom first count p q (Ok tt)))
+    ((answered ≡ 0) × (after ≡ before) × Goes old new (JudgesSome first count (Ok tt)))
     ⊎ (((answered ≡ 2) × ((f : ℕ) × (c : BodyRefusal) × (after ≡ numbers_of (BodyRefused f (fault_of c)))
-    × Goes old new (λ p q. JudgesFrom first count p q (Err (refusal.Body f c)))))
-    ⊎ ((answered ≡ 70) × (after ≡ before) × (HasNone old new ⊎ Goes old new (λ p q. JudgesFrom first count p q (Err refusal.Memory)))))
+    × Goes old new (JudgesSome first count (Err (refusal.Body f c)))))
+    ⊎ ((answered ≡ 70) × (after ≡ before) × (HasNone old new ⊎ Goes old new (JudgesSome first count (Err refusal.Memory)))))
 
 -- what both judged is joined, where they are of the same bytes; else nothing changes
 abbrev pub AnswersJoin : Pending → Pending → Pending → ℕ → Type 0

@@ -35,7 +35,7 @@ pub(crate) enum Ended {
 
 impl Steps {
     ghost use Rattle.std.specs.Prelude.{IfOk};
-    ghost use Rattle.verdict.specs.Steps.{no_progress, HasAll, JudgesFrom, IsStanding};
+    ghost use Rattle.verdict.specs.Steps.{no_progress, HasAll, IsValidShell, JudgesFrom, IsStanding};
     ghost use Rattle.gate_c.specs.Steps.{Joins, Ends};
 
     /// Nothing was judged of this module yet.
@@ -61,12 +61,14 @@ impl Steps {
         first: u32,
         count: u32,
     ) -> (Steps, Result<(), Refusal>)
-        ensures { JudgesFrom first count self.judged result.0.judged result.1 }
+        ensures valid { IsValidShell self.judged.bytes }
+        ensures judged { JudgesFrom first count self.judged result.0.judged result.1 }
     {
         let Steps {
             judging,
             mut judged,
         } = self;
+        judging.keeps_rules();
         let result = judging.judge_bodies(alloc, &mut judged, first, count);
         (Steps { judging, judged }, result)
     }
