@@ -1,5 +1,5 @@
 -- A check in steps.
-use Rattle.std.specs.Prelude.{◌≡◌, ◌⊎◌, ℕ, List, Option, Some, None, Result, Ok, Err, IfSome, IsSomeAnd, option_map}
+use Rattle.std.specs.Prelude.{◌≡◌, ◌⊎◌, ℕ, List, Option, Some, None, Result, Ok, Err, IsSomeAnd, option_map}
 use Rattle.wsyntax.specs.Validation.Verdict.{Verdict, Accepted, BodyRefused, IsVerdict}
 use Rattle.accepted.specs.Kept.{IsAcceptedFrom}
 use Rattle.accepted.specs.declared.accepted.Accepted.{Accepted as AcceptedModule}
@@ -23,13 +23,17 @@ progress_in p = option_map (λ s. s.judged) p.steps
 abbrev pub IsFresh : List ℕ → Pending → Type 0
 IsFresh bytes p = progress_in p ≡ Some (no_progress bytes)
 
+-- the module of these bytes is refused, and its verdict is written
+abbrev pub RefusesModule : List ℕ → GateVerdict → Type 0
+RefusesModule bytes after = (v : Verdict) × IsVerdict bytes v × (status_of v ≡ 2) × (after ≡ numbers_of v)
+
 -- Beginning.
 
--- memory was refused; or the module is refused, and its verdict is written; or it keeps all rules, and the handle that is written has judged none of its bodies, which are so many
+-- memory was refused; or the module is refused; or it keeps all rules and has so many bodies, and the handle that is written judged none
 abbrev pub BeginsJudging : List ℕ → GateVerdict → GateVerdict → JudgingSlot → JudgingSlot → ℕ → ℕ → ℕ → Type 0
 BeginsJudging bytes before after was slot old new answered =
     ((answered ≡ 70) × (after ≡ before) × (slot ≡ was) × (new ≡ old))
-    ⊎ (((answered ≡ 2) × ((v : Verdict) × IsVerdict bytes v × (status_of v ≡ 2) × (after ≡ numbers_of v)) × (slot ≡ was) × (new ≡ old))
+    ⊎ (((answered ≡ 2) × RefusesModule bytes after × (slot ≡ was) × (new ≡ old))
     ⊎ ((answered ≡ 0) × (after ≡ before) × IsSomeAnd slot.value (IsFresh bytes) × IsValidShell bytes × HasBodies bytes new))
 
 -- it is of the same module, and of its bodies nothing was judged by the other handle
@@ -59,7 +63,7 @@ abbrev pub TellsJudged : Result (Unit {0}) Refusal → GateVerdict → GateVerdi
 TellsJudged (Ok _) before after answered = (answered ≡ 0) × (after ≡ before)
 TellsJudged (Err r) before after answered = TellsRefusal (verdict_of r) before after answered
 
--- the bodies from the place `first` on, `count` at most, pass, and are judged; or one of them is the first that is refused, and that is written; or memory was refused, and some are judged
+-- the bodies from the place `first` on, `count` at most, pass; or one is the first that is refused, and that is written; or memory was
 abbrev pub AnswersBodies : ℕ → ℕ → Pending → Pending → GateVerdict → GateVerdict → ℕ → Type 0
 AnswersBodies first count old new before after answered =
     ((answered ≡ 0) × (after ≡ before) × Goes old new (JudgesSome first count (Ok tt)))
@@ -84,7 +88,8 @@ StaysOpen old left was slot = IsSomeAnd left (λ p. progress_in p ≡ progress_i
 -- all bodies were judged, and the module is accepted; the handle that is written owns it, and that of the check is gone
 abbrev pub Accepts : Progress → GateVerdict → ModuleSlot → Option Pending → Type 0
 Accepts p after slot left =
-    HasAll p × IsVerdict p.bytes Accepted × (after ≡ numbers_of Accepted) × IsSomeAnd slot.value (λ h. IsAcceptedFrom p.bytes h.accepted.value) × (left ≡ None)
+    HasAll p × IsVerdict p.bytes Accepted × (after ≡ numbers_of Accepted)
+    × IsSomeAnd slot.value (λ h. IsAcceptedFrom p.bytes h.accepted.value) × (left ≡ None)
 
 -- so it is where all bodies pass; or another handle has the module too; or memory was refused, and this one has no module any more
 abbrev pub EndsAccepted : Progress → Option Pending → GateVerdict → GateVerdict → ModuleSlot → ModuleSlot → ℕ → Type 0
@@ -99,11 +104,13 @@ HandsAccepted a left before after was slot answered =
     ((answered ≡ 0) × (after ≡ numbers_of Accepted) × IsSomeAnd slot.value (λ h. h.accepted.value ≡ a) × (left ≡ None))
     ⊎ ((answered ≡ 70) × (after ≡ before) × (slot ≡ was) × IsSomeAnd left (λ q. progress_in q ≡ None))
 
--- accepted; or refused, and the verdict of the module is written; or a body was not judged; or all were, but another handle has the module; or memory was refused, and the handle may have no module any more
+-- accepted; or refused; or a body was not judged; or all were, and another handle has the module too; or memory was refused
 abbrev pub EndsJudging : Pending → Option Pending → GateVerdict → GateVerdict → ModuleSlot → ModuleSlot → ℕ → Type 0
 EndsJudging old left before after was slot answered =
     ((answered ≡ 0) × IsSomeAnd (progress_in old) (λ p. Accepts p after slot left))
-    ⊎ (((answered ≡ 2) × IsSomeAnd (progress_in old) (λ p. (v : Verdict) × IsVerdict p.bytes v × (status_of v ≡ 2) × (after ≡ numbers_of v)) × StaysOpen old left was slot)
-    ⊎ (((answered ≡ 83) × IsSomeAnd (progress_in old) (λ p. (f : ℕ) × IsStanding p (Open f)) × (after ≡ before) × StaysOpen old left was slot)
+    ⊎ (((answered ≡ 2) × IsSomeAnd (progress_in old) (λ p. RefusesModule p.bytes after) × StaysOpen old left was slot)
+    ⊎ (((answered ≡ 83) × IsSomeAnd (progress_in old) (λ p. (f : ℕ) × IsStanding p (Open f)) × (after ≡ before)
+    × StaysOpen old left was slot)
     ⊎ (((answered ≡ 84) × IsSomeAnd (progress_in old) HasAll × (after ≡ before) × StaysOpen old left was slot)
-    ⊎ ((answered ≡ 70) × (after ≡ before) × (slot ≡ was) × IsSomeAnd left (λ p. (progress_in p ≡ progress_in old) ⊎ (progress_in p ≡ None))))))
+    ⊎ ((answered ≡ 70) × (after ≡ before) × (slot ≡ was)
+    × IsSomeAnd left (λ p. (progress_in p ≡ progress_in old) ⊎ (progress_in p ≡ None))))))

@@ -9,8 +9,8 @@ ghost use Rattle.gate_c.specs.Slots.{slot_owns};
 ghost use Rattle.gate_c.specs.contracts.pending.Pending.{the_row};
 ghost use Rattle.gate_c.specs.declared.pending.Pending.{Pending};
 
-use crate::pending::Pending;
 use crate::loose::Loose;
+use crate::pending::Pending;
 use std::alloc::Global;
 use std::marker::Model;
 

@@ -55,12 +55,7 @@ impl Steps {
     }
 
     /// Judges `count` bodies from the place `first` on, or as many as there are, up to the first that is refused.
-    pub(crate) fn judge(
-        self,
-        alloc: Global,
-        first: u32,
-        count: u32,
-    ) -> (Steps, Result<(), Refusal>)
+    pub(crate) fn judge(self, alloc: Global, first: u32, count: u32) -> (Steps, Result<(), Refusal>)
         ensures valid { IsValidShell self.judged.bytes }
         ensures judged { JudgesFrom first count self.judged result.0.judged result.1 }
     {
