@@ -15,3 +15,6 @@ pub mod Judgements
 pub mod Rules
 pub mod CheckedBodies
 pub mod KeptGroups
+pub mod SlotSteps
+pub mod InSteps
+pub mod Noted

@@ -1,13 +1,14 @@
 -- Places of bodies, marked or filled.
-use Rattle.std.specs.Prelude.{◌≡◌, ◌<◌, ◌↔◌, ℕ, Bool, List, Option, Some, IsTrue, length, slice_get, slice_index}
+use Rattle.std.specs.Prelude.{◌≡◌, ℕ, Bool, true, false, List, Option, Some, length, slice_get}
 use Rattle.std.specs.List.{Contains}
 use Rattle.checked.specs.declared.body.CheckedBody.{CheckedBody}
 use Rattle.verdict.specs.declared.kept_body.KeptBody.{KeptBody}
 
--- of each place below `count` whether it is one of these
+-- of each place below `count` it is said whether it is one of these
 pub record AreMarks (places : List ℕ) (count : ℕ) (marks : List Bool) : Type 0 where
   pub long : length marks ≡ count
-  pub each : (k : ℕ) → k < count → IsTrue (slice_index marks k) ↔ Contains places k
+  pub marked : (k : ℕ) → slice_get marks k ≡ Some true → Contains places k
+  pub unmarked : (k : ℕ) → slice_get marks k ≡ Some false → Contains places k → ⊥
 
 -- each of these bodies has filled the slot of its place, and no other body fills one
 pub record AreSlots (kept : List KeptBody) (count : ℕ) (slots : List (Option CheckedBody)) : Type 0 where

@@ -1,5 +1,5 @@
 //! What was judged of the bodies of a module.
-ghost use Rattle.std.specs.Prelude.{◌≡◌, ◌++◌, [], ◌∷◌, MatchResult, IfOk};
+ghost use Rattle.std.specs.Prelude.{◌≡◌, ◌<◌, ◌≤◌, ◌++◌, [], ◌∷◌, MatchOption, MatchResult, IfOk, IfSome};
 ghost use Rattle.verdict.specs.Steps.{no_progress, join, with_refused, IsSound, IsValidShell, HasBodies, HasAll, IsKept, IsRefusedBody, IsFirstGap, AllChecked};
 
 use crate::kept_body::KeptBody;
@@ -69,11 +69,16 @@ impl<'a> JudgedBodies<'a> {
         self.refused = first_of(self.refused, Some(body));
     }
 
-    /// The refused body that stands first.
-    pub(crate) fn refused(&self) -> Option<RefusedBody>
-        ensures { result ≡ self.now.refused }
+    /// The first refused body, where it stands no later than at that place.
+    pub(crate) fn refused_to(&self, place: u32) -> Option<RefusedBody>
+        ensures { MatchOption result
+            (IfSome self.now.refused (λ r. place < r.place))
+            (λ b. (self.now.refused ≡ Some b) × (b.place ≤ place)) }
     {
-        self.refused
+        match self.refused {
+            Some(body) if body.place <= place => Some(body),
+            _ => None,
+        }
     }
 
     /// Takes what others judged of the same module. Where memory is refused, this stays as it is.

@@ -1,5 +1,5 @@
 //! The places of the bodies of a module, and what was kept for each.
-ghost use Rattle.std.specs.Prelude.{◌≡◌, ◌<◌, ◌≤◌, ◌↔◌, ℕ, IfOk, IsTrue, IsSome, All, Some, None, length, map, nat_le, slice_index, vec_len};
+ghost use Rattle.std.specs.Prelude.{◌≡◌, ◌<◌, ◌≤◌, ℕ, IfOk, IsSome, All, length, map, slice_get, true, false};
 ghost use Rattle.verdict.specs.Steps.{least};
 ghost use Rattle.verdict.specs.Slots.{AreMarks, AreSlots};
 
@@ -44,8 +44,8 @@ pub(crate) fn marks_of(
 /// The first place that is not marked; their count where all are.
 pub(crate) fn first_unmarked(marks: &[bool]) -> usize
     ensures within { result ≤ length marks.now }
-    ensures marked { (k : ℕ) → k < result → IsTrue (slice_index marks.now k) }
-    ensures unmarked { result < length marks.now → slice_index marks.now result ≡ false }
+    ensures marked { (k : ℕ) → k < result → slice_get marks.now k ≡ Some true }
+    ensures unmarked { result < length marks.now → slice_get marks.now result ≡ Some false }
 {
     for place in 0..marks.len() {
         if !marks[place] {
@@ -57,7 +57,8 @@ pub(crate) fn first_unmarked(marks: &[bool]) -> usize
 
 /// So many slots with nothing in them.
 fn empty_slots(alloc: Global, count: usize) -> Result<Vec<Option<CheckedBody>>, AllocError>
-    ensures { IfOk result (λ v. vec_len v ≡ count) }
+    ensures count { IfOk result (λ v. length v.items ≡ count) }
+    ensures empty { IfOk result (λ v. All (λ s. s ≡ None) v.items) }
 {
     let mut slots = Vec::with_capacity(alloc, count)?;
     for _ in 0..count {

@@ -20,6 +20,7 @@ use std::alloc::{AllocError, Global};
 use std::marker::Model;
 use wcheck::Checker;
 use wcontext::Context;
+use wdecode::shells_are_determined;
 use wsyntax::Module;
 
 /// A module that keeps all rules, of which the bodies are to be judged. To clauses it is the bytes of the module.
@@ -72,13 +73,16 @@ impl<'a> Judging<'a> {
     pub fn body_count(&self) -> u32
         ensures { HasBodies self.now result }
     {
-        self.module.bodies.len() as u32
+        shells_are_determined();
+        let bodies: &[&[u8]] = &self.module.bodies;
+        bodies.len() as u32
     }
 
     /// A checker for its bodies.
     fn checker(&self, alloc: Global) -> Checker<'_>
         ensures { IsChecker self.now result }
     {
+        shells_are_determined();
         Checker::new(alloc, &self.context)
     }
 
@@ -96,8 +100,10 @@ impl<'a> Judging<'a> {
         ensures checker { IsChecker self.now checker.new }
         ensures judged { JudgesAt place judged.old judged.new result }
     {
+        shells_are_determined();
+        let bodies: &[&[u8]] = &self.module.bodies;
         let func = self.context.imported_functions() as u32 + place;
-        match checked_body(alloc, checker, func, self.module.bodies[place as usize]) {
+        match checked_body(alloc, checker, func, bodies[place as usize]) {
             Ok(checked) => {
                 judged.keep(KeptBody { place, checked })?;
                 Ok(())
@@ -123,8 +129,8 @@ impl<'a> Judging<'a> {
         ensures { JudgesFrom first count judged.old judged.new result }
     {
         let mut checker = self.checker(alloc);
-        let end = first.saturating_add(count).min(self.body_count());
-        for place in first..end {
+        let count = count.min(self.body_count().saturating_sub(first));
+        for place in first..first + count {
             self.judge_at(alloc, &mut checker, judged, place)?;
         }
         Ok(())
@@ -135,17 +141,18 @@ impl<'a> Judging<'a> {
         requires { judged.now.bytes ≡ self.now }
         ensures { IfOk result (IsStanding judged.now) }
     {
+        shells_are_determined();
         judged.are_sound();
         let imported = self.context.imported_functions() as u32;
         let count = self.body_count();
         let gap = judged.first_gap(alloc, count)?;
-        Ok(match judged.refused() {
-            Some(body) if body.place <= gap => Standing::Refused(refused(imported, body)),
-            _ if gap < count => Standing::Open {
+        match judged.refused_to(gap) {
+            Some(body) => Ok(Standing::Refused(refused(imported, body))),
+            None if gap < count => Ok(Standing::Open {
                 func: imported + gap,
-            },
-            _ => Standing::Accepted,
-        })
+            }),
+            None => Ok(Standing::Accepted),
+        }
     }
 
     /// The accepted module, of which all bodies pass. None is judged again.

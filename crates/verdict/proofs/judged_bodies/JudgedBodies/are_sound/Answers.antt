@@ -1,0 +1,5 @@
+use Rattle.verdict.proofs.Noted.{is_sound}
+use Rattle.verdict.proofs.judged_bodies.JudgedBodies.are_sound.Goals as goal
+
+pub returns : goal.returns
+returns c = is_sound c.self.inside c.args.self.now c.self.view_is c.self.invariant
