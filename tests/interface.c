@@ -1,5 +1,5 @@
-/* Calls each function of gate.h: with room enough and with less, with null and length 0, with numbers of no verdict, value and limit, and
- * from four threads with a handle each.
+/* Calls each function of gate.h: with room enough and with less, with null and length 0, with numbers of no verdict, value and limit, with
+ * bodies that are judged in any order, and from four threads with a handle each.
  * usage: interface ROUNDS    how many calls each thread makes
  * Prints each line of this file that does not hold, and ends with 1 then; else how many held. */
 #include "gate.h"
@@ -608,6 +608,325 @@ static void instances(void) {
     no_instance(GOES_ON, (gate_settings){ 1, 0, 1 }, GATE_BAD_ARGUMENT, (gate_call){ 99, 99, 99, 99, 99 });
 }
 
+/* Bodies of type [] -> []: one that passes, and one of each kind that is refused. */
+static const text PASSES = BYTES(2, 0, 0x0B);
+static const text TYPED_ILL = BYTES(4, 0, 0x41, 1, 0x0B);
+static const text UNKNOWN_TOKEN = BYTES(3, 0, 0xFF, 0x0B);
+/* 100,001 locals of type i32. */
+static const text MANY_LOCALS = BYTES(6, 1, 0xA1, 0x8D, 6, 0x7F, 0x0B);
+
+enum { BODIES = 9, MOST_BODIES = 2000, MOST_BYTES = 1 << 15 };
+
+/* Bytes that are put one after the other. */
+typedef struct pen {
+    uint8_t bytes[MOST_BYTES];
+    size_t length;
+} pen;
+
+static void put(pen *it, text bytes) {
+    memcpy(it->bytes + it->length, bytes.at, bytes.length);
+    it->length += bytes.length;
+}
+
+/* A number below 2^14, in two bytes. */
+static void put_number(pen *it, size_t number) {
+    const uint8_t bytes[] = { (uint8_t)(number & 0x7F) | 0x80, (uint8_t)(number >> 7) };
+    put(it, (text){ bytes, 2 });
+}
+
+/* The id and the size of a section that begins with a count, of so many bytes after it, and that count. */
+static void put_head(pen *it, uint8_t id, size_t length, size_t count) {
+    put(it, (text){ &id, 1 });
+    put_number(it, length + 2);
+    put_number(it, count);
+}
+
+/* A module of so many functions of type [] -> [], the first exported as f, all with the body that passes but those at two places. */
+static text functions(pen *it, size_t count, size_t one, text of_one, size_t other, text of_other) {
+    const text head = BYTES(HEAD, 1, 4, 1, 0x60, 0, 0), exports = BYTES(7, 5, 1, 1, 'f', 0, 0), type = BYTES(0);
+    size_t length = 0;
+    it->length = 0;
+    put(it, head);
+    put_head(it, 3, count, count);
+    for (size_t i = 0; i < count; i++) put(it, type);
+    put(it, exports);
+    for (size_t i = 0; i < count; i++) length += i == one ? of_one.length : i == other ? of_other.length : PASSES.length;
+    put_head(it, 10, length, count);
+    for (size_t i = 0; i < count; i++) put(it, i == one ? of_one : i == other ? of_other : PASSES);
+    return (text){ it->bytes, it->length };
+}
+
+static text all_pass(pen *it, size_t count) { return functions(it, count, count, PASSES, count, PASSES); }
+
+static text one_refused(pen *it, size_t place, text body) { return functions(it, BODIES, place, body, BODIES, PASSES); }
+
+static const gate_verdict UNWRITTEN = { 9, 9, 9, 9 };
+
+static bool is_unwritten(const gate_verdict *it) { return is_verdict(it, 9, 9, 9, 9); }
+
+static gate_judging judging_of(text bytes, uint32_t wanted) {
+    gate_verdict verdict = UNWRITTEN;
+    gate_judging it = { NULL };
+    uint32_t bodies = 77;
+    HOLDS(gate_judging_new(bytes.at, bytes.length, &verdict, &it, &bodies) == GATE_OK && bodies == wanted && is_unwritten(&verdict));
+    if (!it.at) exit(1);
+    return it;
+}
+
+static gate_judging share_of(gate_judging it) {
+    gate_judging other = { NULL };
+    HOLDS(gate_judging_share(it, &other) == GATE_OK && other.at && other.at != it.at);
+    return other;
+}
+
+static void pass(gate_judging it, uint32_t first, uint32_t count) {
+    gate_verdict verdict = UNWRITTEN;
+    HOLDS(gate_judging_bodies(it, first, count, &verdict) == GATE_OK && is_unwritten(&verdict));
+}
+
+static void refuse(gate_judging it, uint32_t first, uint32_t count, gate_verdict wanted) {
+    gate_verdict verdict = UNWRITTEN;
+    HOLDS(gate_judging_bodies(it, first, count, &verdict) == GATE_MODULE_REFUSED);
+    HOLDS(is_verdict(&verdict, wanted.kind, wanted.rule, wanted.function, wanted.token));
+}
+
+/* The end is this status, which leaves the handle and writes nothing. */
+static void goes_open(gate_judging it, uint32_t status) {
+    gate_verdict verdict = UNWRITTEN;
+    gate_module module = { &verdict };
+    HOLDS(gate_judging_end(it, &verdict, &module) == status && is_unwritten(&verdict) && module.at == &verdict);
+}
+
+/* The module is refused, twice; the handle is freed then. */
+static void ends_refused(gate_judging it, gate_verdict wanted) {
+    for (int i = 0; i < 2; i++) {
+        gate_verdict verdict = UNWRITTEN;
+        gate_module module = { &verdict };
+        HOLDS(gate_judging_end(it, &verdict, &module) == GATE_MODULE_REFUSED && module.at == &verdict);
+        HOLDS(is_verdict(&verdict, wanted.kind, wanted.rule, wanted.function, wanted.token));
+    }
+    gate_judging_free(it);
+}
+
+/* The module is accepted, and its export f is called. */
+static void ends_accepted(gate_judging it) {
+    gate_verdict verdict = UNWRITTEN;
+    gate_module module = { NULL };
+    gate_call ended = { 99, 99, 99, 99, 99 };
+    HOLDS(gate_judging_end(it, &verdict, &module) == GATE_OK && is_verdict(&verdict, GATE_ACCEPTED, 0, 0, 0));
+    if (!module.at) exit(1);
+    HOLDS(gate_module_call(module, said("f").at, 1, NULL, 0, &USUAL, NULL, 0, &ended) == GATE_OK);
+    HOLDS(is_end(&ended, (gate_call){ GATE_VALUES, 0, 0, 1, 0 }));
+    gate_module_free(module);
+}
+
+/* What is refused before the bodies. */
+static void begins_refused(text bytes, gate_verdict wanted) {
+    gate_verdict verdict = UNWRITTEN;
+    gate_judging it = { &verdict };
+    uint32_t bodies = 77;
+    HOLDS(gate_judging_new(bytes.at, bytes.length, &verdict, &it, &bodies) == GATE_MODULE_REFUSED && bodies == 77 && it.at == &verdict);
+    HOLDS(is_verdict(&verdict, wanted.kind, wanted.rule, wanted.function, wanted.token));
+}
+
+static void judging_begins(void) {
+    const text empty = BYTES(HEAD);
+    gate_verdict verdict = UNWRITTEN;
+    gate_module module = { NULL };
+    begins_refused(NONE, (gate_verdict){ GATE_MALFORMED, 0, 0, 0 });
+    begins_refused(VERSION_2, (gate_verdict){ GATE_MALFORMED, 0, 0, 0 });
+    begins_refused(NO_START, (gate_verdict){ GATE_RULE, 11, 0, 0 });
+    gate_judging it = judging_of(empty, 0);
+    pass(it, 0, 1);
+    HOLDS(gate_judging_end(it, &verdict, &module) == GATE_OK && is_verdict(&verdict, GATE_ACCEPTED, 0, 0, 0));
+    gate_module_free(module);
+    gate_judging_free(judging_of(ILL_TYPED, 1));
+    gate_judging_drop(judging_of(ILL_TYPED, 1));
+    gate_judging_drop((gate_judging){ NULL });
+}
+
+/* The places in steps of some width round the module, so in an order of their own. */
+static void judging_in_any_order(void) {
+    static pen room;
+    const text bytes = all_pass(&room, BODIES);
+    for (uint32_t step = 1; step < BODIES; step++) {
+        if (step % 3 == 0) continue;
+        gate_judging it = judging_of(bytes, BODIES);
+        for (uint32_t i = 0; i < BODIES; i++) {
+            goes_open(it, GATE_NOT_JUDGED);
+            pass(it, i * step % BODIES, 1);
+        }
+        ends_accepted(it);
+    }
+    gate_judging it = judging_of(bytes, BODIES);
+    pass(it, BODIES, 1);
+    pass(it, UINT32_MAX, UINT32_MAX);
+    pass(it, 0, 0);
+    pass(it, 5, UINT32_MAX);
+    pass(it, 3, 4);
+    pass(it, 3, 4);
+    goes_open(it, GATE_NOT_JUDGED);
+    pass(it, 0, 3);
+    pass(it, 0, UINT32_MAX);
+    ends_accepted(it);
+}
+
+/* All bodies but one: which one it is makes no difference. */
+static void judging_with_a_gap(void) {
+    static pen room;
+    const text bytes = all_pass(&room, BODIES);
+    for (uint32_t gap = 0; gap < BODIES; gap++) {
+        gate_judging it = judging_of(bytes, BODIES);
+        pass(it, gap + 1, BODIES);
+        pass(it, 0, gap);
+        goes_open(it, GATE_NOT_JUDGED);
+        pass(it, gap, 1);
+        ends_accepted(it);
+    }
+}
+
+/* A refused body at each place: from the front, and from the back, where its verdict is that of the module once those before it pass. */
+static void judging_refuses(text body, gate_verdict wanted) {
+    for (uint32_t place = 0; place < BODIES; place++) {
+        static pen room;
+        const text bytes = one_refused(&room, place, body);
+        wanted.function = place;
+        gate_judging it = judging_of(bytes, BODIES);
+        refuse(it, 0, UINT32_MAX, wanted);
+        ends_refused(it, wanted);
+        it = judging_of(bytes, BODIES);
+        pass(it, place + 1, BODIES);
+        refuse(it, place, 1, wanted);
+        refuse(it, place, BODIES, wanted);
+        for (uint32_t i = place; i > 0; i--) {
+            goes_open(it, GATE_NOT_JUDGED);
+            pass(it, i - 1, 1);
+        }
+        ends_refused(it, wanted);
+    }
+}
+
+/* Two refused bodies, the later one judged before the earlier one. */
+static void judging_refuses_two(void) {
+    static pen room;
+    const gate_verdict early = { GATE_BODY_MALFORMED, 0, 2, 0 }, late = { GATE_BODY_ILL_TYPED, 0, 6, 1 };
+    gate_judging it = judging_of(functions(&room, BODIES, 2, UNKNOWN_TOKEN, 6, TYPED_ILL), BODIES);
+    refuse(it, 3, BODIES, late);
+    goes_open(it, GATE_NOT_JUDGED);
+    refuse(it, 1, BODIES, early);
+    goes_open(it, GATE_NOT_JUDGED);
+    pass(it, 0, 1);
+    ends_refused(it, early);
+}
+
+/* Handles of one check: what another one judged counts once it is joined. */
+static void judging_shared(void) {
+    static pen room;
+    const text bytes = all_pass(&room, BODIES);
+    gate_judging it = judging_of(bytes, BODIES), other = share_of(it), third = share_of(other);
+    pass(it, 0, 4);
+    pass(other, 4, BODIES);
+    goes_open(it, GATE_NOT_JUDGED);
+    goes_open(other, GATE_NOT_JUDGED);
+    HOLDS(gate_judging_join(it, other) == GATE_OK);
+    goes_open(it, GATE_SHARED);
+    pass(third, 0, BODIES);
+    goes_open(third, GATE_SHARED);
+    gate_judging_free(it);
+    ends_accepted(third);
+}
+
+/* A refusal needs no other handle, and is joined as what passes is. */
+static void judging_shared_refusal(void) {
+    static pen room;
+    const gate_verdict wanted = { GATE_BODY_ILL_TYPED, 0, 3, 1 };
+    gate_judging it = judging_of(one_refused(&room, 3, TYPED_ILL), BODIES), other = share_of(it), third = share_of(it);
+    pass(it, 0, 3);
+    pass(third, 4, 1);
+    refuse(other, 2, BODIES, wanted);
+    goes_open(other, GATE_NOT_JUDGED);
+    HOLDS(gate_judging_join(it, other) == GATE_OK);
+    ends_refused(it, wanted);
+    gate_judging_free(third);
+}
+
+/* Handles of other bytes are not joined, and are freed all the same; those of equal bytes elsewhere are. */
+static void judging_joined(void) {
+    static pen room, copy, more;
+    const text bytes = all_pass(&room, BODIES);
+    gate_judging it = judging_of(bytes, BODIES), other = judging_of(all_pass(&more, BODIES + 1), BODIES + 1);
+    pass(it, 0, 5);
+    pass(other, 0, BODIES);
+    HOLDS(gate_judging_join(it, other) == GATE_BAD_ARGUMENT);
+    goes_open(it, GATE_NOT_JUDGED);
+    other = judging_of(one_refused(&more, 8, TYPED_ILL), BODIES);
+    pass(other, 5, 3);
+    HOLDS(gate_judging_join(it, other) == GATE_BAD_ARGUMENT);
+    goes_open(it, GATE_NOT_JUDGED);
+    other = judging_of(all_pass(&copy, BODIES), BODIES);
+    pass(other, 5, 4);
+    HOLDS(gate_judging_join(it, other) == GATE_OK);
+    ends_accepted(it);
+}
+
+typedef struct share {
+    pthread_t thread;
+    gate_judging judging; /* its own handle */
+    uint32_t first, wrong;
+} share;
+
+/* One body of each group of THREADS, the last one first. */
+static void *judge_some(void *at) {
+    share *it = at;
+    gate_verdict verdict = UNWRITTEN;
+    for (uint32_t i = MOST_BODIES / THREADS; i > 0; i--)
+        it->wrong += gate_judging_bodies(it->judging, (i - 1) * THREADS + it->first, 1, &verdict) != GATE_OK;
+    it->wrong += !is_unwritten(&verdict);
+    return NULL;
+}
+
+static void judging_in_threads(void) {
+    static pen room;
+    share shares[THREADS];
+    gate_judging it = judging_of(all_pass(&room, MOST_BODIES), MOST_BODIES);
+    for (uint32_t i = 0; i < THREADS; i++) {
+        shares[i] = (share){ .first = i, .judging = share_of(it) };
+        if (pthread_create(&shares[i].thread, NULL, judge_some, &shares[i])) exit(1);
+    }
+    for (size_t i = 0; i < THREADS; i++) {
+        goes_open(it, GATE_NOT_JUDGED);
+        pthread_join(shares[i].thread, NULL);
+        HOLDS(shares[i].wrong == 0 && gate_judging_join(it, shares[i].judging) == GATE_OK);
+    }
+    ends_accepted(it);
+}
+
+/* A host that stops: threads have begun, and nothing is asked any more. */
+static void judging_stops(void) {
+    static pen room;
+    gate_judging it = judging_of(all_pass(&room, MOST_BODIES), MOST_BODIES), other = share_of(it);
+    pass(it, 0, 10);
+    pass(other, 100, 10);
+    gate_judging_free(it);
+    pass(other, 0, 1);
+    gate_judging_free(other);
+}
+
+static void judgings(void) {
+    judging_begins();
+    judging_in_any_order();
+    judging_with_a_gap();
+    judging_refuses(TYPED_ILL, (gate_verdict){ GATE_BODY_ILL_TYPED, 0, 0, 1 });
+    judging_refuses(UNKNOWN_TOKEN, (gate_verdict){ GATE_BODY_MALFORMED, 0, 0, 0 });
+    judging_refuses(MANY_LOCALS, (gate_verdict){ GATE_BODY_TOO_MANY_LOCALS, 0, 0, 0 });
+    judging_refuses_two();
+    judging_shared();
+    judging_shared_refusal();
+    judging_joined();
+    judging_in_threads();
+    judging_stops();
+}
+
 typedef struct part {
     pthread_t thread;
     gate_module module; /* its own handle, which it frees */
@@ -658,6 +977,7 @@ int main(int count, char **words) {
     exports();
     starts();
     instances();
+    judgings();
     threads(count > 1 ? atol(words[1]) : 10000);
     if (!failed) printf("%u\n", held);
     return failed != 0;

@@ -10,3 +10,4 @@ pub mod Instances
 pub mod InstanceOperations
 pub mod CallsThatGoOn
 pub mod PutBack
+pub mod JudgingValues

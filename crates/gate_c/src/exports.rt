@@ -10,7 +10,7 @@ ghost use Rattle.gate_c.specs.Handles.{IsAnswered};
 ghost use Rattle.gate_c.specs.Runs.{HandsAnswer, IsAnswerOf, IsAnswerTo};
 ghost use Rattle.gate_c.specs.Statuses.{number_of};
 ghost use Rattle.gate_c.specs.Texts.{Hands};
-ghost use Rattle.gate_c.specs.Verdicts.{Answers, HandsLine};
+ghost use Rattle.gate_c.specs.Verdicts.{Answers, HandsLine, TellsRefusal};
 
 use crate::calling::{call, tell_end};
 use crate::ending::GateCall;
@@ -50,7 +50,8 @@ pub extern "C" fn gate_check(alloc: Global, bytes: &[u8], verdict: &mut GateVerd
 }
 
 /// Writes the verdict of a refusal.
-fn refuse(refusal: Refusal, verdict: &mut GateVerdict) -> u32
+pub(crate) fn refuse(refusal: Refusal, verdict: &mut GateVerdict) -> u32
+    ensures told { TellsRefusal (verdict_of refusal) verdict.old verdict.new result }
     ensures numbers { (bytes : List ℕ) → IfSome (verdict_of refusal) (IsVerdict bytes) → Answers bytes verdict.old verdict.new result }
     ensures refused { result ≢ 0 }
 {
