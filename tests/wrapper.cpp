@@ -163,6 +163,9 @@ static const std::vector<std::uint8_t> GOES_ON = {
     'u', 'n', 't', 3, 0, 8, 1, 3, 0x0A, 52, 4, 24, 0, 0x41, 32, 0x41, 16, 0x2D, 0, 0, 0x20, 0, 0x6A, 0x3A, 0, 0, 0x23, 0, 0x41, 1, 0x6A,
     0x24, 0, 0x23, 0, 0x0B, 8, 0, 0x41, 0xE4, 0, 0x24, 0, 0, 0x0B, 6, 0, 0x20, 0, 0x40, 0, 0x0B, 9, 0, 0x41, 0, 0x41, 7, 0x3A, 0, 0, 0x0B,
     0x0B, 7, 1, 0, 0x41, 8, 0x0B, 1, 5};
+// `f` turns for ever: each turn costs one unit, and its entry one.
+static const std::vector<std::uint8_t> LOOP = {0, 'a', 's', 'm', 1, 0, 0, 0, 1, 4, 1, 0x60, 0, 0, 3, 2, 1, 0, 7, 5, 1, 1, 'f', 0, 0, 0x0A,
+                                               9, 1, 7, 0, 3, 0x40, 0x0C, 0, 0x0B, 0x0B};
 // The start function is `unreachable`.
 static const std::vector<std::uint8_t> START_TRAPS = {0, 'a', 's', 'm', 1, 0, 0, 0, 1, 4, 1, 0x60, 0, 0, 3, 2, 1, 0, 8, 1, 0, 0x0A, 5, 1,
                                                       3, 0, 0, 0x0B};
@@ -264,6 +267,9 @@ static void instances(const std::vector<std::uint8_t> &add) {
     HOLDS(no_instance(START_TRAPS) == "trap unreachable" && no_instance(SEGMENT_OUTSIDE) == "not-started data-outside 1");
     HOLDS(no_instance(GOES_ON, {1, 1, 0}) == "not-started memory-limit" && no_instance(GOES_ON, {0, 1, 1}) == "out-of-fuel");
     HOLDS(throws<std::invalid_argument>([] { gate::Module(GOES_ON).instance({0, 0, 1}); }));
+    gate::Instance loop = gate::Module(LOOP).instance({5, 1, 1});
+    HOLDS(loop.call("f", {}).ended.fuel == 5 && loop.call("f", std::vector<gate_value>{}).ended.fuel == 5);
+    HOLDS(loop.call("f", {}, {7, 1, 1}).ended.fuel == 7 && gate::words(loop.call("f", {}).ended) == "out-of-fuel");
     gate::Module module(GOES_ON);
     refuses = true;
     const bool is_refused = throws<std::bad_alloc>([&] { module.instance(); });

@@ -12,7 +12,7 @@ from unittest import mock
 import gate
 from gate import I32, End, EndKind, NotStarted, Trap
 from gate._library import CCall, CInstance, library
-from tests.modules import GOES_ON, MANY, RESULTS, SEGMENT_OUTSIDE, START_TRAPS, example
+from tests.modules import GOES_ON, LOOP, MANY, RESULTS, SEGMENT_OUTSIDE, START_TRAPS, example
 from tests.test_module import side_by_side
 
 PAGE = 65_536
@@ -66,6 +66,11 @@ class Calls(Goes):
             self.assertEqual(instance.call('handle', 0).values, (I32(1),))
             # Its pages stay those that it was made with.
             self.assertEqual(instance.call('grow', 1, settings=gate.Settings(pages=2)).values, (I32(-1),))
+
+    def test_its_own_settings(self) -> None:
+        with instance_of(LOOP, gate.Settings(fuel=5)) as instance:
+            self.assertEqual(instance.call('f'), End(EndKind.OUT_OF_FUEL, fuel=5))
+            self.assertEqual(instance.call('f', settings=gate.Settings(fuel=7)), End(EndKind.OUT_OF_FUEL, fuel=7))
 
     def test_wrong_arguments(self) -> None:
         self.assertEqual(self.instance.call('handle'), End(EndKind.BAD_ARGUMENTS))
