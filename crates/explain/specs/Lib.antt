@@ -15,4 +15,5 @@ pub mod Types
 pub mod Starting
 pub mod Exports
 pub mod CallFaults
+pub mod CallMisfits
 pub mod CallsTold
