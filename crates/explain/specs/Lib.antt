@@ -15,5 +15,4 @@ pub mod Types
 pub mod Starting
 pub mod Exports
 pub mod CallFaults
-pub mod CallMisfits
 pub mod CallsTold

