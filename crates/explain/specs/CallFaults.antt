@@ -1,6 +1,9 @@
 -- What is wrong with a text of calls.
 use Rattle.std.specs.Prelude.{◌≡◌, ◌≢◌, ℕ, suc, ◌-◌, ◌<◌, List, [], ◌∷◌, ◌++◌, All, Option, Some, None, length, slice_get}
 use Rattle.wsyntax.specs.Texts.Calls.{Call, CallsText, TextLine, Ended, Unended, TooLong, BadLine, Good, IsCalls, line_limit, lines_of}
+use Rattle.texts.specs.Calls.{calls_of}
+use Rattle.explain.specs.declared.calls_fault.CallsRead.{CallsRead}
+use Rattle.explain.specs.declared.calls_fault.CallsRead.TheVariants.{Calls, Bad}
 use Rattle.explain.specs.declared.calls_fault.LineFault.{LineFault}
 use Rattle.explain.specs.declared.calls_fault.LineFault.TheVariants as line
 use Rattle.explain.specs.declared.calls_fault.TextFault.{TextFault}
@@ -22,3 +25,8 @@ abbrev pub IsFault : List ℕ → Option TextFault → Type 0
 IsFault text None = (calls : List Call) × IsCalls text (Good calls)
 IsFault text (Some (TooLarge bytes)) = IsCalls text TooLong × (bytes ≡ length text)
 IsFault text (Some (Line k fault)) = IsCalls text (BadLine k)
+
+-- the calls that the text says, or what is told of it
+abbrev pub ReadsOr : List ℕ → CallsRead → Type 0
+ReadsOr text (Calls calls) = IsCalls text (Good (calls_of calls.items))
+ReadsOr text (Bad fault) = IsFault text (Some fault)

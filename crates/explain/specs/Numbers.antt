@@ -20,8 +20,8 @@ abbrev pub kind_of_no_module : NoModule → Kind
 kind_of_no_module header.Text = kind.Text
 kind_of_no_module header.Gzip = kind.Gzip
 kind_of_no_module header.Short = kind.ShortHeader
-kind_of_no_module (header.Magic at found) = kind.Magic
-kind_of_no_module (header.Version at found) = kind.Version
+kind_of_no_module (header.Magic at found form) = kind.Magic
+kind_of_no_module (header.Version at found form) = kind.Version
 kind_of_no_module (header.Sections place) = kind.Sections
 
 abbrev pub kind_of_stop : Stopped → Kind
@@ -51,8 +51,8 @@ abbrev pub at_offset : ℕ → Span
 at_offset at = record { from = at; to = at }
 
 abbrev pub place_of_no_module : NoModule → Option Span
-place_of_no_module (header.Magic at found) = Some (at_offset at)
-place_of_no_module (header.Version at found) = Some (at_offset at)
+place_of_no_module (header.Magic at found form) = Some (at_offset at)
+place_of_no_module (header.Version at found form) = Some (at_offset at)
 place_of_no_module (header.Sections (Some p)) = Some (at_offset p.at)
 place_of_no_module _ = None
 

@@ -3,7 +3,7 @@ use Rattle.std.specs.Prelude.{◌≡◌, ◌≢◌, ◌⊎◌, ◌<◌, ◌≤�
 use Rattle.std.specs.Borrow.{Bor}
 use Rattle.std.specs.List.{between}
 use Rattle.std.specs.Str.{is_utf8}
-use Rattle.wsyntax.specs.Binary.Values.{u32, blob, name}
+use Rattle.wsyntax.specs.Binary.Values.{u32, s32, s64, blob, name}
 use Rattle.wsyntax.specs.Binary.Types.{val_type_of, mutable_of, func_type, limits, table_type}
 use Rattle.wsyntax.specs.Binary.Nesting.{expression, token_at}
 use Rattle.wsyntax.specs.Binary.Sections.{an_import, global, an_export, export_kind_of, element, data_segment}
@@ -16,6 +16,7 @@ use Rattle.explain.specs.declared.shell_place.SectionPart.{SectionPart}
 use Rattle.explain.specs.declared.shell_place.SectionPart.TheVariants as part
 use Rattle.explain.specs.declared.shell_place.FoundSection.{FoundSection}
 use Rattle.explain.specs.declared.shell_place.Place.{Place}
+use Rattle.explain.specs.declared.misreads.Misread.{Misread}
 use Rattle.explain.specs.declared.shell.places.Step.{Step}
 use Rattle.explain.specs.declared.shell.places.Step.TheVariants as step
 use Rattle.explain.specs.declared.shell.primitives.Stuck.{Stuck}
@@ -36,7 +37,18 @@ IsNone wanted.TableFlags b = 1 < b
 IsNone wanted.Mutability b = 1 < b
 IsNone wanted.ImportKind b = 3 < b
 IsNone wanted.ExportKind b = 3 < b
+IsNone wanted.BlockType b = (b ≢ 0x40) × (val_type_of b ≡ None)
+IsNone wanted.TableByte b = b ≢ 0
+IsNone wanted.MemoryByte b = b ≢ 0
 IsNone _ b = Unit {0}
+
+-- 5.4.5 the bytes begin with no constant of that type
+abbrev pub IsNoConstant : Wanted → List ℕ → Type 0
+IsNoConstant wanted.I32 bytes = s32.read bytes ≡ None
+IsNoConstant wanted.I64 bytes = s64.read bytes ≡ None
+IsNoConstant wanted.F32 bytes = length bytes < 4
+IsNoConstant wanted.F64 bytes = length bytes < 8
+IsNoConstant _ bytes = ⊥
 
 -- what is wrong at the front of these bytes, as far as they tell it: no number, no name, no token or none of the bytes that are wanted stands there
 abbrev pub Stands : Wrong → List ℕ → Type 0
@@ -44,6 +56,9 @@ Stands (wrong.Ends w) bytes = bytes ≡ []
 Stands (wrong.Cut w) bytes = u32.read bytes ≡ None
 Stands (wrong.LongNumber w) bytes = u32.read bytes ≡ None
 Stands (wrong.LargeNumber w) bytes = u32.read bytes ≡ None
+Stands (wrong.CutConstant w) bytes = IsNoConstant w bytes
+Stands (wrong.LongConstant w) bytes = IsNoConstant w bytes
+Stands (wrong.LargeConstant w) bytes = IsNoConstant w bytes
 Stands (wrong.Byte w b) bytes = (tail : List ℕ) × (bytes ≡ b ∷ tail) × IsNone w b
 Stands (wrong.Beyond w size left) bytes = (tail : List ℕ) × (u32.read bytes ≡ Some (size, tail)) × (left ≡ length tail) × (left < size)
 Stands (wrong.NoText size) bytes = (text tail : List ℕ) × (blob.read bytes ≡ Some (text, tail)) × (length text ≡ size) × (is_utf8 text ≡ false)
@@ -61,6 +76,10 @@ StuckAt bytes stuck.Memory = ⊥
 abbrev pub IsStuck : Stuck → Type 0
 IsStuck (stuck.Here rest wrong) = Stands wrong rest.now
 IsStuck stuck.Memory = Unit {0}
+
+-- something is wrong at the front of these bytes from that place on
+abbrev pub IsMisread : List ℕ → Misread → Type 0
+IsMisread bytes m = Stands m.wrong (between m.place (length bytes) bytes)
 
 -- the bytes that are left, or none: then something is wrong at the front of those where reading stopped
 abbrev pub Passes : Option (List ℕ) → Result (Bor (List ℕ)) Stuck → Type 0

@@ -1,9 +1,9 @@
 //! What is wrong with a text of calls: which line, which of its words, and why.
 ghost use Rattle.std.specs.Prelude.{◌≡◌, ◌+◌, ◌-◌, ◌≤◌, ◌<◌, ℕ, suc, IfOk, IfSome, Some, length, slice_get};
-ghost use Rattle.explain.specs.CallFaults.{IsFault, SplitsAt};
+ghost use Rattle.explain.specs.CallFaults.{IsFault, ReadsOr, SplitsAt};
 
 use std::alloc::{AllocError, Global};
-use texts::{CallsFault, read_calls};
+use texts::{Call, CallsFault, read_calls};
 use wsyntax::LINE_LIMIT;
 
 /// The greatest number of an i32.
@@ -166,17 +166,34 @@ fn fault_at(text: &[u8], place: usize) -> LineFault<'_> {
     line_fault(line)
 }
 
+/// The calls that a text says, or what is wrong with it.
+#[derive(Drop)]
+pub(crate) enum CallsRead<'a> {
+    Calls(Vec<Call<'a>>),
+    Bad(TextFault<'a>),
+}
+
+/// Reads a text of calls.
+pub(crate) fn calls_or_fault(alloc: Global, text: &[u8]) -> Result<CallsRead<'_>, AllocError>
+    ensures { IfOk result (ReadsOr text.now) }
+{
+    match read_calls(alloc, text) {
+        Ok(calls) => Ok(CallsRead::Calls(calls)),
+        Err(CallsFault::TooLarge) => Ok(CallsRead::Bad(TextFault::TooLarge { bytes: text.len() })),
+        Err(CallsFault::Line(number)) => {
+            let fault = fault_at(text, (number as usize).saturating_sub(1));
+            Ok(CallsRead::Bad(TextFault::Line { number, fault }))
+        }
+        Err(CallsFault::Memory) => Err(AllocError),
+    }
+}
+
 /// What is wrong with a text of calls; `None` where it says calls.
 pub fn fault_of_calls(alloc: Global, text: &[u8]) -> Result<Option<TextFault<'_>>, AllocError>
     ensures { IfOk result (IsFault text.now) }
 {
-    match read_calls(alloc, text) {
-        Ok(_calls) => Ok(None),
-        Err(CallsFault::TooLarge) => Ok(Some(TextFault::TooLarge { bytes: text.len() })),
-        Err(CallsFault::Line(number)) => {
-            let fault = fault_at(text, (number as usize).saturating_sub(1));
-            Ok(Some(TextFault::Line { number, fault }))
-        }
-        Err(CallsFault::Memory) => Err(AllocError),
+    match calls_or_fault(alloc, text)? {
+        CallsRead::Calls(_) => Ok(None),
+        CallsRead::Bad(fault) => Ok(Some(fault)),
     }
 }

@@ -1,8 +1,12 @@
 //! What is wrong with a text of calls, in words.
 use crate::calls_fault::{LineFault, TextFault, WordFault};
+use crate::calls_misfit::{CallMisfit, Misfit};
 use crate::quoting::push_name;
+use crate::type_text::push_types;
+use accepted::Accepted;
 use std::alloc::AllocError;
-use wsyntax::{CALLS_LIMIT, LINE_LIMIT};
+use texts::Call;
+use wsyntax::{CALLS_LIMIT, ExportKind, LINE_LIMIT, ValType};
 
 /// What is wrong with a word.
 fn word_words(fault: WordFault) -> &'static str {
@@ -48,6 +52,67 @@ pub(crate) fn push_calls_fault(text: &mut String, fault: TextFault<'_>) -> Resul
             write!(text, "line {number}")?;
             push_line_fault(text, fault)?;
         }
+    }
+    text.push_str("\n")
+}
+
+/// What an export is that is no function.
+fn kind_words(kind: ExportKind) -> &'static str {
+    match kind {
+        ExportKind::Function => "a function",
+        ExportKind::Table => "a table",
+        ExportKind::Memory => "a memory",
+        ExportKind::Global => "a global",
+    }
+}
+
+/// The name of an export, and what is wrong with it.
+fn push_named(text: &mut String, name: &[u8], wrong: &str) -> Result<(), AllocError> {
+    text.push_str(" names export ")?;
+    push_name(text, name)?;
+    text.push_str(wrong)
+}
+
+/// The types that a call passes, and those that its function takes.
+fn push_passed(
+    text: &mut String,
+    accepted: &Accepted<'_>,
+    name: &[u8],
+    func: u32,
+    passes: &[ValType],
+) -> Result<(), AllocError> {
+    text.push_str(" passes ")?;
+    push_types(text, passes)?;
+    if let Some(found) = accepted.context().function(func) {
+        text.push_str(", and ")?;
+        push_name(text, name)?;
+        text.push_str(" takes ")?;
+        push_types(text, found.params)?;
+    }
+    Ok(())
+}
+
+/// The line on the first call that its module does not fit.
+pub(crate) fn push_misfit(
+    text: &mut String,
+    accepted: &Accepted<'_>,
+    calls: &[Call<'_>],
+    misfit: &CallMisfit,
+) -> Result<(), AllocError> {
+    let Some(call) = calls.get(misfit.place) else {
+        return Ok(());
+    };
+    let line = misfit.place.saturating_add(1);
+    write!(text, "calls     line {line}")?;
+    match &misfit.why {
+        Misfit::NoExport => push_named(text, call.name, ", and there is none")?,
+        Misfit::NoFunction(kind) => {
+            push_named(text, call.name, ", which is ")?;
+            text.push_str(kind_words(*kind))?;
+        }
+        Misfit::Arguments { func, passes } => push_passed(
+            text, accepted, call.name, *func, passes,
+        )?,
     }
     text.push_str("\n")
 }

@@ -105,6 +105,30 @@ fn push_left_over(text: &mut String, found: &FoundToken, count: usize) -> Result
     text.push_str(name_of_byte(found.opcode))
 }
 
+/// A label of a branch table, and the first place at which it names it, from 0.
+fn push_label(text: &mut String, found: &FoundToken, label: u32) -> Result<(), AllocError> {
+    write!(text, "label {label} of the branch table")?;
+    let place = found.targets.iter().position(|target| *target == label);
+    match place {
+        Some(place) if place + 1 == found.targets.len() => text.push_str(", its default,"),
+        Some(place) => write!(text, ", at place {place},"),
+        None => Ok(()),
+    }
+}
+
+/// What a token names.
+fn push_name(
+    text: &mut String,
+    found: &FoundToken,
+    space: Space,
+    index: u32,
+) -> Result<(), AllocError> {
+    match found.token {
+        Token::BrTable { .. } => push_label(text, found, index),
+        _ => write!(text, "{} {index}", space_name(space)),
+    }
+}
+
 /// The sentence on the cause.
 fn push_sentence(text: &mut String, found: &FoundToken, cause: &Cause) -> Result<(), AllocError> {
     match cause {
@@ -124,16 +148,17 @@ fn push_sentence(text: &mut String, found: &FoundToken, cause: &Cause) -> Result
         }
         Cause::LeftOver { count } => push_left_over(text, found, *count),
         Cause::NoElse(signature) => {
-            text.push_str("the if has type ")?;
+            text.push_str("the if has no else, and its type ")?;
             push_signature(text, signature)?;
-            text.push_str(", and an else is missing")
+            text.push_str(" gives other types than it takes")
         }
         Cause::NoIndex {
             space,
             index,
             count,
         } => {
-            write!(text, "{} {index} does not exist: ", space_name(*space))?;
+            push_name(text, found, *space, *index)?;
+            text.push_str(" does not exist: ")?;
             push_count(text, *space, *count)
         }
         Cause::Immutable { global } => write!(text, "global {global} is immutable"),
@@ -145,7 +170,8 @@ fn push_sentence(text: &mut String, found: &FoundToken, cause: &Cause) -> Result
             takes,
             others,
         } => {
-            write!(text, "label {label} of the branch table takes ")?;
+            push_label(text, found, *label)?;
+            text.push_str(" takes ")?;
             push_types(text, takes)?;
             text.push_str(", and its default ")?;
             push_types(text, others)
@@ -153,8 +179,8 @@ fn push_sentence(text: &mut String, found: &FoundToken, cause: &Cause) -> Result
         Cause::Select { above, below } => write!(
             text,
             "select takes two operands of one type, and finds {} and {}",
-            type_name(*above),
-            type_name(*below)
+            type_name(*below),
+            type_name(*above)
         ),
     }
 }

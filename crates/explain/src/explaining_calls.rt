@@ -6,14 +6,16 @@ ghost use Rattle.explain.specs.Texts.{BeginsWith};
 ghost use Rattle.explain.specs.Told.{verdict_told};
 ghost use Rattle.explain.specs.CallsTold.{RefusedBy, TellsBoth, TellsRefusal, is_refused};
 
-use crate::calls_fault::fault_of_calls;
-use crate::calls_text::push_calls_fault;
+use crate::calls_fault::{CallsRead, calls_or_fault};
+use crate::calls_misfit::first_misfit;
+use crate::calls_text::{push_calls_fault, push_misfit};
 use crate::explaining::explain;
 use crate::explanation::Explanation;
 use crate::starting_text::push_not_starting;
 use crate::text::explanation_text;
 use accepted::Accepted;
 use std::alloc::{AllocError, Global};
+use texts::Call;
 use verdict::judge_alone;
 
 /// What is refused.
@@ -40,6 +42,22 @@ fn accepted_text(alloc: Global, details: &String) -> Result<String, AllocError>
     Ok(text)
 }
 
+/// Writes which call does not fit an accepted module, and why none runs of one that no instance starts of: a run asks in this
+/// order.
+fn push_hindered(
+    text: &mut String,
+    alloc: Global,
+    bytes: &[u8],
+    accepted: &Accepted<'_>,
+    calls: &[Call<'_>],
+    pages: u32,
+) -> Result<(), AllocError> {
+    if let Some(misfit) = first_misfit(alloc, accepted, calls)? {
+        push_misfit(text, accepted, calls, &misfit)?;
+    }
+    push_not_starting(text, alloc, bytes, accepted, pages)
+}
+
 /// Writes what is told of the calls of an accepted module below its line, and says what is refused.
 fn push_calls(
     text: &mut String,
@@ -51,13 +69,13 @@ fn push_calls(
 ) -> Result<Option<Refused>, AllocError>
     ensures { IfOk result (RefusedBy calls.now IsGood) }
 {
-    match fault_of_calls(alloc, calls)? {
-        Some(fault) => {
+    match calls_or_fault(alloc, calls)? {
+        CallsRead::Bad(fault) => {
             push_calls_fault(text, fault)?;
             Ok(Some(Refused::Calls))
         }
-        None => {
-            push_not_starting(text, alloc, bytes, accepted, pages)?;
+        CallsRead::Calls(read) => {
+            push_hindered(text, alloc, bytes, accepted, &read, pages)?;
             Ok(None)
         }
     }
@@ -103,8 +121,8 @@ fn explain_refused(alloc: Global, bytes: &[u8]) -> Result<CallsExplanation, Allo
 }
 
 /// Judges a module, on the calling thread, and reads a text of calls of it. Of a refused module it tells what `explain`
-/// tells; of an accepted one what is wrong with the calls, or why an instance does not start whose memory may have so many
-/// pages.
+/// tells; of an accepted one what is wrong with the calls, or which of them does not fit the module, and why an instance does
+/// not start whose memory may have so many pages.
 pub fn explain_calls(
     alloc: Global,
     bytes: &[u8],

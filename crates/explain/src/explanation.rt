@@ -21,6 +21,23 @@ pub struct Signature {
     pub results: Vec<ValType>,
 }
 
+/// Another form of a file, by its first bytes.
+#[derive(Clone, Copy, Debug, PartialEq, Eq)]
+pub enum Form {
+    /// A component of the component model.
+    Component,
+    /// An archive of xz.
+    Xz,
+    /// An archive of Zstandard.
+    Zstd,
+    /// An object file or a program in the form ELF.
+    Elf,
+    /// An archive of object files, as `ar` makes them.
+    Objects,
+    /// Bitcode of LLVM.
+    Bitcode,
+}
+
 /// What bytes are that spell no module.
 #[derive(Clone, Copy, Debug, PartialEq, Eq)]
 pub enum NoModule {
@@ -30,10 +47,18 @@ pub enum NoModule {
     Gzip,
     /// They are fewer than the eight of the magic and the version.
     Short,
-    /// The byte at that offset, below 4, is none of the magic.
-    Magic { at: usize, found: u8 },
-    /// The byte at that offset, from 4 to 7, is none of the version.
-    Version { at: usize, found: u8 },
+    /// The byte at that offset, below 4, is none of the magic; and of which other form the bytes are.
+    Magic {
+        at: usize,
+        found: u8,
+        form: Option<Form>,
+    },
+    /// The byte at that offset, from 4 to 7, is none of the version; and of which other form the bytes are.
+    Version {
+        at: usize,
+        found: u8,
+        form: Option<Form>,
+    },
     /// Magic and version are right, and what follows are not the sections of a module; and where reading stopped.
     Sections(Option<Place>),
 }

@@ -1,8 +1,8 @@
 //! What bytes are that spell no module, as far as their first bytes tell.
-ghost use Rattle.std.specs.Prelude.{◌≡◌};
-ghost use Rattle.explain.specs.Headers.{TellsHeader, other_at};
+ghost use Rattle.std.specs.Prelude.{◌≡◌, IfSome};
+ghost use Rattle.explain.specs.Headers.{HasForm, TellsHeader, other_at};
 
-use crate::explanation::NoModule;
+use crate::explanation::{Form, NoModule};
 
 /// The magic and the version of a module (5.5.15).
 const HEADER: [u8; 8] = [0x00, 0x61, 0x73, 0x6D, 0x01, 0x00, 0x00, 0x00];
@@ -10,27 +10,51 @@ const HEADER: [u8; 8] = [0x00, 0x61, 0x73, 0x6D, 0x01, 0x00, 0x00, 0x00];
 /// How many bytes the magic is.
 const MAGIC: usize = 4;
 
-/// Whether the bytes after blanks begin the text format: by a parenthesis, or by the two semicolons of a comment.
-fn begins_as_text(bytes: &[u8]) -> bool {
+/// The bytes from the first on that is no blank.
+fn after_blanks(bytes: &[u8]) -> &[u8] {
     for at in 0..bytes.len() {
-        match bytes[at] {
-            b' ' | b'\t' | b'\n' | b'\r' => {}
-            b'(' => return true,
-            b';' => return bytes.get(at + 1) == Some(&b';'),
-            _ => return false,
+        if !matches!(bytes[at], b' ' | b'\t' | b'\n' | b'\r') {
+            return &bytes[at..];
         }
     }
-    false
+    &[]
 }
 
-/// A byte that is another than in the header of a module.
-fn other_byte(at: usize, found: u8) -> NoModule
-    ensures { result ≡ other_at at found }
+/// Whether the bytes begin the text format (6.3): by a parenthesis and a letter, or by the two characters of a comment.
+fn begins_as_text(bytes: &[u8]) -> bool {
+    match after_blanks(bytes) {
+        [b';', b';', ..] => true,
+        [b'(', rest @ ..] => matches!(
+            after_blanks(rest),
+            [b'a'..=b'z' | b'A'..=b'Z' | b';' | b'@', ..]
+        ),
+        _ => false,
+    }
+}
+
+/// The other form that the bytes have.
+fn form_of(bytes: &[u8]) -> Option<Form>
+    ensures { IfSome result (HasForm bytes.now) }
+{
+    match bytes {
+        [0x00, b'a', b's', b'm', 0x0D, 0x00, 0x01, 0x00, ..] => Some(Form::Component),
+        [0xFD, b'7', b'z', b'X', b'Z', 0x00, ..] => Some(Form::Xz),
+        [0x28, 0xB5, 0x2F, 0xFD, ..] => Some(Form::Zstd),
+        [0x7F, b'E', b'L', b'F', ..] => Some(Form::Elf),
+        [b'!', b'<', b'a', b'r', b'c', b'h', b'>', b'\n', ..] => Some(Form::Objects),
+        [b'B', b'C', 0xC0, 0xDE, ..] => Some(Form::Bitcode),
+        _ => None,
+    }
+}
+
+/// A byte that is another than in the header of a module, in bytes of that form.
+fn other_byte(at: usize, found: u8, form: Option<Form>) -> NoModule
+    ensures { result ≡ other_at at found form }
 {
     if at < MAGIC {
-        NoModule::Magic { at, found }
+        NoModule::Magic { at, found, form }
     } else {
-        NoModule::Version { at, found }
+        NoModule::Version { at, found, form }
     }
 }
 
@@ -43,7 +67,7 @@ fn header_fault(bytes: &[u8]) -> NoModule
             return NoModule::Short;
         };
         if *found != HEADER[at] {
-            return other_byte(at, *found);
+            return other_byte(at, *found, form_of(bytes));
         }
     }
     NoModule::Sections(None)

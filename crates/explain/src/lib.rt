@@ -4,6 +4,7 @@
 mod bodies;
 mod broken_item;
 mod calls_fault;
+mod calls_misfit;
 mod calls_text;
 mod cause;
 mod cause_text;
@@ -17,6 +18,7 @@ mod functions;
 mod headers;
 mod imported;
 mod item_places;
+mod misreads;
 mod names;
 mod numbers;
 mod opcode_names;
@@ -49,7 +51,7 @@ pub use cause::{Cause, Space};
 pub use explaining::explain;
 pub use explaining_calls::{CallsExplanation, Refused, explain_calls};
 pub use explanation::{
-    BodyFault, Explanation, FoundToken, NoModule, RefusedBody, Signature, Span, Stop, Stopped,
+    BodyFault, Explanation, Form, FoundToken, NoModule, RefusedBody, Signature, Span, Stop, Stopped,
 };
 pub use exports_text::text_of_exports;
 pub use numbers::Kind;

@@ -282,6 +282,9 @@ static AFTER_FC: [&str; 18] = [
     "table.fill",
 ];
 
+/// The opcode of the select that says the type of its operands.
+const TYPED_SELECT: u8 = 0x1C;
+
 /// What instructions are of that `gate` does not admit.
 #[derive(Clone, Copy, Debug, PartialEq, Eq)]
 pub(crate) enum Feature {
@@ -328,6 +331,14 @@ impl Feature {
 /// The name of the instructions whose opcode begins with that byte; empty where there is none.
 pub(crate) fn name_of_byte(byte: u8) -> &'static str {
     NAMES[byte as usize]
+}
+
+/// The same, with what tells an instruction of a later standard from one of Core 1.0 that has its name.
+pub(crate) fn name_of_later(byte: u8) -> &'static str {
+    match byte {
+        TYPED_SELECT => "select with types",
+        _ => name_of_byte(byte),
+    }
 }
 
 /// What the instructions are of whose opcode begins with that byte, `fc` apart, where `gate` admits none.

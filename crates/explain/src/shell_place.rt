@@ -48,6 +48,17 @@ pub enum Wanted {
     BodySize,
     DataSize,
     Instruction,
+    BlockType,
+    /// The byte 00 after the type of `call_indirect`, in whose place later standards have the index of a table.
+    TableByte,
+    /// The byte 00 after `memory.size` and `memory.grow`, in whose place later standards have the index of a memory.
+    MemoryByte,
+    Alignment,
+    Offset,
+    I32,
+    I64,
+    F32,
+    F64,
 }
 
 /// What is wrong where reading stopped.
@@ -61,6 +72,12 @@ pub enum Wrong {
     LongNumber(Wanted),
     /// The number that begins there is 2^32 or more.
     LargeNumber(Wanted),
+    /// It ends within the constant that begins there.
+    CutConstant(Wanted),
+    /// The constant that begins there has more bytes than one of its type.
+    LongConstant(Wanted),
+    /// The constant that begins there is outside the range of its type.
+    LargeConstant(Wanted),
     /// The byte there is none of what is wanted.
     Byte {
         wanted: Wanted,
@@ -109,6 +126,8 @@ pub struct OtherSegment {
     /// Its number among the segments, from 0.
     pub number: u32,
     pub first: u32,
+    /// The offset of its first byte.
+    pub at: usize,
 }
 
 /// Where reading stopped, and why.

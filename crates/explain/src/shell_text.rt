@@ -1,11 +1,11 @@
 //! Where reading a module stopped that is malformed outside its bodies, and why, in words.
 
-use crate::opcode_names::{feature_of_byte, name_of_byte, named_after_fc};
+use crate::opcode_names::{feature_of_byte, name_of_later, named_after_fc};
 use crate::quoting::push_hex;
 use crate::shell_place::{FoundSection, OtherSegment, Place, SectionPart, Wanted, Wrong};
 use crate::shell_words::{
-    Origin, item_name, later_byte, later_section, later_segment, section_name, wanted_bytes,
-    wanted_words,
+    Origin, is_plural, item_name, later_byte, later_section, later_segment, section_name,
+    wanted_bytes, wanted_words,
 };
 use std::alloc::AllocError;
 
@@ -51,13 +51,10 @@ fn push_item(text: &mut String, place: Place) -> Result<(), AllocError> {
 }
 
 /// What is not admitted, after what it is, and how to do without it.
-fn push_origin(text: &mut String, origin: Origin) -> Result<(), AllocError> {
+pub(crate) fn push_origin(text: &mut String, origin: Origin) -> Result<(), AllocError> {
     write!(text, ", of {}, which gate does not admit\n", origin.words())?;
     match origin.hint() {
-        Some(flag) => write!(
-            text,
-            "hint      build the module with {flag} (docs/GUESTS.md)\n"
-        ),
+        Some(how) => write!(text, "hint      build the module {how}\n"),
         None => Ok(()),
     }
 }
@@ -82,17 +79,27 @@ fn push_byte(text: &mut String, wanted: Wanted, found: u8) -> Result<(), AllocEr
     }
 }
 
+/// The instruction of that number after the byte `fc`, which none is that `gate` admits.
+fn push_after_fc(text: &mut String, number: u32) -> Result<(), AllocError> {
+    write!(text, " {number:02x} ")?;
+    match named_after_fc(number) {
+        Some((name, feature)) => {
+            write!(text, "is {name}")?;
+            push_origin(text, Origin::Of(feature))
+        }
+        None => text.push_str("begins no instruction that is known\n"),
+    }
+}
+
 /// An opcode, and what it is of where `gate` does not admit it.
 fn push_opcode(text: &mut String, first: u8, number: Option<u32>) -> Result<(), AllocError> {
     push_hex(text, first)?;
     if first == FC
         && let Some(number) = number
-        && let Some((name, feature)) = named_after_fc(number)
     {
-        write!(text, " {number:02x} is {name}")?;
-        return push_origin(text, Origin::Of(feature));
+        return push_after_fc(text, number);
     }
-    let name = name_of_byte(first);
+    let name = name_of_later(first);
     match feature_of_byte(first) {
         Some(feature) if name.is_empty() => {
             text.push_str(" begins an instruction")?;
@@ -101,6 +108,9 @@ fn push_opcode(text: &mut String, first: u8, number: Option<u32>) -> Result<(), 
         Some(feature) => {
             write!(text, " is {name}")?;
             push_origin(text, Origin::Of(feature))
+        }
+        None if first == FC => {
+            text.push_str(" begins an instruction whose number cannot be read\n")
         }
         None if name.is_empty() => text.push_str(" begins no instruction that is known\n"),
         None => write!(
@@ -126,14 +136,60 @@ fn push_id(text: &mut String, id: u8, last: Option<u8>) -> Result<(), AllocError
     }
 }
 
+/// What is wanted where the bytes end.
+fn push_wanted(text: &mut String, wanted: Wanted, whole: &str) -> Result<(), AllocError> {
+    let words = wanted_words(wanted);
+    let verb = if is_plural(wanted) { "are" } else { "is" };
+    write!(text, "{whole} there, and {words} {verb} wanted\n")
+}
+
+/// A size, and how many bytes are left.
+fn push_beyond(
+    text: &mut String,
+    wanted: Wanted,
+    size: u32,
+    left: usize,
+) -> Result<(), AllocError> {
+    write!(text, "{} is {size}, and ", wanted_words(wanted))?;
+    push_left(text, left)
+}
+
+/// How many bytes are left.
+pub(crate) fn push_left(text: &mut String, left: usize) -> Result<(), AllocError> {
+    match left {
+        0 => text.push_str("no byte is left\n"),
+        1 => text.push_str("1 byte is left\n"),
+        _ => write!(text, "{left} bytes are left\n"),
+    }
+}
+
+/// What is wrong with a constant.
+fn push_constant(text: &mut String, wrong: Wrong, whole: &str) -> Result<(), AllocError> {
+    match wrong {
+        Wrong::CutConstant(wanted) => write!(
+            text,
+            "{whole} within the number there, {}\n",
+            wanted_words(wanted)
+        ),
+        Wrong::LongConstant(wanted) => write!(
+            text,
+            "the number there, {}, has more than {} bytes\n",
+            wanted_words(wanted),
+            if wanted == Wanted::I64 { 10 } else { 5 }
+        ),
+        Wrong::LargeConstant(wanted) => write!(
+            text,
+            "the number there, {}, is outside the range of its type\n",
+            wanted_words(wanted)
+        ),
+        _ => Ok(()),
+    }
+}
+
 /// What is wrong with a number or a size.
 fn push_number(text: &mut String, wrong: Wrong, whole: &str) -> Result<(), AllocError> {
     match wrong {
-        Wrong::Ends(wanted) => write!(
-            text,
-            "{whole} there, and {} is wanted\n",
-            wanted_words(wanted)
-        ),
+        Wrong::Ends(wanted) => push_wanted(text, wanted, whole),
         Wrong::Cut(wanted) => write!(
             text,
             "{whole} within the number there, {}\n",
@@ -149,13 +205,32 @@ fn push_number(text: &mut String, wrong: Wrong, whole: &str) -> Result<(), Alloc
             "the number there, {}, is 2^32 or more\n",
             wanted_words(wanted)
         ),
-        Wrong::Beyond { wanted, size, left } => write!(
-            text,
-            "{} is {size}, and the bytes left are {left}\n",
-            wanted_words(wanted)
-        ),
-        _ => Ok(()),
+        Wrong::Beyond { wanted, size, left } => push_beyond(text, wanted, size, left),
+        constant => push_constant(text, constant, whole),
     }
+}
+
+/// What is wrong within a body.
+pub(crate) fn push_misread(text: &mut String, wrong: Wrong) -> Result<(), AllocError> {
+    match wrong {
+        Wrong::Byte { wanted, found } => push_byte(text, wanted, found),
+        wrong => push_number(text, wrong, "the body ends"),
+    }
+}
+
+/// A count of bytes.
+fn push_size(text: &mut String, size: usize) -> Result<(), AllocError> {
+    match size {
+        1 => text.push_str("1 byte"),
+        _ => write!(text, "{size} bytes"),
+    }
+}
+
+/// A size that is not that of its section.
+fn push_other_size(text: &mut String, id: u8, says: usize, takes: usize) -> Result<(), AllocError> {
+    write!(text, "section {id} says ")?;
+    push_size(text, says)?;
+    write!(text, ", and its items take {takes}\n")
 }
 
 /// What is wrong.
@@ -165,10 +240,7 @@ fn push_wrong(text: &mut String, place: Place, id: u8) -> Result<(), AllocError>
         Wrong::NoText { size } => write!(text, "the name there, of size {size}, is not UTF-8\n"),
         Wrong::Id => push_id(text, id, None),
         Wrong::Order { last } => push_id(text, id, Some(last)),
-        Wrong::Size { says, takes } => write!(
-            text,
-            "section {id} says {says} bytes, and its items take {takes}\n"
-        ),
+        Wrong::Size { says, takes } => push_other_size(text, id, says, takes),
         Wrong::Opcode { first, number } => push_opcode(text, first, number),
         Wrong::Expression => text.push_str("the expression that begins there cannot be read\n"),
         Wrong::Else => text.push_str("05 is an else that stands in no if\n"),
@@ -193,12 +265,12 @@ fn push_segment(text: &mut String, id: u8, segment: OtherSegment) -> Result<bool
     let Some((name, origin)) = later_segment(id, segment.first) else {
         return Ok(false);
     };
+    let OtherSegment { number, first, at } = segment;
+    let item = item_name(id);
+    write!(text, "item      {item} {number}, byte {at} (0x{at:x})\n")?;
     write!(
         text,
-        "{} {} begins with {:02x}, as {name}",
-        item_name(id),
-        segment.number,
-        segment.first
+        "because   {item} {number} begins with {first:02x}, as {name}"
     )?;
     push_origin(text, origin)?;
     Ok(true)
@@ -211,12 +283,12 @@ pub(crate) fn push_place(text: &mut String, place: Place) -> Result<(), AllocErr
         id = section.id;
         push_section(text, section)?;
     }
-    push_item(text, place)?;
-    text.push_str("because   ")?;
     if let Some(segment) = place.segment
         && push_segment(text, id, segment)?
     {
         return Ok(());
     }
+    push_item(text, place)?;
+    text.push_str("because   ")?;
     push_wrong(text, place, id)
 }

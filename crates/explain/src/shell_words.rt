@@ -8,6 +8,7 @@ use crate::shell_place::Wanted;
 pub(crate) enum Origin {
     Of(Feature),
     Memory64,
+    Memories,
     PageSizes,
 }
 
@@ -17,16 +18,19 @@ impl Origin {
         match self {
             Origin::Of(feature) => feature.words(),
             Origin::Memory64 => "64-bit addresses (Core 3.0)",
+            Origin::Memories => "several memories (Core 3.0)",
             Origin::PageSizes => "custom page sizes (a proposal)",
         }
     }
 
-    /// What to build the module with, so that it has none of it.
+    /// How to build the module, so that it has none of it.
     pub(crate) fn hint(self) -> Option<&'static str> {
         match self {
-            Origin::Of(Feature::Threads) => Some("-mcpu=mvp"),
-            Origin::Of(feature) if feature.is_left_out_by_mvp() => Some("-mcpu=mvp"),
-            Origin::Memory64 => Some("--target=wasm32"),
+            Origin::Of(Feature::Threads) => Some("without -pthread and --shared-memory"),
+            Origin::Of(feature) if feature.is_left_out_by_mvp() => {
+                Some("with -mcpu=mvp, in Rust with -C target-cpu=mvp (docs/GUESTS.md)")
+            }
+            Origin::Memory64 => Some("with --target=wasm32 (docs/GUESTS.md)"),
             _ => None,
         }
     }
@@ -82,7 +86,21 @@ pub(crate) fn wanted_words(wanted: Wanted) -> &'static str {
         Wanted::BodySize => "the size of a body",
         Wanted::DataSize => "the size of a segment's data",
         Wanted::Instruction => "an instruction",
+        Wanted::BlockType => "the type of a block",
+        Wanted::TableByte => "the byte of the table",
+        Wanted::MemoryByte => "the byte of the memory",
+        Wanted::Alignment => "an alignment",
+        Wanted::Offset => "an offset",
+        Wanted::I32 => "an i32",
+        Wanted::I64 => "an i64",
+        Wanted::F32 => "an f32",
+        Wanted::F64 => "an f64",
     }
+}
+
+/// Whether what is wanted is several.
+pub(crate) fn is_plural(wanted: Wanted) -> bool {
+    matches!(wanted, Wanted::MemoryFlags | Wanted::TableFlags)
 }
 
 /// Which bytes are wanted.
@@ -92,6 +110,8 @@ pub(crate) fn wanted_bytes(wanted: Wanted) -> &'static str {
         Wanted::ValueType => "7f, 7e, 7d and 7c are",
         Wanted::ElementType => "70 is",
         Wanted::ImportKind | Wanted::ExportKind => "00, 01, 02 and 03 are",
+        Wanted::BlockType => "40, 7f, 7e, 7d, 7c and the index of a type are",
+        Wanted::TableByte | Wanted::MemoryByte => "00 is",
         _ => "00 and 01 are",
     }
 }
@@ -150,13 +170,18 @@ fn later_flags(byte: u8, of_memory: bool) -> Option<(&'static str, Origin)> {
 /// What that byte is in a later standard, where something else is wanted.
 pub(crate) fn later_byte(wanted: Wanted, byte: u8) -> Option<(&'static str, Origin)> {
     match wanted {
-        Wanted::ValueType => later_type(byte),
+        Wanted::ValueType | Wanted::BlockType => later_type(byte),
         Wanted::TypeForm => later_form(byte),
         Wanted::ElementType if byte == 0x40 => Some((
             "that of a table with a first value",
             Origin::Of(Feature::FunctionReferences),
         )),
         Wanted::ElementType => later_type(byte),
+        Wanted::TableByte => Some((
+            "that of an index of a table",
+            Origin::Of(Feature::ReferenceTypes),
+        )),
+        Wanted::MemoryByte => Some(("that of an index of a memory", Origin::Memories)),
         Wanted::MemoryFlags => later_flags(byte, true),
         Wanted::TableFlags => later_flags(byte, false),
         Wanted::ImportKind | Wanted::ExportKind if byte == 4 => Some((

@@ -199,9 +199,10 @@ fn push_element(
     let place = accepted.layout().element_places().get(segment as usize);
     if let (Some(found), Some(from)) = (module.elements.get(segment as usize), place) {
         let count = found.functions.len();
+        let entries = if count == 1 { "entry" } else { "entries" };
         write!(
             text,
-            ": it has {count} entries from {from} on, and the table {size}"
+            ": it has {count} {entries} from {from} on, and the table has {size}"
         )?;
     }
     Ok(())
@@ -214,9 +215,10 @@ fn push_data(text: &mut String, accepted: &Accepted<'_>, segment: u32) -> Result
     let place = accepted.layout().data_places().get(segment as usize);
     if let (Some(found), Some(from)) = (module.data.get(segment as usize), place) {
         let count = found.bytes.len();
+        let bytes = if count == 1 { "byte" } else { "bytes" };
         write!(
             text,
-            ": it has {count} bytes from {from} on, and the memory {size}"
+            ": it has {count} {bytes} from {from} on, and the memory has {size}"
         )?;
     }
     Ok(())

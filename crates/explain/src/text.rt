@@ -7,7 +7,7 @@ ghost use Rattle.explain.specs.Texts.{BeginsWith};
 ghost use Rattle.explain.specs.Told.{verdict_told};
 
 use crate::cause_text::push_cause;
-use crate::explanation::{BodyFault, Explanation, FoundToken, NoModule, RefusedBody};
+use crate::explanation::{BodyFault, Explanation, Form, FoundToken, NoModule, RefusedBody};
 use crate::quoting::{push_hex, push_name};
 use crate::rule_text::push_broken_item;
 use crate::shell_text::push_place;
@@ -105,13 +105,44 @@ fn push_fault(text: &mut String, fault: &BodyFault<'_>) -> Result<(), AllocError
     }
 }
 
-/// A byte of the header that is another.
-fn push_other_byte(text: &mut String, at: usize, found: u8, of: &str) -> Result<(), AllocError> {
+/// What bytes of another form are, and what to do.
+fn form_words(form: Form) -> &'static str {
+    match form {
+        Form::Component => {
+            "this is a component; gate takes core modules, as wasm32-unknown-unknown makes them"
+        }
+        Form::Xz => "this is an xz archive; unpack it with unxz",
+        Form::Zstd => "this is a Zstandard archive; unpack it with unzstd",
+        Form::Elf => {
+            "this is an ELF file, of another machine; build with --target=wasm32 (docs/GUESTS.md)"
+        }
+        Form::Objects => "this is an archive of object files; wasm-ld makes a module of them",
+        Form::Bitcode => "this is LLVM bitcode; build without -emit-llvm and -flto",
+    }
+}
+
+/// The line on what bytes of another form are.
+fn push_form(text: &mut String, form: Option<Form>) -> Result<(), AllocError> {
+    match form {
+        Some(form) => write!(text, "hint      {}\n", form_words(form)),
+        None => Ok(()),
+    }
+}
+
+/// A byte of the header that is another, in bytes of that form.
+fn push_other_byte(
+    text: &mut String,
+    at: usize,
+    found: u8,
+    of: &str,
+    form: Option<Form>,
+) -> Result<(), AllocError> {
     write!(text, "because   byte {at} is ")?;
     push_hex(text, found)?;
     text.push_str(", and ")?;
     text.push_str(of)?;
-    text.push_str("\n")
+    text.push_str("\n")?;
+    push_form(text, form)
 }
 
 /// The lines on bytes that spell no module.
@@ -120,21 +151,25 @@ fn push_no_module(text: &mut String, no_module: NoModule) -> Result<(), AllocErr
         NoModule::Text => {
             text.push_str("hint      this is the text format; wat2wasm makes a module of it\n")
         }
-        NoModule::Gzip => text.push_str("hint      these bytes are a gzip archive\n"),
+        NoModule::Gzip => {
+            text.push_str("hint      this is a gzip archive; unpack it with gunzip\n")
+        }
         NoModule::Short => text.push_str(
             "because   a module begins with 00 61 73 6d 01 00 00 00, and the bytes end before\n",
         ),
-        NoModule::Magic { at, found } => push_other_byte(
+        NoModule::Magic { at, found, form } => push_other_byte(
             text,
             at,
             found,
             "a module begins with 00 61 73 6d",
+            form,
         ),
-        NoModule::Version { at, found } => push_other_byte(
+        NoModule::Version { at, found, form } => push_other_byte(
             text,
             at,
             found,
             "the version is 01 00 00 00",
+            form,
         ),
         NoModule::Sections(Some(place)) => push_place(text, place),
         NoModule::Sections(None) => text.push_str(

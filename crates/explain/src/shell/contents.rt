@@ -4,7 +4,7 @@ ghost use Rattle.explain.specs.Shells.{Comes, ContentsCome, ItemsCome, Passes, V
 
 use crate::shell::items::{Items, after_item};
 use crate::shell::primitives::{Stuck, after_index, after_name, number_at};
-use crate::shell_place::{OtherSegment, SectionPart, Wanted, Wrong};
+use crate::shell_place::{SectionPart, Wanted, Wrong};
 use std::alloc::{AllocError, Global};
 
 /// The id of a custom section (5.5.3).
@@ -13,13 +13,21 @@ const CUSTOM: u8 = 0;
 /// The id of the section of the start function (5.5.11).
 const START: u8 = 8;
 
+/// A segment that begins with another number than 0, and the bytes from its first on.
+#[derive(Clone, Copy)]
+pub(crate) struct LaterSegment<'a> {
+    pub(crate) number: u32,
+    pub(crate) first: u32,
+    pub(crate) rest: &'a [u8],
+}
+
 /// Where the contents of a section cannot be read on.
 #[derive(Clone, Copy)]
 pub(crate) struct Lapse<'a> {
     pub(crate) part: SectionPart,
     pub(crate) rest: &'a [u8],
     pub(crate) wrong: Wrong,
-    pub(crate) segment: Option<OtherSegment>,
+    pub(crate) segment: Option<LaterSegment<'a>>,
 }
 
 /// What comes of reading contents.
@@ -28,7 +36,7 @@ pub(crate) enum Outcome<'a> {
     /// The bytes after them, and the first segment of a later standard.
     After {
         rest: &'a [u8],
-        segment: Option<OtherSegment>,
+        segment: Option<LaterSegment<'a>>,
     },
     Stopped(Lapse<'a>),
     /// No section has that id.
@@ -58,7 +66,7 @@ fn items_of(id: u8) -> Option<Items>
 fn part_read<'a>(
     part: SectionPart,
     read: Result<&'a [u8], Stuck<'a>>,
-    segment: Option<OtherSegment>,
+    segment: Option<LaterSegment<'a>>,
 ) -> Result<Outcome<'a>, AllocError>
     ensures { IfOk result (λ o. (left : Option (List ℕ)) → Passes left read.entry → Comes part left o) }
 {
@@ -75,7 +83,7 @@ fn part_read<'a>(
 }
 
 /// The segment of that number, where it begins with another number than 0.
-fn other_segment(items: Items, number: u32, bytes: &[u8]) -> Option<OtherSegment> {
+fn later_segment<'a>(items: Items, number: u32, bytes: &'a [u8]) -> Option<LaterSegment<'a>> {
     if items != Items::Elements && items != Items::Segments {
         return None;
     }
@@ -83,7 +91,11 @@ fn other_segment(items: Items, number: u32, bytes: &[u8]) -> Option<OtherSegment
     if first == 0 {
         return None;
     }
-    Some(OtherSegment { number, first })
+    Some(LaterSegment {
+        number,
+        first,
+        rest: bytes,
+    })
 }
 
 /// Reads past as many items.
@@ -98,7 +110,7 @@ fn after_items<'a>(
     let mut rest = bytes;
     let mut segment = None;
     for number in 0..count {
-        segment = segment.or(other_segment(items, number, rest));
+        segment = segment.or(later_segment(items, number, rest));
         let read = after_item(alloc, items, rest);
         match part_read(SectionPart::Item(number), read, segment)? {
             Outcome::After { rest: after, .. } => rest = after,

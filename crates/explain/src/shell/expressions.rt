@@ -5,6 +5,7 @@ ghost use Rattle.wdecode.specs.Gives.{rest_of};
 ghost use Rattle.explain.specs.Shells.{IsStuck, Passes, Stands};
 
 use crate::explanation::Stopped;
+use crate::misreads::immediates_stuck;
 use crate::shell::primitives::Stuck;
 use crate::shell_place::{Wanted, Wrong};
 use crate::stops::{Halt, halt_in};
@@ -25,6 +26,20 @@ fn wrong_opcode(bytes: &[u8]) -> Wrong
     }
 }
 
+/// Why bytes begin with no token: what follows its opcode, or that opcode.
+fn stuck_at<'a>(bytes: &'a [u8]) -> Stuck<'a>
+    requires { token_read bytes.now ≡ None }
+    ensures { IsStuck result }
+{
+    match immediates_stuck(bytes) {
+        Some(stuck) => stuck,
+        None => Stuck::Here {
+            rest: bytes,
+            wrong: wrong_opcode(bytes),
+        },
+    }
+}
+
 /// Why bytes begin with no expression.
 fn stuck_in<'a>(alloc: Global, bytes: &'a [u8]) -> Stuck<'a>
     requires { expression.read bytes.now ≡ None }
@@ -40,10 +55,7 @@ fn stuck_in<'a>(alloc: Global, bytes: &'a [u8]) -> Stuck<'a>
                     ..
                 },
             ),
-        ) => Stuck::Here {
-            rest,
-            wrong: wrong_opcode(rest),
-        },
+        ) => stuck_at(rest),
         Ok(
             Some(
                 Halt {

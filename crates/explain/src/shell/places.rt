@@ -3,9 +3,9 @@ ghost use Rattle.std.specs.Prelude.{◌≡◌, ℕ, List, Some, IfOk, IfSome, sl
 ghost use Rattle.explain.specs.Shells.{IsWrong, Stands, TellsPlace, TellsStep};
 
 use crate::explanation::Span;
-use crate::shell::contents::{Lapse, Outcome, after_contents};
+use crate::shell::contents::{Lapse, LaterSegment, Outcome, after_contents};
 use crate::shell::primitives::{Stuck, sized_at};
-use crate::shell_place::{FoundSection, Place, SectionPart, Wanted, Wrong};
+use crate::shell_place::{FoundSection, OtherSegment, Place, SectionPart, Wanted, Wrong};
 use std::alloc::{AllocError, Global};
 
 /// How many bytes the magic and the version are.
@@ -41,6 +41,17 @@ pub(crate) enum Step {
     Stopped(Option<Place>),
 }
 
+/// The segment of a later standard that reading came to, in a section that ends at offset `to`.
+fn segment_in(to: usize, lapse: Lapse<'_>) -> Option<OtherSegment> {
+    let LaterSegment {
+        number,
+        first,
+        rest,
+    } = lapse.segment?;
+    let at = to.saturating_sub(rest.len());
+    Some(OtherSegment { number, first, at })
+}
+
 /// The place where reading stopped in that section, whose end the bytes left there come before.
 fn told(bytes: &[u8], section: FoundSection, lapse: Lapse<'_>) -> Option<Place>
     requires id { slice_get bytes.now section.span.from ≡ Some section.id }
@@ -58,7 +69,7 @@ fn told(bytes: &[u8], section: FoundSection, lapse: Lapse<'_>) -> Option<Place>
         part: lapse.part,
         at,
         wrong: lapse.wrong,
-        segment: lapse.segment,
+        segment: segment_in(to, lapse),
     })
 }
 
@@ -85,7 +96,10 @@ fn first_number(contents: &[u8]) -> u32 {
 
 /// Whether more bytes could mend what is wrong.
 fn is_short(wrong: Wrong) -> bool {
-    matches!(wrong, Wrong::Ends(_) | Wrong::Cut(_) | Wrong::Beyond { .. })
+    matches!(
+        wrong,
+        Wrong::Ends(_) | Wrong::Cut(_) | Wrong::CutConstant(_) | Wrong::Beyond { .. }
+    )
 }
 
 /// How many bytes contents take that begin at offset `from`, where they need not end with their section.
