@@ -48,7 +48,7 @@ The first line is that of `gate check`. The others, where the module is refused,
     function  26 \"fill\", exported as \"fill\", [i32 i32] -> [], bytes 262 to 280
     token     5, byte 274 (0x112)
     because   fc 0b is memory.fill, of bulk memory (Core 2.0), which gate does not admit
-    hint      build the module with -mcpu=mvp
+    hint      build the module with -mcpu=mvp, in Rust with -C target-cpu=mvp (docs/GUESTS.md)
 
 Tokens and functions count from 0, and bytes are offsets in the file. New keys may come.
 

@@ -64,7 +64,7 @@ fn an_explanation_of_a_malformed_body() {
         (402, Some(10), None, Some(0xfc))
     );
     assert_eq!((found.body(), found.place()), (Some(22..26), Some(23..23)));
-    assert_eq!(found.line("hint"), Some("build the module with -mcpu=mvp"));
+    assert_eq!(found.line("hint"), Some("build the module with -mcpu=mvp, in Rust with -C target-cpu=mvp (docs/GUESTS.md)"));
     assert_eq!(found.line("hin"), None);
     assert_eq!(error.to_string(), format!("refused body 0 malformed: {because}"));
 }
