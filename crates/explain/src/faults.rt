@@ -67,11 +67,13 @@ fn placed_token<'a>(
     ensures places { IfOk result (TellsPlaces context.now.context func body.now start) }
 {
     match find_told(alloc, context, func, body, start, number) {
-        Ok(Told {
-            found,
-            typing,
-            cause,
-        }) => Ok(BodyFault::IllTyped {
+        Ok(
+            Told {
+                found,
+                typing,
+                cause,
+            },
+        ) => Ok(BodyFault::IllTyped {
             number,
             found: Some(found),
             typing: Some(typing),

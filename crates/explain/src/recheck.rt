@@ -56,11 +56,7 @@ fn pass_known(checker: &mut Checker<'_>, token: Token) -> bool
 
 /// Goes on by a token. `false`: no typed body begins with the tokens so far.
 #[inline(always)]
-fn step_token(
-    checker: &mut Checker<'_>,
-    token: Token,
-    targets: &[u32],
-) -> Result<bool, AllocError>
+fn step_token(checker: &mut Checker<'_>, token: Token, targets: &[u32]) -> Result<bool, AllocError>
     ensures step { IfOk result (λ ok. step checker.old.inside (seen targets.now token) checker.old.frames
         ≡ when ok (Some checker.new.frames)) }
     ensures same { IfOk result (λ _. checker.new ≡ with_frames checker.old checker.new.frames) }
@@ -242,7 +238,11 @@ pub(crate) fn find_told(
     let (runs, code) = locals_at(alloc, body)?;
     let mut checker = Checker::new(alloc, context);
     checker.begin(func, &runs)?;
-    let mut trail = Trail::new(alloc, code, start.saturating_add(body.len().saturating_sub(code.len())));
+    let mut trail = Trail::new(
+        alloc,
+        code,
+        start.saturating_add(body.len().saturating_sub(code.len())),
+    );
     let rest = pass_tokens(alloc, &mut checker, &mut trail, code, number)?;
     let [opcode, ..] = rest else {
         return Err(Fault::Malformed);

@@ -5,10 +5,10 @@ ghost use Rattle.explain.specs.Rules.{BreaksIn, IsFirst};
 ghost use Rattle.explain.specs.Exported.{name_at};
 ghost use Rattle.explain.specs.Spaces.{AreSpacesOf, counted};
 
+use super::repeats::{Repeat, proposed};
 use crate::broken_item::{BrokenItem, ItemFault};
 use crate::item_places::EXPORT;
 use crate::spaces::Spaces;
-use super::repeats::{Repeat, proposed};
 use std::alloc::{AllocError, Global};
 use wcontext::{ModuleFault, check_module};
 use wsyntax::{Export, Module};

@@ -56,7 +56,9 @@ impl<'a> Numbered<'a> {
             if name.len() > SHORT {
                 numbered.long.push((name, number))?;
             } else {
-                numbered.short.push(number_of(name) << 32 | u128::from(number))?;
+                numbered
+                    .short
+                    .push(number_of(name) << 32 | u128::from(number))?;
             }
         }
         Ok(numbered)

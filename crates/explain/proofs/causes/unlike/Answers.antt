@@ -1,4 +1,4 @@
-use Rattle.std.proofs.Common.{◌≡◌, false, refl}
+use Rattle.std.proofs.Common.{◌≡◌, false, refl, rules}
 use Rattle.wsyntax.specs.Types.{same_type}
 use Rattle.explain.proofs.Misfits.{second_at}
 use Rattle.explain.proofs.causes.unlike.Goals as goal
