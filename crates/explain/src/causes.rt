@@ -1,5 +1,6 @@
 //! Why a token is ill typed.
-ghost use Rattle.std.specs.Prelude.{◌≡◌, ◌≢◌, ◌≤◌, ◌<◌, ◌+◌, ◌∷◌, [], ℕ, List, cond, Some, None, true, false, IfOk, IfSome, MatchOption, length, map, reverse, slice_get, slice_range, slice_index_or};
+ghost use Rattle.std.specs.Prelude.{◌≡◌, ◌≢◌, ◌≤◌, ◌<◌, ◌+◌, ◌∷◌, [], ℕ, List, cond, Some, None, true, false};
+ghost use Rattle.std.specs.Prelude.{IfOk, IfSome, MatchOption, length, map, reverse, slice_get, slice_range, slice_index_or};
 ghost use Rattle.wsyntax.specs.Instructions.{Token as AnyToken, Do, BrTable, Select, Else, End};
 ghost use Rattle.wsyntax.specs.Modules.{seen};
 ghost use Rattle.wsyntax.specs.Validation.Context.{Context as AnyContext};
