@@ -1,5 +1,5 @@
 -- Operands that are taken and others that are found.
-use Rattle.std.proofs.Common.{◌≡◌, inl, inr, ℕ, zero, suc, ◌+◌, ◌-◌, ◌^◌, ◌<◌, Bool, true, false, List, [], ◌∷◌, reverse, length, get_or, slice_get, Option, Some, None, refl, sym, ap, ◌∙◌, subst, arith}
+use Rattle.std.proofs.Common.{◌≡◌, inl, inr, ℕ, zero, suc, ◌+◌, ◌-◌, ◌^◌, ◌<◌, ◌≤◌, Bool, true, false, List, [], ◌∷◌, reverse, length, get_or, slice_get, Option, Some, None, refl, sym, ap, ◌∙◌, subst, arith}
 use Rattle.std.proofs.lemmas.List.{get_or-reverse, length-reverse}
 use Rattle.std.proofs.lemmas.Option.{slice_get-get_or}
 use Rattle.std.specs.Prelude.{IfSome, IsSomeAnd, slice_range, slice_index_or}
@@ -66,42 +66,39 @@ within [] k x e = absurd cc
 within (y ∷ xs) zero x e = omega arith
 within (y ∷ xs) (suc k) x e = let h = within xs k x e in omega (arith, h)
 
-just_so_many : (C : Context) (t : Token) (fs : List Frame) (ps : List (Option ValType)) (place : ℕ) → Some ps ≡ pops C t fs → place < length ps → length (topmost (length ps) fs) ≡ place → HasJust fs place
-just_so_many C t [] ps place e lt h = absurd (let q = e ∙ no_pops C t in cc)
-just_so_many C t (f ∷ fs) ps place e lt h =
-    let q = all_known (length ps) f.operands.known f.operands.is_dead f fs (omega (arith, lt, h)) in (q.0 ∙ h, q.1)
+just_so_many : (C : Context) (t : Token) (fs : List Frame) (ps : List (Option ValType)) (n place : ℕ) → Some ps ≡ pops C t fs → place < n → length (topmost n fs) ≡ place → HasJust fs place
+just_so_many C t [] ps n place e lt h = absurd (let q = e ∙ no_pops C t in cc)
+just_so_many C t (f ∷ fs) ps n place e lt h =
+    let q = all_known n f.operands.known f.operands.is_dead f fs (omega (arith, lt, h)) in (q.0 ∙ h, q.1)
 
 takes_at : (C : Context) (t : Token) (fs : List Frame) (ps : List (Option ValType)) (place : ℕ) (w : Option ValType) → Some ps ≡ pops C t fs → slice_get ps place ≡ Some w → TakesAt C t fs place w
 takes_at C t fs ps place w e h = subst (λ z. IsSomeAnd z (λ qs. slice_get qs place ≡ Some w)) e h
 
 -- what differs is a cause
-pub misfit_causes : (C : Context) (t : Token) (fs : List Frame) (ps xs : List (Option ValType)) (c : Cause) → Some ps ≡ pops C t fs → xs ≡ topmost (length ps) fs → IsMisfit ps xs c → IsCause C t fs c
-misfit_causes C t fs ps xs (cause.Operand place wanted found) e k h =
-    (takes_at C t fs ps place (Some wanted) e h.0, found_at (length ps) place found fs (ap (λ z. slice_get z place) (sym k) ∙ h.1), h.2)
-misfit_causes C t fs ps xs (cause.Missing place wanted) e k h =
-    (takes_at C t fs ps place wanted e h.0, just_so_many C t fs ps place e (within ps place wanted h.0) (ap length (sym k) ∙ h.1))
-misfit_causes C t fs ps xs (cause.LeftOver count) e k h = absurd h
-misfit_causes C t fs ps xs (cause.NoElse signature) e k h = absurd h
-misfit_causes C t fs ps xs (cause.NoIndex space index count) e k h = absurd h
-misfit_causes C t fs ps xs (cause.Immutable global) e k h = absurd h
-misfit_causes C t fs ps xs cause.NoMemory e k h = absurd h
-misfit_causes C t fs ps xs cause.NoTable e k h = absurd h
-misfit_causes C t fs ps xs (cause.Alignment align largest) e k h = absurd h
-misfit_causes C t fs ps xs (cause.Labels label takes others) e k h = absurd h
-misfit_causes C t fs ps xs (cause.Select above below) e k h = absurd h
+pub misfit_causes : (C : Context) (t : Token) (fs : List Frame) (ps xs : List (Option ValType)) (n : ℕ) (c : Cause) → Some ps ≡ pops C t fs → xs ≡ topmost n fs → length ps ≤ n → IsMisfit ps xs c → IsCause C t fs c
+misfit_causes C t fs ps xs n (cause.Operand place wanted found) e k le h =
+    (takes_at C t fs ps place (Some wanted) e h.0, found_at n place found fs (ap (λ z. slice_get z place) (sym k) ∙ h.1), h.2)
+misfit_causes C t fs ps xs n (cause.Missing place wanted) e k le h =
+    let lt : place < n = let w = within ps place wanted h.0 in omega (arith, w, le) in
+    (takes_at C t fs ps place wanted e h.0, just_so_many C t fs ps n place e lt (ap length (sym k) ∙ h.1))
+misfit_causes C t fs ps xs n (cause.LeftOver count) e k le h = absurd h
+misfit_causes C t fs ps xs n (cause.NoElse signature) e k le h = absurd h
+misfit_causes C t fs ps xs n (cause.NoIndex space index count) e k le h = absurd h
+misfit_causes C t fs ps xs n (cause.Immutable global) e k le h = absurd h
+misfit_causes C t fs ps xs n cause.NoMemory e k le h = absurd h
+misfit_causes C t fs ps xs n cause.NoTable e k le h = absurd h
+misfit_causes C t fs ps xs n (cause.Alignment align largest) e k le h = absurd h
+misfit_causes C t fs ps xs n (cause.Labels label takes others) e k le h = absurd h
+misfit_causes C t fs ps xs n (cause.Select above below) e k le h = absurd h
 
 pub some_more : {A : Type 0} (P Q : A → Type 0) (r : Option A) → ((x : A) → P x → Q x) → IfSome r P → IfSome r Q
 some_more P Q None f h = h
 some_more P Q (Some x) f h = f x h
 
-pub some_both : {A : Type 0} (P Q R : A → Type 0) (r : Option A) → ((x : A) → P x → Q x → R x) → IfSome r P → IfSome r Q → IfSome r R
-some_both P Q R None f p q = p
-some_both P Q R (Some x) f p q = f x p q
-
-pub misfit_some : (C : Context) (t : Token) (fs : List Frame) (takes finds : List (Option ValType)) (r : Option Cause) → Some (reverse takes) ≡ pops C t fs → reverse finds ≡ topmost (length takes) fs → IfSome r (IsMisfit (reverse takes) (reverse finds))
-    → IfSome r (IsCause C t fs)
-misfit_some C t fs takes finds r e k h =
-    some_more (IsMisfit (reverse takes) (reverse finds)) (IsCause C t fs) r (λ x p. misfit_causes C t fs (reverse takes) (reverse finds) x e (k ∙ ap (λ n. topmost n fs) (sym (length-reverse takes))) p) h
+pub misfit_some : (C : Context) (t : Token) (fs : List Frame) (takes finds : List (Option ValType)) (n : ℕ) (r : Option Cause) → Some (reverse takes) ≡ pops C t fs → reverse finds ≡ topmost n fs → length takes ≤ n
+    → IfSome r (IsMisfit (reverse takes) (reverse finds)) → IfSome r (IsCause C t fs)
+misfit_some C t fs takes finds n r e k le h =
+    some_more (IsMisfit (reverse takes) (reverse finds)) (IsCause C t fs) r (λ x p. misfit_causes C t fs (reverse takes) (reverse finds) n x e k (rw (length-reverse takes) le) p) h
 
 -- ---- what a token names
 
@@ -137,17 +134,12 @@ table_seen t targets ls first count d e l k = ap (λ z. Do (BrTable z d)) l ∙ 
 pub label_named : (ls : List ℕ) (d k l : ℕ) → k < length ls → l ≡ get_or ls k 0 → Names (Do (BrTable ls d)) Labels l
 label_named ls d k l lt e = inr (inr (ls, d, suc k, refl, slice_get-get_or ls k 0 lt ∙ ap Some (sym e)))
 
--- a select takes three operands
-three : (C : Context) (fs : List Frame) (takes : List (Option ValType)) → Some (reverse takes) ≡ pops C (Do Select) fs → length takes ≡ 3
-three C [] takes e = absurd cc
-three C (f ∷ fs) takes e = let h : reverse takes ≡ Some I32 ∷ None ∷ None ∷ [] = cc in sym (length-reverse takes) ∙ ap length h
-
-pub unlike_some : (C : Context) (t : Token) (fs : List Frame) (takes finds : List (Option ValType)) (r : Option Cause) → t ≡ Do Select → Some (reverse takes) ≡ pops C t fs → reverse finds ≡ topmost (length takes) fs
-    → IfSome r (λ c. (D : Context) (gs : List Frame) → reverse finds ≡ topmost 3 gs → IsCause D (Do Select) gs c) → IfSome r (IsCause C t fs)
-unlike_some C t fs takes finds r s e k h =
-    let n = three C fs takes (e ∙ ap (λ z. pops C z fs) s) in
-    subst (λ z. IfSome r (IsCause C z fs)) (sym s) (some_more (λ c. (D : Context) (gs : List Frame) → reverse finds ≡ topmost 3 gs → IsCause D (Do Select) gs c) (IsCause C (Do Select) fs) r (λ x p. p C fs (k ∙ ap (λ m. topmost m fs) n)) h)
+-- operands of a select that are of two types
+pub unlike_some : (C : Context) (t : Token) (fs : List Frame) (finds : List (Option ValType)) (n : ℕ) (r : Option Cause) → t ≡ Do Select → reverse finds ≡ topmost n fs
+    → IfSome r (λ c. (D : Context) (gs : List Frame) (m : ℕ) → reverse finds ≡ topmost m gs → IsCause D (Do Select) gs c) → IfSome r (IsCause C t fs)
+unlike_some C t fs finds n r s k h =
+    subst (λ z. IfSome r (IsCause C z fs)) (sym s) (some_more (λ c. (D : Context) (gs : List Frame) (m : ℕ) → reverse finds ≡ topmost m gs → IsCause D (Do Select) gs c) (IsCause C (Do Select) fs) r (λ x p. p C fs n k) h)
 
 -- the second and the third operand that are found
-pub second_at : (fs : List Frame) (xs : List (Option ValType)) (k : ℕ) (u : ValType) → xs ≡ topmost 3 fs → slice_get xs k ≡ Some (Some u) → operand_at fs k ≡ Some (Some u)
-second_at fs xs k u e h = found_at 3 k u fs (ap (λ z. slice_get z k) (sym e) ∙ h)
+pub second_at : (n : ℕ) (fs : List Frame) (xs : List (Option ValType)) (k : ℕ) (u : ValType) → xs ≡ topmost n fs → slice_get xs k ≡ Some (Some u) → operand_at fs k ≡ Some (Some u)
+second_at n fs xs k u e h = found_at n k u fs (ap (λ z. slice_get z k) (sym e) ∙ h)

@@ -1,16 +1,17 @@
 //! Why a token is ill typed.
-ghost use Rattle.std.specs.Prelude.{◌≡◌, ◌≢◌, ◌≤◌, ◌<◌, ◌+◌, ◌∷◌, ℕ, List, cond, Some, None, true, false, IfOk, IfSome, length, reverse, slice_get, slice_range, slice_index_or};
+ghost use Rattle.std.specs.Prelude.{◌≡◌, ◌≢◌, ◌≤◌, ◌<◌, ◌+◌, ◌∷◌, [], ℕ, List, cond, Some, None, true, false};
+ghost use Rattle.std.specs.Prelude.{IfOk, IfSome, MatchOption, length, map, reverse, slice_get, slice_range, slice_index_or};
 ghost use Rattle.wsyntax.specs.Instructions.{Token as AnyToken, Do, BrTable, Select, Else, End};
 ghost use Rattle.wsyntax.specs.Modules.{seen};
 ghost use Rattle.wsyntax.specs.Validation.Context.{Context as AnyContext};
-ghost use Rattle.wsyntax.specs.Validation.Algorithm.{Frame, step};
+ghost use Rattle.wsyntax.specs.Validation.Algorithm.{Frame};
 ghost use Rattle.wcheck.specs.Inspected.{IsInnermost, SharesSpaces};
-ghost use Rattle.explain.specs.Typed.{pops, topmost};
+ghost use Rattle.explain.specs.Typed.{frame_type, known_in, pops, told_of, topmost};
 ghost use Rattle.explain.specs.Causes.{IsAlignedTo, IsCause, IsMisfit, Names, UsesMemory, size_of};
 
 use crate::cause::{Cause, Space};
 use crate::explanation::Signature;
-use crate::operands::{finds_of, takes_of};
+use crate::operands::{Operands, count_told, finds_of};
 use std::alloc::{AllocError, Global};
 use wcheck::{Checker, OpenFrame};
 use wcontext::Context;
@@ -50,7 +51,8 @@ fn type_at(finds: &[Option<ValType>], place: usize) -> Option<ValType>
 
 /// The two operands of a select, if they are of different types.
 fn unlike(finds: &[Option<ValType>]) -> Option<Cause>
-    ensures { IfSome result (λ c. (C : AnyContext) (fs : List Frame) → reverse finds.now ≡ topmost 3 fs → IsCause C (Do Select) fs c) }
+    ensures { IfSome result (λ c. (C : AnyContext) (fs : List Frame) (n : ℕ) → reverse finds.now ≡ topmost n fs
+        → IsCause C (Do Select) fs c) }
 {
     let Some(above) = type_at(finds, 1) else {
         return None;
@@ -97,28 +99,51 @@ fn end_cause(alloc: Global, frame: OpenFrame<'_>, is_end: bool) -> Result<Option
     Ok(None)
 }
 
-/// Why a token is refused that takes these operands, the lowest first.
-fn operand_cause(
+/// Why a token is refused that takes these operands and finds those, or more of them, each the lowest first.
+fn refusal_by(
     alloc: Global,
-    checker: &mut Checker<'_>,
+    frame: Option<OpenFrame<'_>>,
     token: Token,
     takes: &[Option<ValType>],
+    finds: &[Option<ValType>],
 ) -> Result<Option<Cause>, AllocError>
-    ensures { (targets : List ℕ) → Some (reverse takes.now) ≡ pops checker.old.inside (seen targets token) checker.old.frames
-        → IfOk result (λ r. IfSome r (IsCause checker.old.inside (seen targets token) checker.old.frames)) }
+    ensures { (C : AnyContext) (fs : List Frame) (targets : List ℕ) (n : ℕ) → MatchOption frame.entry (fs ≡ []) (IsInnermost fs)
+        → Some (reverse takes.now) ≡ pops C (seen targets token) fs → reverse finds.now ≡ topmost n fs → length takes.now ≤ n
+        → IfOk result (λ r. IfSome r (IsCause C (seen targets token) fs)) }
 {
-    let frame = checker.innermost();
-    let finds = finds_of(alloc, checker, takes.len())?;
-    let cause = misfit(takes, &finds);
+    let cause = misfit(takes, finds);
     if cause.is_some() {
         return Ok(cause);
     }
     match (token, frame) {
-        (Token::Select, _) => Ok(unlike(&finds)),
+        (Token::Select, _) => Ok(unlike(finds)),
         (Token::Else { .. }, Some(frame)) => end_cause(alloc, frame, false),
         (Token::End, Some(frame)) => end_cause(alloc, frame, true),
         _ => Ok(None),
     }
+}
+
+/// What a token finds that takes these operands, each the lowest first, and why it is refused. They are taken from the checker.
+pub(crate) fn operand_cause(
+    alloc: Global,
+    checker: &mut Checker<'_>,
+    token: Token,
+    takes: &[Option<ValType>],
+) -> Result<(Operands, Option<Cause>), AllocError>
+    ensures found { (targets : List ℕ) → IfOk result (λ r. reverse r.0.items
+        ≡ topmost (told_of (seen targets token) (length takes.now) (known_in checker.old.frames)) checker.old.frames) }
+    ensures types { map frame_type checker.new.frames ≡ map frame_type checker.old.frames }
+    ensures cause { (targets : List ℕ) → Some (reverse takes.now) ≡ pops checker.old.inside (seen targets token) checker.old.frames
+        → IfOk result (λ r. IfSome r.1 (IsCause checker.old.inside (seen targets token) checker.old.frames)) }
+{
+    let frame = checker.innermost();
+    let known = match frame {
+        Some(frame) => frame.height,
+        None => 0,
+    };
+    let finds = finds_of(alloc, checker, count_told(token, takes.len(), known))?;
+    let cause = refusal_by(alloc, frame, token, takes, &finds)?;
+    Ok((finds, cause))
 }
 
 /// Whether there is that index of a space.
@@ -310,7 +335,7 @@ fn lack(context: &Context, token: Token) -> Option<Cause>
 }
 
 /// Why a token is refused that names what is not there.
-fn name_cause(
+pub(crate) fn name_cause(
     alloc: Global,
     checker: &Checker<'_>,
     token: Token,
@@ -333,33 +358,4 @@ fn name_cause(
         return Ok(cause);
     }
     Ok(misaligned(token))
-}
-
-/// Why the next token is refused. The operands that it takes are taken from the checker.
-fn found_cause(
-    alloc: Global,
-    checker: &mut Checker<'_>,
-    token: Token,
-    targets: &[u32],
-) -> Result<Option<Cause>, AllocError>
-    ensures { IfOk result (λ r. IfSome r (IsCause checker.old.inside (seen targets.now token) checker.old.frames)) }
-{
-    match takes_of(alloc, checker, token, targets)? {
-        Some(takes) => operand_cause(alloc, checker, token, &takes),
-        None => name_cause(alloc, checker, token, targets),
-    }
-}
-
-/// Why the next token is refused, where that can be named. The operands that it takes are taken from the checker.
-pub(crate) fn cause_of(
-    alloc: Global,
-    checker: &mut Checker<'_>,
-    token: Token,
-    targets: &[u32],
-) -> Result<Option<Cause>, AllocError>
-    ensures cause { IfOk result (λ r. IfSome r (IsCause checker.old.inside (seen targets.now token) checker.old.frames)) }
-    // The cause alone refuses the token.
-    ensures refused { IfOk result (λ r. IfSome r (λ c. step checker.old.inside (seen targets.now token) checker.old.frames ≡ None)) }
-{
-    found_cause(alloc, checker, token, targets)
 }

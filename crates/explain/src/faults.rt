@@ -7,8 +7,7 @@ ghost use Rattle.explain.specs.Placed.{Declares, TellsBody, TellsNoPlaces, Tells
 
 use crate::bodies::body_span;
 use crate::explanation::{BodyFault, Span};
-use crate::places::find_token;
-use crate::recheck::{cause_in, typing_of};
+use crate::recheck::{Told, find_told};
 use crate::stops::stop_of;
 use std::alloc::{AllocError, Global};
 use verdict::BodyRefusal;
@@ -55,7 +54,7 @@ fn declared_locals(alloc: Global, body: &[u8]) -> Result<Option<u64>, AllocError
     }
 }
 
-/// The token of that number, and its typing, in a body that begins at offset `start`.
+/// The token of that number, its typing and its cause, in a body that begins at offset `start`.
 fn placed_token<'a>(
     alloc: Global,
     context: &Context,
@@ -67,17 +66,19 @@ fn placed_token<'a>(
     ensures refusal { IfOk result (λ f. refusal_told f ≡ refusal.IllTyped number) }
     ensures places { IfOk result (TellsPlaces context.now.context func body.now start) }
 {
-    match find_token(alloc, body, start, number) {
-        Ok(found) => {
-            let typing = typing_of(alloc, context, func, body, start, number)?;
-            let cause = cause_in(alloc, context, func, body, number)?;
-            Ok(BodyFault::IllTyped {
-                number,
-                found: Some(found),
+    match find_told(alloc, context, func, body, start, number) {
+        Ok(
+            Told {
+                found,
                 typing,
                 cause,
-            })
-        }
+            },
+        ) => Ok(BodyFault::IllTyped {
+            number,
+            found: Some(found),
+            typing: Some(typing),
+            cause,
+        }),
         Err(Fault::Malformed) => Ok(bare_fault(BodyRefusal::IllTyped { at: number })),
         Err(Fault::Memory) => Err(AllocError),
     }

@@ -59,6 +59,3 @@ pub use shell_place::{FoundSection, OtherSegment, Place, SectionPart, Wanted, Wr
 pub use starting::{FloatPlace, NotStarting, not_starting};
 pub use text::explanation_text;
 pub use typing::{BlockKind, Giver, OpenBlock, Opening, Typing};
-
-#[cfg(test)]
-mod tests;

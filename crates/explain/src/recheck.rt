@@ -1,16 +1,20 @@
-//! The body of an ill-typed token, checked anew up to it: what the token takes and finds, and in which blocks it stands.
-ghost use Rattle.std.specs.Prelude.{◌≡◌, IfOk, IfSome, Some, map, take};
+//! The body of an ill-typed token, checked anew up to it, once: where the token stands, what it takes and finds, in which blocks it
+//! stands, and why it is refused.
+ghost use Rattle.std.specs.Prelude.{◌≡◌, ℕ, List, [], true, false, IfOk, IfSome, Some, map, take};
 ghost use Rattle.wsyntax.specs.Modules.{seen};
-ghost use Rattle.explain.specs.Places.{left_after};
-ghost use Rattle.explain.specs.Causes.{IsCauseOf};
+ghost use Rattle.wsyntax.specs.Validation.Algorithm.{step, when};
+ghost use Rattle.wcheck.specs.Checking.{with_frames};
+ghost use Rattle.explain.specs.Places.{IsTokenAt, left_after};
+ghost use Rattle.explain.specs.Causes.{IsCause, IsCauseOf};
 ghost use Rattle.explain.specs.Typed.{IsTypingIn, IsTypingOf, PassesTo, StepsTo, block_types, type_told};
 
 use crate::cause::Cause;
-use crate::causes::cause_of;
-use crate::explanation::Signature;
-use crate::operands::{count_told, finds_of, takes_of};
-use crate::trail::{Passed, Trail};
-use crate::typing::{Giver, OpenBlock, Typing};
+use crate::causes::{name_cause, operand_cause};
+use crate::explanation::{FoundToken, Signature, Span};
+use crate::operands::{Operands, takes_of};
+use crate::places::offset_of;
+use crate::trail::{Trail, puts};
+use crate::typing::{OpenBlock, Typing};
 use std::alloc::{AllocError, Global};
 use wcheck::{Checker, OpenFrame};
 use wcontext::Context;
@@ -20,70 +24,85 @@ use wsyntax::Token;
 /// How many of the open blocks are told.
 const BLOCKS: usize = 8;
 
-/// Where a token stands: its number, and the offset of its first byte.
-#[derive(Clone, Copy)]
-struct Place {
-    number: usize,
-    at: usize,
+/// What is told of an ill-typed token.
+#[derive(Drop)]
+pub(crate) struct Told {
+    pub(crate) found: FoundToken,
+    pub(crate) typing: Typing,
+    pub(crate) cause: Option<Cause>,
+}
+
+/// Goes on by a token in less time, where it is one of those that bodies are mostly made of and the operands that it takes are
+/// known to be there. `false`: nothing was done, which says nothing of the token.
+#[inline(always)]
+fn pass_known(checker: &mut Checker<'_>, token: Token) -> bool
+    ensures step { result ≡ true → (targets : List ℕ) →
+        step checker.old.inside (seen targets token) checker.old.frames ≡ Some checker.new.frames }
+    ensures same { result ≡ true → checker.new ≡ with_frames checker.old checker.new.frames }
+    ensures others { result ≡ false → checker.new ≡ checker.old }
+{
+    if checker.finish() {
+        return false;
+    }
+    // PERF: each arm has a kind of token of its own, so that the compiler tells the token apart once.
+    match token {
+        Token::LocalGet(x) => checker.step_known(Token::LocalGet(x)),
+        Token::LocalSet(x) => checker.step_known(Token::LocalSet(x)),
+        Token::I32Const(value) => checker.step_known(Token::I32Const(value)),
+        Token::Numeric(operator) => checker.step_known(Token::Numeric(operator)),
+        _ => false,
+    }
+}
+
+/// Goes on by a token. `false`: no typed body begins with the tokens so far.
+#[inline(always)]
+fn step_token(checker: &mut Checker<'_>, token: Token, targets: &[u32]) -> Result<bool, AllocError>
+    ensures step { IfOk result (λ ok. step checker.old.inside (seen targets.now token) checker.old.frames
+        ≡ when ok (Some checker.new.frames)) }
+    ensures same { IfOk result (λ _. checker.new ≡ with_frames checker.old checker.new.frames) }
+{
+    if pass_known(checker, token) {
+        return Ok(true);
+    }
+    checker.step(token, targets)
 }
 
 /// Goes on by the token at the front of the bytes.
+#[inline(always)]
 fn pass_token<'a>(
     checker: &mut Checker<'_>,
-    trail: &mut Trail,
+    trail: &mut Trail<'_>,
     targets: &mut Vec<u32>,
     bytes: &'a [u8],
-    place: Place,
 ) -> Result<&'a [u8], Fault>
     ensures { IfOk result (λ after. StepsTo bytes.now checker.old after.now checker.new) }
 {
-    let [opcode, ..] = bytes else {
-        return Err(Fault::Malformed);
-    };
     targets.clear();
     let (token, after) = token_at(targets, bytes)?;
-    let before = checker.innermost();
-    if !checker.step(token, targets)? {
+    let own = puts(checker, token);
+    if !step_token(checker, token, targets)? {
         return Err(Fault::Malformed);
     }
-    let giver = Giver {
-        number: place.number,
-        opcode: *opcode,
-        token,
-    };
-    note(checker, trail, giver, place.at, before)?;
+    let known = known_in(checker);
+    trail.note(token, bytes.len(), own, known)?;
     Ok(after)
 }
 
-/// Notes a token that was passed, in the trail.
-fn note(
-    checker: &Checker<'_>,
-    trail: &mut Trail,
-    giver: Giver,
-    at: usize,
-    before: Option<OpenFrame<'_>>,
-) -> Result<(), AllocError> {
-    match (before, checker.innermost()) {
-        (Some(before), Some(after)) => {
-            let passed = Passed {
-                giver,
-                at,
-                before,
-                after,
-            };
-            trail.note(checker.context(), &passed)
-        }
-        _ => Ok(()),
+/// How many operands of the innermost block are known.
+#[inline(always)]
+fn known_in(checker: &Checker<'_>) -> usize {
+    match checker.innermost() {
+        Some(frame) => frame.height,
+        None => 0,
     }
 }
 
-/// Goes on by so many tokens of the bytes after the locals of a body, which end at offset `end`.
+/// Goes on by so many tokens of the bytes after the locals of a body.
 fn pass_tokens<'a>(
     alloc: Global,
     checker: &mut Checker<'_>,
-    trail: &mut Trail,
+    trail: &mut Trail<'_>,
     code: &'a [u8],
-    end: usize,
     count: usize,
 ) -> Result<&'a [u8], Fault>
     ensures left { IfOk result (λ rest. left_after count code.now ≡ Some rest.now) }
@@ -92,9 +111,7 @@ fn pass_tokens<'a>(
     let mut targets = Vec::new(alloc);
     let mut rest = code;
     for number in 0..count {
-        let at = end.saturating_sub(rest.len());
-        let place = Place { number, at };
-        rest = pass_token(checker, trail, &mut targets, rest, place)?;
+        rest = pass_token(checker, trail, &mut targets, rest)?;
     }
     Ok(rest)
 }
@@ -113,7 +130,7 @@ fn signature_in(alloc: Global, frame: OpenFrame<'_>) -> Result<Signature, AllocE
 fn blocks_within(
     alloc: Global,
     checker: &mut Checker<'_>,
-    trail: &Trail,
+    trail: &Trail<'_>,
 ) -> Result<Vec<OpenBlock>, AllocError>
     ensures { IfOk result (λ bs. map (λ b. type_told b.signature) bs.items ≡ take 8 (block_types checker.old.frames)) }
 {
@@ -134,51 +151,86 @@ fn blocks_within(
     Ok(blocks)
 }
 
-/// What is told of a token before which the checker stands.
-fn told(
+/// What is told of a token that names what is not there.
+fn told_of_name(
     alloc: Global,
     checker: &mut Checker<'_>,
-    trail: &Trail,
+    trail: &Trail<'_>,
+) -> Result<Typing, AllocError>
+    ensures operands { IfOk result (λ t. (t.takes.items ≡ []) × (t.finds.items ≡ [])) }
+    ensures within { IfOk result (λ t. map (λ b. type_told b.signature) t.within.items ≡ take 8 (block_types checker.old.frames)) }
+{
+    Ok(Typing {
+        takes: Vec::new(alloc),
+        finds: Vec::new(alloc),
+        given_by: Vec::new(alloc),
+        within: blocks_within(alloc, checker, trail)?,
+    })
+}
+
+/// What is told of a token that takes and finds these operands, so many of which are known.
+fn told_of_operands(
+    alloc: Global,
+    checker: &mut Checker<'_>,
+    trail: &Trail<'_>,
+    takes: Operands,
+    finds: Operands,
+    known: usize,
+) -> Result<Typing, AllocError>
+    ensures takes { IfOk result (λ t. t.takes ≡ takes) }
+    ensures finds { IfOk result (λ t. t.finds ≡ finds) }
+    ensures within { IfOk result (λ t. map (λ b. type_told b.signature) t.within.items ≡ take 8 (block_types checker.old.frames)) }
+{
+    let least = finds.len().saturating_sub(known);
+    let given = finds.get(least..).unwrap_or(finds.as_slice());
+    let given_by = trail.givers(alloc, given)?;
+    let within = blocks_within(alloc, checker, trail)?;
+    Ok(Typing {
+        takes,
+        finds,
+        given_by,
+        within,
+    })
+}
+
+/// What is told of a token before which the checker stands, and why it is refused.
+fn told_of_token(
+    alloc: Global,
+    checker: &mut Checker<'_>,
+    trail: &Trail<'_>,
     token: Token,
     targets: &[u32],
-) -> Result<Typing, AllocError>
-    ensures { IfOk result (IsTypingIn checker.old.inside (seen targets.now token) checker.old.frames) }
+) -> Result<(Typing, Option<Cause>), AllocError>
+    ensures typing { IfOk result (λ r. IsTypingIn checker.old.inside (seen targets.now token) checker.old.frames r.0) }
+    ensures cause { IfOk result (λ r. IfSome r.1 (IsCause checker.old.inside (seen targets.now token) checker.old.frames)) }
 {
-    let known = match checker.innermost() {
-        Some(frame) => frame.height,
-        None => 0,
-    };
+    let known = known_in(checker);
     match takes_of(alloc, checker, token, targets)? {
-        None => Ok(Typing {
-            takes: Vec::new(alloc),
-            finds: Vec::new(alloc),
-            given_by: Vec::new(alloc),
-            within: blocks_within(alloc, checker, trail)?,
-        }),
+        None => {
+            let cause = name_cause(alloc, checker, token, targets)?;
+            let typing = told_of_name(alloc, checker, trail)?;
+            Ok((typing, cause))
+        }
         Some(takes) => {
-            let finds = finds_of(alloc, checker, count_told(token, takes.len(), known))?;
-            let least = finds.len().saturating_sub(known);
-            let given = finds.get(least..).unwrap_or(finds.as_slice());
-            Ok(Typing {
-                given_by: trail.givers(alloc, given)?,
-                takes,
-                finds,
-                within: blocks_within(alloc, checker, trail)?,
-            })
+            let (finds, cause) = operand_cause(alloc, checker, token, &takes)?;
+            let typing = told_of_operands(alloc, checker, trail, takes, finds, known)?;
+            Ok((typing, cause))
         }
     }
 }
 
-/// The typing of the token of that number in a body that begins at offset `start`; Malformed where there is none.
-fn find_typing(
+/// What is told of the token of that number in a body that begins at offset `start`; Malformed where there is none.
+pub(crate) fn find_told(
     alloc: Global,
     context: &Context,
     func: u32,
     body: &[u8],
     start: usize,
     number: usize,
-) -> Result<Typing, Fault>
-    ensures { IfOk result (IsTypingOf context.now.context func body.now number) }
+) -> Result<Told, Fault>
+    ensures found { IfOk result (λ t. IsTokenAt body.now start number t.found) }
+    ensures typing { IfOk result (λ t. IsTypingOf context.now.context func body.now number t.typing) }
+    ensures cause { IfOk result (λ t. IfSome t.cause (IsCauseOf context.now.context func body.now number)) }
 {
     if func as usize >= context.function_count() {
         return Err(Fault::Malformed);
@@ -186,70 +238,32 @@ fn find_typing(
     let (runs, code) = locals_at(alloc, body)?;
     let mut checker = Checker::new(alloc, context);
     checker.begin(func, &runs)?;
-    let mut trail = Trail::new(alloc);
-    let end = start.saturating_add(body.len());
-    let rest = pass_tokens(alloc, &mut checker, &mut trail, code, end, number)?;
-    let mut targets = Vec::new(alloc);
-    let (token, _after) = token_at(&mut targets, rest)?;
-    let typing = told(alloc, &mut checker, &trail, token, &targets)?;
-    Ok(typing)
-}
-
-/// The typing of the token of that number in a body that begins at offset `start`.
-pub(crate) fn typing_of(
-    alloc: Global,
-    context: &Context,
-    func: u32,
-    body: &[u8],
-    start: usize,
-    number: usize,
-) -> Result<Option<Typing>, AllocError>
-    ensures { IfOk result (λ t. IfSome t (IsTypingOf context.now.context func body.now number)) }
-{
-    match find_typing(alloc, context, func, body, start, number) {
-        Ok(typing) => Ok(Some(typing)),
-        Err(Fault::Malformed) => Ok(None),
-        Err(Fault::Memory) => Err(AllocError),
-    }
-}
-
-/// Why the token of that number in a body is refused; Malformed where there is no such token.
-fn find_cause(
-    alloc: Global,
-    context: &Context,
-    func: u32,
-    body: &[u8],
-    number: usize,
-) -> Result<Option<Cause>, Fault>
-    ensures { IfOk result (λ r. IfSome r (IsCauseOf context.now.context func body.now number)) }
-{
-    if func as usize >= context.function_count() {
+    let mut trail = Trail::new(
+        alloc,
+        code,
+        start.saturating_add(body.len().saturating_sub(code.len())),
+    );
+    let rest = pass_tokens(alloc, &mut checker, &mut trail, code, number)?;
+    let [opcode, ..] = rest else {
         return Err(Fault::Malformed);
-    }
-    let (runs, code) = locals_at(alloc, body)?;
-    let mut checker = Checker::new(alloc, context);
-    checker.begin(func, &runs)?;
-    let mut trail = Trail::new(alloc);
-    let rest = pass_tokens(alloc, &mut checker, &mut trail, code, code.len(), number)?;
+    };
     let mut targets = Vec::new(alloc);
-    let (token, _after) = token_at(&mut targets, rest)?;
-    let cause = cause_of(alloc, &mut checker, token, &targets)?;
-    Ok(cause)
-}
-
-/// Why the token of that number in a body is refused, where that can be named.
-pub(crate) fn cause_in(
-    alloc: Global,
-    context: &Context,
-    func: u32,
-    body: &[u8],
-    number: usize,
-) -> Result<Option<Cause>, AllocError>
-    ensures { IfOk result (λ r. IfSome r (IsCauseOf context.now.context func body.now number)) }
-{
-    match find_cause(alloc, context, func, body, number) {
-        Ok(cause) => Ok(cause),
-        Err(Fault::Malformed) => Ok(None),
-        Err(Fault::Memory) => Err(AllocError),
-    }
+    let (token, after) = token_at(&mut targets, rest)?;
+    let (Some(from), Some(to)) = (offset_of(start, body, rest), offset_of(start, body, after))
+    else {
+        return Err(Fault::Malformed);
+    };
+    let (typing, cause) = told_of_token(alloc, &mut checker, &trail, token, &targets)?;
+    let span = Span { from, to };
+    let found = FoundToken {
+        span,
+        opcode: *opcode,
+        token,
+        targets,
+    };
+    Ok(Told {
+        found,
+        typing,
+        cause,
+    })
 }

@@ -8,6 +8,7 @@ mod functions;
 mod globals;
 mod initial;
 mod limits;
+mod repeats;
 mod segments;
 mod start;
 
@@ -18,8 +19,8 @@ use std::alloc::{AllocError, Global};
 use wdecode::{DecodeFault, decode_module};
 use wsyntax::Module;
 
-/// The first item of a module that breaks the rule of that number, its place aside.
-fn item_in<'a>(
+/// The first item of a module that breaks the rule of that number, which is not that on the names of exports, its place aside.
+fn item_by_spaces<'a>(
     alloc: Global,
     module: &Module<'a>,
     rule: u32,
@@ -36,7 +37,6 @@ fn item_in<'a>(
         7 => Ok(limits::second_memory(module, &spaces)),
         8 => Ok(globals::global_value(module, &spaces)),
         9 => Ok(exports::exported_index(module, &spaces)),
-        10 => exports::exported_name(alloc, module),
         11 => start::start(alloc, module, &spaces),
         12 => Ok(segments::element(module, &spaces)),
         13 => Ok(segments::data(module, &spaces)),
@@ -44,14 +44,29 @@ fn item_in<'a>(
     }
 }
 
+/// The first item of a module that breaks the rule of that number, its place aside.
+fn item_in<'a>(
+    alloc: Global,
+    module: Module<'a>,
+    rule: u32,
+) -> Result<Option<BrokenItem<'a>>, AllocError>
+    ensures { IfOk result (λ o. IfSome o (BreaksIn (module_shape «module».entry) rule)) }
+{
+    if rule == exports::NAMES_RULE {
+        exports::exported_name(alloc, module)
+    } else {
+        item_by_spaces(alloc, &module, rule)
+    }
+}
+
 /// The first item of a module that breaks the rule of that number, and its place among the bytes.
 fn placed_item<'a>(
     alloc: Global,
     bytes: &[u8],
-    module: &Module<'a>,
+    module: Module<'a>,
     rule: u32,
 ) -> Result<Option<BrokenItem<'a>>, AllocError>
-    ensures { IfOk result (λ o. IfSome o (BreaksIn (module_shape «module».now) rule)) }
+    ensures { IfOk result (λ o. IfSome o (BreaksIn (module_shape «module».entry) rule)) }
 {
     match item_in(alloc, module, rule)? {
         None => Ok(None),
@@ -71,7 +86,7 @@ pub(crate) fn broken_item(
     ensures { IfOk result (λ o. IfSome o (Breaks bytes.now rule)) }
 {
     match decode_module(alloc, bytes) {
-        Ok(module) => placed_item(alloc, bytes, &module, rule),
+        Ok(module) => placed_item(alloc, bytes, module, rule),
         Err(DecodeFault::Memory) => Err(AllocError),
         Err(DecodeFault::Malformed | DecodeFault::TooLarge) => Ok(None),
     }

@@ -1,51 +1,57 @@
 //! Which tokens opened the open blocks, and which gave their operands: kept while a body is checked anew.
+//!
+//! Of a token only the place of its bytes is kept, four bytes, and it is read again where it is told. So what is kept of the blocks
+//! and operands of a body is little beside what the checker has of them.
 
 use crate::typing::{BlockKind, Giver, Opening};
 use std::alloc::{AllocError, Global};
-use wcheck::OpenFrame;
-use wcontext::Context;
+use wcheck::Checker;
+use wdecode::{Fault, op, token_at};
 use wsyntax::{Token, ValType};
 
 /// Operands side by side that one token gave.
 #[derive(Clone, Copy)]
 struct Held {
-    giver: Giver,
-    count: usize,
-}
-
-/// An open block, and how many operands lie below it.
-#[derive(Clone, Copy)]
-struct Opened {
-    opening: Opening,
-    base: usize,
-}
-
-/// A token that the check took, the offset of its first byte, and the innermost frames before and after it.
-#[derive(Clone, Copy)]
-pub(crate) struct Passed<'a> {
-    pub(crate) giver: Giver,
-    pub(crate) at: usize,
-    pub(crate) before: OpenFrame<'a>,
-    pub(crate) after: OpenFrame<'a>,
+    /// How many operands lie below them, of all open blocks.
+    below: usize,
+    /// The number of the token.
+    number: u32,
+    /// Where it begins in the code.
+    at: u32,
 }
 
 /// The blocks that are open, and the operands that are known, with the tokens that they are of.
 #[derive(Drop)]
-pub(crate) struct Trail {
-    opened: Vec<Opened>,
+pub(crate) struct Trail<'a> {
+    /// The bytes after the locals of the body.
+    code: &'a [u8],
+    /// The offset of the first of them in the module.
+    start: usize,
+    /// How many tokens were passed.
+    passed: u32,
+    /// Where the token that opened a block begins in the code, the innermost last.
+    opened: Vec<u32>,
     held: Vec<Held>,
-    /// How many operands `held` counts.
+    /// How many operands are known, of all open blocks.
     height: usize,
+    /// And of the innermost.
+    known: usize,
 }
 
-/// How many operands of its own an instruction puts. Those that a `br_if` takes and puts again stay those of others.
-fn puts(context: &Context, token: Token) -> usize {
+/// How many operands of its own the next token puts, a block or its second branch apart. Those that a `br_if` takes and puts again
+/// stay those of others.
+#[inline(always)]
+pub(crate) fn puts(checker: &Checker<'_>, token: Token) -> usize {
     match token {
-        Token::Call(func) => match context.function(func) {
+        Token::End => match checker.innermost() {
+            Some(frame) => frame.gives.len(),
+            None => 0,
+        },
+        Token::Call(func) => match checker.context().function(func) {
             Some(signature) => signature.results.len(),
             None => 0,
         },
-        Token::CallIndirect(index) => match context.signature(index) {
+        Token::CallIndirect(index) => match checker.context().signature(index) {
             Some(signature) => signature.results.len(),
             None => 0,
         },
@@ -63,159 +69,160 @@ fn puts(context: &Context, token: Token) -> usize {
     }
 }
 
-/// A place among the runs of operands: a run, and how many of its operands lie before it.
-#[derive(Clone, Copy)]
-struct Cursor {
-    run: usize,
-    used: usize,
-}
-
-/// The lowest of the topmost `count` operands.
-fn lowest_of(held: &[Held], count: usize) -> Cursor {
-    let mut left = count;
-    for back in 0..held.len() {
-        let run = held.len() - 1 - back;
-        if left <= held[run].count {
-            let used = held[run].count - left;
-            return Cursor { run, used };
-        }
-        left -= held[run].count;
+/// What a token opens.
+fn kind_of(opcode: u8) -> Option<BlockKind> {
+    match opcode {
+        op::BLOCK => Some(BlockKind::Block),
+        op::LOOP => Some(BlockKind::Loop),
+        op::IF => Some(BlockKind::If),
+        op::ELSE => Some(BlockKind::Else),
+        _ => None,
     }
-    Cursor { run: 0, used: 0 }
-}
-
-/// The token that gave the operand there; the place goes on to the next one.
-fn next_giver(held: &[Held], cursor: &mut Cursor) -> Option<Giver> {
-    let found = *held.get(cursor.run)?;
-    cursor.used = cursor.used.saturating_add(1);
-    if cursor.used >= found.count {
-        cursor.run = cursor.run.saturating_add(1);
-        cursor.used = 0;
-    }
-    Some(found.giver)
 }
 
 /// Whether the last of these tokens is that one.
-fn ends_with(givers: &Vec<Giver>, giver: Giver) -> bool {
+fn ends_with(givers: &Vec<Giver>, number: u32) -> bool {
     match givers.as_slice() {
-        [.., last] => last.number == giver.number,
+        [.., last] => last.number == number as usize,
         _ => false,
     }
 }
 
-impl Trail {
-    /// At the beginning of a body.
-    pub(crate) fn new(alloc: Global) -> Self {
+impl<'a> Trail<'a> {
+    /// At the beginning of that code, whose first byte has that offset in the module.
+    pub(crate) fn new(alloc: Global, code: &'a [u8], start: usize) -> Self {
         Trail {
+            code,
+            start,
+            passed: 0,
             opened: Vec::new(alloc),
             held: Vec::new(alloc),
             height: 0,
-        }
-    }
-
-    /// How many operands lie below the innermost block.
-    fn base(&self) -> usize {
-        match self.opened.as_slice() {
-            [.., last] => last.base,
-            _ => 0,
+            known: 0,
         }
     }
 
     /// Forgets the topmost operands, so that no more than so many are left.
+    #[inline(always)]
     fn shrink_to(&mut self, height: usize) {
         for _ in 0..self.held.len() {
-            if self.height <= height {
-                return;
-            }
-            let over = self.height - height;
-            match self.held.last_mut() {
-                Some(last) if last.count > over => {
-                    last.count -= over;
-                    self.height = height;
+            match self.held.last() {
+                Some(last) if last.below >= height => {
+                    let _forgotten = self.held.pop();
                 }
-                _ => self.forget_run(),
+                _ => break,
             }
         }
+        self.height = self.height.min(height);
     }
 
-    /// Forgets the topmost run.
-    fn forget_run(&mut self) {
-        if let Some(last) = self.held.pop() {
-            self.height = self.height.saturating_sub(last.count);
-        }
-    }
-
-    /// Puts operands of a token, so that there are so many.
-    fn grow_to(&mut self, height: usize, giver: Giver) -> Result<(), AllocError> {
+    /// Puts operands of the token that begins there in the code, so that there are so many.
+    #[inline(always)]
+    fn grow_to(&mut self, height: usize, at: u32) -> Result<(), AllocError> {
         if height > self.height {
-            let count = height - self.height;
-            self.held.push(Held { giver, count })?;
+            self.held.push(Held {
+                below: self.height,
+                number: self.passed,
+                at,
+            })?;
             self.height = height;
         }
         Ok(())
     }
 
-    /// Opens a block that takes so many operands.
-    fn open(
-        &mut self,
-        kind: BlockKind,
-        takes: usize,
-        passed: &Passed<'_>,
-    ) -> Result<(), AllocError> {
-        let below = passed.before.height.saturating_sub(takes);
-        let base = self.base().saturating_add(below);
-        let opening = Opening {
-            kind,
-            at: passed.at,
-        };
-        self.opened.push(Opened { opening, base })?;
-        Ok(())
+    /// Opens a block that takes so many operands; says how many lie below it.
+    fn open(&mut self, base: usize, takes: usize, at: u32) -> Result<usize, AllocError> {
+        self.opened.push(at)?;
+        Ok(base.saturating_add(self.known.saturating_sub(takes)))
     }
 
     /// Goes on to the second branch of an if.
-    fn part(&mut self, at: usize) {
+    fn part(&mut self, at: u32) {
         if let Some(last) = self.opened.last_mut() {
-            last.opening = Opening {
-                kind: BlockKind::Else,
-                at,
-            };
+            *last = at;
         }
     }
 
-    /// Opens, parts and closes blocks as the token does; says how many operands of its own it puts.
-    fn note_blocks(&mut self, context: &Context, passed: &Passed<'_>) -> Result<usize, AllocError> {
-        let starts = passed.after.starts.len();
-        match passed.giver.token {
-            Token::Block(_) => self.open(BlockKind::Block, starts, passed)?,
-            Token::Loop(_) => self.open(BlockKind::Loop, starts, passed)?,
-            Token::If { .. } => self.open(BlockKind::If, starts.saturating_add(1), passed)?,
-            Token::Else { .. } => self.part(passed.at),
-            Token::End => {
-                let _closed = self.opened.pop();
-                return Ok(passed.before.gives.len());
-            }
-            other => return Ok(puts(context, other)),
-        }
-        Ok(passed.after.height)
-    }
-
-    /// Goes on by a token.
+    /// Goes on by a token with so many bytes of the code from its first one on. It put so many operands of its own, a block or its
+    /// second branch apart, and so many of the innermost block are known after it.
+    #[inline(always)]
     pub(crate) fn note(
         &mut self,
-        context: &Context,
-        passed: &Passed<'_>,
+        token: Token,
+        left: usize,
+        own: usize,
+        known: usize,
     ) -> Result<(), AllocError> {
-        let own = self.note_blocks(context, passed)?;
-        let height = self.base().saturating_add(passed.after.height);
+        let at = u32::try_from(self.code.len().saturating_sub(left)).unwrap_or(u32::MAX);
+        let base = self.height.saturating_sub(self.known);
+        let (base, own) = match token {
+            Token::Block(_) | Token::Loop(_) => (self.open(base, known, at)?, known),
+            Token::If { .. } => (self.open(base, known.saturating_add(1), at)?, known),
+            Token::Else { .. } => {
+                self.part(at);
+                (base, known)
+            }
+            Token::End => {
+                let _closed = self.opened.pop();
+                (base.saturating_add(own).saturating_sub(known), own)
+            }
+            _ => (base, own),
+        };
+        let height = base.saturating_add(known);
         self.shrink_to(height.saturating_sub(own));
-        self.grow_to(height, passed.giver)
+        self.grow_to(height, at)?;
+        self.known = known;
+        self.passed = self.passed.saturating_add(1);
+        Ok(())
     }
 
     /// The token that opened the block which that many blocks lie in.
     pub(crate) fn opening(&self, inner: usize) -> Option<Opening> {
         let place = self.opened.len().checked_sub(inner)?.checked_sub(1)?;
-        let opened = self.opened.get(place)?;
-        Some(opened.opening)
+        let at = *self.opened.get(place)? as usize;
+        let opcode = self.code.get(at)?;
+        Some(Opening {
+            kind: kind_of(*opcode)?,
+            at: self.start.saturating_add(at),
+        })
+    }
+
+    /// The run of operands in which that one lies, of those that are known, at or after the run of that place.
+    fn run_from(&self, run: usize, operand: usize) -> usize {
+        let next = run.saturating_add(1);
+        match self.held.get(next) {
+            Some(held) if held.below <= operand => next,
+            _ => run,
+        }
+    }
+
+    /// The first run of the topmost operands, so many.
+    fn first_run(&self, operand: usize) -> usize {
+        for back in 1..self.held.len() {
+            let run = self.held.len() - back;
+            if self.held[run].below <= operand {
+                return run;
+            }
+        }
+        0
+    }
+
+    /// The token that gave a run of operands.
+    fn giver(&self, alloc: Global, held: Held) -> Result<Option<Giver>, AllocError> {
+        let bytes = self.code.get(held.at as usize..).unwrap_or(&[]);
+        let [opcode, ..] = bytes else {
+            return Ok(None);
+        };
+        let mut targets = Vec::new(alloc);
+        match token_at(&mut targets, bytes) {
+            Ok((token, _after)) => Ok(Some(Giver {
+                number: held.number as usize,
+                opcode: *opcode,
+                token,
+            })),
+            Err(Fault::Malformed) => Ok(None),
+            Err(Fault::Memory) => Err(AllocError),
+        }
     }
 
     /// The tokens that gave the topmost operands, the lowest first; none of one whose type is not known.
@@ -224,14 +231,18 @@ impl Trail {
         alloc: Global,
         operands: &[Option<ValType>],
     ) -> Result<Vec<Giver>, AllocError> {
-        let mut cursor = lowest_of(&self.held, operands.len());
+        let lowest = self.height.saturating_sub(operands.len());
+        let mut run = self.first_run(lowest);
         let mut givers = Vec::new(alloc);
-        for operand in operands {
-            let Some(giver) = next_giver(&self.held, &mut cursor) else {
+        for (place, operand) in operands.iter().enumerate() {
+            run = self.run_from(run, lowest.saturating_add(place));
+            let Some(held) = self.held.get(run) else {
                 return Ok(givers);
             };
-            if operand.is_some() && !ends_with(&givers, giver) {
-                givers.push(giver)?;
+            if operand.is_some() && !ends_with(&givers, held.number) {
+                if let Some(giver) = self.giver(alloc, *held)? {
+                    givers.push(giver)?;
+                }
             }
         }
         Ok(givers)

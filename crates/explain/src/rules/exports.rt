@@ -1,16 +1,20 @@
 //! Rules 9 and 10: what exports name, and their names.
-ghost use Rattle.std.specs.Prelude.{◌≡◌, ◌≢◌, ◌<◌, AllPairs, IfOk, IfSome, Some, option_map, take};
+ghost use Rattle.std.specs.Prelude.{◌≡◌, ◌≢◌, ◌<◌, true, AllPairs, IfOk, IfSome, Some, option_map};
 ghost use Rattle.wsyntax.specs.Modules.{module_shape};
 ghost use Rattle.explain.specs.Rules.{BreaksIn, IsFirst};
 ghost use Rattle.explain.specs.Exported.{name_at};
 ghost use Rattle.explain.specs.Spaces.{AreSpacesOf, counted};
 
+use super::repeats::{Repeat, proposed};
 use crate::broken_item::{BrokenItem, ItemFault};
 use crate::item_places::EXPORT;
 use crate::spaces::Spaces;
 use std::alloc::{AllocError, Global};
-use std::collections::BTreeMap;
+use wcontext::{ModuleFault, check_module};
 use wsyntax::{Export, Module};
+
+/// The number of the rule on the names of exports.
+pub(crate) const NAMES_RULE: u32 = 10;
 
 /// The first export that names nothing.
 fn first_missing<'a>(exports: &[Export<'a>], spaces: &Spaces) -> Option<(usize, Export<'a>)>
@@ -43,20 +47,15 @@ pub(crate) fn exported_index<'a>(module: &Module<'a>, spaces: &Spaces) -> Option
     })
 }
 
-/// The number of the first export that has the name of an earlier one, and that one's.
-fn first_repeated(
-    alloc: Global,
-    exports: &[Export<'_>],
-) -> Result<Option<(usize, usize)>, AllocError>
-    ensures { IfOk result (λ o. IfSome o (λ x. AllPairs (λ a b. a.name.now ≢ b.name.now) (take x.0 exports.now))) }
+/// Whether a module keeps rule 10 whose rules are those.
+fn keeps_names(alloc: Global, module: &Module<'_>) -> Result<bool, AllocError>
+    ensures { IfOk result (λ yes. yes ≡ true → AllPairs (λ a b. a.item_name ≢ b.item_name) (module_shape «module».now).exports) }
 {
-    let mut numbers = BTreeMap::new(alloc);
-    for (number, export) in exports.iter().enumerate() {
-        if let Some(earlier) = numbers.insert(export.name, number)? {
-            return Ok(Some((number, earlier)));
-        }
+    match check_module(alloc, module) {
+        Ok(_context) => Ok(true),
+        Err(ModuleFault::Rule(rule)) => Ok(rule > NAMES_RULE),
+        Err(ModuleFault::Memory) => Err(AllocError),
     }
-    Ok(None)
 }
 
 /// The name of the export of that number.
@@ -81,22 +80,27 @@ fn shared_name<'a>(exports: &[Export<'a>], number: usize, earlier: usize) -> Opt
     }
 }
 
-/// The first export that has the name of an earlier one.
+/// The first export that has the name of an earlier one. Without it and those after it the module keeps the rule.
 pub(crate) fn exported_name<'a>(
     alloc: Global,
-    module: &Module<'a>,
+    whole: Module<'a>,
 ) -> Result<Option<BrokenItem<'a>>, AllocError>
-    ensures { IfOk result (λ o. IfSome o (BreaksIn (module_shape «module».now) 10)) }
+    ensures { IfOk result (λ o. IfSome o (BreaksIn (module_shape whole.entry) NAMES_RULE)) }
 {
-    let Some((number, earlier)) = first_repeated(alloc, &module.exports)? else {
+    let mut module = whole;
+    let Some(Repeat { later, earlier }) = proposed(alloc, &module.exports)? else {
         return Ok(None);
     };
-    let Some(name) = shared_name(&module.exports, number, earlier) else {
+    let Some(name) = shared_name(&module.exports, later, earlier) else {
         return Ok(None);
     };
+    module.exports.truncate(later);
+    if !keeps_names(alloc, &module)? {
+        return Ok(None);
+    }
     Ok(Some(BrokenItem {
         section: EXPORT,
-        number,
+        number: later,
         at: None,
         fault: ItemFault::ExportedName { name, earlier },
     }))
