@@ -61,7 +61,7 @@ def write(path, contents):
         file.write(contents)
 
 
-def main(gate):
+def main(gate, text=''):
     passed, failed = 0, 0
     # The thread that starts them all has a call open for each.
     many = ['--workers', '64', '--piece', '1']
@@ -75,8 +75,11 @@ def main(gate):
             failed += 1
             print(f'{name}: printed {ran.stdout[:200]!r}, status {ran.returncode}, {ran.stderr[:200]!r}; wanted {text[:200]!r}, status {status}')
 
+    def named(table, folder=tables):
+        return (row for row in rows(table, folder) if text in row[0])
+
     def check(path):
-        for name, module, line, status in rows('check.tsv'):
+        for name, module, line, status in named('check.tsv'):
             write(path, bytes_of(module))
             for options in ([], ['--workers', '1', '--piece', '1'], ['--workers', '64', '--piece', '65535']):
                 expect(name, ['check', path] + options, line.encode() + b'\n', int(status))
@@ -85,25 +88,25 @@ def main(gate):
             expect(name, ['check', path] + many, line.encode() + b'\n', int(status), preexec_fn=small_stack, env={})
 
     def run(path, calls_path):
-        for name, module, calls, options, text, status in rows('run.tsv'):
+        for name, module, calls, options, report, status in named('run.tsv'):
             write(path, bytes_of(module))
             write(calls_path, text_of(calls))
             words = ['run', path, calls_path] + options.split()
             for workers in ('1', '2', '8', '64'):
                 for piece in ('1', '7', '65535'):
-                    expect(name, words + ['--workers', workers, '--piece', piece], text_of(text), int(status))
-            expect(name, words + many, text_of(text), int(status), preexec_fn=small_stack, env={})
+                    expect(name, words + ['--workers', workers, '--piece', piece], text_of(report), int(status))
+            expect(name, words + many, text_of(report), int(status), preexec_fn=small_stack, env={})
 
     def tell(command, path):
-        for name, module, text, status in rows(f'{command}.tsv', here):
+        for name, module, told, status in named(f'{command}.tsv', here):
             write(path, bytes_of(module))
-            expect(name, [command, path], text_of(text), int(status))
+            expect(name, [command, path], text_of(told), int(status))
 
     def explain_calls(path, calls_path):
-        for name, module, calls, text, status in rows('explain_calls.tsv', here):
+        for name, module, calls, told, status in named('explain_calls.tsv', here):
             write(path, bytes_of(module))
             write(calls_path, text_of(calls))
-            expect(name, ['explain', path, calls_path], text_of(text), int(status))
+            expect(name, ['explain', path, calls_path], text_of(told), int(status))
 
     with tempfile.TemporaryDirectory() as folder:
         path = os.path.join(folder, 'module.wasm')
@@ -119,4 +122,6 @@ def main(gate):
 if __name__ == '__main__':
     parser = argparse.ArgumentParser(description=__doc__, formatter_class=argparse.RawDescriptionHelpFormatter)
     parser.add_argument('gate', metavar='GATE', help='the program')
-    sys.exit(main(os.path.abspath(parser.parse_args().gate)))
+    parser.add_argument('-k', metavar='TEXT', default='', help='the rows whose name has this text')
+    words = parser.parse_args()
+    sys.exit(main(os.path.abspath(words.gate), words.k))
