@@ -155,7 +155,8 @@ def deb(package, files, facts, time):
     """The bytes of a package."""
     held = contents(package, files, facts)
     size = -(-sum(len(it) for it in held.values()) // 1024)
-    control = CONTROL.format(name=package.name, depends=package.depends, section=package.section, summary=package.summary, size=size, **facts)
+    control = CONTROL.format(name=package.name, depends=package.depends, section=package.section, summary=package.summary,
+                             size=size, **facts)
     about = {'control': control.encode(), **{name: text.encode() for name, text in package.extra.items()}}
     parts = {'debian-binary': b'2.0\n', 'control.tar.gz': tree(about, time), 'data.tar.gz': tree(held, time)}
     return b'!<arch>\n' + b''.join(member(name, part, time) for name, part in parts.items())

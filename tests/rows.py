@@ -73,7 +73,8 @@ def main(gate, text=''):
             passed += 1
         else:
             failed += 1
-            print(f'{name}: printed {ran.stdout[:200]!r}, status {ran.returncode}, {ran.stderr[:200]!r}; wanted {text[:200]!r}, status {status}')
+            printed = f'printed {ran.stdout[:200]!r}, status {ran.returncode}, {ran.stderr[:200]!r}'
+            print(f'{name}: {printed}; wanted {text[:200]!r}, status {status}')
 
     def named(table, folder=tables):
         return (row for row in rows(table, folder) if text in row[0])
