@@ -1,5 +1,5 @@
 -- What is told of a module and of a text of calls.
-use Rattle.std.proofs.Common.{◌≡◌, ℕ, Bool, true, false, List, Option, Some, None, Result, Ok, Err, IfOk, IfSome, refl, sym, ap, ◌∙◌}
+use Rattle.std.proofs.Common.{◌≡◌, ℕ, Bool, true, List, Option, Some, None, Result, Ok, Err, IfOk, IfSome, refl, sym, ◌∙◌}
 use Rattle.std.specs.Prelude.{IsSomeAnd, string_bytes}
 use Rattle.std.specs.declared.alloc.AllocError.{AllocError}
 use Rattle.wsyntax.specs.Texts.Calls.{TooLong, BadLine, Good}

@@ -1,8 +1,7 @@
 -- The lines of exports, and the line after them.
-use Rattle.std.proofs.Common.{◌≡◌, ℕ, List, [], ◌∷◌, ◌++◌, flat_map, map, refl, sym, ap, ◌∙◌}
+use Rattle.std.proofs.Common.{◌≡◌, ℕ, List, [], ◌∷◌, ◌++◌, flat_map, map, refl, ap, ◌∙◌}
 use Rattle.wsyntax.specs.declared.module.Export.{Export}
 use Rattle.wsyntax.specs.Modules.{ExportShape, export_shape}
-use Rattle.wsyntax.specs.Validation.Context.{Context}
 use Rattle.wsyntax.specs.Validation.ModuleContext.{IndexedContext}
 use Rattle.explain.specs.Exports.{export_line}
 

@@ -4,7 +4,6 @@ use Rattle.std.proofs.lemmas.List.{get_or-reverse, length-reverse}
 use Rattle.std.proofs.lemmas.Option.{slice_get-get_or}
 use Rattle.std.specs.Prelude.{IfSome, IsSomeAnd, slice_range, slice_index_or}
 use Rattle.wsyntax.specs.declared.ValType.{ValType}
-use Rattle.wsyntax.specs.declared.ValType.TheVariants.{I32}
 use Rattle.wsyntax.specs.Instructions.{Token, Do, BrTable, Select, OpenBlock, OpenLoop, OpenIf, Else, End}
 use Rattle.wsyntax.specs.Validation.Context.{Context}
 use Rattle.wsyntax.specs.Validation.Algorithm.{Frame}

@@ -1,11 +1,9 @@
 -- What is wrong with a text of calls.
-use Rattle.std.specs.Prelude.{◌≡◌, ◌≢◌, ℕ, suc, ◌-◌, ◌<◌, List, [], ◌∷◌, ◌++◌, All, Option, Some, None, length, slice_get}
-use Rattle.wsyntax.specs.Texts.Calls.{Call, CallsText, TextLine, Ended, Unended, TooLong, BadLine, Good, IsCalls, line_limit, lines_of}
+use Rattle.std.specs.Prelude.{◌≡◌, ◌≢◌, ℕ, List, [], ◌∷◌, ◌++◌, All, Option, Some, None, length}
+use Rattle.wsyntax.specs.Texts.Calls.{Call, TooLong, BadLine, Good, IsCalls}
 use Rattle.texts.specs.Calls.{calls_of}
 use Rattle.explain.specs.declared.calls_fault.CallsRead.{CallsRead}
 use Rattle.explain.specs.declared.calls_fault.CallsRead.TheVariants.{Calls, Bad}
-use Rattle.explain.specs.declared.calls_fault.LineFault.{LineFault}
-use Rattle.explain.specs.declared.calls_fault.LineFault.TheVariants as line
 use Rattle.explain.specs.declared.calls_fault.TextFault.{TextFault}
 use Rattle.explain.specs.declared.calls_fault.TextFault.TheVariants.{TooLarge, Line}
 

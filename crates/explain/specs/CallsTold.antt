@@ -1,6 +1,6 @@
 -- What is told of a module and of a text of calls.
 use Rattle.std.specs.Prelude.{◌≡◌, ℕ, Bool, true, false, List, Option, Some, None}
-use Rattle.wsyntax.specs.Texts.Calls.{CallsText, TooLong, BadLine, Good, IsCalls}
+use Rattle.wsyntax.specs.Texts.Calls.{CallsText, Good, IsCalls}
 use Rattle.wsyntax.specs.Texts.Lines.{verdict_line}
 use Rattle.wsyntax.specs.Validation.Verdict.{Verdict, Accepted, IsVerdict}
 use Rattle.explain.specs.Texts.{BeginsWith}

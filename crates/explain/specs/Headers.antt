@@ -1,5 +1,5 @@
 -- 5.5.15 What the first bytes tell of bytes that spell no module.
-use Rattle.std.specs.Prelude.{◌≡◌, ◌≢◌, ◌<◌, ◌≤◌, ℕ, List, [], ◌∷◌, Option, Some, IfSome, length, slice_get, nat_lt, if◌then◌else◌}
+use Rattle.std.specs.Prelude.{◌≡◌, ◌≢◌, ◌<◌, ◌≤◌, ℕ, List, [], ◌∷◌, Some, IfSome, length, slice_get}
 use Rattle.wsyntax.specs.Binary.Shell.{header}
 use Rattle.explain.specs.declared.explanation.Form.{Form}
 use Rattle.explain.specs.declared.explanation.Form.TheVariants.{Component, Xz, Zstd, Elf, Objects, Bitcode}
@@ -20,10 +20,6 @@ first_bytes Bitcode = 0x42 ∷ 0x43 ∷ 0xC0 ∷ 0xDE ∷ []
 -- the bytes begin as those of that form do
 abbrev pub HasForm : List ℕ → Form → Type 0
 HasForm bytes form = BeginsWith (first_bytes form) bytes
-
--- a byte of the magic or of the version, in bytes of that form
-abbrev pub other_at : ℕ → ℕ → Option Form → NoModule
-other_at at found form = if nat_lt at 4 then Magic at found form else Version at found form
 
 -- the byte at that offset is this one, and another than in the header of a module
 abbrev pub IsOther : List ℕ → ℕ → ℕ → Type 0

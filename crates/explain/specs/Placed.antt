@@ -1,7 +1,6 @@
 -- What an explanation says of a refused body, or of an item that breaks a rule, is so of the module that the bytes spell.
 use Rattle.std.specs.Prelude.{◌≡◌, ◌+◌, ℕ, Bool, true, false, List, [], ◌∷◌, Option, Some, None, IfSome, slice_get, ◌&&◌, ◌==◌, length, if◌then◌else◌}
 use Rattle.std.specs.List.{between}
-use Rattle.wsyntax.specs.Types.{FuncType}
 use Rattle.wsyntax.specs.declared.module.LocalRun.{LocalRun}
 use Rattle.wsyntax.specs.declared.module.ExportKind.{ExportKind}
 use Rattle.wsyntax.specs.declared.module.ExportKind.TheVariants.{Function, Table, Memory, Global}

@@ -1,12 +1,12 @@
 -- 5.5 Where reading a module stops that is malformed outside its bodies.
-use Rattle.std.specs.Prelude.{◌≡◌, ◌≢◌, ◌⊎◌, ◌<◌, ◌≤◌, ℕ, zero, suc, List, [], ◌∷◌, length, Option, Some, None, IfSome, slice_get, Result, Ok, Err, true, false}
+use Rattle.std.specs.Prelude.{◌≡◌, ◌≢◌, ◌⊎◌, ◌<◌, ◌≤◌, ℕ, zero, suc, List, [], ◌∷◌, length, Option, Some, None, IfSome, slice_get, Result, Ok, Err, false}
 use Rattle.std.specs.Borrow.{Bor}
 use Rattle.std.specs.List.{between}
 use Rattle.std.specs.Str.{is_utf8}
 use Rattle.wsyntax.specs.Binary.Values.{u32, s32, s64, blob, name}
-use Rattle.wsyntax.specs.Binary.Types.{val_type_of, mutable_of, func_type, limits, table_type}
+use Rattle.wsyntax.specs.Binary.Types.{val_type_of, func_type, limits, table_type}
 use Rattle.wsyntax.specs.Binary.Nesting.{expression, token_at}
-use Rattle.wsyntax.specs.Binary.Sections.{an_import, global, an_export, export_kind_of, element, data_segment}
+use Rattle.wsyntax.specs.Binary.Sections.{an_import, global, an_export, element, data_segment}
 use Rattle.wdecode.specs.Gives.{rest_of}
 use Rattle.explain.specs.declared.shell_place.Wanted.{Wanted}
 use Rattle.explain.specs.declared.shell_place.Wanted.TheVariants as wanted
@@ -25,7 +25,6 @@ use Rattle.explain.specs.declared.shell.items.Items.{Items}
 use Rattle.explain.specs.declared.shell.items.Items.TheVariants.{Types, Imports, Functions, Tables, Memories, Globals, Exports, Elements, Bodies, Segments}
 use Rattle.explain.specs.declared.shell.contents.Outcome.{Outcome}
 use Rattle.explain.specs.declared.shell.contents.Outcome.TheVariants as outcome
-use Rattle.explain.specs.declared.shell.contents.Lapse.{Lapse}
 
 -- the byte is none of those that are wanted; other things that are wanted do not stand in one byte
 abbrev pub IsNone : Wanted → ℕ → Type 0

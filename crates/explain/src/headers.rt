@@ -1,6 +1,6 @@
 //! What bytes are that spell no module, as far as their first bytes tell.
 ghost use Rattle.std.specs.Prelude.{◌≡◌, IfSome};
-ghost use Rattle.explain.specs.Headers.{HasForm, TellsHeader, other_at};
+ghost use Rattle.explain.specs.Headers.{HasForm, IsOther, TellsHeader};
 
 use crate::explanation::{Form, NoModule};
 
@@ -47,10 +47,12 @@ fn form_of(bytes: &[u8]) -> Option<Form>
     }
 }
 
-/// A byte that is another than in the header of a module, in bytes of that form.
-fn other_byte(at: usize, found: u8, form: Option<Form>) -> NoModule
-    ensures { result ≡ other_at at found form }
+/// That byte of the bytes, which is another than in the header of a module.
+fn other_byte(bytes: &[u8], at: usize, found: u8) -> NoModule
+    requires { IsOther bytes.now at found }
+    ensures { TellsHeader bytes.now result }
 {
+    let form = form_of(bytes);
     if at < MAGIC {
         NoModule::Magic { at, found, form }
     } else {
@@ -67,7 +69,7 @@ fn header_fault(bytes: &[u8]) -> NoModule
             return NoModule::Short;
         };
         if *found != HEADER[at] {
-            return other_byte(at, *found, form_of(bytes));
+            return other_byte(bytes, at, *found);
         }
     }
     NoModule::Sections(None)

@@ -1,4 +1,4 @@
-use Rattle.std.proofs.Common.{◌≡◌, ℕ, ◌+◌, List, [], Option, Some, ap, ◌∙◌, add-one}
+use Rattle.std.proofs.Common.{ℕ, List, [], Option, ap}
 use Rattle.wsyntax.specs.Instructions.{Token}
 use Rattle.wdecode.specs.Gives.{rest_of}
 use Rattle.explain.proofs.Lefts.{one_more}

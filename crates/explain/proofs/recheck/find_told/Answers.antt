@@ -1,8 +1,7 @@
-use Rattle.std.proofs.Common.{◌≡◌, subst, List, ℕ, IfSome}
+use Rattle.std.proofs.Common.{subst, List, ℕ, IfSome}
 use Rattle.wsyntax.specs.Modules.{seen}
 use Rattle.explain.specs.Causes.{IsCause, IsCauseOf}
-use Rattle.explain.specs.Typed.{IsTypingIn, PassesTo}
-use Rattle.wcheck.specs.Checking.{begun}
+use Rattle.explain.specs.Typed.{IsTypingIn}
 use Rattle.explain.proofs.Lefts.{first_of, token_read}
 use Rattle.explain.proofs.Misses.{refused}
 use Rattle.explain.proofs.Misfits.{some_more}

@@ -1,4 +1,4 @@
-use Rattle.std.proofs.Common.{◌≡◌, Some, None, subst}
+use Rattle.std.proofs.Common.{◌≡◌, Some, subst}
 use Rattle.explain.specs.declared.shell_place.SectionPart.TheVariants as part
 use Rattle.explain.specs.declared.shell.contents.Outcome.{Outcome}
 use Rattle.explain.specs.declared.shell.contents.Outcome.TheVariants as outcome
