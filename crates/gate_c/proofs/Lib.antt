@@ -11,3 +11,4 @@ pub mod InstanceOperations
 pub mod CallsThatGoOn
 pub mod PutBack
 pub mod JudgingValues
+pub mod Judgings

@@ -114,3 +114,8 @@ EndsJudging old left before after was slot answered =
     ⊎ (((answered ≡ 84) × IsSomeAnd (progress_in old) HasAll × (after ≡ before) × StaysOpen old left was slot)
     ⊎ ((answered ≡ 70) × (after ≡ before) × (slot ≡ was)
     × IsSomeAnd left (λ p. (progress_in p ≡ progress_in old) ⊎ (progress_in p ≡ None))))))
+
+-- so it is of each handle that judged this
+abbrev pub EndsSteps : Progress → Option Pending → GateVerdict → GateVerdict → ModuleSlot → ModuleSlot → ℕ → Type 0
+EndsSteps p left before after was slot answered =
+    (old : Pending) → progress_in old ≡ Some p → EndsJudging old left before after was slot answered

@@ -3,7 +3,7 @@
 ghost use Rattle.std.specs.Prelude.{◌≡◌};
 ghost use Rattle.verdict.specs.Steps.{HasAll};
 ghost use Rattle.gate_c.specs.Handles.{IsOfBytes};
-ghost use Rattle.gate_c.specs.Judgings.{TellsJudged, EndsAccepted, HandsAccepted};
+ghost use Rattle.gate_c.specs.Judgings.{TellsJudged, EndsSteps, EndsAccepted, HandsAccepted};
 ghost use Rattle.gate_c.specs.Steps.{joined_number};
 
 use crate::exports::refuse;
@@ -109,13 +109,7 @@ impl Pending {
         let Some(steps) = self.steps else {
             return (Some(Pending::gone()), NO_MEMORY);
         };
-        let status = match steps.standing(alloc) {
-            Ok(Standing::Accepted) => return accept(alloc, steps, verdict, module),
-            Ok(Standing::Refused(refusal)) => refuse(refusal, verdict),
-            Ok(Standing::Open { .. }) => NOT_JUDGED,
-            Err(_) => NO_MEMORY,
-        };
-        (Some(Pending::of(steps)), status)
+        end_steps(alloc, steps, verdict, module)
     }
 }
 
@@ -137,6 +131,26 @@ fn tell_joined(joined: Result<(), JoinFault>) -> u32
         Ok(()) => OK,
         Err(JoinFault::OtherBytes) => BAD_ARGUMENT,
         Err(JoinFault::Memory) => NO_MEMORY,
+    }
+}
+
+/// Ends a check whose handle has the module still.
+fn end_steps(
+    alloc: Global,
+    steps: Steps,
+    verdict: &mut GateVerdict,
+    module: &mut ModuleSlot,
+) -> (Option<Pending>, u32)
+    ensures { EndsSteps steps.judged result.0 verdict.old verdict.new «module».old «module».new result.1 }
+{
+    match steps.standing(alloc) {
+        Ok(Standing::Accepted) => accept(alloc, steps, verdict, module),
+        Ok(Standing::Refused(refusal)) => {
+            let status = refuse(refusal, verdict);
+            (Some(Pending::of(steps)), status)
+        }
+        Ok(Standing::Open { .. }) => (Some(Pending::of(steps)), NOT_JUDGED),
+        Err(_) => (Some(Pending::of(steps)), NO_MEMORY),
     }
 }
 

@@ -1,4 +1,4 @@
-use Rattle.std.proofs.Common.{◌≡◌, ℕ, Option, Some, None, refl, inr, option_map}
+use Rattle.std.proofs.Common.{◌≡◌, Option, Some, None, refl, inr, option_map}
 use Rattle.std.specs.Prelude.{IfSome}
 use Rattle.wsyntax.specs.Validation.Verdict.{Verdict}
 use Rattle.explain.specs.Told.{verdict_told}
