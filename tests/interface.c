@@ -150,7 +150,7 @@ static void explanations_as_texts(void) {
     explanation(FILL, GATE_MODULE_REFUSED,
                 "refused body 0 malformed\nfunction  0, [] -> [], bytes 22 to 26\ntoken     0, byte 23 (0x17)\n"
                 "because   fc 0b is memory.fill, of bulk memory (Core 2.0), which gate does not admit\n"
-                "hint      build the module with -mcpu=mvp\n");
+                "hint      build the module with -mcpu=mvp, in Rust with -C target-cpu=mvp (docs/GUESTS.md)\n");
 }
 
 /* The line of a verdict in each room, from none to all. */
