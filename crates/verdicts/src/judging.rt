@@ -1,5 +1,5 @@
 //! All modules, small and large.
-ghost use Rattle.std.specs.Prelude.{IfOk, IfSome, map};
+ghost use Rattle.std.specs.Prelude.{◌<◌, ◌^◌, IfOk, IfSome, length, map};
 ghost use Rattle.verdicts.specs.Verdicts.{AreFound, AreVerdicts, IsJudged};
 
 use crate::small::SmallModules;
@@ -9,24 +9,23 @@ use std::sync::Wait;
 use std::thread::Threads;
 use verdict::{Refusal, examine};
 
-/// The verdicts on the small modules, each judged by one worker, and `None` for the large ones. There are fewer than
-/// 4,294,967,296: more get an error too.
+/// The verdicts on the small modules, each judged by one worker, and `None` for the large ones.
 fn judge_small<R: Threads + Wait + Sync>(
     rt: &R,
     alloc: Global,
     modules: &[&[u8]],
     plan: Plan,
 ) -> Result<Vec<Option<Result<(), Refusal>>>, AllocError>
+    requires { length modules.now < 2 ^ 32 }
     ensures { IfOk result (λ found. AreFound modules.now found.items) }
 {
-    let Ok(count) = u32::try_from(modules.len()) else {
-        return Err(AllocError);
-    };
+    let count = modules.len() as u32;
     let locals = vec![in alloc; (); plan.workers() as usize]?;
     let job = SmallModules { alloc, modules };
     match try_all(rt, alloc, &job, locals, count, plan.one_group_each()) {
         Ok(found) => Ok(found),
-        Err(TryFault::Stopped { .. } | TryFault::Memory) => Err(AllocError),
+        Err(TryFault::Stopped { .. }) => unreachable!(),
+        Err(TryFault::Memory) => Err(AllocError),
     }
 }
 
@@ -47,15 +46,16 @@ fn settled<R: Threads + Wait + Sync>(
     }
 }
 
-/// Judges many modules: a verdict each, in their order. Each worker takes small modules one after the other; then all
-/// workers judge each large one together. Out of memory for one module is its `Refusal::Memory`, of which nothing more
-/// is said; an error is out of memory for the run itself.
+/// Judges many modules, fewer than 2^32: a verdict each, in their order. Each worker takes small modules one after the
+/// other; then all workers judge each large one together. Out of memory for one module is its `Refusal::Memory`, of which
+/// nothing more is said; an error is out of memory for the run itself.
 pub fn judge_all<R: Threads + Wait + Sync>(
     rt: &R,
     alloc: Global,
     modules: &[&[u8]],
     plan: Plan,
 ) -> Result<Vec<Result<(), Refusal>>, AllocError>
+    requires { length modules.now < 2 ^ 32 }
     ensures { IfOk result (λ verdicts. AreVerdicts (map (λ b. b.now) modules.now) verdicts.items) }
 {
     let found = judge_small(rt, alloc, modules, plan)?;

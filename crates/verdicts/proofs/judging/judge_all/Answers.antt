@@ -1,5 +1,5 @@
 use denote.Ref.{Bor}
-use Rattle.std.proofs.Common.{◌≡◌, ℕ, List, [], Option, Result, get_or, subst, sym}
+use Rattle.std.proofs.Common.{ℕ, List, [], Option, Result, get_or, subst, sym}
 use Rattle.std.specs.Prelude.{IfSome}
 use Rattle.std.proofs.lemmas.Option.{slice_get-get_or}
 use Rattle.verdict.specs.declared.refusal.Refusal.{Refusal}
