@@ -13,8 +13,8 @@ LIBRARIES = 'usr/lib/x86_64-linux-gnu'
 ZSH = 'share/zsh/site-functions/'
 # The owner has named no address for mail.
 MAINTAINER = 'The owners of gate <gate@localhost>'
-# The least glibc that each wants.
-PROGRAM_WANTS, LIBRARY_WANTS = 'libc6 (>= 2.34)', 'libc6 (>= 2.14)'
+# The least glibc that the library wants; the program wants none.
+LIBRARY_WANTS = 'libc6 (>= 2.14)'
 
 CONTROL = """\
 Package: {name}
@@ -23,8 +23,7 @@ Version: {version}
 Architecture: amd64
 Maintainer: {maintainer}
 Installed-Size: {size}
-Depends: {depends}
-Section: {section}
+{depends}Section: {section}
 Priority: optional
 Description: {summary}
  gate says whether foreign bytes are a valid WebAssembly module, and runs
@@ -46,7 +45,7 @@ gate ({version}) unstable; urgency=medium
 
 
 class Package:
-    """A package: its name, what it depends on, its section, its summary, and which files of a release it has."""
+    """A package: its name, what it depends on, if anything, its section, its summary, and which files of a release it has."""
 
     def __init__(self, name, depends, section, summary, place_of, extra=()):
         self.name, self.depends, self.section, self.summary = name, depends, section, summary
@@ -86,7 +85,7 @@ def packages(version):
     """The packages of that version."""
     shared = {'triggers': 'activate-noawait ldconfig\n', 'shlibs': f'libgate 1 libgate1 (>= {version})\n'}
     return [
-        Package('gate', PROGRAM_WANTS, 'utils', 'proved validator and sandbox for WebAssembly', of_program),
+        Package('gate', None, 'utils', 'proved validator and sandbox for WebAssembly', of_program),
         Package('libgate1', LIBRARY_WANTS, 'libs', 'proved validator and sandbox for WebAssembly - library', of_library, shared),
         Package('libgate-dev', f'libgate1 (= {version})', 'libdevel', 'proved validator and sandbox for WebAssembly - for hosts', of_hosts),
     ]
@@ -155,7 +154,8 @@ def deb(package, files, facts, time):
     """The bytes of a package."""
     held = contents(package, files, facts)
     size = -(-sum(len(it) for it in held.values()) // 1024)
-    control = CONTROL.format(name=package.name, depends=package.depends, section=package.section, summary=package.summary,
+    depends = f'Depends: {package.depends}\n' if package.depends else ''
+    control = CONTROL.format(name=package.name, depends=depends, section=package.section, summary=package.summary,
                              size=size, **facts)
     about = {'control': control.encode(), **{name: text.encode() for name, text in package.extra.items()}}
     parts = {'debian-binary': b'2.0\n', 'control.tar.gz': tree(about, time), 'data.tar.gz': tree(held, time)}

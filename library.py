@@ -1,9 +1,10 @@
 #!/usr/bin/env python3
-"""Makes the library for hosts in other languages from the object that `rt lib` left of the proved crate gate_c.
+"""Makes the library for hosts in other languages from the object that `rt lib` left of the proved crate c_api.
 
 FOLDER gets libgate.a, one archive in which the three functions of the heap from the kit stand too, so that a host links nothing else;
 libgate.so.1, which exports the functions of include/gate.h alone; and libgate.so, a link to it. The same objects give the same bytes.
 libgate.so.1 tells the loader which processors it wants, where the linker can say so, and debuggers by a hash of its bytes which one it is.
+With --commit the twelve dashes of the text of gate_build are those characters in what is made.
 """
 import argparse
 import os
@@ -13,9 +14,13 @@ import tempfile
 
 root = os.path.dirname(os.path.abspath(__file__))
 MAP = os.path.join(root, 'include', 'gate.map')
-CRATE_OUT = os.path.join(root, 'crates', 'gate_c', 'out')
+CRATE_OUT = os.path.join(root, 'crates', 'c_api', 'out')
 ARCHIVE, SHARED, LINK = 'libgate.a', 'libgate.so.1', 'libgate.so'
 HEAP = os.path.join('c', 'liblibc_c.a')
+# What the kit links a program with.
+OF_PROGRAMS = [os.path.join('c', 'libos_c.a'), HEAP]
+# What stands for the commit in the text of a build, in the library and in the program.
+DASHES = b'(commit ------------, '
 # The loader refuses the library on a processor below this level.
 LEVEL = '-Wl,-z,x86-64-v2'
 
@@ -63,14 +68,40 @@ def make_shared(archive, path):
         run(words)
 
 
-def make(crate_out, folder):
+def stamped(path, commit):
+    """The bytes of a file in which the commit stands for the dashes, which have to stand there once."""
+    with open(path, 'rb') as file:
+        held = file.read()
+    if held.count(DASHES) != 1:
+        sys.exit(f'library: {path} has {DASHES.decode()!r} {held.count(DASHES)} times, and not once')
+    text = f'(commit {commit}, '.encode()
+    if len(text) != len(DASHES):
+        sys.exit(f'library: {commit!r} has not twelve characters')
+    return held.replace(DASHES, text)
+
+
+def stamp(path, commit):
+    held = stamped(path, commit)
+    with open(path, 'wb') as file:
+        file.write(held)
+
+
+def make_program(of_crate, path):
+    """Links the program from its object with all that it wants of the C library, so that it starts on each Linux."""
+    run(['cc', '-static-pie', '-o', path, of_crate, *(os.path.join(kit(), it) for it in OF_PROGRAMS), '-Wl,-z,now',
+         '-Wl,--build-id=sha1', '-Wl,--strip-debug'])
+
+
+def make(crate_out, folder, commit=None):
     """Makes the library in the folder."""
-    proved = os.path.abspath(os.path.join(crate_out, 'libgate_c.a'))
+    proved = os.path.abspath(os.path.join(crate_out, 'libc_api.a'))
     if not os.path.exists(proved):
-        sys.exit(f'library: {proved} is missing: run `rt lib` in crates/gate_c, or `python3 prove.py gate_c`, first')
+        sys.exit(f'library: {proved} is missing: run `rt lib` in crates/c_api, or `./prove c_api`, first')
     os.makedirs(folder, exist_ok=True)
     archive, link = os.path.join(folder, ARCHIVE), os.path.join(folder, LINK)
     make_archive([proved, os.path.join(kit(), HEAP)], archive)
+    if commit:
+        stamp(archive, commit)
     make_shared(archive, os.path.join(folder, SHARED))
     if os.path.lexists(link):
         os.remove(link)
@@ -80,7 +111,8 @@ def make(crate_out, folder):
 if __name__ == '__main__':
     parser = argparse.ArgumentParser(description=__doc__, formatter_class=argparse.RawDescriptionHelpFormatter)
     parser.add_argument('--from', dest='crate_out', metavar='CRATE_OUT', default=CRATE_OUT,
-                        help='the folder of libgate_c.a (default: crates/gate_c/out)')
+                        help='the folder of libc_api.a (default: crates/c_api/out)')
     parser.add_argument('--to', metavar='FOLDER', required=True, help='where the library is put')
+    parser.add_argument('--commit', metavar='TWELVE', help='the first twelve digits of the commit')
     chosen = parser.parse_args()
-    make(chosen.crate_out, chosen.to)
+    make(chosen.crate_out, chosen.to, chosen.commit)

@@ -1,4 +1,3 @@
-#!/usr/bin/env python3
 """What a call on a fresh instance costs in `gate run`, beside wabt and node, all in one run.
 
 Needs wabt's wat2wasm. For each kind of module: microseconds a call of 100,000 calls in one process, reading, judging and
@@ -13,7 +12,6 @@ the clock starts:
   node    does the same, as often
 Both measure themselves, the best of three.
 """
-import argparse
 import os
 import shutil
 import subprocess
@@ -21,18 +19,27 @@ import sys
 import tempfile
 import time
 
-here = os.path.dirname(os.path.abspath(__file__))
-sys.path.insert(0, here)
-from measuring import translated, waited_for, write
-from recording import Recorder
+from bench.measuring import translated
+from bench.recording import Recorder
+from tools.arguments import program_and_results
+from tools.files import write
+from tools.processes import waited_for
 
+here = os.path.dirname(os.path.abspath(__file__))
 COLUMNS = ['module', 'engine', 'workers', 'least', 'most']
 KINDS = [('nothing', '(func (export "f"))', 100_000),
-         ('a page, segment, store, load', '(memory 1) (data (i32.const 0) "\\01\\02\\03") (func (export "f") (i32.store (i32.const 8) (i32.load (i32.const 0))))', 100_000),
-         ('200 turns of a loop', '(func (export "f") (local i32) (loop (br_if 0 (i32.lt_u (local.tee 0 (i32.add (local.get 0) (i32.const 1))) (i32.const 200)))))', 100_000),
-         ('16 pages, three writes', '(memory 16) (func (export "f") (i32.store (i32.const 0) (i32.const 1)) (i32.store (i32.const 524288) (i32.const 1)) (i32.store (i32.const 1048572) (i32.const 1)))', 100_000),
-         ('a start function', '(global (mut i32) (i32.const 0)) (func $s (global.set 0 (i32.const 7))) (start $s) (func (export "f"))', 100_000)]
-NODE = """const m=new WebAssembly.Module(require('fs').readFileSync(process.argv[1]));const n=+process.argv[2];const s=process.hrtime.bigint();
+         ('a page, segment, store, load',
+          '(memory 1) (data (i32.const 0) "\\01\\02\\03") (func (export "f") (i32.store (i32.const 8) (i32.load (i32.const 0))))', 100_000),
+         ('200 turns of a loop',
+          '(func (export "f") (local i32) (loop (br_if 0 (i32.lt_u (local.tee 0 (i32.add (local.get 0) (i32.const 1))) '
+          '(i32.const 200)))))', 100_000),
+         ('16 pages, three writes',
+          '(memory 16) (func (export "f") (i32.store (i32.const 0) (i32.const 1)) (i32.store (i32.const 524288) (i32.const 1)) '
+          '(i32.store (i32.const 1048572) (i32.const 1)))', 100_000),
+         ('a start function',
+          '(global (mut i32) (i32.const 0)) (func $s (global.set 0 (i32.const 7))) (start $s) (func (export "f"))', 100_000)]
+NODE = """const m=new WebAssembly.Module(require('fs').readFileSync(process.argv[1]));
+const n=+process.argv[2];const s=process.hrtime.bigint();
 for(let k=0;k<n;k++)new WebAssembly.Instance(m).exports.f();console.log(Number(process.hrtime.bigint()-s)/1e3/n)"""
 
 
@@ -92,12 +99,9 @@ def main(gate, results):
             others = {'wabt': microseconds(wabt and [wabt, wasm, often]),
                       'V8': microseconds(['node', '-e', NODE, wasm, often] if shutil.which('node') else [])}
             record(recorder, name, count, turns, others)
-            print(f'{name:32}{cells}{ratios[0]:12.2f}{ratios[1]:9.2f}' + ''.join(f'{min(o):9.2f}' if o else f'{"-":>9}' for o in others.values()), flush=True)
+            beside = ''.join(f'{min(o):9.2f}' if o else f'{"-":>9}' for o in others.values())
+            print(f'{name:32}{cells}{ratios[0]:12.2f}{ratios[1]:9.2f}{beside}', flush=True)
 
 
 if __name__ == '__main__':
-    parser = argparse.ArgumentParser(description=__doc__, formatter_class=argparse.RawDescriptionHelpFormatter)
-    parser.add_argument('gate', metavar='GATE', help='the program')
-    parser.add_argument('--results', metavar='FILE.tsv', help='write what was measured, with what it was measured on')
-    chosen = parser.parse_args()
-    main(os.path.abspath(chosen.gate), chosen.results)
+    main(*program_and_results(__doc__))

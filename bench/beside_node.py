@@ -5,6 +5,8 @@ import re
 import select
 import subprocess
 
+from tools.encoding import number_at, sections
+
 here = os.path.dirname(os.path.abspath(__file__))
 # The bytes of what was added after Core 1.0 and node has: types of references and vectors, and in bodies exceptions, tail calls,
 # and instructions with a prefix. FRONTS has how the first item of a section begins that Core 1.0 knows.
@@ -12,28 +14,6 @@ LATER_TYPES = {0x6F, 0x70, 0x7B, 0xD0, 0xD2, 0xFD}
 LATER = LATER_TYPES | {0x06, 0x07, 0x08, 0x09, 0x12, 0x13, 0x18, 0x19, 0x1C, 0x25, 0x26, 0xD1, 0xFC, 0xFE}
 FRONTS = {4: (b'\x70\0', b'\x70\1'), 5: (b'\0', b'\1'), 9: b'\0', 11: b'\0'}
 OWN_LIMIT = re.compile('internal limit|implementation limit|local count too large|maximum function size|max br_table size')
-
-
-def number_at(bytes_of, at):
-    # The unsigned number that is spelled there, and where it ends.
-    n = shift = 0
-    while True:
-        n, shift, at = n | (bytes_of[at] & 127) << shift, shift + 7, at + 1
-        if bytes_of[at - 1] < 128:
-            return n, at
-
-
-def sections(module):
-    # Pairs of number and contents, up to where none is spelled.
-    at, found = 8, []
-    try:
-        while at < len(module):
-            size, start = number_at(module, at + 1)
-            found.append((module[at], module[start:start + size]))
-            at = start + size
-    except IndexError:
-        pass
-    return found
 
 
 def body_of(module, index):

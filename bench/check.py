@@ -1,4 +1,3 @@
-#!/usr/bin/env python3
 """Measures `gate check` beside other validators.
 
 A row is a module of bench/modules.py of each of the sizes that are given, or a module that is given as a file: real programs.
@@ -7,7 +6,7 @@ All engines take turns, so that all meet the same load, and the best of seven co
 measured alike: by their own clocks, the file being read, the best of three in one process (with --first, the first of the
 three, but for C), with one worker on one processor by taskset.
   gate    crates/bench with one worker, which is proved and built where it is missing
-  C       bench/peer.c, a plain decoder and checker of the same design, one pass
+  C       bench/validator.c, a plain decoder and checker of the same design, one pass
   node    WebAssembly.validate
   gate 4  the same as `gate` with four workers, on all processors
   node 4  the same as `node` with all its threads
@@ -16,7 +15,6 @@ three, but for C), with one worker on one processor by taskset.
 In brackets: of C and node the ratio to gate, of `gate 4` and `node 4` to the same engine on one, of the others to the whole
 process with one worker. Last the peak memory of `gate` with one worker, by the module's size.
 """
-import argparse
 import os
 import shutil
 import statistics
@@ -26,10 +24,10 @@ import tempfile
 import time
 from operator import itemgetter
 
-here = os.path.dirname(os.path.abspath(__file__))
-sys.path.insert(0, here)
-from measuring import geometric_mean, peak
-from recording import Recorder
+from bench.measuring import geometric_mean, peak
+from bench.recording import Recorder
+from tools import arguments
+from tools.files import ROOT
 
 KINDS = {'many': 'many functions', 'tiny': 'functions of ten bytes', 'large': 'large functions', 'one': 'one function',
          'lists': 'a type of half as many parameters', 'labels': 'branch tables of half as many labels'}
@@ -38,7 +36,7 @@ KINDS = {'many': 'many functions', 'tiny': 'functions of ten bytes', 'large': 'l
 LONG_LISTS = ('lists', 'labels')
 NODE = """const b=require('fs').readFileSync(process.argv[1]);for(let i=0;i<3;i++){const s=process.hrtime.bigint();
 if(!WebAssembly.validate(b))throw 'refused';console.log(Number(process.hrtime.bigint()-s))}"""
-JUDGE = os.path.join(here, '..', 'crates', 'bench', 'out', 'bench')
+JUDGE = os.path.join(ROOT, 'crates', 'bench', 'out', 'bench')
 COLUMNS = ['module', 'kind', 'megabytes', 'engine', 'workers', 'median', 'least', 'most', 'memory_lengths']
 # What an engine is called in a file of results, and its workers.
 NAMES = {'gate': ('gate', '1'), 'C': ('C', '1'), 'node': ('V8', '1'), 'gate 4': ('gate', '4'), 'node 4': ('V8', 'all'),
@@ -149,8 +147,9 @@ def modules(folder, words):
     for kind, label in KINDS.items():
         for size in sizes:
             path = os.path.join(folder, f'{kind}.wasm')
+            maker = [sys.executable, '-m', 'bench.modules', kind, str(int(size * 1e6)), '7']
             with open(path, 'wb') as file:
-                subprocess.run([sys.executable, os.path.join(here, 'modules.py'), kind, str(int(size * 1e6)), '7'], stdout=file, check=True)
+                subprocess.run(maker, stdout=file, cwd=ROOT, check=True)
             yield f'{label}, {size:g} MB', path, kind in LONG_LISTS
 
 
@@ -158,10 +157,10 @@ def main(words):
     gate, counts = os.path.abspath(words.gate), statistics.median if words.median else max
     rows, recorder = [], Recorder(words.results, COLUMNS)
     if not os.path.exists(JUDGE):
-        subprocess.run(['rt', 'run'], cwd=os.path.join(here, '..', 'crates', 'bench'), stdout=sys.stderr, check=True)
+        subprocess.run(['rt', 'run'], cwd=os.path.join(ROOT, 'crates', 'bench'), stdout=sys.stderr, check=True)
     with tempfile.TemporaryDirectory() as folder:
         peer = os.path.join(folder, 'peer')
-        subprocess.run(['gcc', '-O2', '-o', peer, os.path.join(here, 'peer.c')], check=True)
+        subprocess.run(['gcc', '-O2', '-o', peer, os.path.join(ROOT, 'bench', 'validator.c')], check=True)
         print('| module | gate | C | node | gate 4 | node 4 | whole | 2 workers | 4 workers | wabt | memory |\n|' + '---|' * 11)
         for label, path, has_long_lists in modules(folder, words.rows):
             takes = engines(gate, peer, path, has_long_lists, itemgetter(0) if words.first else min)
@@ -174,7 +173,7 @@ def main(words):
 
 
 if __name__ == '__main__':
-    parser = argparse.ArgumentParser(description=__doc__, formatter_class=argparse.RawDescriptionHelpFormatter)
+    parser = arguments.parser(__doc__)
     parser.add_argument('gate', metavar='GATE', help='the program')
     parser.add_argument('rows', metavar='MEGABYTES or MODULE.wasm', nargs='*', help='1, 4 and 15 MB where none is given')
     parser.add_argument('--results', metavar='FILE.tsv', help='write what was measured, with what it was measured on')

@@ -1,21 +1,19 @@
-#!/usr/bin/env python3
 """Measures what a call of the library costs a host in C, beside a process of the program, node and wabt's library.
 
 The least and the median of 31 turns, by the clock, of the module of 8 bytes and of examples/add.wasm: embedding.c has the calls of
 the library, and a process by posix_spawn; node's WebAssembly.validate, and calls with and without a new instance, where node is;
 wabt's library, where its headers are (Debian's package `wabt`; --wabt names the folder of one that is unpacked only).
 """
-import argparse
 import os
 import shutil
 import subprocess
 import sys
 import tempfile
 
-here = os.path.dirname(os.path.abspath(__file__))
-sys.path.insert(0, here)
-from recording import Recorder
+from bench.recording import Recorder
+from tools import arguments
 
+here = os.path.dirname(os.path.abspath(__file__))
 root = os.path.dirname(here)
 COLUMNS = ['engine', 'what', 'bytes', 'least_us', 'median_us']
 ADD = os.path.join(root, 'examples', 'add.wasm')
@@ -86,7 +84,7 @@ def main(program, library, usr, results):
 
 
 if __name__ == '__main__':
-    parser = argparse.ArgumentParser(description=__doc__, formatter_class=argparse.RawDescriptionHelpFormatter)
+    parser = arguments.parser(__doc__)
     parser.add_argument('program', metavar='PROGRAM', help='the proved program')
     parser.add_argument('--library', metavar='FOLDER', required=True, help='where library.py put the library')
     parser.add_argument('--wabt', metavar='FOLDER', default='/usr', help='where include/wabt and lib stand (default: /usr)')

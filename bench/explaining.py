@@ -1,21 +1,19 @@
-#!/usr/bin/env python3
-"""What `gate explain` costs beside `gate check`, on the refused forms of all families (families.py), by processor time.
+"""What `gate explain` costs beside `gate check`, on the refused forms of all families (tools/worst_cases), by processor time.
 
 For each family and refused form: milliseconds of both with one worker (the best of three processes, in turns), how many times the
 check an explanation takes, the peak memory of the explanation in lengths of the module, and the verdict. An explanation whose first
 line is not the verdict, or that has no other line, ends the run. The status is 1 where one takes more than --times, by default 3, or
 more lengths of memory than --lengths, by default 22.
 """
-import argparse
 import math
 import os
 import sys
 import tempfile
 
-here = os.path.dirname(os.path.abspath(__file__))
-sys.path.insert(0, here)
-from families import FAMILIES, module_of
-from measuring import peak, processor_seconds
+from bench.measuring import peak
+from tools import arguments
+from tools.processes import processor_seconds
+from tools.worst_cases import FAMILIES, module_of
 
 TURNS = 3
 
@@ -56,7 +54,7 @@ def main(words):
 
 
 if __name__ == '__main__':
-    parser = argparse.ArgumentParser(description=__doc__, formatter_class=argparse.RawDescriptionHelpFormatter)
+    parser = arguments.parser(__doc__)
     parser.add_argument('gate', metavar='GATE', help='the program, proved')
     parser.add_argument('--megabytes', type=float, default=4, help='about how large the modules are')
     parser.add_argument('--seed', type=int, default=1)

@@ -1,4 +1,3 @@
-#!/usr/bin/env python3
 """What an instance costs in `gate run`, from its making to its end, beside plain C, all in one run.
 
 Needs wabt's wat2wasm and a C compiler. For each kind of module: nanoseconds of processor time a call of 100,000 calls of a
@@ -10,16 +9,17 @@ memory says what these come to. In brackets, how many times as long bench/instan
   fresh   with a memory from calloc, which is freed
 Slots, globals and table are had from malloc and freed in both. It measures its own processor time, the best of five.
 """
-import argparse
 import os
 import subprocess
 import sys
 import tempfile
 
 sys.dont_write_bytecode = True
-from measuring import best_of, translated, write
-from recording import Recorder
-from run import compiled
+from bench.measuring import best_of, translated
+from bench.recording import Recorder
+from bench.run import compiled
+from tools.arguments import program_and_results
+from tools.files import write
 
 COUNT = 100_000
 COLUMNS = ['module', 'engine', 'nanoseconds', 'times_gate']
@@ -27,8 +27,10 @@ NOTHING = '(func (export "f") (param i32))'
 # Name, module, and for the program in C: pages, length of the segment, writes, globals, entries of the table.
 KINDS = [('no memory', NOTHING, (0, 0, 0, 0, 0)),
          ('a page, a segment of 16 bytes', f'(memory 1) (data (i32.const 0) "0123456789abcdef") {NOTHING}', (1, 16, 0, 0, 0)),
-         ('16 pages, a byte is written', '(memory 16) (func (export "f") (param i32) (i32.store8 (i32.const 524288) (local.get 0)))', (16, 0, 1, 0, 0)),
-         ('64 globals, a table of 1,000', '(global (mut i64) (i64.const 7)) ' * 64 + f'(table 1000 funcref) {NOTHING}', (0, 0, 0, 64, 1000))]
+         ('16 pages, a byte is written',
+          '(memory 16) (func (export "f") (param i32) (i32.store8 (i32.const 524288) (local.get 0)))', (16, 0, 1, 0, 0)),
+         ('64 globals, a table of 1,000',
+          '(global (mut i64) (i64.const 7)) ' * 64 + f'(table 1000 funcref) {NOTHING}', (0, 0, 0, 64, 1000))]
 
 
 def by_gate(gate, module, calls):
@@ -66,8 +68,4 @@ def main(gate, results):
 
 
 if __name__ == '__main__':
-    parser = argparse.ArgumentParser(description=__doc__, formatter_class=argparse.RawDescriptionHelpFormatter)
-    parser.add_argument('gate', metavar='GATE', help='the program')
-    parser.add_argument('--results', metavar='FILE.tsv', help='write what was measured, with what it was measured on')
-    chosen = parser.parse_args()
-    main(os.path.abspath(chosen.gate), chosen.results)
+    main(*program_and_results(__doc__))

@@ -1,23 +1,11 @@
-"""What the scripts that measure share: processes with their processor time and memory, modules from text, the mean of ratios."""
+"""What the scripts that measure share: the time and memory of processes, modules from text, the mean of ratios."""
 import math
 import os
 import subprocess
 import sys
 
-
-def waited_for(child):
-    """Waits for the end of a process; answers the processor seconds that it took, all threads together."""
-    _, status, usage = os.wait4(child.pid, 0)
-    child.returncode = os.waitstatus_to_exitcode(status)
-    return usage.ru_utime + usage.ru_stime
-
-
-def processor_seconds(words, **settings):
-    """The processor seconds of one process, what it prints, and its status, which is negative where a signal ended it."""
-    with subprocess.Popen(words, stdout=subprocess.PIPE, **settings) as child:
-        out = child.stdout.read().decode()
-        spent = waited_for(child)
-    return spent, out, child.returncode
+from tools.files import write
+from tools.processes import processor_seconds
 
 
 def best_of(words, times=5):
@@ -40,11 +28,6 @@ def peak(words):
 
 def geometric_mean(ratios):
     return math.exp(sum(map(math.log, ratios)) / len(ratios))
-
-
-def write(path, text):
-    with open(path, 'w') as file:
-        file.write(text)
 
 
 def translated(folder, name, text):

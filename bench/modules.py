@@ -1,4 +1,3 @@
-#!/usr/bin/env python3
 """Writes a valid module to standard output, made from a seed.
 
 KIND   many   many functions of some 200 bytes of integer code
@@ -9,13 +8,11 @@ KIND   many   many functions of some 200 bytes of integer code
               can be reached
        labels one function of branch tables, each of half as many labels as bytes are left
 """
-import argparse
-import os
 import random
 import sys
 
-sys.path.insert(0, os.path.dirname(os.path.abspath(__file__)))
-from encoding import HEADER, function_type, section, signed, sized, unsigned, vector
+from tools import arguments
+from tools.encoding import HEADER, function_type, section, signed, sized, unsigned, vector
 
 # Statements leave the operand stack as they found it. Every function is [i32 i32] -> [i32] with four locals more.
 LOCALS = 6
@@ -27,7 +24,9 @@ TESTS = [0x46, 0x47, 0x48, 0x49, 0x4A, 0x4B, 0x4C, 0x4D, 0x4E, 0x4F]
 def value(r, depth):
     pick = r.random()
     if depth == 0 or pick < 0.35:
-        return b'\x20' + unsigned(r.randrange(LOCALS)) if r.random() < 0.68 else b'\x41' + signed(r.choice([0, 1, -1, 4, 16, 255, r.randrange(-2 ** 31, 2 ** 31)]))
+        if r.random() < 0.68:
+            return b'\x20' + unsigned(r.randrange(LOCALS))
+        return b'\x41' + signed(r.choice([0, 1, -1, 4, 16, 255, r.randrange(-2 ** 31, 2 ** 31)]))
     if pick < 0.75:
         return value(r, depth - 1) + value(r, depth - 1) + bytes([r.choice(BINARY)])
     if pick < 0.87:
@@ -93,11 +92,13 @@ def module(kind, size, seed):
         total += len(one) + 1
         if kind == 'one':
             break
-    return HEADER + section(1, b'\x01\x60\x02\x7F\x7F\x01\x7F') + section(3, vector([b'\0'] * len(bodies))) + section(5, b'\x01\x00\x01') + section(7, b'\x01\x01f\x00\x00') + section(10, vector(bodies))
+    parts = {1: b'\x01\x60\x02\x7F\x7F\x01\x7F', 3: vector([b'\0'] * len(bodies)), 5: b'\x01\x00\x01', 7: b'\x01\x01f\x00\x00',
+             10: vector(bodies)}
+    return HEADER + b''.join(section(number, contents) for number, contents in parts.items())
 
 
 if __name__ == '__main__':
-    parser = argparse.ArgumentParser(description=__doc__, formatter_class=argparse.RawDescriptionHelpFormatter)
+    parser = arguments.parser(__doc__)
     parser.add_argument('kind', metavar='KIND', choices=KINDS, help=', '.join(KINDS))
     parser.add_argument('bytes', metavar='BYTES', type=int, help='about how many the module has')
     parser.add_argument('seed', metavar='SEED', type=int)

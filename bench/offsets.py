@@ -1,4 +1,3 @@
-#!/usr/bin/env python3
 """Holds the offsets that `gate explain` tells beside those of wasm-validate and of V8, on mutants of real modules.
 
 Each mutant of a module in the FOLDERs is explained, validated by wasm-validate, and compiled by node, where these are on the machine. A
@@ -7,9 +6,8 @@ is an error: it is written below --keep, where that is given, and the status is 
 tells the same offset, one within the token, its end, one before or after it, tells none, or accepts the module; then some mutants of which
 a peer tells another offset. A peer that stops elsewhere is not wrong: a body has more than one place where it can be said to go wrong.
 
-    python3 bench/offsets.py --program out/gate --mutants 3000 examples
+    python3 -m bench.offsets --program out/gate --mutants 3000 examples
 """
-import argparse
 import collections
 import concurrent.futures
 import json
@@ -21,6 +19,9 @@ import subprocess
 import sys
 import tempfile
 from typing import NamedTuple
+
+from tools import arguments
+from tools.files import write
 
 root = os.path.dirname(os.path.dirname(os.path.abspath(__file__)))
 LIMIT = 120
@@ -66,11 +67,6 @@ def modules(folders):
 def read(path):
     with open(path, 'rb') as file:
         return file.read()
-
-
-def write(path, held):
-    with open(path, 'wb') as file:
-        file.write(held)
 
 
 def mutant(module, chance):
@@ -219,7 +215,7 @@ def run(words, work):
 
 
 def main():
-    parser = argparse.ArgumentParser(description=__doc__, formatter_class=argparse.RawDescriptionHelpFormatter)
+    parser = arguments.parser(__doc__)
     parser.add_argument('folders', metavar='FOLDER', nargs='+', help='where modules lie, at any depth')
     parser.add_argument('--program', default=os.path.join(root, 'out', 'gate'), help='the program (default: out/gate)')
     parser.add_argument('--mutants', type=int, default=2000, metavar='N', help='how many (default: 2000)')

@@ -1,4 +1,3 @@
-#!/usr/bin/env python3
 """What a plug-in costs a host that gives it a text of 100 bytes and takes one back, beside peers, all in one run.
 
 The plug-in is examples/guests/upper.wasm. Microseconds of processor time a call, less those of a process that makes none
@@ -10,20 +9,17 @@ as they usually do, by the first of their translators alone (node, Liftoff), or 
 is not there is left out. Engines take turns; what is shown is the median of the turns, and in brackets the median of their ratios to
 gate's in the same turn. All threads of a process count, those too that collect what is over.
 """
-import argparse
 import os
 import shutil
 import statistics
 import subprocess
-import sys
 import tempfile
 
-here = os.path.dirname(os.path.abspath(__file__))
-sys.path.insert(0, here)
-sys.dont_write_bytecode = True
-from measuring import processor_seconds
-from recording import Recorder
+from bench.recording import Recorder
+from tools import arguments
+from tools.processes import processor_seconds
 
+here = os.path.dirname(os.path.abspath(__file__))
 root = os.path.dirname(here)
 COLUMNS = ['way', 'engine', 'median_us', 'times_gate']
 # How many calls each way makes.
@@ -109,7 +105,7 @@ def main(library, usr, count, results):
 
 
 if __name__ == '__main__':
-    parser = argparse.ArgumentParser(description=__doc__, formatter_class=argparse.RawDescriptionHelpFormatter)
+    parser = arguments.parser(__doc__)
     parser.add_argument('library', metavar='LIBRARY', help='the folder where library.py put the library')
     parser.add_argument('--wabt', metavar='FOLDER', default='/usr', help='where include/wabt and lib stand (default: /usr)')
     parser.add_argument('--turns', type=int, default=TURNS, metavar='N', help=f'turns of all engines (default: {TURNS})')

@@ -1,29 +1,28 @@
-#!/usr/bin/env python3
-"""usage: proofs.py [--most N] CRATE..    lists what the last check of a crate from nothing, as the first ./gate makes it, waited for.
+"""Lists what the last check of a crate from nothing, as the first ./gate makes it, waited for.
 
 A check keeps a file of each module that it has checked, under out/incremental of the crate. The time between one file and the
 next is what the later one took, where one process checks; where several do, it is the time in which none of them had
 anything done. `Lts` is the function's own steps, `Proof` and `Answers` their proof, `Key` and the like its statement; `Kinds`
 are the types that it is the first to name.
 """
-import argparse
 import glob
 import os
 
-root = os.path.join(os.path.dirname(os.path.abspath(__file__)), '..')
+from tools.arguments import parser
+from tools.files import ROOT
 
 
 def files_of(crate):
     """The files that the check kept, in the order in which they were written: when, and the module."""
-    found = glob.glob(os.path.join(root, 'crates', crate, 'out', 'incremental', '*', '*.oantt'))
+    found = glob.glob(os.path.join(ROOT, 'crates', crate, 'out', 'incremental', '*', '*.oantt'))
     return sorted((os.stat(it).st_mtime, os.path.basename(it)[: -len('.oantt')]) for it in found)
 
 
 def main():
-    parser = argparse.ArgumentParser()
-    parser.add_argument('--most', type=int, default=10)
-    parser.add_argument('crates', nargs='+')
-    words = parser.parse_args()
+    taken = parser(__doc__)
+    taken.add_argument('--most', metavar='N', type=int, default=10, help='so many modules of a crate (default: 10)')
+    taken.add_argument('crates', metavar='CRATE', nargs='+')
+    words = taken.parse_args()
     for crate in words.crates:
         files = files_of(crate)
         if not files:

@@ -43,7 +43,7 @@ def head():
     words = [os.path.basename(word) if os.path.isabs(word) else word for word in sys.argv[1:]]
     return {'commit': commit(), 'date': datetime.date.today().isoformat(), 'processor': processor(),
             'peers': ', '.join(f'{name} {version}' for name, version in peers if version),
-            'command': ' '.join(['python3', 'bench/' + os.path.basename(sys.argv[0])] + words)}
+            'command': ' '.join(['python3', '-m', 'bench.' + os.path.basename(sys.argv[0]).removesuffix('.py')] + words)}
 
 
 def field(value):

@@ -1,9 +1,8 @@
-#!/usr/bin/env python3
 """Measures `gate run` beside other engines on the kernels of bench/kernels.wat, all in one run.
 
 Needs wabt's wat2wasm and a C compiler. For each kernel: milliseconds of processor time of a fresh process of `gate` with one
 worker, less those of the same process without a call; and in brackets how many times as long
-  switch  bench/machine.c takes, the same design in plain C, by the processor time of the call alone
+  switch  bench/interpreter.c takes, the same design in plain C, by the processor time of the call alone
   goto    the same program takes where it goes from token to token by computed goto
   wabt    wasm-interp takes, counted as for gate
   jsc     JavaScriptCore's shell takes with its interpreter alone (no translation), counted as for gate over three calls,
@@ -22,7 +21,6 @@ more where a start function, which adds two numbers, runs before each. Of these 
 First, where objdump is installed, how many indirect jumps the function of `gate` has that holds the loop over the tokens. A
 small change there makes the compiler share one jump among all tokens again, which costs a third of the speed.
 """
-import argparse
 import os
 import re
 import shutil
@@ -30,11 +28,12 @@ import subprocess
 import sys
 import tempfile
 
-here = os.path.dirname(os.path.abspath(__file__))
-sys.path.insert(0, here)
-from measuring import best_of, geometric_mean, translated, write
-from recording import Recorder
+from bench.measuring import best_of, geometric_mean, translated
+from bench.recording import Recorder
+from tools.arguments import program_and_results
+from tools.files import write
 
+here = os.path.dirname(os.path.abspath(__file__))
 COLUMNS = ['what', 'engine', 'unit', 'least', 'most', 'times_gate']
 # What an engine is called in a file of results.
 NAMES = {'gate': 'gate', 'switch': 'C switch', 'goto': 'C goto', 'wabt': 'wabt', 'jsc': 'JavaScriptCore', 'node': 'V8'}
@@ -73,10 +72,10 @@ def compiled(folder, name, source, *words):
 
 def machines(folder):
     try:
-        threaded = compiled(folder, 'goto', 'machine.c', '-DTHREADED', *APART)
+        threaded = compiled(folder, 'goto', 'interpreter.c', '-DTHREADED', *APART)
     except subprocess.CalledProcessError:
-        threaded = compiled(folder, 'goto', 'machine.c', '-DTHREADED')
-    return {'switch': compiled(folder, 'switch', 'machine.c'), 'goto': threaded}
+        threaded = compiled(folder, 'goto', 'interpreter.c', '-DTHREADED')
+    return {'switch': compiled(folder, 'switch', 'interpreter.c'), 'goto': threaded}
 
 
 def alone(text, name, size):
@@ -220,8 +219,4 @@ def main(gate, results):
 
 
 if __name__ == '__main__':
-    parser = argparse.ArgumentParser(description=__doc__, formatter_class=argparse.RawDescriptionHelpFormatter)
-    parser.add_argument('gate', metavar='GATE', help='the program')
-    parser.add_argument('--results', metavar='FILE.tsv', help='write what was measured, with what it was measured on')
-    chosen = parser.parse_args()
-    main(os.path.abspath(chosen.gate), chosen.results)
+    main(*program_and_results(__doc__))

@@ -1,9 +1,8 @@
-#!/usr/bin/env python3
 """Runs generated modules through `check` and `run`, and ends at the first difference.
 
-Modules are generated ones (bench/modules.py, bench/typed.py, short ones of the families of bench/families.py, and small ones with
-loops, calls, memory, tables, traps), the same with bytes changed, cut or doubled, and random bytes after a header. A generator that
-says the verdict of a module is held to it. Each is judged and run by one worker, and then with other numbers of workers and pieces,
+Modules are generated ones (bench/modules.py, tools/random_modules.py, short ones of tools/worst_cases, and small ones with loops,
+calls, memory, tables, traps), the same with bytes changed, cut or doubled, and random bytes after a header. A generator that says
+the verdict of a module is held to it. Each is judged and run by one worker, and then with other numbers of workers and pieces,
 two of them the least and the greatest and three at random, with stacks of 64 KiB, and with the address space held to what was drawn:
 those answers must be equal to that of one worker. Where memory is held, and once more where one request for it is refused
 (tests/refuse_memory.c), they may be out of memory (status 70, nothing on standard output; a call's line `no-memory`).
@@ -14,7 +13,6 @@ how each call ends on a fresh instance, by its values or its trap. A module is p
 a limit of its own, and where the part that `gate` refuses may spell what was added after Core 1.0; a call is where it ended for
 want of fuel, frames or memory, and where its memory may grow past the pages that `gate` was given.
 """
-import argparse
 import os
 import random
 import resource
@@ -24,17 +22,16 @@ import sys
 import tempfile
 import time
 
+from bench import modules
+from bench.beside_node import Node
+from tools import arguments
+from tools.encoding import HEADER, section, signed, sized, unsigned, vector
+from tools.random_modules import typed_module
+from tools.reports import may_report
+from tools.worst_cases import FAMILIES, module_of
+
 here = os.path.dirname(os.path.abspath(__file__))
 refuser_source = os.path.join(here, '..', 'tests', 'refuse_memory.c')
-sys.path.insert(0, os.path.join(here, '..', 'tests'))
-sys.path.insert(0, here)
-import modules
-from beside_node import Node
-from encoding import HEADER, section, sized, signed, unsigned, vector
-from families import FAMILIES, module_of
-from memory import may_report
-from typed import typed_module
-
 PIECES = [1, 2, 7, 16, 100, 1_000, 65_535]
 HELD = [None, 8 << 20, 12 << 20, 16 << 20, 24 << 20, 64 << 20, 256 << 20, 1 << 30]
 # A number past most of the requests that a small module makes.
@@ -48,7 +45,9 @@ def small_body(r, functions):
     def value(depth):
         pick = r.random()
         if depth == 0 or pick < 0.3:
-            return b'\x20' + bytes([r.randrange(3)]) if r.random() < 0.7 else b'\x41' + signed(r.choice([0, 1, -1, 7, 65535, 65536, -2 ** 31, 2 ** 31 - 1]))
+            if r.random() < 0.7:
+                return b'\x20' + bytes([r.randrange(3)])
+            return b'\x41' + signed(r.choice([0, 1, -1, 7, 65535, 65536, -2 ** 31, 2 ** 31 - 1]))
         if pick < 0.7:
             return value(depth - 1) + value(depth - 1) + bytes([r.choice(I32)])
         if pick < 0.8:
@@ -85,7 +84,7 @@ def small_module(r):
     count = r.randrange(1, 6)
     table = vector([unsigned(r.randrange(count)) for _ in range(r.randrange(4))])
     exports = vector([b'\x01' + bytes([97 + k]) + b'\x00' + bytes([k]) for k in range(count)])
-    data = b'\x00\x41' + signed(r.choice([0, 65530, 65536, 70000])) + b'\x0B' + vector([bytes([r.randrange(256)]) for _ in range(r.randrange(8))])
+    written = signed(r.choice([0, 65530, 65536, 70000])) + b'\x0B' + vector([bytes([r.randrange(256)]) for _ in range(r.randrange(8))])
     parts = [section(1, b'\x02\x60\x01\x7F\x01\x7F\x60\x00\x00'),
              section(3, vector([b'\0'] * count)),
              section(4, b'\x01\x70\x00' + unsigned(r.choice([0, 3, 8]))),
@@ -93,7 +92,7 @@ def small_module(r):
              section(7, exports),
              section(9, b'\x01\x00\x41\x00\x0B' + table),
              section(10, vector([small_body(r, count) for _ in range(count)])),
-             section(11, b'\x01' + data)]
+             section(11, b'\x01\x00\x41' + written)]
     return HEADER + b''.join(parts)
 
 
@@ -251,7 +250,7 @@ def main(gate, one, seconds, seed):
 
 
 if __name__ == '__main__':
-    parser = argparse.ArgumentParser(description=__doc__, formatter_class=argparse.RawDescriptionHelpFormatter)
+    parser = arguments.parser(__doc__)
     parser.add_argument('gate', metavar='GATE', help='the program')
     parser.add_argument('seconds', metavar='SECONDS', nargs='?', type=float, default=3600, help='how long; an hour where none is given')
     parser.add_argument('seed', metavar='SEED', nargs='?', type=int, default=random.randrange(2 ** 32),

@@ -1,20 +1,19 @@
-#!/usr/bin/env python3
 """Writes into the documents what bench/results/*.tsv say: blocks between `<!-- begin NAME -->` and `<!-- end NAME -->`, and plots.
 
 With --check nothing is written: a block or a plot that is not that of its file is a fault, and so is a family of modules that takes
 more than docs/SECURITY.md advises to plan with. Its rows `check: time`, `check: memory`, `judging: time` and `judging: memory` have
 the advice: `N times` ordinary code, `N s` for a module of 16 MB, `N lengths` of the module.
 """
-import argparse
 import glob
 import os
 import re
 import sys
 
 sys.dont_write_bytecode = True
-from measuring import geometric_mean
-from plots import C, GATE, JAVASCRIPTCORE, OTHER, V8, WABT, Plot, drawn
-from recording import FOLDER, Results, number
+from bench.measuring import geometric_mean
+from bench.plots import C, GATE, JAVASCRIPTCORE, OTHER, V8, WABT, Plot, drawn
+from bench.recording import FOLDER, Results, number
+from tools import arguments
 
 ROOT = os.path.dirname(os.path.dirname(os.path.abspath(__file__)))
 LONGEST_MODULE = 16_777_216
@@ -152,6 +151,19 @@ def small_calls():
         f'{library["V8", "WebAssembly.validate", "41"]:.2f} us; a process of `gate check`: {library["gate", "process", "41"]:.0f} us.'])
 
 
+def plug_ins():
+    """What a plug-in costs that goes on from call to call, by engine; a peer without resets has none there."""
+    engines = {}
+    for row in results('plugins').rows:
+        engines.setdefault(row['engine'], {})[row['way']] = row
+    rows = []
+    for engine, ways in engines.items():
+        shown = [way for way in ('kept', 'fresh', 'reset') if way != 'reset' or engine == 'gate']
+        cells = {way: f'{number(ways[way], "median_us"):.1f} ({number(ways[way], "times_gate"):.2f})' for way in shown}
+        rows.append([engine] + [cells.get(way, '-') for way in ('kept', 'fresh', 'reset')])
+    return table(['us a call (to gate)', 'kept', 'fresh', 'reset'], rows)
+
+
 # Modules that are made to cost much.
 
 def families():
@@ -263,7 +275,7 @@ def readme_speed():
 
 BLOCKS = {'README.md': {'readme-speed': readme_speed},
           'docs/SPEED.md': {'speed-summary': summary, 'check-table': check_table, 'kernels-table': kernels_table,
-                            'small-calls': small_calls, 'worst-table': worst_table, 'judging-list': judging_list,
+                            'small-calls': small_calls, 'plug-ins': plug_ins, 'worst-table': worst_table, 'judging-list': judging_list,
                             'large-pages': large_pages, 'sources': sources}}
 PLOTS = {'docs/check.svg': check_plot, 'docs/workers.svg': workers_plot, 'docs/kernels.svg': kernels_plot,
          'docs/instances.svg': instances_plot, 'docs/families.svg': families_plot, 'docs/judging.svg': judging_plot}
@@ -323,7 +335,7 @@ def faults():
     for name, text, missing in documents():
         yield from (f'{name}: no marks for the block {block}' for block in missing)
         if text != read(name):
-            yield f'{name}: not what bench/results/ gives; `python3 bench/tables.py` writes it'
+            yield f'{name}: not what bench/results/ gives; `python3 -m bench.tables` writes it'
     for unit, measured, row, pattern in advised():
         plan = advice(row, pattern)
         if plan is None:
@@ -348,6 +360,6 @@ def main(checks):
 
 
 if __name__ == '__main__':
-    parser = argparse.ArgumentParser(description=__doc__, formatter_class=argparse.RawDescriptionHelpFormatter)
+    parser = arguments.parser(__doc__)
     parser.add_argument('--check', action='store_true', help='write nothing, and fail where a document says otherwise')
     sys.exit(main(parser.parse_args().check))

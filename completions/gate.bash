@@ -4,15 +4,19 @@ _gate() {
     local place=0 at
     COMPREPLY=()
     if ((COMP_CWORD == 1)); then
-        mapfile -t COMPREPLY < <(compgen -W 'check explain exports run help --help --version' -- "$current")
+        mapfile -t COMPREPLY < <(compgen -W 'check check-all explain exports run stream help --help --version' -- "$current")
         return
     fi
     case ${COMP_WORDS[1]} in
         check) ;;
+        check-all) options="$options --null --recursive --progress" ;;
         explain | exports) options=--help ;;
-        run) options+=' --fuel --frames --pages' ;;
+        run | stream)
+            options+=' --fuel --frames --pages'
+            [[ ${COMP_WORDS[1]} == run ]] || options="$options --progress"
+            ;;
         help)
-            ((COMP_CWORD > 2)) || mapfile -t COMPREPLY < <(compgen -W 'check explain exports run' -- "$current")
+            ((COMP_CWORD > 2)) || mapfile -t COMPREPLY < <(compgen -W 'check check-all explain exports run stream' -- "$current")
             return
             ;;
         *) return ;;
@@ -36,9 +40,9 @@ _gate() {
             *) place=$((place + 1)) ;;
         esac
     done
-    if ((place == 0)); then
+    if ((place == 0)) || [[ ${COMP_WORDS[1]} == check-all ]]; then
         mapfile -t COMPREPLY < <(compgen -f -X '!*.wasm' -- "$current"; compgen -d -- "$current")
-    elif ((place == 1)) && [[ ${COMP_WORDS[1]} == @(run|explain) ]]; then
+    elif ((place == 1)) && [[ ${COMP_WORDS[1]} == @(run|explain|stream) ]]; then
         mapfile -t COMPREPLY < <(compgen -f -- "$current")
     fi
 }

@@ -1,16 +1,18 @@
 # Completion of gate(1) for fish: commands, options, and files.
 complete -c gate -f
 complete -c gate -n __fish_use_subcommand -a check -d 'Print the verdict on a module'
+complete -c gate -n __fish_use_subcommand -a check-all -d 'Print the verdict on each of many modules'
 complete -c gate -n __fish_use_subcommand -a explain -d 'Print why a module is refused'
 complete -c gate -n __fish_use_subcommand -a exports -d 'Print what a module exports'
 complete -c gate -n __fish_use_subcommand -a run -d 'Run calls of a module'
+complete -c gate -n __fish_use_subcommand -a stream -d 'Run calls of a module while they are read'
 complete -c gate -n __fish_use_subcommand -a help -d 'Help on a command'
 complete -c gate -n __fish_use_subcommand -s V -l version -d 'The version'
 complete -c gate -s h -l help -d Help
-complete -c gate -n '__fish_seen_subcommand_from help' -a 'check explain exports run'
+complete -c gate -n '__fish_seen_subcommand_from help' -a 'check check-all explain exports run stream'
 
-set -l judging '__fish_seen_subcommand_from check run; and not __fish_seen_subcommand_from help'
-set -l running '__fish_seen_subcommand_from run; and not __fish_seen_subcommand_from help'
+set -l judging '__fish_seen_subcommand_from check check-all run stream; and not __fish_seen_subcommand_from help'
+set -l running '__fish_seen_subcommand_from run stream; and not __fish_seen_subcommand_from help'
 complete -c gate -n '__fish_seen_subcommand_from explain exports; and not __fish_seen_subcommand_from help' -k -a '(__fish_complete_suffix .wasm)'
 complete -c gate -n $judging -k -a '(__fish_complete_suffix .wasm)'
 complete -c gate -n $judging -l workers -x -d 'How many threads work: 1 to 64, by default 4'
@@ -18,3 +20,7 @@ complete -c gate -n $judging -l piece -x -d 'How many bodies or calls a thread t
 complete -c gate -n $running -l fuel -x -d 'How much fuel a call has: 0 to 1000000000, by default 1000000'
 complete -c gate -n $running -l frames -x -d 'How many functions of a call are entered at a time: 1 to 4096, by default 1024'
 complete -c gate -n $running -l pages -x -d 'How many pages of memory a call has: 0 to 1024, by default 256'
+complete -c gate -n '__fish_seen_subcommand_from check-all' -s 0 -l null -d 'The names on standard input are ended by a byte 0'
+complete -c gate -n '__fish_seen_subcommand_from check-all' -s r -l recursive -d 'A folder stands for the modules below it'
+complete -c gate -n '__fish_seen_subcommand_from check-all stream' -l progress -d 'Tell standard error how many lines are written'
+complete -c gate -n '__fish_seen_subcommand_from check-all' -F

@@ -214,6 +214,13 @@ uint32_t gate_debug_verdict_line(const char *file, int line, const gate_verdict 
     return (gate_verdict_line)(verdict, out, room, length);
 }
 
+uint32_t gate_debug_build(const char *file, int line, uint8_t *out, size_t room, size_t *length) {
+    const site here = { file, line, "gate_build" };
+    const area areas[] = { WRITES(uint8_t, out, room), WRITES(size_t, length, 1) };
+    look_at(here, areas, COUNT_OF(areas));
+    return (gate_build)(out, room, length);
+}
+
 uint32_t gate_debug_explain(const char *file, int line, const uint8_t *bytes, size_t bytes_length, gate_explanation *explanation) {
     const site here = { file, line, "gate_explain" };
     const area areas[] = { READS(uint8_t, bytes, bytes_length), WRITES(gate_explanation, explanation, 1) };
@@ -338,6 +345,14 @@ uint64_t gate_debug_module_export_count(const char *file, int line, gate_module 
     const uint64_t count = (gate_module_export_count)(module);
     finish(used);
     return count;
+}
+
+uint64_t gate_debug_module_size(const char *file, int line, gate_module module) {
+    const site here = { file, line, "gate_module_size" };
+    handle *used = begin(here, module.at, MODULE, false);
+    const uint64_t size = (gate_module_size)(module);
+    finish(used);
+    return size;
 }
 
 uint32_t gate_debug_module_export(const char *file, int line, gate_module module, uint64_t number, gate_export *found) {

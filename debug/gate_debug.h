@@ -24,6 +24,7 @@ extern "C" {
 
 uint32_t gate_debug_check(const char *file, int line, const uint8_t *bytes, size_t bytes_length, gate_verdict *verdict);
 uint32_t gate_debug_verdict_line(const char *file, int line, const gate_verdict *verdict, uint8_t *out, size_t room, size_t *length);
+uint32_t gate_debug_build(const char *file, int line, uint8_t *out, size_t room, size_t *length);
 uint32_t gate_debug_explain(const char *file, int line, const uint8_t *bytes, size_t bytes_length, gate_explanation *explanation);
 uint32_t gate_debug_explain_text(const char *file, int line, const uint8_t *bytes, size_t bytes_length, uint8_t *out, size_t room,
                                  size_t *length);
@@ -44,6 +45,7 @@ uint32_t gate_debug_module_share(const char *file, int line, gate_module module,
 void gate_debug_module_free(const char *file, int line, gate_module module);
 void gate_debug_module_drop(const char *file, int line, gate_module module);
 uint64_t gate_debug_module_export_count(const char *file, int line, gate_module module);
+uint64_t gate_debug_module_size(const char *file, int line, gate_module module);
 uint32_t gate_debug_module_export(const char *file, int line, gate_module module, uint64_t number, gate_export *found);
 uint32_t gate_debug_module_export_name(const char *file, int line, gate_module module, uint64_t number, uint8_t *out, size_t room,
                                        size_t *length);
@@ -82,6 +84,7 @@ void gate_debug_judging_drop(const char *file, int line, gate_judging judging);
 
 #define gate_check(...) gate_debug_check(__FILE__, __LINE__, __VA_ARGS__)
 #define gate_verdict_line(...) gate_debug_verdict_line(__FILE__, __LINE__, __VA_ARGS__)
+#define gate_build(...) gate_debug_build(__FILE__, __LINE__, __VA_ARGS__)
 #define gate_explain(...) gate_debug_explain(__FILE__, __LINE__, __VA_ARGS__)
 #define gate_explain_text(...) gate_debug_explain_text(__FILE__, __LINE__, __VA_ARGS__)
 #define gate_run(...) gate_debug_run(__FILE__, __LINE__, __VA_ARGS__)
@@ -95,6 +98,7 @@ void gate_debug_judging_drop(const char *file, int line, gate_judging judging);
 #define gate_module_free(...) gate_debug_module_free(__FILE__, __LINE__, __VA_ARGS__)
 #define gate_module_drop(...) gate_debug_module_drop(__FILE__, __LINE__, __VA_ARGS__)
 #define gate_module_export_count(...) gate_debug_module_export_count(__FILE__, __LINE__, __VA_ARGS__)
+#define gate_module_size(...) gate_debug_module_size(__FILE__, __LINE__, __VA_ARGS__)
 #define gate_module_export(...) gate_debug_module_export(__FILE__, __LINE__, __VA_ARGS__)
 #define gate_module_export_name(...) gate_debug_module_export_name(__FILE__, __LINE__, __VA_ARGS__)
 #define gate_module_find(...) gate_debug_module_find(__FILE__, __LINE__, __VA_ARGS__)

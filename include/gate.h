@@ -10,7 +10,7 @@
  *          Nothing of a caller's bytes is kept after a call; gate_module_new and gate_judging_new alone have them read later too.
  * State    It has none: no variable that is written, no thread, no lock, no file, no signal handler, no output. It never ends the
  *          process, and never jumps out of a call.
- * Stack    A call takes some 8 KB of it, whatever the module. That is measured, and not proved.
+ * Stack    A call takes less than 16 KB of it, whatever the module: 13 KB are the most that was measured. That is not proved.
  *
  * What a caller owes; nothing checks it but gate_debug.h
  *
@@ -106,7 +106,7 @@ uint32_t gate_version(void);
  * with a revision says so below; a library without it has no such symbol. This function came with revision 1. */
 uint32_t gate_revision(void);
 
-/* What every function answers but gate_version, gate_revision, gate_module_export_count and the freeing ones. */
+/* What every function answers but gate_version, gate_revision, gate_module_export_count, gate_module_size and the freeing ones. */
 enum gate_status {
     GATE_OK = 0,              /* the module is accepted; the text, the report or the end is written */
     GATE_MODULE_REFUSED = 2,  /* the module is refused, and verdict or text say why */
@@ -173,6 +173,12 @@ uint32_t gate_check(const uint8_t *bytes, size_t bytes_length, gate_verdict *ver
  *   GATE_NO_MEMORY */
 uint32_t gate_verdict_line(const gate_verdict *verdict, uint8_t *out, size_t room, size_t *length)
     GATE_WRITES(2, 3) GATE_NOT_NULL((1, 4)) GATE_ANSWERS;
+
+/* Writes which build the library is: `gate 0.1.0 (commit 0123456789ab, rattle-kit-13f)`, by its version, the commit and the toolchain that
+ * proved it. Twelve dashes for the commit say that it is of no release. Without a NUL. 64 bytes are enough. Since revision 1.
+ *   GATE_OK            the first *length bytes of out are the text
+ *   GATE_SHORT_BUFFER  *length bytes are wanted */
+uint32_t gate_build(uint8_t *out, size_t room, size_t *length) GATE_WRITES(1, 2) GATE_NOT_NULL((3)) GATE_ANSWERS;
 
 /* Why a module has its verdict. Later versions of the library tell more kinds: the hundreds of a number are the kind of the verdict, so
  * a number that a host does not know says that much. */
@@ -395,6 +401,11 @@ typedef struct gate_export {
 
 /* How many exports there are. */
 uint64_t gate_module_export_count(gate_module module) GATE_ANSWERS;
+
+/* How many bytes the lists of a module take: of its bodies, of what is told of it, and of what its instances start from; its bytes apart.
+ * All handles of a module hold them once. What blocks are rounded by, and had as room to grow, is not counted, nor is what answers
+ * questions on long lists of types. */
+uint64_t gate_module_size(gate_module module) GATE_ANSWERS;
 
 /* Tells an export by its number, from 0, in the order of the module.
  *   GATE_OK       it is written

@@ -60,6 +60,14 @@ inline std::string line(const gate_verdict &verdict) {
     return std::string(reinterpret_cast<const char *>(out), length - 1);
 }
 
+/// Which build the library is: `gate 0.1.0 (commit 0123456789ab, rattle-kit-13f)`.
+inline std::string build() {
+    std::uint8_t out[64];
+    std::size_t length = 0;
+    answered(gate_build(out, sizeof out, &length));
+    return std::string(reinterpret_cast<const char *>(out), length);
+}
+
 /// Where and why a module is refused: its numbers, and what `gate explain` prints.
 struct Explanation {
     gate_explanation numbers;
@@ -193,6 +201,8 @@ public:
         answered(gate_module_share(handle_, &other));
         return Module(bytes_, other);
     }
+    /// How many bytes its lists take, its own bytes apart.
+    std::uint64_t size() { return gate_module_size(handle_); }
     /// What the module exports, in its order.
     std::vector<Export> exports() {
         std::vector<Export> found(gate_module_export_count(handle_));

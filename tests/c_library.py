@@ -1,19 +1,18 @@
-#!/usr/bin/env python3
-"""Builds the archive of the library for C, over the libraries that `rt ci` left in a tree: it proves the crate `gate_c`, and builds no
-archive of it. The archive lies in TREE/crates/gate_c/out then, where library.py looks for it.
+"""Builds the archive of the library for C, over the libraries that `rt ci` left in a tree: it proves the crate `c_api`, and builds no
+archive of it. The archive lies in TREE/crates/c_api/out then, where library.py looks for it.
 """
-import argparse
 import os
 import sys
 
-from wrong_bodies import load_kit
+from tools.arguments import parser
+from tools.kit import load_kit
 
 if __name__ == '__main__':
-    parser = argparse.ArgumentParser(description=__doc__)
-    parser.add_argument('tree', metavar='TREE', help='a tree that `rt ci` has proved')
-    tree = os.path.realpath(parser.parse_args().tree)
-    folder = os.path.join(tree, 'crates', 'gate_c')
+    taken = parser(__doc__)
+    taken.add_argument('tree', metavar='TREE', help='a tree that `rt ci` has proved')
+    tree = os.path.realpath(taken.parse_args().tree)
+    folder = os.path.join(tree, 'crates', 'c_api')
     os.makedirs(os.path.join(folder, 'out'), exist_ok=True)
-    crate = load_kit().rtlib.Crate(folder, tree, {}, name='gate_c')
+    crate = load_kit().rtlib.Crate(folder, tree, {}, name='c_api')
     crate.out = sys.stdout
     sys.exit(crate.build_static(['--jobs', '2']))

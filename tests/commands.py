@@ -1,4 +1,3 @@
-#!/usr/bin/env python3
 """Runs the commands that the documents show, and compares what is printed with what they show.
 
 A command is a line of a block of code that begins with `$ `; what is printed stands below it, standard error included. A block runs
@@ -8,7 +7,6 @@ in one shell, in a copy of the repository in which `gate`, `./gate` and `bin/gat
 Left out, and counted: a command of which a part begins with a word of LEFT_OUT, since it needs the network, other rights, the
 toolchain, a release, a library that is installed, or minutes; and one whose program is not installed.
 """
-import argparse
 import collections
 import os
 import re
@@ -17,10 +15,9 @@ import subprocess
 import sys
 import tempfile
 
-root = os.path.dirname(os.path.dirname(os.path.abspath(__file__)))
-sys.path.insert(0, os.path.join(root, 'tests'))
-sys.dont_write_bytecode = True
-from prose import Document
+from tests.prose import Document
+from tools import arguments
+from tools.files import ROOT
 
 DOCUMENTS = ('README.md', 'CONTRIBUTING.md', 'docs/FORMATS.md', 'docs/HOSTS.md', 'docs/GUESTS.md')
 LEFT_OUT = ('sudo', './install.sh', './test', './release', 'rt', 'duplicates', 'git', 'curl', 'wget', 'apt-get', 'sha256sum', 'tar',
@@ -87,10 +84,10 @@ def fault(command, printed, status):
 
 def copy_tree(program, folder):
     """A copy of what the commands read, with the program under the names that documents have for it."""
-    for name in os.listdir(root):
-        path = os.path.join(root, name)
+    for name in os.listdir(ROOT):
+        path = os.path.join(ROOT, name)
         if os.path.isdir(path) and name not in ('.git', 'crates', 'out', 'gate'):
-            shutil.copytree(path, os.path.join(folder, name), symlinks=True)
+            shutil.copytree(path, os.path.join(folder, name), symlinks=True, ignore=shutil.ignore_patterns('__pycache__'))
         elif os.path.isfile(path) and name != 'gate':
             shutil.copy(path, folder)
     os.mkdir(os.path.join(folder, 'bin'))
@@ -103,7 +100,7 @@ def try_document(name, program):
     faults, ran, left_out = [], 0, 0
     with tempfile.TemporaryDirectory() as folder:
         copy_tree(program, folder)
-        for stretch in Document(os.path.join(root, name)).stretches:
+        for stretch in Document(os.path.join(ROOT, name)).stretches:
             commands = commands_of(stretch) if stretch.kind in ('code', 'fence') else []
             chosen = [command for command in commands if not is_left_out(command)]
             left_out += len(commands) - len(chosen)
@@ -128,6 +125,4 @@ def main(program):
 
 
 if __name__ == '__main__':
-    parser = argparse.ArgumentParser(description=__doc__, formatter_class=argparse.RawDescriptionHelpFormatter)
-    parser.add_argument('gate', metavar='GATE', help='the program')
-    sys.exit(main(os.path.abspath(parser.parse_args().gate)))
+    sys.exit(main(arguments.program(__doc__)))

@@ -1,4 +1,3 @@
-#!/usr/bin/env python3
 """Holds what a call takes to the formula of docs/SECURITY.md, on modules that are made to cost as much as its terms allow.
 
 A call of a module of n bytes and a table of E entries, with F fuel and P pages, whose longest body has L tokens, whose functions
@@ -13,16 +12,14 @@ twice what a busy machine of 2.5 GHz takes and more: a token of a loop takes 6 t
 250 ns, a local of a new frame 6 to 8 ns, a page of new memory that is copied twice 120 to 220 us. What is measured is the processor's
 time.
 """
-import argparse
 import os
 import random
 import sys
 import tempfile
 
-here = os.path.dirname(os.path.abspath(__file__))
-sys.path.insert(0, os.path.join(here, '..', 'bench'))
-from encoding import EMPTY, function_type, signed, sized, unsigned, vector, whole
-from measuring import processor_seconds
+from tools import arguments
+from tools.encoding import EMPTY, function_type, signed, sized, unsigned, vector, whole
+from tools.processes import processor_seconds
 
 TURNS = 3
 LINE = b'f\n'
@@ -190,7 +187,7 @@ def measured(gate, folder, case):
 
 
 def main():
-    parser = argparse.ArgumentParser(description=__doc__, formatter_class=argparse.RawDescriptionHelpFormatter)
+    parser = arguments.parser(__doc__)
     parser.add_argument('gate', help='the program')
     gate = os.path.abspath(parser.parse_args().gate)
     past = 0

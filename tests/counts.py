@@ -1,10 +1,6 @@
 """Short modules that spell a count, an index or a size of 2^32 - 1, and their verdicts by Core 1.0: a vector whose items do not
 follow is malformed (5.1.3), in a body it is the body that is; a name or an index that is not there breaks its rule (chapter 3)."""
-import os
-import sys
-
-sys.path.insert(0, os.path.join(os.path.dirname(os.path.abspath(__file__)), '..', 'bench'))
-from encoding import EMPTY, HEADER, section, sized, vector, whole
+from tools.encoding import EMPTY, HEADER, section, sized, vector, whole
 
 MOST = b'\xFF\xFF\xFF\xFF\x0F'
 BODY = 'refused body 0 '

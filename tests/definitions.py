@@ -1,17 +1,19 @@
-#!/usr/bin/env python3
 """Writes the tables of docs/DEFINITIONS.md from the specs/ of the crates.
 
 A row is a definition: its file and name, its section of the standard, and the comment that stands above it. A table stands between
 `<!-- begin NAME -->` and `<!-- end NAME -->`. Which definitions a table has is said here; each has to be there, with a comment.
-With --check nothing is written, and the answer is 1 where the document is not that of the sources.
+The ways down from the verdict and from the answer are written by hand: each name there has to be one of a definition, a file of
+specs/ or a function. With --check nothing is written, and the answer is 1 where the document is not that of the sources.
 """
-import argparse
+import glob
 import os
 import re
 import sys
 
-ROOT = os.path.realpath(os.path.join(os.path.dirname(os.path.abspath(__file__)), '..'))
-DOCUMENT = os.path.join('docs', 'DEFINITIONS.md')
+from tools.arguments import parser
+from tools.files import ROOT, read, write
+
+DOCUMENT = 'docs/DEFINITIONS.md'
 SPECS = 'crates/wsyntax/specs/'
 SOUNDNESS = 'crates/soundness/specs/'
 
@@ -87,11 +89,6 @@ def fail(words):
     sys.exit(f'definitions.py: {words}')
 
 
-def read(path):
-    with open(os.path.join(ROOT, path), encoding='utf-8') as file:
-        return file.read()
-
-
 def comment_above(lines, place):
     """The comment that ends above a line; a line that says how an operator binds may stand between."""
     while lines[place - 1].startswith('infix'):
@@ -157,19 +154,45 @@ def filled(text):
     return text
 
 
+def names_down(text):
+    """The names in the sections that lead down to the definitions."""
+    sections = re.findall(r'^## (From the \w+ downwards)\n(.*?)(?=^## )', text, re.M | re.DOTALL)
+    if len(sections) < 2:
+        fail(f'{DOCUMENT} has no ways down')
+    return [(title, name) for title, section in sections for name in re.findall('`([^` ]+)`', section)]
+
+
+def known_names():
+    """What definitions, fields, files, folders and functions of the repository are called."""
+    found = set()
+    for path in glob.glob(os.path.join(ROOT, 'crates', '*', 'specs', '**', '*.antt'), recursive=True):
+        crate, _, within = os.path.relpath(path, os.path.join(ROOT, 'crates'))[:-len('.antt')].partition('/specs/')
+        found |= {within, within.rpartition('/')[2], f'crates/{crate}', f'crates/{crate}/specs'}
+        found.update(re.findall(r'^ *(?:unfoldable |abbrev |pub |data |record )*(\w+)(?= [:(])', read(path), re.M))
+    for path in glob.glob(os.path.join(ROOT, 'crates', '*', 'src', '**', '*.rt'), recursive=True):
+        crate = os.path.relpath(path, os.path.join(ROOT, 'crates')).split('/')[0]
+        text = read(path)
+        found |= {f'{crate}::{name}' for name in re.findall(r'\bfn (\w+)', text)} | set(re.findall(r'^ +ensures (\w+)', text, re.M))
+    return found
+
+
 def main():
-    parser = argparse.ArgumentParser(description=__doc__, formatter_class=argparse.RawDescriptionHelpFormatter)
-    parser.add_argument('--check', action='store_true', help='write nothing, and fail where the document is not that of the sources')
-    check = parser.parse_args().check
+    words = parser(__doc__)
+    words.add_argument('--check', action='store_true', help='write nothing, and fail where the document is not that of the sources')
+    check = words.parse_args().check
     text = read(DOCUMENT)
     new = filled(text)
     if not check:
-        with open(os.path.join(ROOT, DOCUMENT), 'w', encoding='utf-8') as file:
-            file.write(new)
-    elif new != text:
+        write(DOCUMENT, new)
+        return
+    known = known_names()
+    lost = [f'{title}: {name}' for title, name in names_down(text) if name not in known]
+    if lost:
+        fail(f'{DOCUMENT} names what is not there: {", ".join(lost)}')
+    if new != text:
         old = set(text.split('\n'))
         first = next((line for line in new.split('\n') if line not in old), 'rows that are gone')
-        fail(f'{DOCUMENT} is not that of the sources; run tests/definitions.py. First: {first}')
+        fail(f'{DOCUMENT} is not that of the sources; run `python3 -m tests.definitions`. First: {first}')
 
 
 if __name__ == '__main__':

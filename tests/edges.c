@@ -6,11 +6,14 @@
  *   flat     NUMBER rounds of all that takes memory, none of which may leave a block
  *   handles  NUMBER handles of one module, each shared from another one, freed in any order
  *   stack    all modules are judged, and called, on a painted stack: of it MOST_STACK bytes more may be written than by an idle thread
+ *   size     what gate_module_size says of each module is no more than the heap gave for it, and no less than half of that, MOST_FIXED
+ *            bytes of the handle aside
  * Linked with -Wl,--wrap=malloc,--wrap=realloc,--wrap=free.
  * Prints each line of this file that does not hold, and ends with 1 then; else how many held. */
 #define _GNU_SOURCE
 #include "gate.h"
 #include <dirent.h>
+#include <malloc.h>
 #include <pthread.h>
 #include <stdbool.h>
 #include <stdio.h>
@@ -21,6 +24,7 @@
 #define HOLDS(what) holds(what, #what, __LINE__)
 
 enum { PAGE = 4096, ROOM = 1 << 16, LONGEST = 20000, MOST = 4096, SHOWN = 20, STACK = 64 << 10, MOST_STACK = 16 << 10, PAINT = 0xA5 };
+enum { MOST_FIXED = 2048 };
 
 typedef struct text {
     uint8_t *at;
@@ -35,21 +39,27 @@ void *__wrap_realloc(void *block, size_t size);
 void __wrap_free(void *block);
 
 static long blocks;
+/* How many bytes these blocks have, while one thread runs. */
+static size_t given;
 
 void *__wrap_malloc(size_t size) {
     void *block = __real_malloc(size);
     blocks += block != NULL;
+    given += malloc_usable_size(block);
     return block;
 }
 
 void *__wrap_realloc(void *old, size_t size) {
+    const size_t before = malloc_usable_size(old);
     void *block = __real_realloc(old, size);
     blocks += block && !old;
+    if (block) given += malloc_usable_size(block) - before;
     return block;
 }
 
 void __wrap_free(void *block) {
     blocks -= block != NULL;
+    given -= malloc_usable_size(block);
     __real_free(block);
 }
 
@@ -182,15 +192,64 @@ static void part_guard(long count, uint64_t seed) {
     }
 }
 
+/* An instance of a module, and each call that takes one. */
+static void live(gate_module module, uint8_t *end) {
+    gate_instance it;
+    gate_call ended;
+    gate_value value;
+    uint64_t size = 0;
+    const uint32_t made = gate_instance_new(module, &FEW, &it, &ended);
+    if (made != GATE_OK) {
+        HOLDS(made == GATE_NO_INSTANCE);
+        return;
+    }
+    HOLDS(gate_instance_call(it, (const uint8_t *)"f", 1, NULL, 0, &FEW, &value, 1, &ended) == GATE_OK);
+    HOLDS(gate_instance_memory_size(it, &size) == GATE_OK);
+    HOLDS(gate_instance_read(it, 0, end - 16, 16) == (size ? GATE_OK : GATE_OUTSIDE));
+    HOLDS(gate_instance_write(it, size, end - 16, 16) == GATE_OUTSIDE);
+    if (size) HOLDS(gate_instance_write(it, size - 16, end - 16, 16) == GATE_OK);
+    if (gate_instance_global(it, (const uint8_t *)"g", 1, &value) == GATE_OK) HOLDS(value.width == 32 || value.width == 64);
+    HOLDS(gate_instance_reset(it, &ended) == GATE_OK);
+    gate_instance_free(it);
+}
+
+/* A check in steps of a module with this verdict: its bodies from the last on, by two handles. */
+static void in_steps(text bytes, uint32_t status, const gate_verdict *verdict) {
+    gate_verdict found, body;
+    gate_judging it, other;
+    gate_module module;
+    uint32_t bodies = 0;
+    const uint32_t begun = gate_judging_new(bytes.at, bytes.length, &found, &it, &bodies);
+    if (begun != GATE_OK) {
+        HOLDS(begun == GATE_MODULE_REFUSED && is_same(verdict, &found));
+        return;
+    }
+    HOLDS(gate_judging_share(it, &other) == GATE_OK);
+    for (uint32_t place = bodies; place > 0; place--)
+        HOLDS(gate_judging_bodies(place % 2 ? it : other, place - 1, 1, &body) != GATE_NO_MEMORY);
+    HOLDS(gate_judging_join(it, other) == GATE_OK);
+    HOLDS(gate_judging_end(it, &found, &module) == status && is_same(verdict, &found));
+    if (status == GATE_OK)
+        gate_module_free(module);
+    else
+        gate_judging_free(it);
+}
+
 /* All that takes memory. */
 static void round_of(text bytes, uint8_t *end, uint64_t *seed) {
     gate_verdict verdict;
     gate_explanation explained;
     gate_module module, other;
+    gate_call ended;
+    size_t length = 0;
     const uint32_t status = gate_check(bytes.at, bytes.length, &verdict);
     HOLDS(gate_explain(bytes.at, bytes.length, &explained) == status);
+    HOLDS(gate_explain_text(bytes.at, bytes.length, end - LONGEST, LONGEST, &length) == status);
     use(bytes, status, &verdict, end, seed);
+    in_steps(bytes, status, &verdict);
     if (gate_module_new(bytes.at, bytes.length, &verdict, &module) != GATE_OK) return;
+    HOLDS(gate_module_starts(module, &FEW, &ended) == GATE_OK);
+    live(module, end);
     HOLDS(gate_module_share(module, &other) == GATE_OK);
     gate_module_free(module);
     gate_module_free(other);
@@ -250,12 +309,28 @@ static void part_stack(long count, uint64_t seed) {
     if (!HOLDS(of_all <= of_thread + MOST_STACK)) fprintf(stderr, "edges: %zu bytes, and %zu of the thread\n", of_all, of_thread);
 }
 
+static void part_size(long count, uint64_t seed) {
+    (void)count, (void)seed;
+    for (size_t i = 0; i < module_count; i++) {
+        const size_t before = given;
+        gate_verdict verdict;
+        gate_module module;
+        if (gate_module_new(modules[i].at, modules[i].length, &verdict, &module) != GATE_OK) continue;
+        const uint64_t size = gate_module_size(module), grew = given - before;
+        if (!HOLDS(size <= grew && grew <= 2 * size + MOST_FIXED))
+            fprintf(stderr, "edges: a module of %zu bytes: %lu, and the heap grew by %lu\n", modules[i].length, size, grew);
+        gate_module_free(module);
+        HOLDS(given == before);
+    }
+}
+
 typedef struct part {
     const char *name;
     void (*play)(long count, uint64_t seed);
 } part;
 
-static const part PARTS[] = { { "guard", part_guard }, { "flat", part_flat }, { "handles", part_handles }, { "stack", part_stack } };
+static const part PARTS[] = { { "guard", part_guard }, { "flat", part_flat }, { "handles", part_handles }, { "stack", part_stack },
+                              { "size", part_size } };
 
 int main(int count, char **words) {
     if (count < 4) fail("usage: edges FOLDER PART NUMBER [SEED]");

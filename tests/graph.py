@@ -1,41 +1,20 @@
-#!/usr/bin/env python3
 """Draws the crates of crates.txt by layers in docs/ARCHITECTURE.md, and says which crates stand on one.
 
 A crate's layer is one above the highest of the crates that it stands on. Of each are named the crates that no other of them brings
-along. With --check nothing is written: the status is 1 where the drawing is not that of crates.txt, or where the table of the page has
-other crates, or has them in another order.
+along. With --check nothing is written: the status is 1 where the drawing is not that of crates.txt, where the table of the page has other
+crates, or has them in another order, or where the page names an item of a crate that is not there.
 """
-import argparse
+import glob
 import os
 import re
 import sys
 
-root = os.path.dirname(os.path.dirname(os.path.abspath(__file__)))
-PAGE = os.path.join(root, 'docs', 'ARCHITECTURE.md')
+from tools.arguments import parser
+from tools.crates import above, below, uses
+from tools.files import ROOT, read, write
+
+PAGE = 'docs/ARCHITECTURE.md'
 BEGIN, END = '<!-- begin crates -->\n', '<!-- end crates -->\n'
-
-
-def read(path):
-    with open(path) as file:
-        return file.read()
-
-
-def uses():
-    """Of each crate, in the order of crates.txt, the crates of this repository that it names."""
-    parts = [line.split(':') for line in re.findall(r'^\w.*', read(os.path.join(root, 'crates.txt')), re.M)]
-    names = [words.split()[0] for words, _ in parts]
-    return {name: [it for it in used.split() if it in names] for name, (_, used) in zip(names, parts)}
-
-
-def below(name, graph):
-    """The crates that a crate stands on."""
-    found, left = set(), list(graph[name])
-    while left:
-        crate = left.pop()
-        if crate not in found:
-            found.add(crate)
-            left += graph[crate]
-    return found
 
 
 def nearest(name, graph):
@@ -72,35 +51,40 @@ def in_page(text, graph):
     return before + BEGIN + drawing(graph) + END + after
 
 
-def above(name, graph):
-    """The crates that stand on a crate, in the order of crates.txt."""
-    return [it for it in graph if name in below(it, graph)]
-
-
 def in_table(text):
     """The crates that the table of the page has, in its order."""
     return re.findall(r'^\| `(\w+)` \| [^|]+ \|$', text.split(END)[1].split('\n## ')[0], re.M)
 
 
+def lost_items(text, graph):
+    """The items of crates that the page names as CRATE::ITEM or CRATE::MODULE::ITEM, and that their sources have not."""
+    for crate, *path in (found.split('::') for found in set(re.findall(r'\b\w+(?:::\w+)+', text))):
+        if crate in graph:
+            paths = glob.glob(os.path.join(ROOT, 'crates', crate, 'src', '**', '*.rt'), recursive=True)
+            sources = '\n'.join(map(read, paths))
+            if not all(re.search(rf'\b(?:fn|struct|enum|mod|const) {name}\b', sources) for name in path):
+                yield '::'.join([crate, *path])
+
+
 def main():
-    parser = argparse.ArgumentParser(description=__doc__, formatter_class=argparse.RawDescriptionHelpFormatter)
-    parser.add_argument('--check', action='store_true', help='only say whether the page is that of crates.txt')
-    parser.add_argument('--above', metavar='CRATE', help='only list the crates that stand on CRATE, in the order in which they are checked')
-    words = parser.parse_args()
+    taken = parser(__doc__)
+    taken.add_argument('--check', action='store_true', help='only say whether the page is that of crates.txt')
+    taken.add_argument('--above', metavar='CRATE', help='only list the crates that stand on CRATE, in the order in which they are checked')
+    words = taken.parse_args()
     graph, text = uses(), read(PAGE)
     if words.above:
         if words.above not in graph:
-            parser.error(f'crates.txt has no crate {words.above}')
+            taken.error(f'crates.txt has no crate {words.above}')
         print(*above(words.above, graph), sep='\n')
         return 0
     new = in_page(text, graph)
     if not words.check:
-        with open(PAGE, 'w') as file:
-            file.write(new)
+        write(PAGE, new)
         return 0
-    faults = ['the drawing is not that of crates.txt: run tests/graph.py'] if new != text else []
+    faults = ['the drawing is not that of crates.txt: run `python3 -m tests.graph`'] if new != text else []
     if in_table(text) != list(graph):
         faults.append('the table has other crates than crates.txt, or in another order')
+    faults += [f'{name} is not there' for name in lost_items(text, graph)]
     for fault in faults:
         print(f'docs/ARCHITECTURE.md: {fault}', file=sys.stderr)
     return 1 if faults else 0

@@ -1,11 +1,9 @@
-#!/usr/bin/env python3
 """Runs the plug-ins of examples/guests, and compiles them anew where their compilers are on the machine.
 
 committed  each module is accepted, and its text of calls gives the report beside it, byte by byte
 compiled   by the Makefile, where clang finds wasm-ld, and where rustc has the target: each is accepted, and answers the same. Fuel is not
            compared, since another compiler makes other loops. What is left out is named; the variables of the Makefile choose tools.
 """
-import argparse
 import glob
 import os
 import re
@@ -13,6 +11,9 @@ import shutil
 import subprocess
 import sys
 import tempfile
+
+from tools.arguments import program
+from tools.counting import Count
 
 GUESTS = os.path.join(os.path.dirname(os.path.abspath(__file__)), '..', 'examples', 'guests')
 PLUG_INS = {'steps': 'C', 'pick': 'C', 'upper': 'Rust'}
@@ -36,18 +37,6 @@ def without_fuel(report):
     return re.sub(rb' fuel \d+$', b'', report, flags=re.MULTILINE)
 
 
-class Tally:
-    """How much holds."""
-
-    def __init__(self):
-        self.passed = self.failed = 0
-
-    def expect(self, name, got, wanted):
-        self.passed, self.failed = self.passed + (got == wanted), self.failed + (got != wanted)
-        if got != wanted:
-            print(f'guests: {name}: got {str(got)[:600]}, wanted {str(wanted)[:600]}')
-
-
 def compiles_c(folder):
     """Whether the compiler of C makes a module of an empty file."""
     words = ['--target=wasm32', '-mcpu=mvp', '-nostdlib', '-Wl,--no-entry', '-x', 'c', os.devnull, '-o', os.path.join(folder, 'empty')]
@@ -62,39 +51,36 @@ def compiles_rust(_):
     return bool(there) and shutil.which(os.environ.get('WASM_LD', 'wasm-ld')) is not None
 
 
-def committed(tally, gate, name):
+def committed(count, gate, name):
     module, calls = (os.path.join(GUESTS, f'{name}.{ending}') for ending in ('wasm', 'calls'))
-    tally.expect(f'{name} is accepted', started(gate, 'check', module), (0, b'accepted\n'))
-    tally.expect(f'the report of {name}', started(gate, 'run', module, calls), (0, beside(name, 'report')))
+    count.equal(f'{name} is accepted', started(gate, 'check', module), (0, b'accepted\n'))
+    count.equal(f'the report of {name}', started(gate, 'run', module, calls), (0, beside(name, 'report')))
 
 
-def compiled(tally, gate, name, folder):
+def compiled(count, gate, name, folder):
     module, calls = os.path.join(folder, f'{name}.wasm'), os.path.join(GUESTS, f'{name}.calls')
     status, said = started('make', '-s', '-C', GUESTS, f'TO={folder}', module)
-    tally.expect(f'{name} is compiled without a warning', (status, said), (0, b''))
-    tally.expect(f'{name}, compiled anew, is accepted', started(gate, 'check', module), (0, b'accepted\n'))
+    count.equal(f'{name} is compiled without a warning', (status, said), (0, b''))
+    count.equal(f'{name}, compiled anew, is accepted', started(gate, 'check', module), (0, b'accepted\n'))
     status, said = started(gate, 'run', module, calls)
-    tally.expect(f'the report of {name}, compiled anew', (status, without_fuel(said)), (0, without_fuel(beside(name, 'report'))))
+    count.equal(f'the report of {name}, compiled anew', (status, without_fuel(said)), (0, without_fuel(beside(name, 'report'))))
 
 
 def main(gate):
     """Runs both parts; 1 where something does not hold."""
-    tally = Tally()
+    count = Count('guests')
     for name in PLUG_INS:
-        committed(tally, gate, name)
+        committed(count, gate, name)
     with tempfile.TemporaryDirectory() as folder:
         has_make = shutil.which('make') is not None
         can = {'C': has_make and compiles_c(folder), 'Rust': has_make and compiles_rust(folder)}
         for name, language in PLUG_INS.items():
             if can[language]:
-                compiled(tally, gate, name, folder)
+                compiled(count, gate, name, folder)
             else:
                 print(f'guests: {name} is not compiled anew: no compiler of {language} that makes modules, or no linker')
-    print(f'{tally.passed} passed, {tally.failed} failed')
-    return 1 if tally.failed else 0
+    return count.status()
 
 
 if __name__ == '__main__':
-    parser = argparse.ArgumentParser(description=__doc__, formatter_class=argparse.RawDescriptionHelpFormatter)
-    parser.add_argument('gate', metavar='GATE', help='the program')
-    sys.exit(main(os.path.abspath(parser.parse_args().gate)))
+    sys.exit(main(program(__doc__)))

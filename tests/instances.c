@@ -806,12 +806,16 @@ static long part_limits(long count, uint64_t seed) {
     return ended_play(&it);
 }
 
+/* Without what is mapped of files: how much of the code is in memory goes by what ran, and by the system. */
 static size_t resident(void) {
-    unsigned long all = 0, pages = 0;
-    FILE *file = fopen("/proc/self/statm", "r");
-    if (!file || fscanf(file, "%lu %lu", &all, &pages) != 2) fail("no statm");
+    unsigned long kilobytes = 0;
+    char line[256];
+    FILE *file = fopen("/proc/self/smaps_rollup", "r");
+    if (!file) fail("no smaps_rollup");
+    while (fgets(line, sizeof line, file) && sscanf(line, "Anonymous: %lu kB", &kilobytes) != 1) continue;
     fclose(file);
-    return pages * 4096;
+    if (!kilobytes) fail("no anonymous memory");
+    return (size_t)kilobytes * 1024;
 }
 
 /* A new instance stores a byte, gets and gives two, is reset, and is freed. */
@@ -829,7 +833,7 @@ static void live(play *it, gate_module module, uint64_t number) {
     gate_instance_free(on);
 }
 
-enum { MOST_GROWTH = 64 << 10 };
+enum { MOST_GROWTH = 256 << 10 };
 
 static long part_flat(long count, uint64_t seed) {
     static play it;

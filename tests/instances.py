@@ -1,4 +1,3 @@
-#!/usr/bin/env python3
 """What is asked of instances of the library (gate_instance_new and what takes one), against a model and beside node.
 
 model    instances.c plays at random with four plug-ins, and holds each answer, the whole memory and all globals beside a model in C:
@@ -7,11 +6,11 @@ model    instances.c plays at random with four plug-ins, and holds each answer, 
          million rounds, in which the resident memory stays as it is. debug/gate_debug.c, which looks at each call, has to find no fault.
 node     sequences.py: calls, writes and reads on modules made at random, beside node. The first difference ends it, and its module and
          steps are written to files.
-edges    edges.c: mutants of modules at the ends of pages, memory that stays as it is, many handles, and a painted stack.
+edges    edges.c: mutants of modules at the ends of pages, memory that stays as it is, many handles, a painted stack, and what a module
+         holds, beside what the heap gave for it.
 hosts    Where --hosts names a folder that has them: torture.c, guard.c, leak.c and speed.c, hosts of an embedder, over the library.
 What is left out, for want of a tool, is counted and named at the end.
 """
-import argparse
 import json
 import os
 import re
@@ -21,33 +20,34 @@ import sys
 import tempfile
 from concurrent.futures import ThreadPoolExecutor
 
-here = os.path.dirname(os.path.abspath(__file__))
-root = os.path.dirname(here)
-sys.path.insert(0, root)
-import hosts
 import library
-import rows
-import sequences
-from hosts import Left
+from tests import rows, sequences
+from tests.hosting.compiling import INCLUDE, WARNINGS, debugged
+from tests.hosting.processes import MEMCHECK, VALGRIND, Jobs, Left, Tally, needs
+from tools.arguments import parser
+from tools.files import ROOT
+from tools.worst_cases import FAMILIES, module_of
 
-EXAMPLES = os.path.join(root, 'examples')
+EXAMPLES = os.path.join(ROOT, 'examples')
 WRAPPED = [f'-Wl,--wrap={name}' for name in ('malloc', 'realloc', 'free')]
 SANITIZERS = ['-O1', '-g', '-fsanitize=address,undefined', '-fno-sanitize-recover=all']
-HELGRIND = [*hosts.VALGRIND, '--tool=helgrind']
+HELGRIND = [*VALGRIND, '--tool=helgrind']
 # What is played: the compiler's flags, what runs before the program, and the number of each part (see instances.c).
 PLAYS = [('plain', [], {'flat': 1_000_000, 'heap': 20_000, 'fence': 20_000, 'threads': 3_000, 'refuse': 24, 'limits': 512}),
          ('sanitized', [], {'heap': 10_000, 'fence': 5_000, 'threads': 1_000, 'refuse': 12}),
          ('debug', [], {'fence': 2_000, 'threads': 200}),
-         ('plain', hosts.MEMCHECK, {'heap': 400, 'threads': 60, 'refuse': 1}),
+         ('plain', MEMCHECK, {'heap': 400, 'threads': 60, 'refuse': 1}),
          ('plain', HELGRIND, {'threads': 60})]
 # The same of edges.c.
-EDGES = [('plain', [], {'guard': 20_000, 'flat': 100_000, 'handles': 20_000, 'stack': 1}),
-         ('sanitized', [], {'guard': 4_000}), ('debug', [], {'guard': 2_000}), ('plain', hosts.MEMCHECK, {'guard': 200})]
+EDGES = [('plain', [], {'guard': 20_000, 'flat': 100_000, 'handles': 20_000, 'stack': 1, 'size': 1}),
+         ('sanitized', [], {'guard': 4_000}), ('debug', [], {'guard': 2_000}), ('plain', MEMCHECK, {'guard': 200})]
 STEPS, SEEDS = 4_000, [20261129]
 PARTS = ['model', 'node', 'edges', 'hosts']
 # Where another seed makes nothing else.
-ONCE = ['limits', 'flat', 'handles', 'stack']
+ONCE = ['limits', 'flat', 'handles', 'stack', 'size']
 SHORT = 4096
+# About how many bytes a module of a family has; edges.c takes none that is much longer.
+OF_FAMILY = 15_000
 # The seconds that a process may take.
 LONGEST = 3000
 # How many mutants, rounds and turns the hosts of an embedder are asked for.
@@ -64,7 +64,7 @@ def started(words, environment=None):
 
 
 def compiled(folder, target, sources, flags):
-    words = [hosts.needs('cc'), *flags, f'-I{hosts.INCLUDE}', '-o', target, *sources, os.path.join(folder, library.ARCHIVE), '-pthread']
+    words = [needs('cc'), *flags, f'-I{INCLUDE}', '-o', target, *sources, os.path.join(folder, library.ARCHIVE), '-pthread']
     _, status, error = started(words)
     if status:
         raise RuntimeError(f'{words}: {error.decode(errors="replace")}')
@@ -73,9 +73,9 @@ def compiled(folder, target, sources, flags):
 
 def built(folder, work, name, sources):
     """The program of files in C, by the compiler's flags."""
-    flags = {'plain': ['-O2', '-g'], 'sanitized': SANITIZERS, 'debug': ['-O2', '-g', *hosts.debugged()]}
-    paths = [os.path.join(here, it) for it in sources]
-    return {it: compiled(folder, os.path.join(work, f'{name}-{it}'), paths, ['-std=c11', *hosts.WARNINGS, *words, *WRAPPED])
+    flags = {'plain': ['-O2', '-g'], 'sanitized': SANITIZERS, 'debug': ['-O2', '-g', *debugged()]}
+    paths = [os.path.join(ROOT, 'tests', it) for it in sources]
+    return {it: compiled(folder, os.path.join(work, f'{name}-{it}'), paths, ['-std=c11', *WARNINGS, *words, *WRAPPED])
             for it, words in flags.items()}
 
 
@@ -91,7 +91,7 @@ def play(tally, program, before, given, part, number, seed):
 
 def plays(tally, pool, programs, given, table, chosen):
     """Plays all parts of a table; answers how many statements held."""
-    jobs = hosts.Jobs(tally, pool)
+    jobs = Jobs(tally, pool)
     for flags, before, numbers in table:
         for part, seed in [(part, seed) for part in numbers for seed in (chosen.seeds[:1] if part in ONCE else chosen.seeds)]:
             number = max(1, numbers[part] // (1 if part == 'limits' else chosen.less))
@@ -106,11 +106,13 @@ def model(tally, pool, folder, work, chosen):
 
 def edges(tally, pool, folder, work, chosen):
     programs, modules = built(folder, work, 'edges', ['edges.c']), os.path.join(written_modules(work), 'run')
-    print(f'instances: {plays(tally, pool, programs, modules, EDGES, chosen):,} statements held on modules', flush=True)
+    held = plays(tally, pool, programs, modules, EDGES, chosen)
+    held += play(tally, programs['plain'], [], written_families(work), 'size', 1, 1)
+    print(f'instances: {held:,} statements held on modules', flush=True)
 
 
 def node(tally, folder, chosen):
-    hosts.needs('node')
+    needs('node')
     count = sequences.Count()
     try:
         for seed in chosen.seeds:
@@ -146,6 +148,16 @@ def written_modules(work):
     return os.path.join(work, 'vectors')
 
 
+def written_families(work):
+    """Accepted modules of the families, which cost much each in its way."""
+    place = os.path.join(work, 'families')
+    os.makedirs(place, exist_ok=True)
+    for name, (forms, _) in FAMILIES.items():
+        if 'accepted' in forms:
+            rows.write(os.path.join(place, re.sub(r'\W', '-', name) + '.wasm'), module_of(name, 'accepted', OF_FAMILY, 1))
+    return place
+
+
 def tortured(tally, words, part, modules, turns, more=None):
     """Of torture.c what a caller may do."""
     got = started([*words, EXAMPLES, modules, part], {'NO_WRONG': '1', 'TURNS': str(turns), **(more or {})})
@@ -178,12 +190,12 @@ def embedder(tally, pool, folder, work, chosen):
         raise Left('no folder of them')
     torture, guard, leak, speed = (host(folder, sources, name, work) for name in ('torture', 'guard', 'leak', 'speed'))
     sanitized = host(folder, sources, 'torture', work, SANITIZERS)
-    modules, jobs, no_huge = written_modules(work), hosts.Jobs(tally, pool), {'NO_HUGE': '1'}
+    modules, jobs, no_huge = written_modules(work), Jobs(tally, pool), {'NO_HUGE': '1'}
     jobs.begin('torture.c', tortured, [torture], 'all', modules, TURNS // less)
     jobs.begin('torture.c', tortured, [sanitized], 'all', modules, TURNS // less // 4, no_huge)
     if shutil.which('valgrind'):
         for part in ('null', 'edges', 'threads'):
-            jobs.begin('torture.c', tortured, [*hosts.MEMCHECK, torture], part, modules, FEW_TURNS // less)
+            jobs.begin('torture.c', tortured, [*MEMCHECK, torture], part, modules, FEW_TURNS // less)
         jobs.begin('torture.c', tortured, [*HELGRIND, torture], 'threads', modules, FEW_TURNS // less)
     jobs.begin('guard.c', guarded, guard, modules, MUTANTS // less)
     jobs.begin('leak.c', leaking, leak, modules, ROUNDS // less)
@@ -192,7 +204,7 @@ def embedder(tally, pool, folder, work, chosen):
 
 
 def main(folder, chosen):
-    tally = hosts.Tally()
+    tally = Tally()
     with tempfile.TemporaryDirectory() as work, ThreadPoolExecutor(chosen.at_once) as pool:
         parts = {'model': lambda: model(tally, pool, folder, work, chosen), 'node': lambda: node(tally, folder, chosen),
                  'edges': lambda: edges(tally, pool, folder, work, chosen), 'hosts': lambda: embedder(tally, pool, folder, work, chosen)}
@@ -209,14 +221,14 @@ def main(folder, chosen):
 
 
 if __name__ == '__main__':
-    parser = argparse.ArgumentParser(description=__doc__, formatter_class=argparse.RawDescriptionHelpFormatter)
-    parser.add_argument('library', metavar='LIBRARY', help='the folder where library.py put the library')
-    parser.add_argument('--parts', nargs='+', choices=PARTS, default=PARTS, metavar='PART', help=', '.join(PARTS) + ' (default: all)')
-    parser.add_argument('--seeds', nargs='+', type=int, default=SEEDS, metavar='SEED', help='what is made at random (default: one seed)')
-    parser.add_argument('--steps', type=int, default=STEPS, help=f'steps beside node for each seed (default: {STEPS:,})')
-    parser.add_argument('--hosts', metavar='FOLDER', help='where torture.c and the other hosts of an embedder stand')
-    parser.add_argument('--kept', metavar='FOLDER', default='.', help='where a difference is written to (default: here)')
-    parser.add_argument('--less', type=int, default=1, metavar='N', help='plays, steps and turns are divided by this (default: 1)')
-    parser.add_argument('--at-once', type=int, default=2, metavar='N', help='how many processes run side by side (default: 2)')
-    words = parser.parse_args()
+    taken = parser(__doc__)
+    taken.add_argument('library', metavar='LIBRARY', help='the folder where library.py put the library')
+    taken.add_argument('--parts', nargs='+', choices=PARTS, default=PARTS, metavar='PART', help=', '.join(PARTS) + ' (default: all)')
+    taken.add_argument('--seeds', nargs='+', type=int, default=SEEDS, metavar='SEED', help='what is made at random (default: one seed)')
+    taken.add_argument('--steps', type=int, default=STEPS, help=f'steps beside node for each seed (default: {STEPS:,})')
+    taken.add_argument('--hosts', metavar='FOLDER', help='where torture.c and the other hosts of an embedder stand')
+    taken.add_argument('--kept', metavar='FOLDER', default='.', help='where a difference is written to (default: here)')
+    taken.add_argument('--less', type=int, default=1, metavar='N', help='plays, steps and turns are divided by this (default: 1)')
+    taken.add_argument('--at-once', type=int, default=2, metavar='N', help='how many processes run side by side (default: 2)')
+    words = taken.parse_args()
     sys.exit(main(os.path.abspath(words.library), words))

@@ -431,6 +431,39 @@ static void exports(void) {
     gate_module_free(module);
 }
 
+/* The text of the build: its version, twelve characters of the commit, the kit. Each room but enough leaves the buffer as it is. */
+static void build(void) {
+    const char *front = "gate " GATE_VERSION " (commit ", *kit = ", rattle-kit-";
+    uint8_t out[ROOM];
+    size_t length = 0;
+    HOLDS(gate_build(NULL, 0, &length) == GATE_SHORT_BUFFER && length <= 64);
+    const size_t wanted = length, commit = strlen(front), after = commit + 12;
+    for (size_t room = 0; room < wanted; room++) {
+        memset(out, UNTOUCHED, sizeof out);
+        HOLDS(gate_build(out, room, &length) == GATE_SHORT_BUFFER && length == wanted && is_untouched(out, ROOM));
+    }
+    HOLDS(gate_build(out, sizeof out, &length) == GATE_OK && length == wanted && is_untouched(out + length, ROOM - length));
+    HOLDS(length > after + strlen(kit) && !memcmp(out, front, commit) && !memcmp(out + after, kit, strlen(kit)));
+    HOLDS(out[length - 1] == ')' && !memchr(out, 0, length));
+}
+
+/* The bytes of the lists, by hand: of function types 12 and one a value, twice; of each function 4, 4, 16 and 16 and 136; of each token 16;
+ * of each type 4 more; of each export 32; of a table 12, of a memory 12, of a global 32 and 8. */
+static void sizes(void) {
+    gate_module module = module_of(ALL_KINDS), other = module_of(ADD), none = module_of((text)BYTES(HEAD));
+    gate_module shared = { NULL };
+    const uint64_t size = gate_module_size(module);
+    HOLDS(gate_module_size(none) == 0);
+    HOLDS(gate_module_size(other) == 2 * (12 + 3) + (4 + 4 + 16 + 16 + 136) + 4 * 16 + 4 + 32);
+    HOLDS(size == 2 * (2 * 12 + 5) + 2 * (4 + 4 + 16 + 16 + 136) + 4 * 16 + 2 * 4 + 5 * 32 + 12 + 12 + 32 + 8);
+    HOLDS(gate_module_share(module, &shared) == GATE_OK);
+    gate_module_free(module);
+    HOLDS(gate_module_size(shared) == size);
+    gate_module_free(shared);
+    gate_module_free(other);
+    gate_module_free(none);
+}
+
 /* What is said of the start of a module that is judged for it. */
 static void start(text bytes, gate_settings settings, gate_call wanted) {
     gate_module module = module_of(bytes);
@@ -974,7 +1007,9 @@ int main(int count, char **words) {
     calls();
     results();
     bad_values();
+    build();
     exports();
+    sizes();
     starts();
     instances();
     judgings();

@@ -1,18 +1,18 @@
-#!/usr/bin/env python3
 """Runs the program on modules of the greatest length, each of which is as much as fits of one thing: instructions, functions, entries of
 segments, types. Each is accepted, and a call of its export `f` ends as a computation by hand says. No growth of memory is refused to
 these, so that `gate: no memory` and a call that ends so are wrong answers. A check and a run take one after another, on one worker, since
 some take a hundred times the module's length.
 """
-import argparse
 import os
 import subprocess
 import sys
 import tempfile
 import time
 
-sys.path.insert(0, os.path.join(os.path.dirname(os.path.abspath(__file__)), '..', 'bench'))
-from encoding import EMPTY, HEADER, function_type, section, signed, sized, unsigned, whole
+from tools.arguments import program
+from tools.counting import Count
+from tools.encoding import EMPTY, HEADER, function_type, section, signed, unsigned, whole
+from tools.files import write
 
 MODULE_LIMIT = 16_777_216
 # What a module may fall short of that length: a last item that did not fit, and lengths that take a byte more.
@@ -116,32 +116,24 @@ def rows():
 
 
 def main(gate):
-    passed, failed, started = 0, 0, time.monotonic()
+    count, started = Count('limits'), time.monotonic()
 
     def expect(name, words, wanted):
-        nonlocal passed, failed
         ran = subprocess.run([gate, *words, '--workers', '1'], capture_output=True, timeout=300)
         got = ran.stdout.decode(errors='replace'), ran.returncode, ran.stderr.decode(errors='replace')
-        passed, failed = passed + (got == (wanted, 0, '')), failed + (got != (wanted, 0, ''))
-        if got != (wanted, 0, ''):
-            print(f'{name}, {words[0]}: {str(got)[:300]}; wanted {wanted!r}')
+        count.equal(f'{name}, {words[0]}', got, (wanted, 0, ''))
 
     with tempfile.TemporaryDirectory() as folder:
         module, calls = os.path.join(folder, 'module.wasm'), os.path.join(folder, 'calls')
-        with open(calls, 'wb') as file:
-            file.write(b'f\n')
+        write(calls, b'f\n')
         for name, contents, report in rows():
             room = TABLE_LIMIT if name == 'segments' else 0
             assert MODULE_LIMIT - SHORT_OF_IT - room <= len(contents) <= MODULE_LIMIT, (name, len(contents))
-            with open(module, 'wb') as file:
-                file.write(contents)
+            write(module, contents)
             expect(name, ['check', module], 'accepted\n')
             expect(name, ['run', module, calls], report)
-    print(f'{passed} passed, {failed} failed ({time.monotonic() - started:.0f} s)')
-    return 1 if failed or not passed else 0
+    return count.status(f' ({time.monotonic() - started:.0f} s)')
 
 
 if __name__ == '__main__':
-    parser = argparse.ArgumentParser(description=__doc__, formatter_class=argparse.RawDescriptionHelpFormatter)
-    parser.add_argument('gate', metavar='GATE', help='the program')
-    sys.exit(main(os.path.abspath(parser.parse_args().gate)))
+    sys.exit(main(program(__doc__)))

@@ -1,45 +1,34 @@
-#!/usr/bin/env python3
-"""Holds what is written about the command line to the program: docs/FORMATS.md, gate.1, and the completions.
+"""Holds what is written about the command line to the program: docs/FORMATS.md, gate.1, the completions, and what hosts are told.
 
 options    Each of them has the options of `gate check --help` and of `gate run --help`, no others, and where it has numbers
            the least, the greatest and the default of the help.
 ranges     The program takes the least and the greatest number of each option, and refuses those beside them.
+hosts      gate.h, gate.3 and the hosts of examples/ have the limits of a call as the help has them, as far as they tell them: the
+           least, the greatest, the default. gate.3 has the numbers of gate.h's statuses.
 lines      The verdicts of the help are those of docs/FORMATS.md; gate.1 has each line and each status that it has.
 """
-import argparse
-import os
 import re
 import subprocess
 import sys
 
-root = os.path.join(os.path.dirname(os.path.abspath(__file__)), '..')
+from tools.arguments import program
+from tools.counting import Count
+from tools.files import read
+
 COMMANDS = ['check', 'run']
+# Those options that are limits of a call, in the order of gate_settings.
+LIMITS = ['fuel', 'frames', 'pages']
 # The sections of docs/FORMATS.md with tables of lines that are printed.
 SECTIONS = ['The verdict line', 'The text of calls', 'The report']
 MACROS = re.compile(r'^\.\w\w\b|\b(?:Ar|Cm|Fl|Li|Ns|Op|Ql)\b')
 
 
-class Count:
-    def __init__(self):
-        self.passed = self.failed = 0
-
-    def expect(self, holds, name, got=''):
-        self.passed, self.failed = self.passed + bool(holds), self.failed + (not holds)
-        if not holds:
-            print(f'manual: {name}: {str(got)[:600]}')
-
-
-def read(path):
-    with open(os.path.join(root, path), encoding='utf-8') as file:
-        return file.read()
-
-
-def run(program, *words):
-    return subprocess.run([program, *words], capture_output=True, text=True)
+def run(gate, *words):
+    return subprocess.run([gate, *words], capture_output=True, text=True)
 
 
 def number(text):
-    return int(text.replace(',', ''))
+    return int(text.replace(',', '').replace('_', ''))
 
 
 def numbered(found):
@@ -52,8 +41,8 @@ def between(text, begin, end):
     return text.split(begin, 1)[1].split(end, 1)[0]
 
 
-def options_of_help(program, command):
-    said = run(program, command, '--help').stdout
+def options_of_help(gate, command):
+    said = run(gate, command, '--help').stdout
     return numbered(re.findall(r'--(\w+) <N>\n.*, (\d+) to (\d+)\n\s*\[default: (\d+)\]', said))
 
 
@@ -91,8 +80,8 @@ def options_of_usage(formats, page):
         yield 'the synopsis of gate.1', command, dict.fromkeys(re.findall(r'Op Fl -(\w+)', between(synopsis, f'.Cm {command}', '.Nm')))
 
 
-def options(count, program):
-    wanted = {command: options_of_help(program, command) for command in COMMANDS}
+def options(count, gate):
+    wanted = {command: options_of_help(gate, command) for command in COMMANDS}
     count.expect(set(wanted['check']) < set(wanted['run']), 'the options of the help', wanted)
     for name, command, found in options_written():
         there = wanted[command] if None not in found.values() else dict.fromkeys(wanted[command])
@@ -101,14 +90,49 @@ def options(count, program):
               for name, least, most in re.findall(r'^\| (\w+)[\w ]* \| ([\d,]+) \| ([\d,]+) \|$', read('docs/FORMATS.md'), re.M)}
     for name, (least, most, _) in wanted['run'].items():
         count.expect(limits.get(name) == (least, most), f'the limits of FORMATS, {name}', limits)
-        ranges(count, program, name, least, most)
+        ranges(count, gate, name, least, most)
 
 
-def ranges(count, program, name, least, most):
+def ranges(count, gate, name, least, most):
     """The program at the borders of an option: a number is refused before a file is missed."""
     for value, status in ((least, 74), (most, 74), (least - 1, 64), (most + 1, 64)):
-        ended = run(program, 'run', 'no/such/module', 'no/such/calls', f'--{name}={value}')
+        ended = run(gate, 'run', 'no/such/module', 'no/such/calls', f'--{name}={value}')
         count.expect(ended.returncode == status, f'--{name}={value}', ended)
+
+
+def limits_of_hosts():
+    """Of each text that hosts go by the limits of a call: name, least, greatest and default, with nothing where it does not tell one."""
+    told = r'(?:at most|(\d+) to)\s([\d,]+)'
+    yield 'gate.h', numbers_of(rf'uint32_t (\w+); +/\* {told} \*/', between(read('include/gate.h'), 'struct gate_settings {', '}'))
+    yield 'gate.3', numbers_of(rf'^\.Va (fuel|frames|pages)\n(?:is )?{told}', read('man/gate.3'))
+    for path, greatest, usual in (
+            ('examples/rust/src/settings.rs', r'MOST_(\w+): u32 = ()([\d_]+);', r'^ +(fuel|frames|pages): ([\d_]+),$'),
+            ('examples/go/settings.go', r'Most(\w+) += ()([\d_]+)$', r'(Fuel|Frames|Pages): ([\d_]+)'),
+            ('examples/python/gate/settings.py', r"'(\w+)': \((\d), ([\d_]+)\)", r'^    (\w+): int = ([\d_]+)$')):
+        text = read(path)
+        defaults = {name.lower(): number(default) for name, default in re.findall(usual, text, re.M)}
+        yield path, {name: (least, most, defaults.get(name)) for name, (least, most, _) in numbers_of(greatest, text).items()}
+
+
+def numbers_of(pattern, text):
+    """What a pattern of a name, a least number, which may be missing, and a greatest one finds in a text."""
+    found = re.findall(pattern, text, re.M)
+    return {name.lower(): (number(least) if least else None, number(most), None) for name, least, most in found}
+
+
+def hosts(count, gate):
+    wanted = {name: numbers for name, numbers in options_of_help(gate, 'run').items() if name in LIMITS}
+    for path, told in limits_of_hosts():
+        agree = all(one in (None, other) for name in told for one, other in zip(told[name], wanted[name]))
+        count.expect(set(told) == set(LIMITS) and agree, f'the limits of {path}', (told, wanted))
+    usual = [wanted[name][2] for name in LIMITS]
+    for path, names in (('include/gate.hpp', 'usual'), ('examples/node/addon.c', 'SETTINGS'), ('examples/c/call.c', 'SETTINGS')):
+        found = re.search(rf'gate_settings {names} = \{{(.*?)\}}', read(path))
+        count.expect(found and list(map(int, re.findall(r'\d+', found[1]))) == usual, f'the defaults of {path}', found and found[0])
+    codes = {name: int(code) for name, code in re.findall(r'^    (GATE_\w+) = (\d+),?', between(
+        read('include/gate.h'), 'enum gate_status {', '};'), re.M)}
+    listed = {name: int(code) for name, code in re.findall(r'^\.It Dv (GATE_\w+) No \((\d+)\)$', read('man/gate.3'), re.M)}
+    count.expect(codes == listed and len(codes) > 10, 'the statuses of gate.h and of gate.3', codes.items() ^ listed.items())
 
 
 def tables(section):
@@ -122,7 +146,7 @@ def in_words(text):
     return f" {' '.join(re.findall('[a-z-]+', text.lower()))} "
 
 
-def lines(count, program):
+def lines(count, gate):
     page = in_words('\n'.join(MACROS.sub(' ', line) for line in read('man/gate.1').splitlines()))
     written = [it for section in SECTIONS for row in tables(section) for it in re.findall('`([^`]+)`', row[0])]
     written += re.findall('`([a-z-]+)`', next(row[1] for row in tables('The report') if 'trap KIND' in row[0]))
@@ -130,22 +154,20 @@ def lines(count, program):
     for line in written:
         count.expect(in_words(line) in page, f'{line} in gate.1')
     verdicts = {row[0].strip('`') for row in tables('The verdict line')}
-    helped = set(re.findall(r'^    (accepted|refused(?: \S+)+)  ', run(program, 'check', '--help').stdout, re.M))
+    helped = set(re.findall(r'^    (accepted|refused(?: \S+)+)  ', run(gate, 'check', '--help').stdout, re.M))
     count.expect(verdicts == helped, 'the verdicts of the help and of FORMATS', verdicts ^ helped)
     statuses = {row[0] for row in tables('Status and standard error')}
     listed = set(re.findall(r'^\.It (\d+)$', read('man/gate.1'), re.M))
     count.expect(statuses == listed and '70' in listed, 'the statuses of gate.1 and of FORMATS', statuses ^ listed)
 
 
-def main(program):
-    count = Count()
-    options(count, os.path.abspath(program))
-    lines(count, os.path.abspath(program))
-    print(f'{count.passed} passed, {count.failed} failed')
-    return 1 if count.failed or not count.passed else 0
+def main(gate):
+    count = Count('manual')
+    options(count, gate)
+    hosts(count, gate)
+    lines(count, gate)
+    return count.status()
 
 
 if __name__ == '__main__':
-    parser = argparse.ArgumentParser(description=__doc__, formatter_class=argparse.RawDescriptionHelpFormatter)
-    parser.add_argument('program', metavar='PROGRAM', help='the built program')
-    sys.exit(main(parser.parse_args().program))
+    sys.exit(main(program(__doc__)))

@@ -1,4 +1,3 @@
-#!/usr/bin/env python3
 """What the program does where memory is refused, where it is not, and how much it asks for.
 
 refused    Each request for memory is refused in turn while some rows of the tables, and many open blocks, are judged and run.
@@ -9,12 +8,11 @@ refused    Each request for memory is refused in turn while some rows of the tab
            found whose want ends its first call alone.
 held       A million open blocks are judged in little memory, which no contract promises; the calls of functions whose entry
            wants 34 GB end in `no-memory`, each in its own line; operands of code that is not reached take no room.
-granted    No request is refused while all modules of the tables, of counts.py and of bench/families.py are judged and run, by
+granted    No request is refused while all modules of the tables, of counts.py and of tools/worst_cases are judged and run, by
            one worker and by four: nothing may be out of memory, and verdicts are those of the tables. What the program asked
            for before any call, at once and together, is at most some times the module's length: nothing is asked for by a
            count that the bytes do not fill.
 """
-import argparse
 import os
 import re
 import resource
@@ -23,11 +21,12 @@ import subprocess
 import sys
 import tempfile
 
-sys.path.insert(0, os.path.join(os.path.dirname(os.path.abspath(__file__)), '..', 'bench'))
-import counts
-import rows
-from encoding import EMPTY, function_type, unsigned, vector, whole
-from families import FAMILIES, KEPT, module_of
+from tests import counts, rows
+from tools.arguments import program
+from tools.counting import Count
+from tools.encoding import EMPTY, function_type, unsigned, vector, whole
+from tools.reports import may_report, total_of
+from tools.worst_cases import FAMILIES, KEPT, module_of
 
 CHECKED = ['add', 'bodies 3 and 900 of 1,000 ill typed', 'memory, loads and division', 'call through the table', 'float constant']
 RAN = ['the sum passes the greatest i32', 'a store that no other call sees, and divisions', 'calls through a table',
@@ -37,60 +36,30 @@ FIRST_CALL = ('0 no-memory\n1 values i32:0 fuel 1\n2 trap integer-overflow fuel 
               '5 bad-arguments\n6 no-export\ntotal 7 values 2 traps 2 exhausted 0 refused 2 no-memory 1 fuel 4\n')
 MOST_REQUESTS = 5000
 DEPTH = 3000
-# In this many megabytes of addresses a million open blocks fit where they are packed (20 do), and not else (40 do).
-ROOM = 32
+# In this many megabytes of addresses a million open blocks fit: their frames take 32, and 16 more while they move.
+ROOM = 64
 # In this many a call is run that enters few slots. The operands after its branch would take 240 more.
 ENTRY_ROOM = 128
-# What may be asked for at once and together, in lengths of the module, and beside: the worst are bodies without functions (11
-# and 12) and exports of one name (3 and 16), and, for runs, functions of two bytes (29 and 118), since each body has a record.
-LENGTHS = {'check': (16, 32), 'run': (48, 192)}
+# What may be asked for at once and together, in lengths of the module, and beside: the worst are open blocks (21 and 42, of which
+# no more than 17 are touched) and, for runs, functions of two bytes (29 and 118), since each body has a record.
+LENGTHS = {'check': (24, 48), 'run': (48, 192)}
 BESIDE = 512 << 10
 SIZE = 100_000
 # The names of exports in the tables.
 NAMES = b'f\ng\ns\nl\nd\na\nb\nu\nadd\n'
 
 
-def total_of(lines):
-    # The last line of a report, from the lines of its calls.
-    count = dict.fromkeys(('values', 'trap', 'exhausted', 'refused', 'no-memory'), 0)
-    fuel = 0
-    for line in lines:
-        end = line.split(' ', 1)[1]
-        kind = end.split(' ')[0]
-        kind = {'out-of-fuel': 'exhausted', 'out-of-frames': 'exhausted'}.get(kind, kind)
-        count[kind if kind in count else 'refused'] += 1
-        spent = re.search(r' fuel (\d+)$', end)
-        fuel += int(spent.group(1)) if spent else 0
-    return (f"total {len(lines)} values {count['values']} traps {count['trap']} exhausted {count['exhausted']} "
-            f"refused {count['refused']} no-memory {count['no-memory']} fuel {fuel}")
-
-
-def may_report(wanted, got):
-    # Whether the report is the one wanted but for calls that were run and ran out of memory.
-    *lines, last = got.splitlines()
-    *others, _ = wanted.splitlines()
-    if len(lines) != len(others) or last != total_of(lines):
-        return False
-    refused = re.compile(r'\d+ (no-export|not-a-function|bad-arguments|not-started )')
-    return all(line == other or (line == f'{n} no-memory' and not refused.match(other))
-               for n, (line, other) in enumerate(zip(lines, others)))
-
-
-class Gate:
+class Gate(Count):
     """The program with `refuse_memory.c` before it, and how often it did right."""
 
     def __init__(self, program, folder):
+        super().__init__('memory')
         here = os.path.dirname(os.path.abspath(__file__))
         self.program, self.library, self.asked = program, os.path.join(folder, 'refuse.so'), os.path.join(folder, 'asked')
         self.module, self.calls = os.path.join(folder, 'module.wasm'), os.path.join(folder, 'calls')
         source = os.path.join(here, 'refuse_memory.c')
         subprocess.run(['cc', '-O1', '-shared', '-fPIC', '-o', self.library, source, '-ldl'], check=True)
-        self.passed = self.failed = self.refusals = 0
-
-    def expect(self, holds, name, got):
-        self.passed, self.failed = self.passed + bool(holds), self.failed + (not holds)
-        if not holds:
-            print(f'{name}: {str(got)[:400]}')
+        self.refusals = 0
 
     def run(self, words, megabytes=None, **named):
         # What it prints, its status, and what stands on standard error.
@@ -222,11 +191,8 @@ def main(program):
         for part in (refused, held, granted):
             part(gate)
     print(f'{gate.refusals} of {gate.passed} runs ran out of memory')
-    print(f'{gate.passed} passed, {gate.failed} failed')
-    return 1 if gate.failed or not gate.passed else 0
+    return gate.status()
 
 
 if __name__ == '__main__':
-    parser = argparse.ArgumentParser(description=__doc__, formatter_class=argparse.RawDescriptionHelpFormatter)
-    parser.add_argument('gate', metavar='GATE', help='the program')
-    sys.exit(main(os.path.abspath(parser.parse_args().gate)))
+    sys.exit(main(program(__doc__)))

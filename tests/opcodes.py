@@ -1,16 +1,18 @@
-#!/usr/bin/env python3
 """Whether `gate explain` names each instruction as the standard does, by modules of one body that is refused for it.
 
 An admitted instruction is read with the program's line on a token, or on what gave an operand; no line of a refusal shows
 `unreachable` and `nop`, which take nothing and give nothing. One that is not admitted is read with the line on why reading
 stopped, and so is an admitted one that ends within its immediates.
 """
-import argparse
 import os
 import re
 import subprocess
 import sys
 import tempfile
+
+from tools.arguments import program
+from tools.counting import Count
+from tools.files import write
 
 # Core 2.0, 5.4, without what 1.0 lacks: the first opcode of a row, and the names from there on.
 ADMITTED = {
@@ -107,23 +109,16 @@ def cases():
 
 
 def main(gate):
-    passed, failed = 0, 0
+    count = Count('opcodes')
     with tempfile.TemporaryDirectory() as folder:
         path = os.path.join(folder, 'module.wasm')
         for name, tokens, wanted in cases():
-            with open(path, 'wb') as file:
-                file.write(module_of(tokens))
+            write(path, module_of(tokens))
             said = subprocess.run([gate, 'explain', path], capture_output=True, timeout=60, text=True).stdout
-            if any(re.fullmatch(wanted, line) for line in said.splitlines()):
-                passed += 1
-            else:
-                failed += 1
-                print(f'{name}: wanted a line {wanted!r} in {said!r}')
-    print(f'{passed} passed, {failed} failed')
-    return 1 if failed or not passed else 0
+            holds = any(re.fullmatch(wanted, line) for line in said.splitlines())
+            count.expect(holds, name, f'wanted a line {wanted!r} in {said!r}')
+    return count.status()
 
 
 if __name__ == '__main__':
-    parser = argparse.ArgumentParser(description=__doc__, formatter_class=argparse.RawDescriptionHelpFormatter)
-    parser.add_argument('gate', metavar='GATE', help='the program')
-    sys.exit(main(os.path.abspath(parser.parse_args().gate)))
+    sys.exit(main(program(__doc__)))

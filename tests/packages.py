@@ -1,4 +1,3 @@
-#!/usr/bin/env python3
 """Uses the packages for Python, Rust and Go of a release as strangers do: each in an empty folder, offline, where no variable of the
 environment tells of a library.
 
@@ -10,7 +9,6 @@ Hosts   What docs/HOSTS.md of the release shows for each language, as a program 
 Again   packages.py makes the same packages of the library in the release.
 What is left out, for want of a tool, is counted and named at the end; with --all nothing may be.
 """
-import argparse
 import base64
 import csv
 import hashlib
@@ -24,8 +22,9 @@ import tarfile
 import tempfile
 import zipfile
 
-here = os.path.dirname(os.path.abspath(__file__))
-root = os.path.dirname(here)
+from tools.arguments import parser
+from tools.files import ROOT
+
 # Where the tools of Go stand that are not on the PATH.
 GO_FOLDERS = '/usr/local/go/bin:/usr/lib/go/bin'
 # What could name a library, or a package, that is not the one under test.
@@ -155,7 +154,7 @@ def python(tally, release, work):
     # The tests take the package that is installed, and the tables of the repository.
     shutil.rmtree(os.path.join(folder, 'gate'))
     for part in ('tests/rows.py', 'crates/suite/data', 'include/gate.h'):
-        copy(os.path.join(root, part), os.path.join(work, part))
+        copy(os.path.join(ROOT, part), os.path.join(work, part))
     tests = run([interpreter, '-m', 'unittest', 'discover', '-s', 'tests', '-t', '.'], folder)
     tally.ends('the tests of the package for Python', tests)
     ran = re.search(r'^Ran (\d+) tests', tests.stderr, re.MULTILINE)
@@ -218,7 +217,7 @@ def go(tally, release, work):
 
 
 def again(tally, release, work):
-    made = run([sys.executable, os.path.join(root, 'packages.py'), '--library', os.path.join(release, 'lib'), '--to', work], work)
+    made = run([sys.executable, os.path.join(ROOT, 'packages.py'), '--library', os.path.join(release, 'lib'), '--to', work], work)
     tally.ends('packages.py', made)
     paths = [os.path.relpath(os.path.join(at, name), work) for at, _, names in os.walk(work) for name in names]
     others = [it for it in paths if read(os.path.join(work, it)) != read(os.path.join(release, it))]
@@ -263,8 +262,8 @@ def main(path, wants_all):
 
 
 if __name__ == '__main__':
-    parser = argparse.ArgumentParser(description=__doc__, formatter_class=argparse.RawDescriptionHelpFormatter)
-    parser.add_argument('release', metavar='ARCHIVE_OR_FOLDER', help='what ./release packed, or the same unpacked')
-    parser.add_argument('--all', action='store_true', help='nothing may be left out')
-    words = parser.parse_args()
+    taken = parser(__doc__)
+    taken.add_argument('release', metavar='ARCHIVE_OR_FOLDER', help='what ./release packed, or the same unpacked')
+    taken.add_argument('--all', action='store_true', help='nothing may be left out')
+    words = taken.parse_args()
     sys.exit(main(words.release, words.all))

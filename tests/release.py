@@ -1,19 +1,19 @@
-#!/usr/bin/env python3
 """Packs the built program and library into a release, twice, and uses what is packed as others would.
 
 packed     Two packings have the same bytes: of this tree, and of a copy of it in another folder, with other times and modes of
            files, another time zone, language and umask. `./release --check` finds them equal, and names a program that is not.
-unpacked   `sha256sum -c` holds, and the program judges and runs the examples, and what gate.1, README.md and docs/FORMATS.md show.
-           gate.3 names all functions of the header, and `man` has no warning, where it is there. What is written of the command line
-           holds (manual.py). Each relative link of a document leads to something packed; what the user's pages name of the sources
-           is packed too, or the same line says that it is in the repository. The packages install and work (packages.py).
+           A program that has no place for the commit is not packed.
+unpacked   `sha256sum -c` holds, program and library name the commit, and the program judges and runs the examples, and what gate.1,
+           README.md and docs/FORMATS.md show. gate.3 names all functions of the header, and `man` has no warning, where it is there.
+           What is written of the command line holds (manual.py). Each relative link of a document leads to something packed; what the
+           user's pages name of the sources is packed too, or the same line says that it is in the repository. The packages install and
+           work (packages.py).
 Debian     `dpkg` installs the three packages below a folder, where it is there, and takes them away; the program and the library answer
            from there; `lintian` finds nothing but what is written here, where it is there.
 installed  `install.sh` below a DESTDIR: the example of gate.3 is compiled by what pkg-config says, for the shared library and for
            the static one, where `cc` and `pkg-config` are there, and says what the program says. What others have is not written
            over. An uninstall leaves what was there before.
 """
-import argparse
 import glob
 import os
 import re
@@ -23,11 +23,15 @@ import sys
 import tempfile
 import textwrap
 
-here = os.path.dirname(os.path.abspath(__file__))
-root = os.path.join(here, '..')
+from tools.arguments import parser
+from tools.files import ROOT
+from tools.kit import load_kit
+
 MODULES = ['add', 'fold', 'primes']
-# What lintian may say of the packages: the owner has stated no address and no licence, and symbols are left for debuggers.
-LINTIAN = {'bogus-mail-host', 'bogus-mail-host-in-debian-changelog', 'copyright-without-copyright-notice', 'unstripped-binary-or-object'}
+# What lintian may say of the packages: the owner has stated no address and no licence, symbols are left for debuggers, and it takes the
+# program, which wants no library, for one itself.
+LINTIAN = {'bogus-mail-host', 'bogus-mail-host-in-debian-changelog', 'copyright-without-copyright-notice', 'unstripped-binary-or-object',
+           'shared-library-lacks-prerequisites'}
 # The pages of which all that they name is looked for.
 PAGES = ['README.md', 'docs/FORMATS.md', 'docs/HOSTS.md', 'docs/SECURITY.md']
 LINK = re.compile(r'\]\(([^()\s#]+)(?:#[^()\s]*)?\)')
@@ -60,16 +64,23 @@ def is_there(*names):
 
 def copy_tree(folder):
     """A copy of the tree as git sees it."""
-    listed = subprocess.run(['git', 'ls-files', '-coz', '--exclude-standard'], cwd=root, capture_output=True, text=True, check=True)
+    listed = subprocess.run(['git', 'ls-files', '-coz', '--exclude-standard'], cwd=ROOT, capture_output=True, text=True, check=True)
     for path in filter(None, listed.stdout.split('\0')):
-        if os.path.exists(os.path.join(root, path)):
+        if os.path.exists(os.path.join(ROOT, path)):
             os.makedirs(os.path.dirname(os.path.join(folder, path)), exist_ok=True)
-            shutil.copy(os.path.join(root, path), os.path.join(folder, path))
-    run('cp', '-R', os.path.join(root, '.git'), os.path.join(folder, '.git'))
+            shutil.copy(os.path.join(ROOT, path), os.path.join(folder, path), follow_symlinks=False)
+    run('cp', '-R', os.path.join(ROOT, '.git'), os.path.join(folder, '.git'))
 
 
 def pack(tree, program, library, *options, **settings):
     return run(sys.executable, os.path.join(tree, 'release'), '--dirty', '--program', program, '--library', library, *options, **settings)
+
+
+def turned(path, old, new):
+    """Changes the first of these bytes in a file."""
+    held = read(path)
+    with open(path, 'wb') as file:
+        file.write(held.replace(old, new, 1))
 
 
 def packed(count, program, library, work):
@@ -77,10 +88,11 @@ def packed(count, program, library, work):
     first, second, other = (os.path.join(work, name) for name in ('first', 'second', 'other'))
     copy_tree(os.path.join(other, 'tree'))
     os.mkdir(os.path.join(other, 'library'))
-    shutil.copyfile(os.path.join(library, 'libgate_c.a'), os.path.join(other, 'library', 'libgate_c.a'))
+    shutil.copyfile(os.path.join(library, 'libc_api.a'), os.path.join(other, 'library', 'libc_api.a'))
     shutil.copyfile(program, os.path.join(other, 'program'))
+    shutil.copyfile(f'{program}.o', os.path.join(other, 'program.o'))
     os.chmod(os.path.join(other, 'program'), 0o700)
-    ended = pack(root, program, library, '--to', first)
+    ended = pack(ROOT, program, library, '--to', first)
     count.expect(ended[0] == 0, 'a packing', ended)
     ended = pack(os.path.join(other, 'tree'), os.path.join(other, 'program'), os.path.join(other, 'library'), '--to', second, umask=0o077,
                  cwd='/', env={**os.environ, 'TZ': 'Asia/Tokyo', 'LC_ALL': 'C'})
@@ -89,13 +101,15 @@ def packed(count, program, library, work):
     sums = os.path.join(first, f'{name}.sha256')
     for path in os.listdir(first):
         count.expect(read(os.path.join(first, path)) == read(os.path.join(second, path)), f'{path} of two packings')
-    ended = pack(root, program, library, '--check', sums)
+    ended = pack(ROOT, program, library, '--check', sums)
     count.expect(ended[0] == 0, '--check of the same', ended)
-    with open(os.path.join(other, 'program'), 'ab') as file:
-        file.write(b'\0')
-    ended = pack(root, os.path.join(other, 'program'), library, '--check', sums)
+    turned(os.path.join(other, 'program.o'), b'accepted', b'Accepted')
+    ended = pack(ROOT, os.path.join(other, 'program'), library, '--check', sums)
     is_named = f'{name}/bin/gate differs' in ended[1] and 'libgate' not in ended[1]
     count.expect(ended[0] == 1 and is_named, '--check of another program', ended)
+    turned(os.path.join(other, 'program.o'), b'(commit ------------, ', b'(commit 0123456789ab, ')
+    ended = pack(ROOT, os.path.join(other, 'program'), library, '--to', second)
+    count.expect(ended[0] == 1 and '0 times' in ended[1], 'a packing of a program of some commit', ended)
     return first, name
 
 
@@ -113,10 +127,10 @@ def unpacked(count, folder, name):
     for page in PAGES:
         lost = list(missing(there, page))
         count.expect(not lost, f'what {page} names is packed, or said to be in the repository', lost)
-    ended = run(sys.executable, os.path.join(here, 'packages.py'), there)
+    ended = run(sys.executable, '-m', 'tests.packages', there, cwd=ROOT)
     print(ended[1], end='')
     count.expect(ended[0] == 0, 'the packages')
-    ended = run(sys.executable, os.path.join(here, 'manual.py'), os.path.join(there, 'bin', 'gate'))
+    ended = run(sys.executable, '-m', 'tests.manual', os.path.join(there, 'bin', 'gate'), cwd=ROOT)
     count.expect(ended[0] == 0, 'what is written of the command line', ended)
     return there
 
@@ -125,10 +139,22 @@ def answers(count, there):
     """The program on the examples."""
     gate = os.path.join(there, 'bin', 'gate')
     for module in MODULES:
-        ended = run(gate, 'check', f'examples/{module}.wasm', cwd=root)
+        ended = run(gate, 'check', f'examples/{module}.wasm', cwd=ROOT)
         count.expect(ended == (0, 'accepted\n'), f'the program on {module}', ended)
-    ended = run(gate, 'run', 'examples/fold.wasm', 'examples/fold.calls', cwd=root)
-    count.expect(ended == (0, read(os.path.join(root, 'examples/fold.report')).decode()), 'the report of fold', ended)
+    builds(count, there)
+    ended = run(gate, 'run', 'examples/fold.wasm', 'examples/fold.calls', cwd=ROOT)
+    count.expect(ended == (0, read(os.path.join(ROOT, 'examples/fold.report')).decode()), 'the report of fold', ended)
+
+
+def builds(count, there):
+    """Program, library and archive say of which commit they are, and none has the dashes still."""
+    commit = run('git', 'rev-parse', 'HEAD', cwd=ROOT)[1][:11]
+    ended = run(os.path.join(there, 'bin', 'gate'), '--version')
+    text = ended[1].rstrip('\n').removeprefix('gate ').encode()
+    count.expect(ended[0] == 0 and re.search(rf'\(commit {commit}[0-9a-f+], ', ended[1]), 'gate --version', ended)
+    for path in [*glob.glob(os.path.join(there, 'lib', 'libgate.*')), os.path.join(there, 'bin', 'gate')]:
+        held = read(path)
+        count.expect(held.count(text) == 1 and b'-' * 12 + b', rattle' not in held, f'the build that {os.path.basename(path)} names')
 
 
 def manuals(count, there):
@@ -146,13 +172,13 @@ def manuals(count, there):
 
 def blocks(page):
     """The literal blocks of a page."""
-    text = read(os.path.join(root, 'man', page)).decode()
+    text = read(os.path.join(ROOT, 'man', page)).decode()
     return [it.replace(r'\e', '\\') for it in re.findall(r'^\.Bd -literal.*?\n(.*?)^\.Ed', text, re.MULTILINE | re.DOTALL)]
 
 
 def sessions(count, there, folder):
     """The commands that gate.1 shows, each with what it prints."""
-    shutil.copy(os.path.join(root, 'examples/add.wasm'), folder)
+    shutil.copy(os.path.join(ROOT, 'examples/add.wasm'), folder)
     path = {**os.environ, 'PATH': os.path.join(there, 'bin') + ':' + os.environ['PATH']}
     shown = [line for block in blocks('gate.1') for line in re.split(r'^\$ ', block, flags=re.MULTILINE)[1:]]
     for command, printed in (it.split('\n', 1) for it in shown):
@@ -191,7 +217,7 @@ def missing(there, page):
             said = line
         names = [it.removeprefix('./').rstrip('/.') for it in re.findall(r'[\w./-]+', line) if re.search(r'[./]\w', it)]
         for name in names:
-            is_source = name and not name.startswith('/') and os.path.exists(os.path.join(root, name))
+            is_source = name and not name.startswith('/') and os.path.exists(os.path.join(ROOT, name))
             if is_source and not os.path.exists(os.path.join(there, name)) and not re.search('repository|clone', line + said):
                 yield name
 
@@ -241,8 +267,8 @@ def hosts(count, there, prefix, host, top):
             count.expect(ended == (0, ''), f'the example of gate.3, {way} {linking}', ended)
             shared = {} if linking else {'LD_LIBRARY_PATH': os.path.join(prefix if way == 'installed' else there, 'lib')}
             for module in (*(f'examples/{it}.wasm' for it in MODULES), 'README.md'):
-                ended = run(host, module, cwd=root, env={**os.environ, **shared})
-                wanted = run(os.path.join(there, 'bin', 'gate'), 'check', module, cwd=root)
+                ended = run(host, module, cwd=ROOT, env={**os.environ, **shared})
+                wanted = run(os.path.join(there, 'bin', 'gate'), 'check', module, cwd=ROOT)
                 count.expect(ended == wanted, f'the example of gate.3 on {module}, {way} {linking}', (ended, wanted))
 
 
@@ -281,14 +307,31 @@ def compiled(count, top, host):
     flags = [*said[1].split(), f'-I{os.path.join(top, "usr/include")}', f'-L{libraries}']
     ended = run('cc', '-o', host, f'{host}.c', *flags)
     count.expect((said[0], *ended) == (0, 0, ''), 'the example of gate.3 over the packages', (said, ended))
-    ended = run(host, 'examples/add.wasm', cwd=root, env={**os.environ, 'LD_LIBRARY_PATH': libraries})
+    ended = run(host, 'examples/add.wasm', cwd=ROOT, env={**os.environ, 'LD_LIBRARY_PATH': libraries})
     count.expect(ended == (0, 'accepted\n'), 'the example of gate.3 over the packages on add', ended)
+
+
+def with_object(program):
+    """The program where its object lies beside it. `./gate` copies it without; `rt ci` may leave none, and then it is built here, over the
+    libraries that are in the tree."""
+    made = os.path.join(ROOT, 'crates', 'gate', 'out', 'gate')
+    for path in (program, made):
+        if os.path.exists(f'{path}.o') and read(path) == read(program):
+            return os.path.abspath(path)
+    folder = os.path.dirname(os.path.dirname(os.path.realpath(program)))
+    if not os.path.exists(os.path.join(folder, 'src', 'main.rt')):
+        sys.exit(f'release: {program}.o is not there')
+    crate = load_kit().rtlib.Crate(folder, os.path.dirname(os.path.dirname(folder)), {}, name='gate')
+    crate.out = sys.stdout
+    if crate.compile(['--jobs', '2'], 'out/gate.o'):
+        sys.exit(f'release: {program}.o is not built')
+    return os.path.abspath(program)
 
 
 def main(program, library):
     count = Count()
     with tempfile.TemporaryDirectory() as work:
-        folder, name = packed(count, os.path.abspath(program), os.path.abspath(library), work)
+        folder, name = packed(count, with_object(program), os.path.abspath(library), work)
         if is_there('dpkg'):
             debian(count, folder, work)
         installed(count, unpacked(count, folder, name), work)
@@ -297,8 +340,8 @@ def main(program, library):
 
 
 if __name__ == '__main__':
-    parser = argparse.ArgumentParser(description=__doc__, formatter_class=argparse.RawDescriptionHelpFormatter)
-    parser.add_argument('program', metavar='PROGRAM', help='the built program')
-    parser.add_argument('library', metavar='LIBRARY_OUT', help='the folder of libgate_c.a, as crates/gate_c/out')
-    words = parser.parse_args()
+    taken = parser(__doc__)
+    taken.add_argument('program', metavar='PROGRAM', help='the built program')
+    taken.add_argument('library', metavar='LIBRARY_OUT', help='the folder of libc_api.a, as crates/c_api/out')
+    words = taken.parse_args()
     sys.exit(main(words.program, words.library))

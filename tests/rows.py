@@ -1,4 +1,3 @@
-#!/usr/bin/env python3
 """Runs the program on each row of the tables of modules, which the crate `suite` reads too.
 
 check.tsv    name, the module as bytes in hexadecimal, what `gate check` prints, its status; each is run with three plans,
@@ -11,6 +10,8 @@ explain_calls.tsv  name, the module, the calls, what `gate explain` prints of bo
 exports.tsv        name, the module, what `gate exports` prints, its status
 Bytes are in hexadecimal; `xNN*K` stands for K times the bytes NN. In calls and in what is printed \\t is a tab, \\n a
 newline and \\r the byte 0d. Lines that begin with # are comments.
+
+It imports nothing of this repository, since the tests of examples/python take it alone.
 """
 import argparse
 import os
@@ -121,7 +122,7 @@ def main(gate, text=''):
 
 
 if __name__ == '__main__':
-    parser = argparse.ArgumentParser(description=__doc__, formatter_class=argparse.RawDescriptionHelpFormatter)
+    parser = argparse.ArgumentParser('python3 -m tests.rows', description=__doc__, formatter_class=argparse.RawDescriptionHelpFormatter)
     parser.add_argument('gate', metavar='GATE', help='the program')
     parser.add_argument('-k', metavar='TEXT', default='', help='the rows whose name has this text')
     words = parser.parse_args()

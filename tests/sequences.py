@@ -1,7 +1,7 @@
 """Sequences of calls, reads and writes on instances, by the library and by node, for instances.py.
 
-Modules are those of bench/typed.py with integers alone, with counted loops, and with memory and globals exported; and the plug-ins of
-examples/guests. A sequence goes through the library first, up to where fuel, frames or memory run out, and then through node
+Modules are those of tools/random_modules.py with integers alone, with counted loops, and with memory and globals exported; and the
+plug-ins of examples/guests. A sequence goes through the library first, up to where fuel, frames or memory run out, and then through node
 (instances.js): each step has to end alike, with the same values, the same globals, and the same memory, byte by byte.
 """
 import base64
@@ -12,15 +12,12 @@ import json
 import os
 import random
 import subprocess
-import sys
 from typing import NamedTuple
 
-here = os.path.dirname(os.path.abspath(__file__))
-sys.path.insert(0, os.path.join(here, '..', 'bench'))
-from beside_node import sections
-from encoding import HEADER, section, signed, sized, unsigned, vector
-from typed import I32, I64, NUMERIC, STORES, Maker
+from tools.encoding import HEADER, section, sections, signed, sized, unsigned, vector
+from tools.random_modules import I32, I64, NUMERIC, STORES, Maker
 
+here = os.path.dirname(os.path.abspath(__file__))
 GUESTS = os.path.join(here, '..', 'examples', 'guests')
 STEPS = 24
 FUEL, FRAMES, PAGES = 200_000, 200, 64

@@ -111,6 +111,7 @@ static void call(gate::Module &module) {
 
 static void exports(gate::Module &module) {
     const std::vector<gate::Export> all = module.exports();
+    HOLDS(gate::build().rfind("gate " GATE_VERSION " (commit ", 0) == 0 && module.size() > 0);
     const std::vector<std::uint8_t> one(1, GATE_TYPE_I32), two(2, GATE_TYPE_I32);
     HOLDS(all.size() == 1 && all[0].name == "add" && all[0].item.kind == GATE_EXPORT_FUNCTION && all[0].item.index == 0);
     HOLDS(all[0].item.params == 2 && all[0].item.results == 1 && all[0].type.params == two && all[0].type.results == one);

@@ -1,5 +1,4 @@
-#!/usr/bin/env python3
-"""usage: wrong_bodies.py [--all] [--names] [--tree FOLDER] [CRATE..]    shows that the prover refuses wrong bodies.
+"""Shows that the prover refuses wrong bodies.
 
 A wrong body is an edit of one function, in a crate's must-fail/ or, where that has another one of the same function, in
 tests/wrong_bodies, in a folder of the crate's name. `rt must-fail` tries those of must-fail/ one by one, and each costs a
@@ -17,23 +16,18 @@ its own; with --names it counts as one that is not refused. A wrong body that ch
 The libraries that a crate stands on are taken as they lie in FOLDER, a tree that `rt ci` has proved (this one, where none is
 given).
 """
-import argparse
 import glob
-import importlib.machinery
-import importlib.util
 import os
 import re
-import shutil
 import sys
 import tempfile
 import time
 from concurrent.futures import ThreadPoolExecutor
 from dataclasses import dataclass
 
-root = os.path.realpath(os.path.join(os.path.dirname(os.path.abspath(__file__)), '..'))
-
-# A check needs up to this many kilobytes.
-MEMORY_OF_A_CHECK = 3_000_000
+from tools.arguments import parser
+from tools.files import ROOT, read
+from tools.kit import checks_at_once, load_kit
 
 # What a check says of a function, and what it may say of one that no wrong body turns.
 OF_FUNCTION = re.compile(r'fn (\S+): (.*)')
@@ -46,16 +40,6 @@ SHOWN_FALSE = 'the facts known there allow values'
 BY_NAMES = 'only because a proof file names what the edit took away'
 
 HEADER = re.compile(r'^([ \t]*)(?:pub(?:\([a-z]+\))? )?(?:const |extern "C" )?fn (\w+)', re.M)
-
-def load_kit():
-    """The kit's `rt` as a module: it reads edits, and knows the words of a check."""
-    path = os.path.realpath(shutil.which('rt'))
-    sys.path.insert(0, os.path.dirname(path))
-    loader = importlib.machinery.SourceFileLoader('rt_of_the_kit', path)
-    kit = importlib.util.module_from_spec(importlib.util.spec_from_loader(loader.name, loader))
-    loader.exec_module(kit)
-    kit.rtlib.guarded()
-    return kit
 
 
 @dataclass(frozen=True)
@@ -84,11 +68,6 @@ class Body:
 
     def name(self):
         return os.path.basename(self.path)[: -len('.edit')]
-
-
-def read(path):
-    with open(path, encoding='utf-8') as file:
-        return file.read()
 
 
 def function_at(file, text, at):
@@ -244,23 +223,17 @@ def try_crate(kit, crate, edits, names_count):
 
 
 def edits_in(*folder):
-    return sorted(glob.glob(os.path.join(root, *folder, '*.edit')))
+    return sorted(glob.glob(os.path.join(ROOT, *folder, '*.edit')))
 
 
 def further(name):
     return edits_in('tests', 'wrong_bodies', name)
 
 
-def at_once():
-    """How many checks there is room for."""
-    memory = int(re.search(r'MemAvailable: *(\d+)', read('/proc/meminfo')).group(1))
-    return max(1, min(os.cpu_count() or 1, memory // MEMORY_OF_A_CHECK))
-
-
 def try_all(kit, edits, names_count):
     """Tries these edits, a list a crate, several crates side by side; answers how many were not refused."""
     failed = 0
-    with ThreadPoolExecutor(at_once()) as pool:
+    with ThreadPoolExecutor(checks_at_once()) as pool:
         for tried in [pool.submit(try_crate, kit, crate, edits[crate], names_count) for crate in edits]:
             lines, bad = tried.result()
             print(*lines, sep='\n', flush=True)
@@ -269,15 +242,15 @@ def try_all(kit, edits, names_count):
 
 
 def main():
-    parser = argparse.ArgumentParser(usage=__doc__)
-    parser.add_argument('--all', action='store_true')
-    parser.add_argument('--names', action='store_true')
-    parser.add_argument('--tree', default=root)
-    parser.add_argument('crates', nargs='*')
-    words = parser.parse_args()
+    taken = parser(__doc__)
+    taken.add_argument('--all', action='store_true', help='also those of tests/wrong_bodies')
+    taken.add_argument('--names', action='store_true', help='one that a proof by hand refuses by its names counts as not refused')
+    taken.add_argument('--tree', metavar='FOLDER', default=ROOT, help='where libraries are taken from (default: this tree)')
+    taken.add_argument('crates', metavar='CRATE', nargs='*', help='without any, all')
+    words = taken.parse_args()
     kit = load_kit()
     tree = os.path.realpath(words.tree)
-    names = words.crates or sorted(os.listdir(os.path.join(root, 'crates')))
+    names = words.crates or sorted(os.listdir(os.path.join(ROOT, 'crates')))
     crates = [kit.rtlib.Crate(os.path.join(tree, 'crates', it), tree, {}, name=it) for it in names]
     crates.sort(key=lambda it: -it.count(rb'\n'))
     edits = {it: edits_in('crates', it.name, 'must-fail') + (further(it.name) if words.all else []) for it in crates}

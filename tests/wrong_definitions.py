@@ -1,4 +1,3 @@
-#!/usr/bin/env python3
 """Shows that wrong definitions are refused: of each edit in tests/wrong_definitions.
 
 A must-fail edit reaches its own crate alone, while the definitions stand in `wsyntax` and the theorems in `soundness`. So
@@ -6,9 +5,9 @@ each edit here is applied to a copy of these crates, and the check of `soundness
 stands in a file of `proofs/`, not of `specs/`, where it would only say that the definition is no definition. An edit begins
 with the line `file:`, and has pairs of lines `old:` and `new:`; each old text stands exactly once in the file.
 
-With MINUTES not all may be tried: another commit begins with another one, those that are left are named, and more than five sixths may not be.
+With MINUTES not all may be tried: another commit begins with another one, those that are left are named, and more than five sixths
+may not be.
 """
-import argparse
 import math
 import os
 import re
@@ -18,31 +17,23 @@ import sys
 import tempfile
 import time
 
-root = os.path.join(os.path.dirname(os.path.abspath(__file__)), '..')
-EDITS = os.path.join(root, 'tests', 'wrong_definitions')
+from tools import crates
+from tools.arguments import parser
+from tools.files import ROOT, read, write
+
+EDITS = os.path.join(ROOT, 'tests', 'wrong_definitions')
 CRATES = ['wnum', 'wsyntax', 'soundness']
 # Of the edits at most this part may be left for want of time.
 MOST_LEFT = 5 / 6
 SECONDS_OF_A_DAY = 86_400
 
 
-def read(path):
-    with open(path) as file:
-        return file.read()
-
-
-def write(path, text):
-    with open(path, 'w') as file:
-        file.write(text)
-
-
 def copy_into(folder):
     os.makedirs(os.path.join(folder, 'crates'))
     for crate in CRATES:
-        shutil.copytree(os.path.join(root, 'crates', crate), os.path.join(folder, 'crates', crate), symlinks=True)
-    lines = [line for line in read(os.path.join(root, 'crates.txt')).splitlines() if line.split(' ')[0].rstrip(':') in CRATES]
-    write(os.path.join(folder, 'crates.txt'), '\n'.join(lines) + '\n')
-    shutil.copy(os.path.join(root, 'HANDLES'), folder)
+        shutil.copytree(os.path.join(ROOT, 'crates', crate), os.path.join(folder, 'crates', crate), symlinks=True)
+    write(os.path.join(folder, 'crates.txt'), ''.join(line for line in crates.lines() if crates.name_of(line) in CRATES))
+    shutil.copy(os.path.join(ROOT, 'HANDLES'), folder)
 
 
 def check(folder):
@@ -66,7 +57,7 @@ def first_error(output):
 
 def beginning(count):
     """The number of the edit to begin with, and by what it goes: the commit, or the day where there is none."""
-    ran = subprocess.run(['git', 'rev-parse', 'HEAD'], cwd=root, capture_output=True, text=True)
+    ran = subprocess.run(['git', 'rev-parse', 'HEAD'], cwd=ROOT, capture_output=True, text=True)
     if ran.returncode == 0:
         return int(ran.stdout, 16) % count, f'commit {ran.stdout[:12]}'
     day = int(time.time()) // SECONDS_OF_A_DAY
@@ -115,7 +106,7 @@ def main(minutes):
 
 
 if __name__ == '__main__':
-    parser = argparse.ArgumentParser(description=__doc__, formatter_class=argparse.RawDescriptionHelpFormatter)
-    parser.add_argument('minutes', metavar='MINUTES', nargs='?', type=float, default=math.inf,
-                        help='after this many no further edit is begun; with none given, all are tried')
-    sys.exit(main(parser.parse_args().minutes))
+    words = parser(__doc__)
+    words.add_argument('minutes', metavar='MINUTES', nargs='?', type=float, default=math.inf,
+                       help='after this many no further edit is begun; with none given, all are tried')
+    sys.exit(main(words.parse_args().minutes))

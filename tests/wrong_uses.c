@@ -98,6 +98,13 @@ static void counted_after_free(void) {
     WRONG("gate_module_export_count: the module was freed before", gate_module_export_count(module));
 }
 
+static void measured_after_free(void) {
+    gate_module_free(module);
+    WRONG("gate_module_size: the module was freed before", gate_module_size(module));
+}
+
+static void null_length_of_a_build(void) { WRONG("gate_build: length is null", gate_build(out, ROOM, NULL)); }
+
 static void instance_called_after_free(void) {
     gate_instance it = { NULL };
     if (gate_instance_new(module, &USUAL, &it, &ended) != GATE_OK) return;
@@ -276,8 +283,9 @@ static void (*const uses[])(void) = {
     null_module_freed, null_report_freed, module_freed_twice, report_freed_twice, called_after_free, shared_after_free, read_after_free,
     null_verdict, null_explanation, null_text, null_bytes, null_settings, null_line, length_within_out, out_within_module,
     verdict_within_bytes, misaligned, too_long, bytes_unmapped, calls_unmapped, bytes_changed, own_handle, other_handle, two_threads,
-    counted_after_free, null_found, types_in_one_place, instance_called_after_free, null_bytes_written, null_bodies, share_within_bytes,
-    judged_after_free, joined_to_itself, joined_twice, ended_twice, freed_after_end, dropped_twice, ended_module, ended_bytes_changed,
+    counted_after_free, measured_after_free, null_length_of_a_build, null_found, types_in_one_place, instance_called_after_free,
+    null_bytes_written, null_bodies, share_within_bytes, judged_after_free, joined_to_itself, joined_twice, ended_twice, freed_after_end,
+    dropped_twice, ended_module, ended_bytes_changed,
 #ifdef HAS_SANITIZER
     out_shorter, bytes_freed,
 #endif

@@ -1,30 +1,29 @@
-#!/usr/bin/env python3
 """Says where a word of a contract is defined, with its comment and its text, and which contracts and laws speak of it.
 
-    $ tools/where.py IsVerdict
+    $ python3 -m tools.where IsVerdict
 
 It reads the specs/ and the src/ of all crates. A word that several crates define is told of each. The status is 1 where none does.
 """
-import argparse
 import glob
 import os
 import re
 import sys
 
-ROOT = os.path.realpath(os.path.join(os.path.dirname(os.path.abspath(__file__)), '..'))
+from tools import files
+from tools.arguments import parser
+
 # A definition begins at the margin: its modifiers, its kind, and its name; a law or a function has its name alone.
 HEAD = re.compile(r'^(?:unfoldable )?(?:(?:abbrev|data|record|newtype) )?(?:pub )?(\S+?)(?= [:(]|$)')
 FUNCTION = re.compile(r'\bfn (\w+)')
 SHOWN = 12
 
 
-def read(path):
-    with open(os.path.join(ROOT, path), encoding='utf-8') as file:
-        return file.read().splitlines()
+def lines_of(path):
+    return files.read(path).splitlines()
 
 
-def files(pattern):
-    return sorted(os.path.relpath(it, ROOT) for it in glob.glob(os.path.join(ROOT, 'crates', pattern), recursive=True))
+def found(pattern):
+    return sorted(os.path.relpath(it, files.ROOT) for it in glob.glob(os.path.join(files.ROOT, 'crates', pattern), recursive=True))
 
 
 def whole_word(name):
@@ -49,8 +48,8 @@ def text_from(lines, number):
 
 def definitions(name):
     """Of each definition of the name its file, its line, its comment and its text."""
-    for path in files('*/specs/**/*.antt'):
-        lines, is_found = read(path), False
+    for path in found('*/specs/**/*.antt'):
+        lines, is_found = lines_of(path), False
         for number, line in enumerate(lines):
             head = HEAD.match(line)
             if head and head[1] == name and not line.startswith(('use ', '--')) and not is_found:
@@ -61,9 +60,9 @@ def definitions(name):
 def functions(name):
     """The functions whose contracts have the word: file, line, function."""
     word = whole_word(name)
-    for path in files('*/src/**/*.rt'):
+    for path in found('*/src/**/*.rt'):
         function, line_of = None, 0
-        for number, line in enumerate(read(path)):
+        for number, line in enumerate(lines_of(path)):
             named = FUNCTION.search(line)
             if named and not line.lstrip().startswith('//'):
                 function, line_of = named[1], number + 1
@@ -75,8 +74,8 @@ def functions(name):
 def laws(name, own):
     """The definitions beside those of the name whose text has the word: file, line, name."""
     word = whole_word(name)
-    for path in files('*/specs/**/*.antt'):
-        lines, last = read(path), None
+    for path in found('*/specs/**/*.antt'):
+        lines, last = lines_of(path), None
         for number, line in enumerate(lines):
             head = HEAD.match(line) if line and not line.startswith(('use ', '--', ' ')) else None
             last = (path, number + 1, head[1]) if head and head[1] != '}' else last
@@ -84,28 +83,28 @@ def laws(name, own):
                 yield last
 
 
-def show(title, found, is_all):
-    found = list(dict.fromkeys(found))
-    if found:
+def show(title, places, is_all):
+    places = list(dict.fromkeys(places))
+    if places:
         print(f'\n{title}:')
-    for path, line, name in found if is_all else found[:SHOWN]:
+    for path, line, name in places if is_all else places[:SHOWN]:
         print(f'    {path}:{line}: {name}')
-    if len(found) > SHOWN and not is_all:
-        print(f'    and {len(found) - SHOWN} more: --all')
+    if len(places) > SHOWN and not is_all:
+        print(f'    and {len(places) - SHOWN} more: --all')
 
 
 def main(name, is_all):
-    found = list(definitions(name))
-    for path, line, comment, text in found:
+    defined = list(definitions(name))
+    for path, line, comment, text in defined:
         print('\n'.join([f'{path}:{line}', *(f'    {it}' for it in comment + text)]))
     show('contracts that say it', functions(name), is_all)
-    show('definitions and laws that say it', laws(name, {it[:2] for it in found}), is_all)
-    return 0 if found else 1
+    show('definitions and laws that say it', laws(name, {it[:2] for it in defined}), is_all)
+    return 0 if defined else 1
 
 
 if __name__ == '__main__':
-    parser = argparse.ArgumentParser(description=__doc__, formatter_class=argparse.RawDescriptionHelpFormatter)
-    parser.add_argument('name', metavar='NAME', help='the whole word')
-    parser.add_argument('--all', action='store_true', help='all places, however many')
-    words = parser.parse_args()
+    taken = parser(__doc__)
+    taken.add_argument('name', metavar='NAME', help='the whole word')
+    taken.add_argument('--all', action='store_true', help='all places, however many')
+    words = taken.parse_args()
     sys.exit(main(words.name, words.all))

@@ -66,6 +66,16 @@ func (e Export) String() string {
 	return fmt.Sprintf("%s: %v %d", e.Name, e.Kind, e.Index)
 }
 
+// Size is how many bytes the module's lists take, its own bytes apart. The error is ErrClosed.
+func (m *Module) Size() (uint64, error) {
+	m.mutex.Lock()
+	defer m.mutex.Unlock()
+	if m.bytes == nil {
+		return 0, ErrClosed
+	}
+	return uint64(C.gate_module_size(m.handle)), nil
+}
+
 // Exports is what the module exports, in its order. The error is ErrClosed.
 func (m *Module) Exports() ([]Export, error) {
 	m.mutex.Lock()

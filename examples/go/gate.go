@@ -44,6 +44,14 @@ func Revision() uint32 {
 	return uint32(C.gate_revision())
 }
 
+// Build says which build the library is: `gate 0.1.0 (commit 0123456789ab, rattle-kit-13f)`.
+func Build() string {
+	var out [64]C.uint8_t // enough, as gate.h says
+	var length C.size_t
+	expectOK(C.gate_build(&out[0], C.size_t(len(out)), &length))
+	return C.GoStringN((*C.char)(unsafe.Pointer(&out[0])), C.int(length))
+}
+
 // Check judges a module: nil where it is accepted, else its Explanation or ErrNoMemory.
 func Check(module []byte) error {
 	var verdict C.gate_verdict

@@ -65,8 +65,8 @@ func sevens(count int) []byte {
 }
 
 func TestInterface(t *testing.T) {
-	if Interface() != 1 || Revision() != 1 {
-		t.Error(Interface(), Revision())
+	if Interface() != 1 || Revision() != 1 || !strings.HasPrefix(Build(), "gate 0.1.0 (commit ") {
+		t.Error(Interface(), Revision(), Build())
 	}
 }
 

@@ -1,5 +1,6 @@
 /* gate for Node: an addon in C over libgate, by Node-API alone. README.md builds it, and plugin_host.js uses it.
  *
+ *   build()                     which build the library is
  *   check(bytes)                the line of the verdict
  *   open(bytes)                 an instance of the module, which goes on from call to call
  *   call(instance, name, args)  the values of a call of an export: an i32 is a Number, an i64 a BigInt
@@ -97,6 +98,15 @@ static void free_plug_in(napi_env env, void *data, void *hint) {
     (void)env, (void)hint;
     free_handles(data);
     free(data);
+}
+
+static napi_value build(napi_env env, napi_callback_info info) {
+    napi_value text = NULL;
+    uint8_t out[LINE_ROOM];
+    size_t length = 0;
+    (void)info;
+    if (gate_build(out, sizeof out, &length) == GATE_OK) napi_create_string_latin1(env, (char *)out, length, &text);
+    return text;
 }
 
 static napi_value check(napi_env env, napi_callback_info info) {
@@ -255,7 +265,7 @@ static napi_value close(napi_env env, napi_callback_info info) {
 }
 
 static const struct { const char *name; napi_callback function; } FUNCTIONS[] = {
-    { "check", check }, { "open", open }, { "call", call }, { "read", read }, { "write", write }, { "reset", reset },
+    { "build", build }, { "check", check }, { "open", open }, { "call", call }, { "read", read }, { "write", write }, { "reset", reset },
     { "close", close },
 };
 

@@ -20,6 +20,8 @@ const START_TRAPS = Buffer.from(HEADER + '010401600000030201000801000a0501030000
 // both of type [i64 i32] -> [i32 i64] gives its arguments, swapped.
 const BOTH = Buffer.from(HEADER + '01080160027e7f027f7e0302010007080104626f746800000a08010600200120000b', 'hex');
 
+test('build', () => assert.match(gate.build(), /^gate \d+\.\d+\.\d+ \(commit \S{12}, rattle-kit-\w+\)$/));
+
 test('check', () => {
   assert.strictEqual(gate.check(add), 'accepted');
   assert.strictEqual(gate.check(new Uint8Array([0, 97, 115])), 'refused malformed');

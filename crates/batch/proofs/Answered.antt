@@ -10,18 +10,18 @@ use Rattle.wsyntax.specs.Texts.Calls.{CallsText, TooLong, BadLine, Good, IsCalls
 use Rattle.wsyntax.specs.Texts.Lines.{verdict_line}
 use Rattle.wsyntax.specs.Texts.Report.{CallEnd, report_text}
 use Rattle.wsyntax.specs.Texts.Answer.{Limits, IsAnswer, AnswerOn, calls_line}
-use Rattle.texts.specs.Calls.{ReadsCalls, calls_of}
-use Rattle.texts.specs.Ends.{end_of, ends_of}
-use Rattle.texts.specs.Parts.{AreParts, parts_text}
-use Rattle.texts.specs.declared.call.Call.{Call}
-use Rattle.texts.specs.declared.line.Line.{Line}
-use Rattle.texts.specs.declared.part.Part.{Part}
-use Rattle.texts.specs.declared.fault.CallsFault.{CallsFault}
-use Rattle.texts.specs.declared.fault.CallsFault.TheVariants as fault
-use Rattle.accepted.specs.Kept.{IsAcceptedFrom}
-use Rattle.accepted.specs.Judgement.{shapes_of}
+use Rattle.batch_text.specs.Calls.{ReadsCalls, calls_of}
+use Rattle.batch_text.specs.Ends.{end_of, ends_of}
+use Rattle.batch_text.specs.Parts.{AreParts, parts_text}
+use Rattle.batch_text.specs.declared.call.Call.{Call}
+use Rattle.batch_text.specs.declared.line.Line.{Line}
+use Rattle.batch_text.specs.declared.part.Part.{Part}
+use Rattle.batch_text.specs.declared.fault.CallsFault.{CallsFault}
+use Rattle.batch_text.specs.declared.fault.CallsFault.TheVariants as fault
+use Rattle.accepted_module.specs.Kept.{IsAcceptedFrom}
+use Rattle.accepted_module.specs.Judgement.{shapes_of}
 use Rattle.verdict.specs.Refusals.{verdict_of, fault_of}
-use Rattle.accepted.specs.declared.accepted.Accepted.{Accepted as AcceptedModule}
+use Rattle.accepted_module.specs.declared.accepted.Accepted.{Accepted as AcceptedModule}
 use Rattle.verdict.specs.declared.refusal.Refusal.{Refusal}
 use Rattle.verdict.specs.declared.refusal.Refusal.TheVariants as refusal
 use Rattle.wstore.specs.declared.settings.Settings.{Settings}

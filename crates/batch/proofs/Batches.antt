@@ -6,13 +6,13 @@ use Rattle.wsyntax.specs.Modules.{module_shape}
 use Rattle.wsyntax.specs.Texts.Answer.{EndOf, EndsOf}
 use Rattle.soundness.specs.Instances.{Judged}
 use Rattle.pieces.specs.TryAll.{AllPass}
-use Rattle.texts.specs.Args.{args_of}
-use Rattle.texts.specs.Calls.{call_of, calls_of}
-use Rattle.texts.specs.Ends.{end_of, ends_of}
-use Rattle.texts.specs.declared.call.Call.{Call}
-use Rattle.texts.specs.declared.line.Line.{Line}
-use Rattle.accepted.specs.declared.accepted.Accepted.{Accepted}
-use Rattle.accepted.specs.Judgement.{shapes_of}
+use Rattle.batch_text.specs.Args.{args_of}
+use Rattle.batch_text.specs.Calls.{call_of, calls_of}
+use Rattle.batch_text.specs.Ends.{end_of, ends_of}
+use Rattle.batch_text.specs.declared.call.Call.{Call}
+use Rattle.batch_text.specs.declared.line.Line.{Line}
+use Rattle.accepted_module.specs.declared.accepted.Accepted.{Accepted}
+use Rattle.accepted_module.specs.Judgement.{shapes_of}
 use Rattle.wstore.specs.declared.settings.Settings.{Settings}
 use Rattle.wstore.specs.CallLimits.{limits_of}
 use Rattle.wsyntax.specs.declared.value.Value.{Value}

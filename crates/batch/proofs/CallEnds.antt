@@ -18,11 +18,11 @@ use Rattle.wsyntax.specs.Execution.Start.{InstanceOf}
 use Rattle.wsyntax.specs.Texts.Calls.{Call}
 use Rattle.wsyntax.specs.Texts.Answer.{Limits, Names, EndOf, misfit, not_started, no_memory, ran}
 use Rattle.soundness.specs.Instances.{Judged}
-use Rattle.accepted.specs.Exports.{IsExported}
+use Rattle.accepted_module.specs.Exports.{IsExported}
 use Rattle.wmachine.specs.Calls.{HasParams}
-use Rattle.texts.specs.Ends.{end_of}
-use Rattle.texts.specs.declared.line.Line.{Line}
-use Rattle.texts.specs.declared.line.Line.TheVariants as line
+use Rattle.batch_text.specs.Ends.{end_of}
+use Rattle.batch_text.specs.declared.line.Line.{Line}
+use Rattle.batch_text.specs.declared.line.Line.TheVariants as line
 use Rattle.batch.specs.Ends.{EndsAlone, IsCallee, is_short}
 
 -- ---- the function that is called

@@ -6,13 +6,13 @@ use Rattle.std.proofs.lemmas.Grind.{flat_map-append}
 use Rattle.std.proofs.lemmas.List.{append-nil, length-map, length-take, map-append, take_all, take_more, take-append-drop}
 use Rattle.std.proofs.lemmas.Option.{same_Some}
 use Rattle.pieces.specs.TryAll.{AllPass}
-use Rattle.texts.specs.Ends.{end_of, ends_of}
-use Rattle.texts.specs.Parts.{IsPart, AreParts}
-use Rattle.texts.specs.Slices.{joined_calls}
-use Rattle.texts.specs.declared.call.Call.{Call}
-use Rattle.texts.specs.declared.line.Line.{Line}
-use Rattle.texts.specs.declared.part.Part.{Part}
-use Rattle.accepted.specs.declared.accepted.Accepted.{Accepted}
+use Rattle.batch_text.specs.Ends.{end_of, ends_of}
+use Rattle.batch_text.specs.Parts.{IsPart, AreParts}
+use Rattle.batch_text.specs.Slices.{joined_calls}
+use Rattle.batch_text.specs.declared.call.Call.{Call}
+use Rattle.batch_text.specs.declared.line.Line.{Line}
+use Rattle.batch_text.specs.declared.part.Part.{Part}
+use Rattle.accepted_module.specs.declared.accepted.Accepted.{Accepted}
 use Rattle.wstore.specs.declared.settings.Settings.{Settings}
 use Rattle.batch.specs.Ends.{GivesLine}
 use Rattle.batch.specs.Groups.{AreGroups, AddsGroups, GiveLines, GivesPart, GivesPartAt, GiveParts}

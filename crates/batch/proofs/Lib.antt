@@ -7,3 +7,7 @@ pub mod Answered
 pub mod Safe
 pub mod PartsWritten
 pub mod SlicedCalls
+pub mod StreamedLines
+pub mod Tallied
+pub mod FrontLines
+pub mod Streamed

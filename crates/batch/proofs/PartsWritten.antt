@@ -5,8 +5,8 @@ use Rattle.std.specs.Io.KnownBytes.{Appends}
 use Rattle.std.proofs.KnownBytes.{Appends-trans}
 use Rattle.std.proofs.lemmas.Grind.{flat_map-append}
 use Rattle.std.proofs.lemmas.List.{append-nil, drop_more, take_all, take_more, take-append-drop}
-use Rattle.texts.specs.Parts.{parts_text}
-use Rattle.texts.specs.declared.part.Part.{Part}
+use Rattle.batch_text.specs.Parts.{parts_text}
+use Rattle.batch_text.specs.declared.part.Part.{Part}
 use Rattle.batch.specs.Output.{AppendsFront, AppendsLess}
 
 -- the texts up to the next part

@@ -9,9 +9,9 @@ use Rattle.std.proofs.lemmas.Option.{same_Some}
 use Rattle.wsyntax.specs.Texts.Words.{newline}
 use Rattle.wsyntax.specs.Texts.Calls.{Good, IsCalls, calls_limit, line_limit}
 use Rattle.pieces.specs.TryAll.{AllPass}
-use Rattle.texts.specs.Calls.{ReadsCalls, calls_of}
-use Rattle.texts.specs.Slices.{slices_of, EachEndsLine, CutsLines, EachRead, CountsCalls, joined_calls}
-use Rattle.texts.specs.declared.call.Call.{Call}
+use Rattle.batch_text.specs.Calls.{ReadsCalls, calls_of}
+use Rattle.batch_text.specs.Slices.{slices_of, EachEndsLine, CutsLines, EachRead, CountsCalls, joined_calls}
+use Rattle.batch_text.specs.declared.call.Call.{Call}
 use Rattle.batch.specs.Slices.{SaysCalls, GivesCalls, SayTogether}
 
 each_read : (slices : List (Bor (List ℕ))) (read : List (Vec Call Global)) → length read ≡ length slices → ((i : ℕ) (calls : Vec Call Global) → slice_get read i ≡ Some calls → GivesCalls slices i calls) → EachRead (slices_of slices) read

@@ -8,10 +8,10 @@ use Rattle.wsyntax.specs.Texts.Lines.{verdict_line}
 use Rattle.wsyntax.specs.Texts.Calls.{CallsText, TooLong, BadLine, Good as GoodCalls, IsCalls}
 use Rattle.wsyntax.specs.Texts.Report.{CallEnd, report_text}
 use Rattle.wsyntax.specs.Texts.Answer.{Limits, EndsOf, IsAnswer, calls_line}
-use Rattle.accepted.specs.declared.accepted.Accepted.{Accepted as AcceptedModule}
-use Rattle.accepted.specs.Judgement.{shapes_of}
-use Rattle.texts.specs.declared.fault.CallsFault.{CallsFault}
-use Rattle.texts.specs.declared.fault.CallsFault.TheVariants as fault
+use Rattle.accepted_module.specs.declared.accepted.Accepted.{Accepted as AcceptedModule}
+use Rattle.accepted_module.specs.Judgement.{shapes_of}
+use Rattle.batch_text.specs.declared.fault.CallsFault.{CallsFault}
+use Rattle.batch_text.specs.declared.fault.CallsFault.TheVariants as fault
 use Rattle.batch.specs.Output.{AppendsFront}
 use Rattle.batch.specs.declared.status.Status.{Status}
 use Rattle.batch.specs.declared.status.Status.TheVariants.{Good, ModuleRefused, CallsRefused}

@@ -9,13 +9,13 @@ use Rattle.wsyntax.specs.Texts.Calls.{Call as Meant}
 use Rattle.wsyntax.specs.Texts.Answer.{Limits, Names, EndOf, EndsOf}
 use Rattle.wsyntax.specs.Outcomes.{outcome_of}
 use Rattle.wsyntax.specs.StartRefusals.{refusal_of}
-use Rattle.texts.specs.Calls.{call_of, calls_of}
-use Rattle.texts.specs.Ends.{end_of, ends_of}
-use Rattle.texts.specs.declared.call.Call.{Call}
-use Rattle.texts.specs.declared.line.Line.{Line}
-use Rattle.texts.specs.declared.line.Line.TheVariants.{Ran, NoExport, NotAFunction, BadArguments, NotStarted, NoMemory}
-use Rattle.accepted.specs.declared.accepted.Accepted.{Accepted}
-use Rattle.accepted.specs.Judgement.{shapes_of}
+use Rattle.batch_text.specs.Calls.{call_of, calls_of}
+use Rattle.batch_text.specs.Ends.{end_of, ends_of}
+use Rattle.batch_text.specs.declared.call.Call.{Call}
+use Rattle.batch_text.specs.declared.line.Line.{Line}
+use Rattle.batch_text.specs.declared.line.Line.TheVariants.{Ran, NoExport, NotAFunction, BadArguments, NotStarted, NoMemory}
+use Rattle.accepted_module.specs.declared.accepted.Accepted.{Accepted}
+use Rattle.accepted_module.specs.Judgement.{shapes_of}
 use Rattle.wstore.specs.declared.settings.Settings.{Settings}
 use Rattle.wstore.specs.CallLimits.{limits_of}
 use Rattle.wmachine.specs.Starts.{EndsOnEach}

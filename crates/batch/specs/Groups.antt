@@ -1,11 +1,11 @@
 -- The calls of a batch in groups of consecutive ones.
 use Rattle.std.specs.Prelude.{◌≡◌, ℕ, ◌+◌, ◌<◌, List, [], ◌∷◌, ◌++◌, Some, length, slice_get}
-use Rattle.texts.specs.Ends.{ends_of}
-use Rattle.texts.specs.Parts.{IsPart, AreParts}
-use Rattle.texts.specs.declared.call.Call.{Call}
-use Rattle.texts.specs.declared.line.Line.{Line}
-use Rattle.texts.specs.declared.part.Part.{Part}
-use Rattle.accepted.specs.declared.accepted.Accepted.{Accepted}
+use Rattle.batch_text.specs.Ends.{ends_of}
+use Rattle.batch_text.specs.Parts.{IsPart, AreParts}
+use Rattle.batch_text.specs.declared.call.Call.{Call}
+use Rattle.batch_text.specs.declared.line.Line.{Line}
+use Rattle.batch_text.specs.declared.part.Part.{Part}
+use Rattle.accepted_module.specs.declared.accepted.Accepted.{Accepted}
 use Rattle.wstore.specs.declared.settings.Settings.{Settings}
 use Rattle.batch.specs.Ends.{GivesLine}
 use Rattle.batch.specs.declared.group.Group.{Group}

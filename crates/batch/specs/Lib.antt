@@ -7,3 +7,4 @@ pub mod Answers
 pub mod Whole
 pub mod Laws
 pub mod Slices
+pub mod Streams

@@ -3,10 +3,10 @@ use denote.Ref.{Bor}
 use Rattle.std.specs.Prelude.{◌≡◌, ℕ, ◌≤◌, List, Some, Result, Ok, Err, Vec, length, slice_get}
 use Rattle.std.specs.declared.alloc.Global.{Global}
 use Rattle.wsyntax.specs.Texts.Calls.{Call as Meant, Good, IsCalls, line_limit}
-use Rattle.texts.specs.Calls.{ReadsCalls, calls_of}
-use Rattle.texts.specs.Slices.{joined_calls}
-use Rattle.texts.specs.declared.call.Call.{Call}
-use Rattle.texts.specs.declared.fault.CallsFault.{CallsFault}
+use Rattle.batch_text.specs.Calls.{ReadsCalls, calls_of}
+use Rattle.batch_text.specs.Slices.{joined_calls}
+use Rattle.batch_text.specs.declared.call.Call.{Call}
+use Rattle.batch_text.specs.declared.fault.CallsFault.{CallsFault}
 use Rattle.batch.specs.declared.sliced.SlicedCalls.{SlicedCalls}
 
 -- slice i says calls

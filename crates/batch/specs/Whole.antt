@@ -1,6 +1,6 @@
 -- The text of an answer, which lies in parts.
 use Rattle.std.specs.Prelude.{ℕ, List, ◌++◌, string_bytes}
-use Rattle.texts.specs.Parts.{parts_text}
+use Rattle.batch_text.specs.Parts.{parts_text}
 use Rattle.batch.specs.declared.answering.Written.{Written}
 
 abbrev pub text_of : Written → List ℕ

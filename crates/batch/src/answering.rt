@@ -14,12 +14,12 @@ use crate::output::write_parts;
 use crate::reading::read_by_workers;
 use crate::running::run_groups;
 use crate::status::{AnswerFault, Status};
+use batch_text::{CallsFault, Part, last_line};
 use pieces::{Plan, Watch};
 use std::alloc::{AllocError, Global};
 use std::io::Write;
 use std::sync::Wait;
 use std::thread::Threads;
-use texts::{CallsFault, Part, last_line};
 use verdict::{Accepted, judge};
 use wstore::Settings;
 

@@ -5,15 +5,15 @@ ghost use Rattle.wsyntax.specs.Modules.{ModuleShape, BodyShape, module_shape};
 ghost use Rattle.wsyntax.specs.Validation.ModuleContext.{module_context};
 ghost use Rattle.wsyntax.specs.declared.value.Value.{Value};
 ghost use Rattle.wsyntax.specs.Texts.Answer.{Limits};
-ghost use Rattle.accepted.specs.Judgement.{shapes_of};
+ghost use Rattle.accepted_module.specs.Judgement.{shapes_of};
 ghost use Rattle.wstore.specs.Faults.{IsFault};
 ghost use Rattle.wstore.specs.CallLimits.{limits_of};
 ghost use Rattle.wmachine.specs.Calls.{HasParams};
 ghost use Rattle.batch.specs.Ends.{EndsAlone};
 
+use batch_text::Line;
 use memory::CleanMem;
 use std::alloc::Global;
-use texts::Line;
 use verdict::Accepted;
 use wmachine::{Ended, start_and_invoke};
 use wstore::{NotStarted, Settings, StartFault, instantiate};

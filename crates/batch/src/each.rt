@@ -3,10 +3,10 @@
 ghost use Rattle.std.specs.Prelude.{length};
 
 use crate::runner::Runner;
+use batch_text::{Call, Line};
 use memory::Ticket;
 use pieces::{Job, JobFault, Stage, Watch};
 use std::sync::Wait;
-use texts::{Call, Line};
 
 /// The calls of a batch. One index of the job is one call.
 #[derive(Drop)]

@@ -1,6 +1,6 @@
 ghost use Rattle.std.specs.Prelude.{◌<◌, ◌+◌, ◌^◌, length};
 
-use texts::Call;
+use batch_text::Call;
 
 /// Some consecutive calls of a batch.
 #[derive(Clone, Copy)]

@@ -1,16 +1,16 @@
 //! The calls of a batch in groups.
 
 ghost use Rattle.std.specs.Prelude.{◌<◌, ◌≤◌, ◌+◌, ◌^◌, IfOk, OnOk, length};
-ghost use Rattle.texts.specs.Slices.{joined_calls};
+ghost use Rattle.batch_text.specs.Slices.{joined_calls};
 ghost use Rattle.batch.specs.Groups.{AreGroups, AddsGroups};
 
 use crate::group::Group;
 use crate::runner::Runner;
+use batch_text::{Call, Part};
 use memory::Ticket;
 use pieces::{Job, JobFault, Stage, Watch};
 use std::alloc::{AllocError, Global};
 use std::sync::Wait;
-use texts::{Call, Part};
 
 /// Pushes `calls`, of which the first has number `first`, in groups of `size`. The last may have fewer.
 fn push_groups<'s, 't>(

@@ -1,30 +1,39 @@
 //! What is written for a module and a text of calls.
 //!
 //! Proved: `answer` writes exactly the answer of the definition (`answer`, `status`, `never_stuck`, `typed`), and there is
-//! one (`one_answer`). `answer_alone`, `answer_on_alone`, `run_batch` and `call_alone` promise their part of it.
+//! one (`one_answer`). `answer_alone`, `answer_on_alone`, `run_batch` and `call_alone` promise their part of it. `stream` writes
+//! the report of a text of any length while it reads it.
 #![tactic(auto)]
 
 mod answering;
 mod call;
 mod each;
+mod front;
 mod group;
 mod groups;
 mod laws;
 mod line;
 mod output;
+mod reader;
 mod reading;
 mod report;
+mod rounds;
 mod runner;
 mod running;
 mod sequential;
 mod sliced;
 mod slices;
 mod status;
+mod stream_fault;
+#[cfg(test)]
+mod stream_tests;
+mod streaming;
 #[cfg(test)]
 mod tests;
 mod tuning;
 
 pub use answering::answer;
+pub use batch_text::{Call, CallsFault, Line, read_calls};
 pub use laws::{answers_are_safe, one_answer};
 pub use line::verdict_line;
 pub use memory::CleanMem;
@@ -35,5 +44,6 @@ pub use runner::call_alone;
 pub use running::run_batch;
 pub use sequential::{Answer, answer_alone, answer_on_alone};
 pub use status::{AnswerFault, Status};
-pub use texts::{Call, CallsFault, Line, read_calls};
+pub use stream_fault::StreamFault;
+pub use streaming::stream;
 pub use wstore::Settings;

@@ -1,10 +1,10 @@
 ghost use Rattle.std.specs.Prelude.{◌++◌, IfErr, MatchResult};
 ghost use Rattle.std.specs.Io.KnownBytes.{Appends};
-ghost use Rattle.texts.specs.Parts.{parts_text};
+ghost use Rattle.batch_text.specs.Parts.{parts_text};
 ghost use Rattle.batch.specs.Output.{AppendsFront, AppendsLess};
 
+use batch_text::Part;
 use std::io::Write;
-use texts::Part;
 
 /// A write that failed, or that took no byte.
 #[derive(Clone, Copy, Debug, PartialEq, Eq)]

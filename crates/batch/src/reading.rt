@@ -6,11 +6,11 @@ ghost use Rattle.batch.specs.Slices.{ReadsSlices, SayTogether};
 use crate::sliced::SlicedCalls;
 use crate::slices::Slices;
 use crate::tuning::{SHORT_TEXT, SLICES_EACH};
+use batch_text::{Call, CallsFault, count_calls, cut_lines, read_calls};
 use pieces::{Plan, TryFault, try_all};
 use std::alloc::{AllocError, Global};
 use std::sync::Wait;
 use std::thread::Threads;
-use texts::{Call, CallsFault, count_calls, cut_lines, read_calls};
 use wsyntax::CALLS_LIMIT;
 
 /// The calls of the slices of a text. `None` where a slice says no calls, or all together are too many.

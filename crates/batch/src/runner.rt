@@ -2,14 +2,14 @@
 
 ghost use Rattle.std.specs.Prelude.{IfOk, IfErr};
 ghost use Rattle.wsyntax.specs.Modules.{module_shape};
-ghost use Rattle.texts.specs.Calls.{call_of};
+ghost use Rattle.batch_text.specs.Calls.{call_of};
 ghost use Rattle.batch.specs.Ends.{GivesLine, IsCallee, RefusedAs};
 
 use crate::call::run_alone;
+use batch_text::{Call, Line};
 use memory::{CleanMem, Pool, Ticket};
 use std::alloc::Global;
 use std::sync::Wait;
-use texts::{Call, Line};
 use verdict::Accepted;
 use wmachine::fits;
 use wstore::{Settings, accepted_is_judged};

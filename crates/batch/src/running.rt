@@ -1,7 +1,7 @@
 //! A batch of calls on many workers.
 
 ghost use Rattle.std.specs.Prelude.{◌<◌, ◌^◌, IfOk, OnOk, length};
-ghost use Rattle.texts.specs.Slices.{joined_calls};
+ghost use Rattle.batch_text.specs.Slices.{joined_calls};
 ghost use Rattle.batch.specs.Ends.{AreEnds};
 ghost use Rattle.batch.specs.Groups.{GiveParts};
 
@@ -10,12 +10,12 @@ use crate::groups::{GroupedCalls, groups_of};
 use crate::runner::Runner;
 use crate::sliced::SlicedCalls;
 use crate::tuning::FEWEST_GROUPS;
+use batch_text::{Call, Line, Part};
 use memory::Pool;
 use pieces::{Plan, TryFault, Watch, try_all};
 use std::alloc::{AllocError, Global};
 use std::sync::Wait;
 use std::thread::Threads;
-use texts::{Call, Line, Part};
 use verdict::Accepted;
 use wstore::Settings;
 

@@ -12,9 +12,9 @@ use crate::laws::answers_are_safe;
 use crate::line::verdict_line;
 use crate::runner::call_alone;
 use crate::status::Status;
+use batch_text::{Call, Line, read_calls, report};
 use memory::CleanMem;
 use std::alloc::{AllocError, Global};
-use texts::{Call, Line, read_calls, report};
 use verdict::{Accepted, judge_alone};
 use wstore::Settings;
 

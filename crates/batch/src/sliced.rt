@@ -1,7 +1,7 @@
 ghost use Rattle.std.specs.Prelude.{◌≡◌, length};
-ghost use Rattle.texts.specs.Slices.{joined_calls};
+ghost use Rattle.batch_text.specs.Slices.{joined_calls};
 
-use texts::Call;
+use batch_text::Call;
 
 /// The calls of a text, in slices.
 #[derive(Drop)]

@@ -2,11 +2,11 @@
 
 ghost use Rattle.std.specs.Prelude.{length};
 
+use batch_text::{Call, CallsFault, read_calls};
 use pieces::{Job, JobFault};
 use soundness::texts::one_calls;
 use std::alloc::Global;
 use std::sync::Wait;
-use texts::{Call, CallsFault, read_calls};
 
 /// The slices of a text of calls. One index of the job is one slice, and its result the calls that the slice says.
 #[derive(Drop)]

@@ -6,6 +6,7 @@ use crate::report::write_verdict;
 use crate::runner::call_alone;
 use crate::sequential::{answer_alone, answer_on_alone};
 use crate::status::{AnswerFault, Status};
+use batch_text::{read_calls, report};
 use memory::CleanMem;
 use pieces::{Plan, Quiet};
 use std::alloc::Global;
@@ -15,7 +16,6 @@ use std::process::Abort;
 use std::sync::Wait;
 use std::test::Fail;
 use std::thread::Threads;
-use texts::{read_calls, report};
 use verdict::{BodyRefusal, Refusal, judge_alone};
 use wstore::Settings;
 

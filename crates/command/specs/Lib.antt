@@ -1,3 +1,4 @@
+pub mod Names
 pub mod Requests
 pub mod Options
 pub mod Mistakes

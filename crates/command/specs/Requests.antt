@@ -1,8 +1,9 @@
 -- What the words of the command line ask for.
-use Rattle.std.specs.Prelude.{◌≡◌, ◌⊎◌, ℕ, ◌<◌, List, [], ◌++◌, Contains, codes, length, slice_index_or}
+use Rattle.std.specs.Prelude.{◌≡◌, ◌⊎◌, ℕ, ◌<◌, List, [], ◌∷◌, ◌++◌, Contains, codes, map, length, slice_index_or}
+use Rattle.command.specs.Names.{file_names, input_path, says_folders, says_null}
 use Rattle.command.specs.Options.{SaysLimits, SaysPlan, option_words}
 use Rattle.command.specs.declared.request.Request.{Request}
-use Rattle.command.specs.declared.request.Request.TheVariants.{Check, Explain, ExplainCalls, Exports, Run, Text}
+use Rattle.command.specs.declared.request.Request.TheVariants.{Check, CheckAll, CheckListed, Explain, ExplainCalls, Exports, Run, Stream, Text}
 
 -- the word begins with this text
 abbrev pub BeginsWith : List ℕ → List ℕ → Type 0
@@ -36,12 +37,31 @@ IsOperand words path = (i : ℕ) × (0 < i) × StandsAt words i path
 abbrev pub AreOperands : List (List ℕ) → List ℕ → List ℕ → Type 0
 AreOperands words path calls = (i : ℕ) × (j : ℕ) × (0 < i) × (i < j) × StandsAt words i path × StandsAt words j calls
 
--- the paths of a request are words after the command's name, the module's before that of the calls; the words say its numbers; and a text is given only where a word asks for one
+-- a module is read from this path, whose name is a word after the command's name
+abbrev pub IsInput : List (List ℕ) → List ℕ → Type 0
+IsInput words path = (name : List ℕ) × IsOperand words name × (path ≡ input_path name)
+
+-- the same, and the second text is a word after that name
+abbrev pub AreInputs : List (List ℕ) → List ℕ → List ℕ → Type 0
+AreInputs words path calls = (name : List ℕ) × AreOperands words name calls × (path ≡ input_path name)
+
+-- the first text is a word after the command's name, and the calls are read from the path whose name is a word after that, or where there is none from standard input
+abbrev pub AreStreamed : List (List ℕ) → List ℕ → List ℕ → Type 0
+AreStreamed words path calls =
+    ((name : List ℕ) × AreOperands words path name × (calls ≡ input_path name)) ⊎ (IsOperand words path × (calls ≡ codes "/dev/stdin"))
+
+-- the paths of a request are words after the command's name, the module's before that of the calls, and `-` as that of an explained or listed module is standard input; the names of a check of many files are all those that the words have; the words say its numbers and options; and a text is given only where a word asks for one
 abbrev pub IsRequestOf : List (List ℕ) → Request → Type 0
 IsRequestOf words (Check path plan) = IsOperand words path.now × SaysPlan words plan.workers plan.piece
-IsRequestOf words (Explain path) = IsOperand words path.now
-IsRequestOf words (ExplainCalls path calls) = AreOperands words path.now calls.now
-IsRequestOf words (Exports path) = IsOperand words path.now
+IsRequestOf words (CheckAll names folders plan) =
+    (map (λ n. n.now) names.items ≡ file_names words) × (folders ≡ says_folders words) × SaysPlan words plan.workers plan.piece
+IsRequestOf words (CheckListed is_null folders plan) =
+    (file_names words ≡ codes "-" ∷ []) × (is_null ≡ says_null words) × (folders ≡ says_folders words) × SaysPlan words plan.workers plan.piece
+IsRequestOf words (Explain path) = IsInput words path.now
+IsRequestOf words (ExplainCalls path calls) = AreInputs words path.now calls.now
+IsRequestOf words (Exports path) = IsInput words path.now
 IsRequestOf words (Run path calls settings plan) =
     AreOperands words path.now calls.now × (SaysLimits words settings.fuel settings.frames settings.pages × SaysPlan words plan.workers plan.piece)
+IsRequestOf words (Stream path calls settings plan) =
+    AreStreamed words path.now calls.now × (SaysLimits words settings.fuel settings.frames settings.pages × SaysPlan words plan.workers plan.piece)
 IsRequestOf words (Text text) = AsksHelp words ⊎ AsksVersion words

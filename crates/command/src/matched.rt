@@ -1,16 +1,19 @@
 //! What the matched words give.
-ghost use Rattle.std.specs.Prelude.{IfSome, map};
+ghost use Rattle.std.specs.Prelude.{IfOk, IfSome, map};
 ghost use Rattle.command.specs.Options.{SaysLimits, SaysPlan};
 ghost use Rattle.command.specs.Requests.{IsRequestOf};
 
 use crate::commands::{
     FRAMES_DEFAULT, FUEL_DEFAULT, PAGES_DEFAULT, PIECE_DEFAULT, WORKERS_DEFAULT,
 };
+use crate::fault::{WordsFault, usage};
+use crate::names::{file_names, input_path, is_list, says_flag};
 use crate::request::Request;
 use crate::said::said_number;
-use crate::words::find_word;
+use crate::words::{contains_word, find_word};
 use clap::ArgMatches;
 use pieces::Plan;
+use std::alloc::Global;
 use wstore::Settings;
 
 /// The file and the plan that `gate check` is given.
@@ -26,13 +29,55 @@ pub fn check_of<'a>(words: &'a [&'a str], matches: &ArgMatches<'a>) -> Option<Re
     })
 }
 
+/// The names and the plan that `gate check-all` is given: `None` where the words are no such command.
+pub fn check_all_of<'a>(
+    alloc: Global,
+    words: &'a [&'a str],
+    matches: &ArgMatches<'a>,
+) -> Option<Result<Request<'a>, WordsFault>>
+    ensures { IfSome result (λ r. IfOk r (IsRequestOf (map (λ w. w.now) words.now))) }
+{
+    let _ = matches.subcommand_matches("check-all")?;
+    let plan = plan_of(words)?;
+    Some(check_many(alloc, words, plan))
+}
+
+/// What files to check, by this plan.
+fn check_many<'a>(
+    alloc: Global,
+    words: &'a [&'a str],
+    plan: Plan,
+) -> Result<Request<'a>, WordsFault>
+    requires { SaysPlan (map (λ w. w.now) words.now) plan.workers plan.piece }
+    ensures { IfOk result (IsRequestOf (map (λ w. w.now) words.now)) }
+{
+    let folders = says_flag(words, "--recursive", b'r');
+    let names = file_names(alloc, words).map_err(|_| WordsFault::Memory)?;
+    if is_list(names.as_slice()) {
+        let is_null = says_flag(words, "--null", b'0');
+        return Ok(Request::CheckListed {
+            is_null,
+            folders,
+            plan,
+        });
+    }
+    if contains_word(names.as_slice(), "-") {
+        return Err(usage(alloc, "error: '-' is given beside other names\n"));
+    }
+    Ok(Request::CheckAll {
+        names,
+        folders,
+        plan,
+    })
+}
+
 /// The file that `gate exports` is given.
 pub fn exports_of<'a>(words: &'a [&'a str], matches: &ArgMatches<'a>) -> Option<Request<'a>>
     ensures { IfSome result (IsRequestOf (map (λ w. w.now) words.now)) }
 {
     let matches = matches.subcommand_matches("exports")?;
     let module = find_word(words, 1, matches.get_str("module")?)?;
-    let path = words[module];
+    let path = input_path(words[module]);
     Some(Request::Exports { path })
 }
 
@@ -44,12 +89,12 @@ pub fn explain_of<'a>(words: &'a [&'a str], matches: &ArgMatches<'a>) -> Option<
     let module = find_word(words, 1, matches.get_str("module")?)?;
     let Some(text) = matches.get_str("calls") else {
         return Some(Request::Explain {
-            path: words[module],
+            path: input_path(words[module]),
         });
     };
     let second = find_word(words, module + 1, text)?;
     Some(Request::ExplainCalls {
-        path: words[module],
+        path: input_path(words[module]),
         calls: words[second],
     })
 }
@@ -66,6 +111,31 @@ pub fn run_of<'a>(words: &'a [&'a str], matches: &ArgMatches<'a>) -> Option<Requ
     Some(Request::Run {
         path: words[module],
         calls: words[calls],
+        settings,
+        plan,
+    })
+}
+
+/// The files, the limits and the plan that `gate stream` is given: standard input for calls that have no file.
+pub fn stream_of<'a>(words: &'a [&'a str], matches: &ArgMatches<'a>) -> Option<Request<'a>>
+    ensures { IfSome result (IsRequestOf (map (λ w. w.now) words.now)) }
+{
+    let matches = matches.subcommand_matches("stream")?;
+    let module = find_word(words, 1, matches.get_str("module")?)?;
+    let settings = settings_of(words)?;
+    let plan = plan_of(words)?;
+    let Some(text) = matches.get_str("calls") else {
+        return Some(Request::Stream {
+            path: words[module],
+            calls: "/dev/stdin",
+            settings,
+            plan,
+        });
+    };
+    let streamed = find_word(words, module + 1, text)?;
+    Some(Request::Stream {
+        path: words[module],
+        calls: input_path(words[streamed]),
         settings,
         plan,
     })

@@ -4,13 +4,16 @@ ghost use Rattle.command.specs.Requests.{AsksHelp, AsksVersion, IsRequestOf};
 
 use crate::commands::gate_command;
 use crate::fault::{WordsFault, usage};
-use crate::matched::{check_of, explain_of, exports_of, run_of};
+use crate::matched::{check_all_of, check_of, explain_of, exports_of, run_of, stream_of};
 use crate::request::Request;
 use crate::said::option_words;
 use crate::words::{begins_with, contains_front, contains_word, first_word};
 use clap::error::ErrorKind;
 use clap::{ArgMatches, Error};
 use std::alloc::Global;
+
+/// What a mistake in the words of `gate check` ends with.
+const MANY: &str = "To check many files: gate check-all NAME..\n";
 
 /// Reads the words that follow the program's name.
 pub fn read_words<'a>(alloc: Global, words: &'a [&'a str]) -> Result<Request<'a>, WordsFault>
@@ -34,13 +37,19 @@ fn request_of<'a>(
     if let Some(request) = check_of(words, matches) {
         return Ok(request);
     }
+    if let Some(request) = check_all_of(alloc, words, matches) {
+        return request;
+    }
     if let Some(request) = explain_of(words, matches) {
         return Ok(request);
     }
     if let Some(request) = exports_of(words, matches) {
         return Ok(request);
     }
-    match run_of(words, matches) {
+    if let Some(request) = run_of(words, matches) {
+        return Ok(request);
+    }
+    match stream_of(words, matches) {
         Some(request) => Ok(request),
         None => Err(usage(alloc, "error: the words are no command\n")),
     }
@@ -69,8 +78,11 @@ fn answer_of<'a>(alloc: Global, words: &[&str], error: &Error) -> Result<Request
     if matches!(error.kind(), ErrorKind::OutOfMemory) {
         return Err(WordsFault::Memory);
     }
-    let text = error.to_string(alloc).map_err(|_| WordsFault::Memory)?;
+    let mut text = error.to_string(alloc).map_err(|_| WordsFault::Memory)?;
     if error.use_stderr() {
+        if first_word(words) == "check" {
+            text.push_str(MANY).map_err(|_| WordsFault::Memory)?;
+        }
         Err(WordsFault::Usage(text))
     } else if asks_help(words) || asks_version(words) {
         Ok(Request::Text(text))

@@ -9,6 +9,19 @@ pub enum Request<'a> {
         path: &'a str,
         plan: Plan,
     },
+    /// `gate check-all`: the verdict on each of the files of these names, in their order. With `folders` the name of a folder
+    /// stands for the modules below it.
+    CheckAll {
+        names: Vec<&'a str>,
+        folders: bool,
+        plan: Plan,
+    },
+    /// `gate check-all -`: the same, of the names that standard input has, each ended by a byte 0 or by a newline.
+    CheckListed {
+        is_null: bool,
+        folders: bool,
+        plan: Plan,
+    },
     /// `gate run`: the answer to the module at `path` and the text of calls at `calls`.
     Run {
         path: &'a str,
@@ -28,6 +41,14 @@ pub enum Request<'a> {
     /// `gate exports`: what the module at `path` exports.
     Exports {
         path: &'a str,
+    },
+    /// `gate stream`: the lines of the report on the module at `path` and the calls at `calls`, each as soon as it is known. Without
+    /// the word, or where it is `-`, `calls` is the path of standard input.
+    Stream {
+        path: &'a str,
+        calls: &'a str,
+        settings: Settings,
+        plan: Plan,
     },
     /// The text of help, or the version.
     Text(String),

@@ -5,7 +5,7 @@ use Rattle.std.proofs.lemmas.Bool.{lt-ltb, le-ltb}
 use Rattle.wsyntax.specs.Modules.{ModuleShape, BodyShape}
 use Rattle.wsyntax.specs.Execution.Store.{page}
 use Rattle.wsyntax.specs.Execution.Start.{StartRefusal, HasImports, HasFloats, TableLimit, MemoryLimit, ElementOutside, DataOutside, has_floats, layout_of, table_limit, first_outside, or_else, refused_if, start_refusal}
-use Rattle.accepted.specs.Sizes.{table_size, memory_pages}
+use Rattle.accepted_module.specs.Sizes.{table_size, memory_pages}
 
 -- One question.
 

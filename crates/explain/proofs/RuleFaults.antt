@@ -19,14 +19,14 @@ use Rattle.wsyntax.specs.declared.module.Export.{Export}
 use Rattle.wsyntax.specs.declared.module.ExportKind.{ExportKind}
 use Rattle.wsyntax.specs.declared.module.ExportKind.TheVariants.{Function, Table, Memory, Global}
 use Rattle.wcontext.specs.Segments.{IsElementValid}
-use Rattle.explain.specs.declared.spaces.Spaces.{Spaces}
+use Rattle.wcontext.specs.declared.spaces.Spaces.{Spaces}
 use Rattle.explain.specs.declared.broken_item.ItemFault.{ItemFault}
 use Rattle.explain.specs.declared.broken_item.ItemFault.TheVariants.{ElementTable, ElementOffset, ElementFunction, DataMemory, DataOffset}
 use Rattle.explain.specs.declared.broken_item.Initial.{Initial}
 use Rattle.explain.specs.declared.broken_item.BrokenItem.{BrokenItem}
 use Rattle.explain.specs.Rules.{Breaks, BreaksIn, IsFirst, IsInitial, IsElementFault, IsDataFault, TellsElement, TellsData, TellsFault, TellsGlobal, constant_type, rule_of}
 use Rattle.explain.specs.Segments.{IsDataValid, IsFirstElement, IsFirstData}
-use Rattle.explain.specs.Spaces.{AreSpacesOf, counted}
+use Rattle.wcontext.specs.Spaces.{AreSpacesOf, counted}
 use Rattle.explain.proofs.Firsts.{first_by, first_map, first_along, first_failing, first_got, first_here, right_here}
 use Rattle.explain.proofs.Initials.{decides}
 

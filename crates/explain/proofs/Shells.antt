@@ -11,8 +11,8 @@ use Rattle.explain.specs.declared.shell_place.SectionPart.{SectionPart}
 use Rattle.explain.specs.declared.shell_place.SectionPart.TheVariants as part
 use Rattle.explain.specs.declared.shell.primitives.Stuck.{Stuck}
 use Rattle.explain.specs.declared.shell.items.Items.{Items}
-use Rattle.explain.specs.declared.shell.contents.Outcome.{Outcome}
-use Rattle.explain.specs.declared.shell.contents.Outcome.TheVariants as outcome
+use Rattle.explain.specs.declared.shell.contents.ContentsEnd.{ContentsEnd}
+use Rattle.explain.specs.declared.shell.contents.ContentsEnd.TheVariants as outcome
 use Rattle.explain.specs.Shells.{Comes, ContentsCome, IsUnread, Passes, after, after_items, after_one_more}
 
 -- a value in front changes nothing of what is left
@@ -53,7 +53,7 @@ pub one_item_more : (items : Items) (n : ℕ) (bytes rest left : List ℕ) → a
 one_item_more items n bytes rest left e r = rw add-one (ap (after_one_more items) e ∙ r)
 
 -- a part that is read is what the section holds
-pub name_comes : (id : ℕ) (contents : List ℕ) (read : Result (Bor (List ℕ)) Stuck) (r : Result Outcome AllocError) → id ≡ 0 → Passes (rest_of (name.read contents)) read
+pub name_comes : (id : ℕ) (contents : List ℕ) (read : Result (Bor (List ℕ)) Stuck) (r : Result ContentsEnd AllocError) → id ≡ 0 → Passes (rest_of (name.read contents)) read
     → IfOk r (λ o. (left : Option (List ℕ)) → Passes left read → Comes part.Name left o) → IfOk r (ContentsCome id contents)
 name_comes id contents read (Ok (outcome.After rest segment)) e p h = inr (inl (e, h (rest_of (name.read contents)) p))
 name_comes id contents read (Ok (outcome.Stopped l)) e p h =
@@ -62,7 +62,7 @@ name_comes id contents read (Ok (outcome.Stopped l)) e p h =
 name_comes id contents read (Ok outcome.Unknown) e p h = tt
 name_comes id contents read (Err x) e p h = tt
 
-pub start_comes : (id : ℕ) (contents : List ℕ) (read : Result (Bor (List ℕ)) Stuck) (r : Result Outcome AllocError) → id ≡ 8 → Passes (rest_of (u32.read contents)) read
+pub start_comes : (id : ℕ) (contents : List ℕ) (read : Result (Bor (List ℕ)) Stuck) (r : Result ContentsEnd AllocError) → id ≡ 8 → Passes (rest_of (u32.read contents)) read
     → IfOk r (λ o. (left : Option (List ℕ)) → Passes left read → Comes part.Start left o) → IfOk r (ContentsCome id contents)
 start_comes id contents read (Ok (outcome.After rest segment)) e p h = inr (inr (e, h (rest_of (u32.read contents)) p))
 start_comes id contents read (Ok (outcome.Stopped l)) e p h =

@@ -1,7 +1,7 @@
 -- What is wrong with a text of calls.
 use Rattle.std.specs.Prelude.{◌≡◌, ◌≢◌, ℕ, List, [], ◌∷◌, ◌++◌, All, Option, Some, None, length}
 use Rattle.wsyntax.specs.Texts.Calls.{Call, TooLong, BadLine, Good, IsCalls}
-use Rattle.texts.specs.Calls.{calls_of}
+use Rattle.batch_text.specs.Calls.{calls_of}
 use Rattle.explain.specs.declared.calls_fault.CallsRead.{CallsRead}
 use Rattle.explain.specs.declared.calls_fault.CallsRead.TheVariants.{Calls, Bad}
 use Rattle.explain.specs.declared.calls_fault.TextFault.{TextFault}

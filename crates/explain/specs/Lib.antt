@@ -6,7 +6,6 @@ pub mod Places
 pub mod Shells
 pub mod Rules
 pub mod Segments
-pub mod Spaces
 pub mod Texts
 pub mod Told
 pub mod Typed

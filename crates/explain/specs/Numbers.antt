@@ -1,7 +1,7 @@
 -- The numbers that an explanation tells.
 use Rattle.std.specs.Prelude.{ℕ, List, Option, Some, None, option_map, slice_get}
-use Rattle.explain.specs.declared.explanation.BodyFault.{BodyFault}
-use Rattle.explain.specs.declared.explanation.BodyFault.TheVariants as fault
+use Rattle.explain.specs.declared.explanation.BodyExplanation.{BodyExplanation}
+use Rattle.explain.specs.declared.explanation.BodyExplanation.TheVariants as fault
 use Rattle.explain.specs.declared.explanation.Explanation.{Explanation}
 use Rattle.explain.specs.declared.explanation.Explanation.TheVariants as told
 use Rattle.explain.specs.declared.explanation.NoModule.{NoModule}
@@ -9,14 +9,14 @@ use Rattle.explain.specs.declared.explanation.NoModule.TheVariants as header
 use Rattle.explain.specs.declared.explanation.Span.{Span}
 use Rattle.explain.specs.declared.explanation.Stopped.{Stopped}
 use Rattle.explain.specs.declared.explanation.Stopped.TheVariants as stopped
-use Rattle.explain.specs.declared.numbers.Kind.{Kind}
-use Rattle.explain.specs.declared.numbers.Kind.TheVariants as kind
+use Rattle.explain.specs.declared.numbers.ExplanationKind.{ExplanationKind}
+use Rattle.explain.specs.declared.numbers.ExplanationKind.TheVariants as kind
 use Rattle.explain.specs.declared.shell_place.SectionPart.{SectionPart}
 use Rattle.explain.specs.declared.shell_place.SectionPart.TheVariants as part
 
 -- ---- the kind
 
-abbrev pub kind_of_no_module : NoModule → Kind
+abbrev pub kind_of_no_module : NoModule → ExplanationKind
 kind_of_no_module header.Text = kind.Text
 kind_of_no_module header.Gzip = kind.Gzip
 kind_of_no_module header.Short = kind.ShortHeader
@@ -24,20 +24,20 @@ kind_of_no_module (header.Magic at found form) = kind.Magic
 kind_of_no_module (header.Version at found form) = kind.Version
 kind_of_no_module (header.Sections place) = kind.Sections
 
-abbrev pub kind_of_stop : Stopped → Kind
+abbrev pub kind_of_stop : Stopped → ExplanationKind
 kind_of_stop stopped.Locals = kind.Locals
 kind_of_stop stopped.Token = kind.Token
 kind_of_stop stopped.Else = kind.Else
 kind_of_stop stopped.Left = kind.Left
 kind_of_stop stopped.Short = kind.ShortBody
 
-abbrev pub kind_of_fault : BodyFault → Kind
+abbrev pub kind_of_fault : BodyExplanation → ExplanationKind
 kind_of_fault (fault.Malformed (Some s)) = kind_of_stop s.why
 kind_of_fault (fault.Malformed None) = kind.BodyMalformed
 kind_of_fault (fault.TooManyLocals count) = kind.TooManyLocals
 kind_of_fault (fault.IllTyped number found typing cause) = kind.IllTyped
 
-abbrev pub kind_told : Explanation → Kind
+abbrev pub kind_told : Explanation → ExplanationKind
 kind_told told.Accepted = kind.Accepted
 kind_told (told.TooLarge bytes) = kind.TooLarge
 kind_told (told.Malformed what) = kind_of_no_module what
@@ -56,7 +56,7 @@ place_of_no_module (header.Version at found form) = Some (at_offset at)
 place_of_no_module (header.Sections (Some p)) = Some (at_offset p.at)
 place_of_no_module _ = None
 
-abbrev pub place_of_fault : BodyFault → Option Span
+abbrev pub place_of_fault : BodyExplanation → Option Span
 place_of_fault (fault.Malformed (Some s)) = Some (at_offset s.at)
 place_of_fault (fault.IllTyped number (Some f) typing cause) = Some f.span
 place_of_fault _ = None
@@ -90,7 +90,7 @@ opcode_of_stop stopped.Token rest = slice_get rest 0
 opcode_of_stop stopped.Else rest = slice_get rest 0
 opcode_of_stop _ rest = None
 
-abbrev pub opcode_of_fault : BodyFault → Option ℕ
+abbrev pub opcode_of_fault : BodyExplanation → Option ℕ
 opcode_of_fault (fault.Malformed (Some s)) = opcode_of_stop s.why s.rest.now
 opcode_of_fault (fault.IllTyped number (Some f) typing cause) = Some f.opcode
 opcode_of_fault _ = None

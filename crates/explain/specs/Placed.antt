@@ -10,8 +10,8 @@ use Rattle.wsyntax.specs.Binary.Shell.{Shell}
 use Rattle.wsyntax.specs.Validation.Context.{Context}
 use Rattle.wsyntax.specs.Validation.ModuleContext.{module_context, imported_functions}
 use Rattle.explain.specs.declared.explanation.Span.{Span}
-use Rattle.explain.specs.declared.explanation.BodyFault.{BodyFault}
-use Rattle.explain.specs.declared.explanation.BodyFault.TheVariants.{Malformed, TooManyLocals, IllTyped}
+use Rattle.explain.specs.declared.explanation.BodyExplanation.{BodyExplanation}
+use Rattle.explain.specs.declared.explanation.BodyExplanation.TheVariants.{Malformed, TooManyLocals, IllTyped}
 use Rattle.explain.specs.declared.explanation.RefusedBody.{RefusedBody}
 use Rattle.explain.specs.declared.explanation.Explanation.{Explanation}
 use Rattle.explain.specs.declared.explanation.Explanation.TheVariants as told
@@ -45,20 +45,20 @@ abbrev pub Declares : List ℕ → ℕ → Type 0
 Declares body count = (runs : List LocalRun) × (code : List ℕ) × (locals.read body ≡ Some (runs, code)) × (count ≡ locals_of runs)
 
 -- the places that a fault tells are those of the body of function f, which begins at offset `start`
-abbrev pub TellsPlaces : Context → ℕ → List ℕ → ℕ → BodyFault → Type 0
+abbrev pub TellsPlaces : Context → ℕ → List ℕ → ℕ → BodyExplanation → Type 0
 TellsPlaces C f body start (Malformed stop) = IfSome stop (IsStopOf body start)
 TellsPlaces C f body start (TooManyLocals count) = IfSome count (Declares body)
 TellsPlaces C f body start (IllTyped number found typing cause) =
     IfSome found (IsTokenAt body start number) × IfSome typing (IsTypingOf C f body number) × IfSome cause (IsCauseOf C f body number)
 
 -- it tells none
-abbrev pub TellsNoPlaces : BodyFault → Type 0
+abbrev pub TellsNoPlaces : BodyExplanation → Type 0
 TellsNoPlaces (Malformed stop) = stop ≡ None
 TellsNoPlaces (TooManyLocals count) = count ≡ None
 TellsNoPlaces (IllTyped number found typing cause) = (found ≡ None) × (typing ≡ None) × (cause ≡ None)
 
 -- the bytes of the module in the span are the body of the function; without a span no place is told
-abbrev pub TellsBody : List ℕ → Context → ℕ → List (List ℕ) → ℕ → Option Span → BodyFault → Type 0
+abbrev pub TellsBody : List ℕ → Context → ℕ → List (List ℕ) → ℕ → Option Span → BodyExplanation → Type 0
 TellsBody bytes C imported bodies f None fault = TellsNoPlaces fault
 TellsBody bytes C imported bodies f (Some s) fault =
     IsBodyOf imported bodies f (between s.from s.to bytes) × TellsPlaces C f (between s.from s.to bytes) s.from fault

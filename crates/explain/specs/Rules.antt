@@ -9,7 +9,7 @@ use Rattle.wsyntax.specs.Initials.{has_constant_form}
 use Rattle.wsyntax.specs.Modules.{ModuleShape, ExportShape, ElementShape, DataShape, GlobalShape}
 use Rattle.wsyntax.specs.Binary.Shell.{Shell}
 use Rattle.wsyntax.specs.Validation.ModuleContext.{imported_functions, imported_globals, functions_of, tables_of, memories_of, empty_type}
-use Rattle.wsyntax.specs.Validation.Rules.{InOrder, WithinRange, ConstantOf, count_of, HasType, ElementValid, DataValid}
+use Rattle.wsyntax.specs.Validation.Rules.{InOrder, WithinRange, page_range, ConstantOf, count_of, HasType, ElementValid, DataValid}
 use Rattle.wcontext.specs.Constants.{immutable_type}
 use Rattle.explain.specs.declared.broken_item.Initial.{Initial}
 use Rattle.explain.specs.declared.broken_item.Initial.TheVariants.{Constant, Get, Other}
@@ -79,7 +79,7 @@ abbrev pub TellsFault : ModuleShape → ℕ → ItemFault → Type 0
 TellsFault m number (ImportedType func y types) = TellsType m (imported_functions m) func y types
 TellsFault m number (DefinedType func y types) = TellsType m m.functions number y types × (func ≡ length (imported_functions m) + number)
 TellsFault m number (TableLimits table limits) = IsFirst (λ t. InOrder t.limits) (tables_of m) table (record { limits = limits })
-TellsFault m number (MemoryLimits memory limits) = IsFirst (WithinRange 65536) (memories_of m) memory limits
+TellsFault m number (MemoryLimits memory limits) = IsFirst (WithinRange page_range) (memories_of m) memory limits
 TellsFault m number (SecondTable tables) = (tables ≡ length (tables_of m)) × (1 < tables)
 TellsFault m number (SecondMemory memories) = (memories ≡ length (memories_of m)) × (1 < memories)
 TellsFault m number (GlobalValue global t initial) = TellsGlobal (imported_globals m) m.globals number t initial × (global ≡ length (imported_globals m) + number)

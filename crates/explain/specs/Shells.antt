@@ -23,8 +23,8 @@ use Rattle.explain.specs.declared.shell.primitives.Stuck.{Stuck}
 use Rattle.explain.specs.declared.shell.primitives.Stuck.TheVariants as stuck
 use Rattle.explain.specs.declared.shell.items.Items.{Items}
 use Rattle.explain.specs.declared.shell.items.Items.TheVariants.{Types, Imports, Functions, Tables, Memories, Globals, Exports, Elements, Bodies, Segments}
-use Rattle.explain.specs.declared.shell.contents.Outcome.{Outcome}
-use Rattle.explain.specs.declared.shell.contents.Outcome.TheVariants as outcome
+use Rattle.explain.specs.declared.shell.contents.ContentsEnd.{ContentsEnd}
+use Rattle.explain.specs.declared.shell.contents.ContentsEnd.TheVariants as outcome
 
 -- the byte is none of those that are wanted; other things that are wanted do not stand in one byte
 abbrev pub IsNone : Wanted → ℕ → Type 0
@@ -159,27 +159,27 @@ IsUnread id contents part.Name = (id ≡ 0) × (rest_of (name.read contents) ≡
 IsUnread id contents _ = ⊥
 
 -- what comes of reading a part, where these bytes are left or none
-abbrev pub Comes : SectionPart → Option (List ℕ) → Outcome → Type 0
+abbrev pub Comes : SectionPart → Option (List ℕ) → ContentsEnd → Type 0
 Comes p left (outcome.After rest segment) = left ≡ Some rest.now
 Comes p left outcome.Unknown = Unit {0}
 Comes p left (outcome.Stopped l) = (l.part ≡ p) × (left ≡ None) × Stands l.wrong l.rest.now
 
 -- what comes of reading so many items
-abbrev pub ItemsCome : Items → ℕ → List ℕ → Outcome → Type 0
+abbrev pub ItemsCome : Items → ℕ → List ℕ → ContentsEnd → Type 0
 ItemsCome items count bytes (outcome.After rest segment) = after_items items count bytes ≡ Some rest.now
 ItemsCome items count bytes outcome.Unknown = Unit {0}
 ItemsCome items count bytes (outcome.Stopped l) =
     ((n : ℕ) × (item : List ℕ) × (l.part ≡ part.Item n) × (n < count) × (after_items items n bytes ≡ Some item) × (after items item ≡ None)) × Stands l.wrong l.rest.now
 
 -- what comes of reading a vector
-abbrev pub VectorComes : Items → List ℕ → Outcome → Type 0
+abbrev pub VectorComes : Items → List ℕ → ContentsEnd → Type 0
 VectorComes items contents (outcome.After rest segment) = IsVector items contents rest.now
 VectorComes items contents outcome.Unknown = Unit {0}
 VectorComes items contents (outcome.Stopped l) =
     (((n : ℕ) × (l.part ≡ part.Item n) × IsNoItem items contents n) ⊎ ((l.part ≡ part.Count) × (u32.read contents ≡ None))) × Stands l.wrong l.rest.now
 
 -- what comes of reading what a section holds
-abbrev pub ContentsCome : ℕ → List ℕ → Outcome → Type 0
+abbrev pub ContentsCome : ℕ → List ℕ → ContentsEnd → Type 0
 ContentsCome id contents (outcome.After rest segment) = AreRead id contents rest.now
 ContentsCome id contents outcome.Unknown = Unit {0}
 ContentsCome id contents (outcome.Stopped l) = IsUnread id contents l.part × Stands l.wrong l.rest.now

@@ -6,8 +6,8 @@ use Rattle.wsyntax.specs.Execution.Start.{StartRefusal, any, body_has_floats, fi
 use Rattle.wsyntax.specs.Execution.Start as meant
 use Rattle.wsyntax.specs.Texts.Report.{refusal_text}
 use Rattle.wsyntax.specs.Texts.Words.{newline}
-use Rattle.accepted.specs.Floats.{global_has_floats}
-use Rattle.accepted.specs.Sizes.{table_size, memory_pages}
+use Rattle.accepted_module.specs.Floats.{global_has_floats}
+use Rattle.accepted_module.specs.Sizes.{table_size, memory_pages}
 use Rattle.explain.specs.Places.{IsTokenAt}
 use Rattle.explain.specs.Texts.{BeginsWith}
 use Rattle.explain.specs.declared.explanation.FoundToken.{FoundToken}

@@ -5,14 +5,14 @@ use Rattle.wsyntax.specs.Validation.Verdict as meant
 use Rattle.verdict.specs.declared.refusal.BodyRefusal.{BodyRefusal}
 use Rattle.verdict.specs.declared.refusal.BodyRefusal.TheVariants as refusal
 use Rattle.verdict.specs.Refusals.{fault_of}
-use Rattle.explain.specs.declared.explanation.BodyFault.{BodyFault}
-use Rattle.explain.specs.declared.explanation.BodyFault.TheVariants as fault
+use Rattle.explain.specs.declared.explanation.BodyExplanation.{BodyExplanation}
+use Rattle.explain.specs.declared.explanation.BodyExplanation.TheVariants as fault
 use Rattle.explain.specs.declared.explanation.RefusedBody.{RefusedBody}
 use Rattle.explain.specs.declared.explanation.Explanation.{Explanation}
 use Rattle.explain.specs.declared.explanation.Explanation.TheVariants.{Accepted, TooLarge, Malformed, Rule, Body, Memory}
 
 -- why a body is refused, without places
-abbrev pub refusal_told : BodyFault → BodyRefusal
+abbrev pub refusal_told : BodyExplanation → BodyRefusal
 refusal_told (fault.Malformed stop) = refusal.Malformed
 refusal_told (fault.TooManyLocals count) = refusal.TooManyLocals
 refusal_told (fault.IllTyped number found typing cause) = refusal.IllTyped number

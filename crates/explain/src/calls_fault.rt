@@ -2,8 +2,8 @@
 ghost use Rattle.std.specs.Prelude.{◌≡◌, ◌+◌, ◌-◌, ◌≤◌, ◌<◌, ℕ, suc, IfOk, IfSome, Some, length, slice_get};
 ghost use Rattle.explain.specs.CallFaults.{IsFault, ReadsOr, SplitsAt};
 
+use batch_text::{Call, CallsFault, read_calls};
 use std::alloc::{AllocError, Global};
-use texts::{Call, CallsFault, read_calls};
 use wsyntax::LINE_LIMIT;
 
 /// The greatest number of an i32.

@@ -2,9 +2,9 @@
 ghost use Rattle.std.specs.Prelude.{◌≡◌, IfOk};
 ghost use Rattle.wsyntax.specs.Execution.Values.{type_of, types};
 
-use accepted::Accepted;
+use accepted_module::Accepted;
+use batch_text::Call;
 use std::alloc::{AllocError, Global};
-use texts::Call;
 use wsyntax::{ExportKind, ValType, Value};
 
 /// Why a call does not fit its module.

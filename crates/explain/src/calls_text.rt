@@ -3,9 +3,9 @@ use crate::calls_fault::{LineFault, TextFault, WordFault};
 use crate::calls_misfit::{CallMisfit, Misfit};
 use crate::quoting::push_name;
 use crate::type_text::push_types;
-use accepted::Accepted;
+use accepted_module::Accepted;
+use batch_text::Call;
 use std::alloc::AllocError;
-use texts::Call;
 use wsyntax::{CALLS_LIMIT, ExportKind, LINE_LIMIT, ValType};
 
 /// What is wrong with a word.

@@ -16,7 +16,7 @@ use crate::shell::places::place_of;
 use std::alloc::{AllocError, Global};
 use verdict::{BodyRefusal, Refusal, examine_alone};
 use wcontext::{ModuleFault, check_early};
-use wdecode::{DecodeFault, Front, decode_front};
+use wdecode::{DecodeFault, ModuleHead, decode_front};
 
 /// A refused body of which no more is known than its verdict.
 fn bare_body<'a>(func: u32, refusal: BodyRefusal) -> RefusedBody<'a>
@@ -38,7 +38,7 @@ fn bare_body<'a>(func: u32, refusal: BodyRefusal) -> RefusedBody<'a>
 fn body_of<'a>(
     alloc: Global,
     bytes: &'a [u8],
-    front: &Front<'a>,
+    front: &ModuleHead<'a>,
     func: u32,
     refusal: BodyRefusal,
 ) -> Result<RefusedBody<'a>, AllocError>

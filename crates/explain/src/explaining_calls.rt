@@ -13,9 +13,9 @@ use crate::explaining::explain;
 use crate::explanation::Explanation;
 use crate::starting_text::push_not_starting;
 use crate::text::explanation_text;
-use accepted::Accepted;
+use accepted_module::Accepted;
+use batch_text::Call;
 use std::alloc::{AllocError, Global};
-use texts::Call;
 use verdict::judge_alone;
 
 /// What is refused.

@@ -104,7 +104,7 @@ pub struct FoundToken {
 
 /// Why a body is refused. What is `None` could not be found; nothing false is said in its place.
 #[derive(Drop)]
-pub enum BodyFault<'a> {
+pub enum BodyExplanation<'a> {
     /// Its bytes spell no body.
     Malformed {
         stop: Option<Stop<'a>>,
@@ -135,7 +135,7 @@ pub struct RefusedBody<'a> {
     /// The name of the first export of the function.
     pub export: Option<&'a [u8]>,
     pub signature: Option<Signature>,
-    pub fault: BodyFault<'a>,
+    pub fault: BodyExplanation<'a>,
 }
 
 /// What is said of a module.
@@ -159,7 +159,7 @@ pub enum Explanation<'a> {
     Memory,
 }
 
-impl BodyFault<'_> {
+impl BodyExplanation<'_> {
     ghost use Rattle.std.specs.Prelude.{◌≡◌};
     ghost use Rattle.explain.specs.Told.{refusal_told};
 
@@ -168,9 +168,9 @@ impl BodyFault<'_> {
         ensures { result ≡ refusal_told self.now }
     {
         match self {
-            BodyFault::Malformed { .. } => BodyRefusal::Malformed,
-            BodyFault::TooManyLocals { .. } => BodyRefusal::TooManyLocals,
-            BodyFault::IllTyped { number, .. } => BodyRefusal::IllTyped { at: *number },
+            BodyExplanation::Malformed { .. } => BodyRefusal::Malformed,
+            BodyExplanation::TooManyLocals { .. } => BodyRefusal::TooManyLocals,
+            BodyExplanation::IllTyped { number, .. } => BodyRefusal::IllTyped { at: *number },
         }
     }
 }

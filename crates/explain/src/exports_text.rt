@@ -2,14 +2,14 @@
 ghost use Rattle.std.specs.Prelude.{◌≡◌, ◌++◌, IfOk, OnOk, flat_map, map, slice_get, string_bytes};
 ghost use Rattle.wsyntax.specs.Modules.{export_shape, module_shape};
 ghost use Rattle.wsyntax.specs.Execution.Start.{start_refusal};
-ghost use Rattle.accepted.specs.Judgement.{shapes_of};
+ghost use Rattle.accepted_module.specs.Judgement.{shapes_of};
 ghost use Rattle.explain.specs.Types.{func_type_text, global_type_text};
 ghost use Rattle.explain.specs.Exports.{export_line, function_text, global_text, item_text, kind_word, IsExportsText};
 
 use crate::quoting::push_name;
 use crate::starting_text::start_line;
 use crate::type_text::{push_lists, type_name};
-use accepted::Accepted;
+use accepted_module::Accepted;
 use std::alloc::{AllocError, Global};
 use wcontext::Context;
 use wsyntax::{Export, ExportKind, GlobalType};

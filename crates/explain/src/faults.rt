@@ -6,7 +6,7 @@ ghost use Rattle.explain.specs.Told.{refusal_told};
 ghost use Rattle.explain.specs.Placed.{Declares, TellsBody, TellsNoPlaces, TellsPlaces};
 
 use crate::bodies::body_span;
-use crate::explanation::{BodyFault, Span};
+use crate::explanation::{BodyExplanation, Span};
 use crate::recheck::{Told, find_told};
 use crate::stops::stop_of;
 use std::alloc::{AllocError, Global};
@@ -16,14 +16,14 @@ use wdecode::{Fault, locals_at};
 use wsyntax::LocalRun;
 
 /// What is known of a refused body by its verdict alone.
-fn bare_fault<'a>(refusal: BodyRefusal) -> BodyFault<'a>
+fn bare_fault<'a>(refusal: BodyRefusal) -> BodyExplanation<'a>
     ensures refusal { refusal_told result ≡ refusal }
     ensures places { TellsNoPlaces result }
 {
     match refusal {
-        BodyRefusal::Malformed => BodyFault::Malformed { stop: None },
-        BodyRefusal::TooManyLocals => BodyFault::TooManyLocals { count: None },
-        BodyRefusal::IllTyped { at } => BodyFault::IllTyped {
+        BodyRefusal::Malformed => BodyExplanation::Malformed { stop: None },
+        BodyRefusal::TooManyLocals => BodyExplanation::TooManyLocals { count: None },
+        BodyRefusal::IllTyped { at } => BodyExplanation::IllTyped {
             number: at,
             found: None,
             typing: None,
@@ -62,7 +62,7 @@ fn placed_token<'a>(
     body: &[u8],
     start: usize,
     number: usize,
-) -> Result<BodyFault<'a>, AllocError>
+) -> Result<BodyExplanation<'a>, AllocError>
     ensures refusal { IfOk result (λ f. refusal_told f ≡ refusal.IllTyped number) }
     ensures places { IfOk result (TellsPlaces context.now.context func body.now start) }
 {
@@ -73,7 +73,7 @@ fn placed_token<'a>(
                 typing,
                 cause,
             },
-        ) => Ok(BodyFault::IllTyped {
+        ) => Ok(BodyExplanation::IllTyped {
             number,
             found: Some(found),
             typing: Some(typing),
@@ -92,18 +92,18 @@ fn placed_fault<'a>(
     body: &'a [u8],
     start: usize,
     refusal: BodyRefusal,
-) -> Result<BodyFault<'a>, AllocError>
+) -> Result<BodyExplanation<'a>, AllocError>
     ensures refusal { IfOk result (λ f. refusal_told f ≡ refusal) }
     ensures places { IfOk result (TellsPlaces context.now.context func body.now start) }
 {
     match refusal {
         BodyRefusal::Malformed => {
             let stop = stop_of(alloc, body, start)?;
-            Ok(BodyFault::Malformed { stop })
+            Ok(BodyExplanation::Malformed { stop })
         }
         BodyRefusal::TooManyLocals => {
             let count = declared_locals(alloc, body)?;
-            Ok(BodyFault::TooManyLocals { count })
+            Ok(BodyExplanation::TooManyLocals { count })
         }
         BodyRefusal::IllTyped { at } => placed_token(alloc, context, func, body, start, at),
     }
@@ -113,7 +113,7 @@ fn placed_fault<'a>(
 #[derive(Drop)]
 pub(crate) struct Located<'a> {
     pub(crate) span: Option<Span>,
-    pub(crate) fault: BodyFault<'a>,
+    pub(crate) fault: BodyExplanation<'a>,
 }
 
 /// A body whose place is not known.

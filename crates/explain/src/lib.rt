@@ -33,7 +33,6 @@ mod shell;
 mod shell_place;
 mod shell_text;
 mod shell_words;
-mod spaces;
 mod starting;
 mod starting_text;
 mod stop_text;
@@ -51,10 +50,11 @@ pub use cause::{Cause, Space};
 pub use explaining::explain;
 pub use explaining_calls::{CallsExplanation, Refused, explain_calls};
 pub use explanation::{
-    BodyFault, Explanation, Form, FoundToken, NoModule, RefusedBody, Signature, Span, Stop, Stopped,
+    BodyExplanation, Explanation, Form, FoundToken, NoModule, RefusedBody, Signature, Span, Stop,
+    Stopped,
 };
 pub use exports_text::text_of_exports;
-pub use numbers::Kind;
+pub use numbers::ExplanationKind;
 pub use shell_place::{FoundSection, OtherSegment, Place, SectionPart, Wanted, Wrong};
 pub use starting::{FloatPlace, NotStarting, not_starting};
 pub use text::explanation_text;

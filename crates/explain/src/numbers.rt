@@ -1,9 +1,10 @@
 //! The numbers of an explanation, one by one, for readers that no variant concerns. `None` says that a number is not told.
 ghost use Rattle.std.specs.Prelude.{◌≡◌, option_map};
-ghost use Rattle.explain.specs.Numbers.{at_offset, item_of_part, kind_of_fault, kind_of_no_module, kind_of_stop, opcode_of_fault, opcode_of_stop, place_of_fault, place_of_no_module};
+ghost use Rattle.explain.specs.Numbers.{at_offset, item_of_part, kind_of_fault, kind_of_no_module};
+ghost use Rattle.explain.specs.Numbers.{kind_of_stop, opcode_of_fault, opcode_of_stop, place_of_fault, place_of_no_module};
 
 use crate::broken_item::BrokenItem;
-use crate::explanation::{BodyFault, Explanation, NoModule, Span, Stop, Stopped};
+use crate::explanation::{BodyExplanation, Explanation, NoModule, Span, Stop, Stopped};
 use crate::shell_place::{Place, SectionPart};
 
 /// The id of the section of bodies (5.5.13).
@@ -11,7 +12,7 @@ const CODE_SECTION: u8 = 10;
 
 /// What is said of a module, by its kind.
 #[derive(Clone, Copy, Debug, PartialEq, Eq)]
-pub enum Kind {
+pub enum ExplanationKind {
     Accepted,
     TooLarge,
     /// The bytes begin as the text format does.
@@ -49,41 +50,41 @@ pub enum Kind {
 }
 
 /// The kind of bytes that spell no module.
-fn no_module_kind(what: NoModule) -> Kind
+fn no_module_kind(what: NoModule) -> ExplanationKind
     ensures { result ≡ kind_of_no_module what }
 {
     match what {
-        NoModule::Text => Kind::Text,
-        NoModule::Gzip => Kind::Gzip,
-        NoModule::Short => Kind::ShortHeader,
-        NoModule::Magic { .. } => Kind::Magic,
-        NoModule::Version { .. } => Kind::Version,
-        NoModule::Sections(_) => Kind::Sections,
+        NoModule::Text => ExplanationKind::Text,
+        NoModule::Gzip => ExplanationKind::Gzip,
+        NoModule::Short => ExplanationKind::ShortHeader,
+        NoModule::Magic { .. } => ExplanationKind::Magic,
+        NoModule::Version { .. } => ExplanationKind::Version,
+        NoModule::Sections(_) => ExplanationKind::Sections,
     }
 }
 
 /// The kind of a body that is malformed for that.
-fn stop_kind(why: Stopped) -> Kind
+fn stop_kind(why: Stopped) -> ExplanationKind
     ensures { result ≡ kind_of_stop why }
 {
     match why {
-        Stopped::Locals => Kind::Locals,
-        Stopped::Token => Kind::Token,
-        Stopped::Else => Kind::Else,
-        Stopped::Left => Kind::Left,
-        Stopped::Short => Kind::ShortBody,
+        Stopped::Locals => ExplanationKind::Locals,
+        Stopped::Token => ExplanationKind::Token,
+        Stopped::Else => ExplanationKind::Else,
+        Stopped::Left => ExplanationKind::Left,
+        Stopped::Short => ExplanationKind::ShortBody,
     }
 }
 
 /// The kind of a body that is refused.
-fn fault_kind(fault: &BodyFault<'_>) -> Kind
+fn fault_kind(fault: &BodyExplanation<'_>) -> ExplanationKind
     ensures { result ≡ kind_of_fault fault.now }
 {
     match fault {
-        BodyFault::Malformed { stop: Some(stop) } => stop_kind(stop.why),
-        BodyFault::Malformed { stop: None } => Kind::BodyMalformed,
-        BodyFault::TooManyLocals { .. } => Kind::TooManyLocals,
-        BodyFault::IllTyped { .. } => Kind::IllTyped,
+        BodyExplanation::Malformed { stop: Some(stop) } => stop_kind(stop.why),
+        BodyExplanation::Malformed { stop: None } => ExplanationKind::BodyMalformed,
+        BodyExplanation::TooManyLocals { .. } => ExplanationKind::TooManyLocals,
+        BodyExplanation::IllTyped { .. } => ExplanationKind::IllTyped,
     }
 }
 
@@ -130,12 +131,12 @@ fn item_begins(item: &BrokenItem<'_>) -> Option<Span>
 }
 
 /// The bytes of the token that is refused, or where reading stopped.
-fn fault_place(fault: &BodyFault<'_>) -> Option<Span>
+fn fault_place(fault: &BodyExplanation<'_>) -> Option<Span>
     ensures { result ≡ place_of_fault fault.now }
 {
     match fault {
-        BodyFault::Malformed { stop: Some(stop) } => Some(offset_alone(stop.at)),
-        BodyFault::IllTyped {
+        BodyExplanation::Malformed { stop: Some(stop) } => Some(offset_alone(stop.at)),
+        BodyExplanation::IllTyped {
             found: Some(found),
             ..
         } => Some(found.span),
@@ -154,12 +155,12 @@ fn stop_opcode(stop: &Stop<'_>) -> Option<u8>
 }
 
 /// The first byte of the token that is refused, or where reading stopped.
-fn fault_opcode(fault: &BodyFault<'_>) -> Option<u8>
+fn fault_opcode(fault: &BodyExplanation<'_>) -> Option<u8>
     ensures { result ≡ opcode_of_fault fault.now }
 {
     match fault {
-        BodyFault::Malformed { stop: Some(stop) } => stop_opcode(stop),
-        BodyFault::IllTyped {
+        BodyExplanation::Malformed { stop: Some(stop) } => stop_opcode(stop),
+        BodyExplanation::IllTyped {
             found: Some(found),
             ..
         } => Some(found.opcode),
@@ -172,16 +173,16 @@ impl Explanation<'_> {
     ghost use Rattle.explain.specs.Numbers.{body_told, item_told, kind_told, opcode_told, place_told, section_told};
 
     /// What is said, by its kind.
-    pub fn kind(&self) -> Kind
+    pub fn kind(&self) -> ExplanationKind
         ensures { result ≡ kind_told self.now }
     {
         match self {
-            Explanation::Accepted => Kind::Accepted,
-            Explanation::TooLarge { .. } => Kind::TooLarge,
+            Explanation::Accepted => ExplanationKind::Accepted,
+            Explanation::TooLarge { .. } => ExplanationKind::TooLarge,
             Explanation::Malformed(what) => no_module_kind(*what),
-            Explanation::Rule { .. } => Kind::Rule,
+            Explanation::Rule { .. } => ExplanationKind::Rule,
             Explanation::Body(body) => fault_kind(&body.fault),
-            Explanation::Memory => Kind::Memory,
+            Explanation::Memory => ExplanationKind::Memory,
         }
     }
 

@@ -5,10 +5,7 @@ use crate::item_places::{DATA, ELEMENT, EXPORT, IMPORT, START};
 use crate::quoting::push_name;
 use crate::type_text::{push_signature, type_name};
 use std::alloc::AllocError;
-use wsyntax::{ExportKind, GlobalType, Limits, ValType};
-
-/// The greatest size of a memory, in pages (3.2.4).
-const PAGES: u32 = 65536;
+use wsyntax::{ExportKind, GlobalType, Limits, PAGE_RANGE, ValType};
 
 /// An item of a section, by its number there.
 fn push_numbered(text: &mut String, section: u8, number: usize) -> Result<(), AllocError> {
@@ -131,7 +128,7 @@ fn push_space_fault(text: &mut String, fault: &ItemFault<'_>) -> Result<(), Allo
         }
         ItemFault::MemoryLimits { memory, limits } => {
             write!(text, "memory {memory}")?;
-            push_limits(text, *limits, PAGES)
+            push_limits(text, *limits, PAGE_RANGE)
         }
         ItemFault::SecondTable { tables } => {
             write!(text, "there are {tables} tables, and at most 1 is allowed")

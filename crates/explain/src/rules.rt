@@ -14,8 +14,8 @@ mod start;
 
 use crate::broken_item::BrokenItem;
 use crate::item_places::place_of;
-use crate::spaces::Spaces;
 use std::alloc::{AllocError, Global};
+use wcontext::Spaces;
 use wdecode::{DecodeFault, decode_module};
 use wsyntax::Module;
 

@@ -4,17 +4,14 @@ ghost use Rattle.wsyntax.specs.FuncTypes.{func_type_of};
 ghost use Rattle.wsyntax.specs.Modules.{body_shape, global_shape, module_shape, seen};
 ghost use Rattle.wsyntax.specs.Execution.Start.{any, has_floats, is_float, run_has_floats, start_refusal};
 ghost use Rattle.wsyntax.specs.Execution.Start.{token_has_floats, type_has_floats};
-ghost use Rattle.accepted.specs.Floats.{global_has_floats};
-ghost use Rattle.accepted.specs.Judgement.{shapes_of};
-ghost use Rattle.accepted.specs.Layouts.{IsLayoutOf};
+ghost use Rattle.accepted_module.specs.Floats.{global_has_floats};
+ghost use Rattle.accepted_module.specs.Judgement.{shapes_of};
+ghost use Rattle.accepted_module.specs.Layouts.{IsLayoutOf};
 ghost use Rattle.explain.specs.Starting.{IsNamed, first_float, first_in, float_in, refusal_named};
 
-use accepted::{Accepted, Layout, memory_pages, table_size};
-use checked::{CheckedBody, is_float, token_has_floats};
-use wsyntax::{FuncType, FuncTypes, Global, Import, LocalRun, Module, Token, ValType};
-
-/// The most entries that the table of an instance may have.
-pub(crate) const TABLE_LIMIT: u32 = 65_536;
+use accepted_module::{Accepted, Layout, memory_pages, table_size};
+use checked_body::{CheckedBody, is_float, token_has_floats};
+use wsyntax::{FuncType, FuncTypes, Global, Import, LocalRun, Module, TABLE_LIMIT, Token, ValType};
 
 /// Where f32 or f64 stands first in a module without imports, in which the index of a function is the place of its body.
 #[derive(Clone, Copy)]

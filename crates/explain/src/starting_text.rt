@@ -2,7 +2,7 @@
 ghost use Rattle.std.specs.Prelude.{◌≡◌, ◌++◌, codes, IfOk, IfSome, length, option_map, string_bytes};
 ghost use Rattle.wsyntax.specs.Modules.{module_shape};
 ghost use Rattle.wsyntax.specs.Execution.Start.{start_refusal};
-ghost use Rattle.accepted.specs.Judgement.{shapes_of};
+ghost use Rattle.accepted_module.specs.Judgement.{shapes_of};
 ghost use Rattle.explain.specs.Texts.{BeginsWith};
 ghost use Rattle.explain.specs.Starting.{IsStartLine, IsTokenOf, reason_text, refusal_named};
 
@@ -12,16 +12,13 @@ use crate::functions::first_export;
 use crate::names::name_of;
 use crate::places::find_token;
 use crate::quoting::push_name;
-use crate::starting::{FloatPlace, NotStarting, TABLE_LIMIT, not_starting};
+use crate::starting::{FloatPlace, NotStarting, not_starting};
 use crate::token_text::push_token;
 use crate::type_text::{push_lists, type_name};
-use accepted::{Accepted, memory_pages, table_size};
+use accepted_module::{Accepted, memory_pages, table_size};
 use std::alloc::{AllocError, Global};
 use wdecode::Fault;
-use wsyntax::{Import, ImportKind, Module};
-
-/// How many bytes a page of a memory has.
-const PAGE: u64 = 65_536;
+use wsyntax::{Import, ImportKind, Module, PAGE, TABLE_LIMIT};
 
 /// The token of that number of the body of that function of a module without imports, where it is found.
 fn token_of(
@@ -211,7 +208,7 @@ fn push_element(
 /// A data segment that ends past the memory.
 fn push_data(text: &mut String, accepted: &Accepted<'_>, segment: u32) -> Result<(), AllocError> {
     let module = accepted.module();
-    let size = u64::from(memory_pages(module)) * PAGE;
+    let size = u64::from(memory_pages(module)) * PAGE as u64;
     let place = accepted.layout().data_places().get(segment as usize);
     if let (Some(found), Some(from)) = (module.data.get(segment as usize), place) {
         let count = found.bytes.len();

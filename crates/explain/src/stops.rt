@@ -6,10 +6,7 @@ use crate::explanation::{Stop, Stopped};
 use crate::places::offset_of;
 use smallvec::SmallVec;
 use std::alloc::{AllocError, Global};
-use wdecode::{Fault, enter, locals_at, token_at};
-
-/// How many open blocks need no memory of their own.
-const FEW: usize = 16;
+use wdecode::{FEW_BLOCKS, Fault, enter, locals_at, token_at};
 
 /// Where reading stops, without its offset.
 #[derive(Clone, Copy)]
@@ -32,7 +29,7 @@ pub(crate) enum Further<'a> {
 
 /// Reads one token more.
 fn go_further<'a>(
-    opened: &mut SmallVec<bool, FEW>,
+    opened: &mut SmallVec<bool, FEW_BLOCKS>,
     targets: &mut Vec<u32>,
     rest: &'a [u8],
 ) -> Result<Further<'a>, AllocError>

@@ -7,7 +7,7 @@ ghost use Rattle.explain.specs.Texts.{BeginsWith};
 ghost use Rattle.explain.specs.Told.{verdict_told};
 
 use crate::cause_text::push_cause;
-use crate::explanation::{BodyFault, Explanation, Form, FoundToken, NoModule, RefusedBody};
+use crate::explanation::{BodyExplanation, Explanation, Form, FoundToken, NoModule, RefusedBody};
 use crate::quoting::{push_hex, push_name};
 use crate::rule_text::push_broken_item;
 use crate::shell_text::push_place;
@@ -77,16 +77,16 @@ fn push_found(text: &mut String, number: usize, found: &FoundToken) -> Result<()
 }
 
 /// The lines on why a body is refused.
-fn push_fault(text: &mut String, fault: &BodyFault<'_>) -> Result<(), AllocError> {
+fn push_fault(text: &mut String, fault: &BodyExplanation<'_>) -> Result<(), AllocError> {
     match fault {
-        BodyFault::Malformed { stop: Some(stop) } => push_stop(text, *stop),
-        BodyFault::TooManyLocals { count: Some(count) } => {
+        BodyExplanation::Malformed { stop: Some(stop) } => push_stop(text, *stop),
+        BodyExplanation::TooManyLocals { count: Some(count) } => {
             write!(
                 text,
                 "because   it declares {count} locals, and {LOCAL_LIMIT} are the most\n"
             )
         }
-        BodyFault::IllTyped {
+        BodyExplanation::IllTyped {
             number,
             found: Some(found),
             typing,

@@ -16,22 +16,25 @@ use Rattle.explain.specs.declared.explaining_calls.Refused.{Refused}
 use Rattle.gate.specs.Explains.{Explains, ExplainsCalls, IsCallsExplained, refused_status}
 use Rattle.gate.specs.Prints.{Shows}
 use Rattle.gate.specs.Reads.{IsRead}
-use Rattle.gate.specs.declared.fault.Fault.{Fault}
-use Rattle.gate.specs.declared.fault.Fault.TheVariants.{Usage, Unreadable, Write, Memory}
+use Rattle.gate.specs.declared.fault.ProgramFault.{ProgramFault}
+use Rattle.gate.specs.declared.fault.ProgramFault.TheVariants.{Usage, Unreadable, Unread, SomeUnread, Names, Write, Memory}
 
 judges : (held : Option (List ℕ)) (bytes slice : List ℕ) (v : Verdict) → IsRead module_limit held bytes → slice ≡ bytes → IsVerdict slice v → Judges held v
 judges held bytes slice v read same verdict = record { bytes = bytes; read = read; verdict = subst (λ x. IsVerdict x v) same verdict }
 
 -- a verdict that is told
-told : (held : Option (List ℕ)) (text : List ℕ) (old new : Option (List ℕ)) (v : Verdict) (s : Status) (r : Result Status Fault)
+told : (held : Option (List ℕ)) (text : List ℕ) (old new : Option (List ℕ)) (v : Verdict) (s : Status) (r : Result Status ProgramFault)
     → Judges held v → s ≡ status_of v → BeginsWith (verdict_line v) text → Shows text s old new r → Explains held old new r
 told held text old new v s (Ok t) judged is begins shown = (v, text, (judged, begins), shown.0 ∙ is, shown.1)
 told held text old new v s (Err Write) judged is begins shown = (v, text, (judged, begins), shown)
 told held text old new v s (Err (Usage t)) judged is begins shown = absurd shown
 told held text old new v s (Err (Unreadable path)) judged is begins shown = absurd shown
+told held text old new v s (Err (Unread path reason)) judged is begins shown = absurd shown
+told held text old new v s (Err SomeUnread) judged is begins shown = absurd shown
+told held text old new v s (Err Names) judged is begins shown = absurd shown
 told held text old new v s (Err Memory) judged is begins shown = absurd shown
 
-pub explained : (held : Option (List ℕ)) (bytes slice text shown : List ℕ) (old new : Option (List ℕ)) (verdict : Option Verdict) (s : Status) (r : Result Status Fault)
+pub explained : (held : Option (List ℕ)) (bytes slice text shown : List ℕ) (old new : Option (List ℕ)) (verdict : Option Verdict) (s : Status) (r : Result Status ProgramFault)
     → IsRead module_limit held bytes → slice ≡ bytes → IfSome verdict (IsVerdict slice) → ((v : Verdict) → verdict ≡ Some v → s ≡ status_of v)
     → IsSomeAnd verdict (λ v. BeginsWith (verdict_line v) text) → shown ≡ text → Shows shown s old new r → Explains held old new r
 explained held bytes slice text shown old new None s r read same is status begins e done = absurd begins
@@ -67,14 +70,17 @@ calls_told held_module held_calls bytes text out refused s read_module read_call
   begins = begins;
 }
 
-shown_calls : (held_module held_calls : Option (List ℕ)) (out : List ℕ) (old new : Option (List ℕ)) (s : Status) (r : Result Status Fault) → IsCallsExplained held_module held_calls s out → Shows out s old new r → ExplainsCalls held_module held_calls old new r
+shown_calls : (held_module held_calls : Option (List ℕ)) (out : List ℕ) (old new : Option (List ℕ)) (s : Status) (r : Result Status ProgramFault) → IsCallsExplained held_module held_calls s out → Shows out s old new r → ExplainsCalls held_module held_calls old new r
 shown_calls held_module held_calls out old new s (Ok t) told shown = (out, subst (λ (x : Status). IsCallsExplained held_module held_calls x out) (sym shown.0) told, shown.1)
 shown_calls held_module held_calls out old new s (Err Write) told shown = (s, out, told, shown)
 shown_calls held_module held_calls out old new s (Err (Usage t)) told shown = absurd shown
 shown_calls held_module held_calls out old new s (Err (Unreadable path)) told shown = absurd shown
+shown_calls held_module held_calls out old new s (Err (Unread path reason)) told shown = absurd shown
+shown_calls held_module held_calls out old new s (Err SomeUnread) told shown = absurd shown
+shown_calls held_module held_calls out old new s (Err Names) told shown = absurd shown
 shown_calls held_module held_calls out old new s (Err Memory) told shown = absurd shown
 
-pub explained_calls : (held_module held_calls held_later : Option (List ℕ)) (bytes slice text text_slice out shown : List ℕ) (old new : Option (List ℕ)) (refused : Option Refused) (s : Status) (r : Result Status Fault)
+pub explained_calls : (held_module held_calls held_later : Option (List ℕ)) (bytes slice text text_slice out shown : List ℕ) (old new : Option (List ℕ)) (refused : Option Refused) (s : Status) (r : Result Status ProgramFault)
     → IsRead module_limit held_module bytes → IsRead calls_limit held_later text → held_later ≡ held_calls → slice ≡ bytes → text_slice ≡ text → TellsBoth slice text_slice refused out → s ≡ refused_status refused → shown ≡ out → Shows shown s old new r
     → ExplainsCalls held_module held_calls old new r
 explained_calls held_module held_calls held_later bytes slice text text_slice out shown old new refused s r read_module read_calls same same_bytes same_text told e is done =

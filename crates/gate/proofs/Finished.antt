@@ -16,10 +16,10 @@ use Rattle.gate.specs.Checks.{Checks}
 use Rattle.gate.specs.Endings.{EndsAs}
 use Rattle.gate.specs.Reads.{IsRead}
 use Rattle.gate.specs.Runs.{RunsOn}
-use Rattle.gate.specs.declared.fault.Fault.{Fault}
+use Rattle.gate.specs.declared.fault.ProgramFault.{ProgramFault}
 
 -- where the flush fails the whole line is a beginning of it
-pub checked : (held : Option (List ℕ)) (bytes slice : List ℕ) (old mid new : Option (List ℕ)) (a : Result Status AnswerFault) (r : Result Status Fault)
+pub checked : (held : Option (List ℕ)) (bytes slice : List ℕ) (old mid new : Option (List ℕ)) (a : Result Status AnswerFault) (r : Result Status ProgramFault)
     → IsRead module_limit held bytes → slice ≡ bytes → Reports (IsVerdict slice) old mid a → EndsAs a r → Keeps mid new → Checks held old new r
 checked held bytes slice old mid new (Ok s) r read same (v, verdict, status, written) (inl e) kept =
     subst (Checks held old new) (sym e) (v, record { bytes = bytes; read = read; verdict = subst (λ x. IsVerdict x v) same verdict }, status, Appends-kept old mid new (verdict_line v) written kept)
@@ -30,7 +30,7 @@ checked held bytes slice old mid new (Err Write) r read same (v, verdict, (front
 checked held bytes slice old mid new (Err Memory) r read same silent e kept = subst (Checks held old new) (sym e) (Keeps-trans old mid new silent kept)
 
 -- the same of an answer
-answered : (held_module held_calls : Option (List ℕ)) (l : Limits) (bytes text : List ℕ) (old mid new : Option (List ℕ)) (a : Result Status AnswerFault) (r : Result Status Fault)
+answered : (held_module held_calls : Option (List ℕ)) (l : Limits) (bytes text : List ℕ) (old mid new : Option (List ℕ)) (a : Result Status AnswerFault) (r : Result Status ProgramFault)
     → IsRead module_limit held_module bytes → IsRead calls_limit held_calls text → Answers (IsSomeAnswer bytes text l) old mid a → IfOk a (HasStatus bytes text) → EndsAs a r → Keeps mid new → RunsOn held_module held_calls l old new r
 answered held_module held_calls l bytes text old mid new (Ok s) r read_module read_calls (out, is, written) status (inl e) kept =
     subst (RunsOn held_module held_calls l old new) (sym e) record {
@@ -63,7 +63,7 @@ answered held_module held_calls l bytes text old mid new (Err Memory) r read_mod
     subst (RunsOn held_module held_calls l old new) (sym e) (Keeps-trans old mid new silent kept)
 
 -- the same of what was read, seen as slices
-pub answered_on : (held_module held_calls held_later : Option (List ℕ)) (l : Limits) (bytes slice text text_slice : List ℕ) (old mid new : Option (List ℕ)) (a : Result Status AnswerFault) (r : Result Status Fault)
+pub answered_on : (held_module held_calls held_later : Option (List ℕ)) (l : Limits) (bytes slice text text_slice : List ℕ) (old mid new : Option (List ℕ)) (a : Result Status AnswerFault) (r : Result Status ProgramFault)
     → IsRead module_limit held_module bytes → IsRead calls_limit held_later text → held_later ≡ held_calls → slice ≡ bytes → text_slice ≡ text
     → Answers (IsSomeAnswer slice text_slice l) old mid a → IfOk a (HasStatus slice text_slice) → EndsAs a r → Keeps mid new → RunsOn held_module held_calls l old new r
 answered_on held_module held_calls held_later l bytes slice text text_slice old mid new a r read_module read_calls same same_bytes same_text answers status e kept =

@@ -9,9 +9,9 @@ use Rattle.wsyntax.specs.Execution.Start.{start_refusal}
 use Rattle.wsyntax.specs.Texts.Lines.{verdict_line}
 use Rattle.wsyntax.specs.Validation.Context.{Context}
 use Rattle.wsyntax.specs.Validation.Verdict.{Verdict, Accepted, TooLarge, Malformed, RuleBroken, BodyRefused, IsVerdict}
-use Rattle.accepted.specs.Judgement.{shapes_of}
-use Rattle.accepted.specs.Kept.{IsAcceptedFrom}
-use Rattle.accepted.specs.declared.accepted.Accepted.{Accepted as AcceptedModule}
+use Rattle.accepted_module.specs.Judgement.{shapes_of}
+use Rattle.accepted_module.specs.Kept.{IsAcceptedFrom}
+use Rattle.accepted_module.specs.declared.accepted.Accepted.{Accepted as AcceptedModule}
 use Rattle.verdict.specs.Refusals.{verdict_of}
 use Rattle.verdict.specs.declared.refusal.Refusal.{Refusal}
 use Rattle.verdict.specs.declared.refusal.Refusal.TheVariants as refusal
@@ -21,16 +21,19 @@ use Rattle.batch.specs.declared.status.Status.TheVariants.{Good, ModuleRefused}
 use Rattle.explain.specs.Exports.{IsExportsText}
 use Rattle.gate.specs.Lists.{IsList, IsListBy, IsListOf, Lists, ShowsText}
 use Rattle.gate.specs.Reads.{IsRead}
-use Rattle.gate.specs.declared.fault.Fault.{Fault}
-use Rattle.gate.specs.declared.fault.Fault.TheVariants.{Usage, Unreadable, Write, Memory}
+use Rattle.gate.specs.declared.fault.ProgramFault.{ProgramFault}
+use Rattle.gate.specs.declared.fault.ProgramFault.TheVariants.{Usage, Unreadable, Unread, SomeUnread, Names, Write, Memory}
 
 -- a list that is had
-pub listed : (held : Option (List ℕ)) (v : Verdict) (text : Result (String Global) AllocError) (s : Status) (old new : Option (List ℕ)) (r : Result Status Fault)
+pub listed : (held : Option (List ℕ)) (v : Verdict) (text : Result (String Global) AllocError) (s : Status) (old new : Option (List ℕ)) (r : Result Status ProgramFault)
     → IfOk text (λ t. IsList held v (string_bytes t)) → s ≡ status_of v → ShowsText text s old new r → Lists held old new r
 listed held v (Ok text) s old new (Ok t) list is shown = (v, string_bytes text, list, shown.0 ∙ is, shown.1)
 listed held v (Ok text) s old new (Err Write) list is shown = (v, string_bytes text, list, shown)
 listed held v (Ok text) s old new (Err (Usage t)) list is shown = absurd shown
 listed held v (Ok text) s old new (Err (Unreadable path)) list is shown = absurd shown
+listed held v (Ok text) s old new (Err (Unread path reason)) list is shown = absurd shown
+listed held v (Ok text) s old new (Err SomeUnread) list is shown = absurd shown
+listed held v (Ok text) s old new (Err Names) list is shown = absurd shown
 listed held v (Ok text) s old new (Err Memory) list is shown = absurd shown
 listed held v (Err e) s old new r list is (ended, kept) = subst (Lists held old new) (sym ended) kept
 
@@ -58,7 +61,7 @@ good_text held bytes slice a (Ok text) read same verdict parts told =
     is_list held bytes slice (string_bytes text) Accepted read same verdict (a, parts, in_context slice a (string_bytes text) parts told)
 good_text held bytes slice a (Err e) read same verdict parts told = tt
 
-pub listed_good : (held : Option (List ℕ)) (bytes slice : List ℕ) (a : AcceptedModule) (text : Result (String Global) AllocError) (old new : Option (List ℕ)) (r : Result Status Fault)
+pub listed_good : (held : Option (List ℕ)) (bytes slice : List ℕ) (a : AcceptedModule) (text : Result (String Global) AllocError) (old new : Option (List ℕ)) (r : Result Status ProgramFault)
     → IsRead module_limit held bytes → slice ≡ bytes → IsVerdict slice Accepted → IsAcceptedFrom slice a
     → IfOk text (λ t. IsExportsText a.context.context (start_refusal 256 (module_shape a.«module») (shapes_of a.bodies.items)) (module_shape a.«module»).exports (string_bytes t))
     → ShowsText text Good old new r → Lists held old new r
@@ -71,7 +74,7 @@ refused_text : (held : Option (List ℕ)) (bytes slice : List ℕ) (v : Verdict)
 refused_text held bytes slice v (Ok text) by_line read same verdict told = is_list held bytes slice (string_bytes text) v read same verdict (by_line (string_bytes text) told)
 refused_text held bytes slice v (Err e) by_line read same verdict told = tt
 
-pub listed_refused : (held : Option (List ℕ)) (bytes slice : List ℕ) (f : Refusal) (text : Result (String Global) AllocError) (old new : Option (List ℕ)) (r : Result Status Fault)
+pub listed_refused : (held : Option (List ℕ)) (bytes slice : List ℕ) (f : Refusal) (text : Result (String Global) AllocError) (old new : Option (List ℕ)) (r : Result Status ProgramFault)
     → IsRead module_limit held bytes → slice ≡ bytes → IfSome (verdict_of f) (IsVerdict slice) → IfOk text (λ t. IsSomeAnd (verdict_of f) (λ v. string_bytes t ≡ verdict_line v))
     → ShowsText text ModuleRefused old new r → Lists held old new r
 listed_refused held bytes slice refusal.TooLarge text old new r read same verdict told shown =

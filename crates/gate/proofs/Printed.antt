@@ -1,5 +1,5 @@
 -- What stands after a status.
-use Rattle.std.proofs.Common.{◌≡◌, ℕ, List, [], ◌∷◌, Option, Ok, Bor, inl, inr, refl, sym, subst, ◌∙◌}
+use Rattle.std.proofs.Common.{◌≡◌, ℕ, List, [], ◌∷◌, Option, Ok, Bor, inl, inr, map, refl, sym, subst, ◌∙◌}
 use Rattle.std.specs.Io.KnownBytes.{Appends}
 use Rattle.wsyntax.specs.Validation.Verdict.{Verdict, Accepted, TooLarge, Malformed, RuleBroken, BodyRefused}
 use Rattle.wsyntax.specs.Texts.Lines.{verdict_line}
@@ -9,16 +9,20 @@ use Rattle.batch.specs.Report.{status_of}
 use Rattle.batch.specs.declared.status.Status.{Status}
 use Rattle.batch.specs.declared.status.Status.TheVariants.{Good, ModuleRefused, CallsRefused}
 use Rattle.command.specs.Options.{SaysLimits}
-use Rattle.command.specs.Requests.{AreOperands, IsOperand, IsRequestOf}
+use Rattle.command.specs.Requests.{AreInputs, AreOperands, AreStreamed, IsRequestOf}
 use Rattle.command.specs.declared.request.Request.{Request}
-use Rattle.command.specs.declared.request.Request.TheVariants.{Check, Explain, ExplainCalls, Exports, Run, Text}
+use Rattle.command.specs.declared.request.Request.TheVariants.{Check, CheckAll, CheckListed, Explain, ExplainCalls, Exports, Run, Stream, Text}
 use Rattle.gate.specs.Sources.{ReadsPaths}
 use Rattle.gate.specs.Checks.{Judges}
 use Rattle.gate.specs.Explains.{IsCallsExplained, IsExplained}
-use Rattle.gate.specs.Lists.{IsList, IsListBy}
+use Rattle.gate.specs.Lists.{IsList}
+use Rattle.gate.specs.NameLists.{IsSpread}
 use Rattle.gate.specs.Endings.{answer_status}
-use Rattle.gate.specs.Prints.{AsksFor, AnswersRequest, PrintsAnswer, PrintsCallsExplained, PrintsCallsRefusal, PrintsGood, PrintsRefusal, PrintsVerdict}
+use Rattle.gate.specs.Prints.{AsksFor, AnswersRequest, PrintsAnswer, PrintsCallsExplained, PrintsCallsRefusal, PrintsGood, PrintsRefusal, PrintsStream}
 use Rattle.gate.specs.Runs.{RunsOn}
+use Rattle.gate.specs.Streams.{ReadsAccepted, StreamsOn}
+use Rattle.gate.specs.declared.outcome.Outcome.TheVariants as outcome
+use Rattle.gate.proofs.PrintedAll.{good_outcome, listed_all, named_all, no_listed_calls, no_named_calls, refused_outcome}
 
 only_good : (s : Status) → answer_status s ≡ 0 → s ≡ Good
 only_good Good e = refl
@@ -73,9 +77,25 @@ answer words path calls settings holds asked asked' old new s t named said done 
   answered = subst (λ (x : Status). RunsOn (holds path.now) (holds calls.now) (limits_of settings) old new (Ok x)) e done;
 }
 
+-- a stream that ends with an answer
+stream : (words : List (List ℕ)) (path calls : Bor (List ℕ)) (settings : Settings) (holds : List ℕ → Option (List ℕ)) (asked asked' : Option (List (List ℕ))) (old new : Option (List ℕ)) (s t : Status)
+    → AreStreamed words path.now calls.now → SaysLimits words settings.fuel settings.frames settings.pages → StreamsOn (holds path.now) (holds calls.now) (limits_of settings) old new (Ok s) → ReadsAccepted (holds path.now) path.now calls.now asked asked' (Ok s) → s ≡ t → PrintsStream words holds asked asked' old new t
+stream words path calls settings holds asked asked' old new s t named said done order e = record {
+  path = path.now;
+  calls = calls.now;
+  named = named;
+  in_order = subst (λ (x : Status). ReadsAccepted (holds path.now) path.now calls.now asked asked' (Ok x)) e order;
+  fuel = settings.fuel;
+  frames = settings.frames;
+  pages = settings.pages;
+  said = said;
+  in_range = settings.in_range;
+  streamed = subst (λ (x : Status). StreamsOn (holds path.now) (holds calls.now) (limits_of settings) old new (Ok x)) e done;
+}
+
 -- an explanation of calls
 calls_explained : (words : List (List ℕ)) (path calls : Bor (List ℕ)) (holds : List ℕ → Option (List ℕ)) (asked asked' : Option (List (List ℕ))) (old new : Option (List ℕ)) (s t : Status) (text : List ℕ)
-    → AreOperands words path.now calls.now → IsCallsExplained (holds path.now) (holds calls.now) s text → Appends old new text → ReadsPaths asked asked' (path.now ∷ calls.now ∷ []) → s ≡ t → PrintsCallsExplained words holds asked asked' old new t
+    → AreInputs words path.now calls.now → IsCallsExplained (holds path.now) (holds calls.now) s text → Appends old new text → ReadsPaths asked asked' (path.now ∷ calls.now ∷ []) → s ≡ t → PrintsCallsExplained words holds asked asked' old new t
 calls_explained words path calls holds asked asked' old new s t text named explained written order e = record {
   path = path.now;
   calls = calls.now;
@@ -86,26 +106,8 @@ calls_explained words path calls holds asked asked' old new s t text named expla
   written = written;
 }
 
--- a refused module has no list
-line_of : (bytes : List ℕ) (v : Verdict) (text : List ℕ) → status_of v ≡ ModuleRefused → IsListBy bytes v text → text ≡ verdict_line v
-line_of bytes Accepted text e list = absurd cc
-line_of bytes TooLarge text e list = list
-line_of bytes Malformed text e list = list
-line_of bytes (RuleBroken k) text e list = list
-line_of bytes (BodyRefused f fault) text e list = list
-
-refused_list : (words : List (List ℕ)) (path : Bor (List ℕ)) (holds : List ℕ → Option (List ℕ)) (asked asked' : Option (List (List ℕ))) (old new : Option (List ℕ)) (v : Verdict) (text : List ℕ)
-    → IsOperand words path.now → IsList (holds path.now) v text → status_of v ≡ ModuleRefused → Appends old new text → ReadsPaths asked asked' (path.now ∷ []) → PrintsVerdict words holds asked asked' old new v
-refused_list words path holds asked asked' old new v text named list refused written order = record {
-  path = path.now;
-  named = named;
-  only = order;
-  judged = record { bytes = list.bytes; read = list.read; verdict = list.verdict };
-  written = subst (λ (x : List ℕ). Appends old new x) (line_of list.bytes v text refused list.list) written;
-}
-
-pub good : (words : List (List ℕ)) (request : Request) (holds : List ℕ → Option (List ℕ)) (asked asked' : Option (List (List ℕ))) (old new : Option (List ℕ)) (s : Status) → IsRequestOf words request → AnswersRequest request holds old new (Ok s) → AsksFor request asked asked' (Ok s) → answer_status s ≡ 0 → PrintsGood words holds asked asked' old new
-good words (Check path plan) holds asked asked' old new s named (v, judged, is, written) order e =
+pub good : (words : List (List ℕ)) (request : Request) (holds : List ℕ → Option (List ℕ)) (lists : List ℕ → Option (List (List ℕ))) (asked asked' : Option (List (List ℕ))) (old new : Option (List ℕ)) (s : Status) → IsRequestOf words request → AnswersRequest request holds lists asked asked' old new (Ok s) → AsksFor request asked asked' (Ok s) → answer_status s ≡ 0 → PrintsGood words holds lists asked asked' old new
+good words (Check path plan) holds lists asked asked' old new s named (v, judged, is, written) order e =
     let same : v ≡ Accepted = only_accepted v (sym is ∙ only_good s e) in
     inr (inl record {
       path = path.now;
@@ -114,7 +116,11 @@ good words (Check path plan) holds asked asked' old new s named (v, judged, is, 
       judged = subst (Judges (holds path.now)) same judged;
       written = subst (λ (x : Verdict). Appends old new (verdict_line x)) same written;
     })
-good words (Explain path) holds asked asked' old new s named (v, text, explained, is, written) order e =
+good words (CheckAll names folders plan) holds lists asked asked' old new s (are, says, said) done order e =
+    inr (inr (inr (inr (inr (inr (inl (named_all words (map (λ n. n.now) names.items) folders holds lists asked asked' old new outcome.Accepted s are says done (good_outcome s (only_good s e)))))))))
+good words (CheckListed is_null folders plan) holds lists asked asked' old new s (list, says_n, says_f, said) done order e =
+    inr (inr (inr (inr (inr (inr (inl (listed_all words is_null folders holds lists asked asked' old new outcome.Accepted s list says_n says_f done (good_outcome s (only_good s e)))))))))
+good words (Explain path) holds lists asked asked' old new s named (v, text, explained, is, written) order e =
     let same : v ≡ Accepted = only_accepted v (sym is ∙ only_good s e) in
     inr (inr (inl record {
       path = path.now;
@@ -124,9 +130,9 @@ good words (Explain path) holds asked asked' old new s named (v, text, explained
       explained = subst (λ (x : Verdict). IsExplained (Judges (holds path.now)) x text) same explained;
       written = written;
     }))
-good words (ExplainCalls path calls) holds asked asked' old new s named (text, explained, written) order e =
-    inr (inr (inr (inr (inr (calls_explained words path calls holds asked asked' old new s Good text named explained written order (only_good s e))))))
-good words (Exports path) holds asked asked' old new s named (v, text, list, is, written) order e =
+good words (ExplainCalls path calls) holds lists asked asked' old new s named (text, explained, written) order e =
+    inr (inr (inr (inr (inr (inl (calls_explained words path calls holds asked asked' old new s Good text named explained written order (only_good s e)))))))
+good words (Exports path) holds lists asked asked' old new s named (v, text, list, is, written) order e =
     let same : v ≡ Accepted = only_accepted v (sym is ∙ only_good s e) in
     inr (inr (inr (inr (inl record {
       path = path.now;
@@ -136,33 +142,46 @@ good words (Exports path) holds asked asked' old new s named (v, text, list, is,
       list = subst (λ (x : Verdict). IsList (holds path.now) x text) same list;
       written = written;
     }))))
-good words (Run path calls settings plan) holds asked asked' old new s (named, said) done order e =
+good words (Run path calls settings plan) holds lists asked asked' old new s (named, said) done order e =
     inr (inr (inr (inl (answer words path calls settings holds asked asked' old new s Good named said.0 done order (only_good s e)))))
-good words (Text text) holds asked asked' old new s asks shown order e = inl asks
+good words (Stream path calls settings plan) holds lists asked asked' old new s (named, said) (done, order) asks e =
+    inr (inr (inr (inr (inr (inr (inr (stream words path calls settings holds asked asked' old new s Good named said.0 done order (only_good s e))))))))
+good words (Text text) holds lists asked asked' old new s asks shown order e = inl asks
 
-pub refusal : (words : List (List ℕ)) (request : Request) (holds : List ℕ → Option (List ℕ)) (asked asked' : Option (List (List ℕ))) (old new : Option (List ℕ)) (s : Status) → IsRequestOf words request → AnswersRequest request holds old new (Ok s) → AsksFor request asked asked' (Ok s) → answer_status s ≡ 2 → PrintsRefusal words holds asked asked' old new
-refusal words (Check path plan) holds asked asked' old new s named (v, judged, is, written) order e =
+pub refusal : (words : List (List ℕ)) (request : Request) (holds : List ℕ → Option (List ℕ)) (lists : List ℕ → Option (List (List ℕ))) (asked asked' : Option (List (List ℕ))) (old new : Option (List ℕ)) (s : Status) → IsRequestOf words request → AnswersRequest request holds lists asked asked' old new (Ok s) → AsksFor request asked asked' (Ok s) → answer_status s ≡ 2 → PrintsRefusal words holds lists asked asked' old new
+refusal words (Check path plan) holds lists asked asked' old new s named (v, judged, is, written) order e =
     inl (v, sym is ∙ only_refused s e, inl record { path = path.now; named = named.0; only = order; judged = judged; written = written })
-refusal words (Explain path) holds asked asked' old new s named (v, text, explained, is, written) order e =
-    inl (v, sym is ∙ only_refused s e, inr record { path = path.now; named = named; only = order; text = text; explained = explained; written = written })
-refusal words (ExplainCalls path calls) holds asked asked' old new s named (text, explained, written) order e =
-    inr (inr (calls_explained words path calls holds asked asked' old new s ModuleRefused text named explained written order (only_refused s e)))
-refusal words (Exports path) holds asked asked' old new s named (v, text, list, is, written) order e =
-    let refused : status_of v ≡ ModuleRefused = sym is ∙ only_refused s e in
-    inl (v, refused, inl (refused_list words path holds asked asked' old new v text named list refused written order))
-refusal words (Run path calls settings plan) holds asked asked' old new s (named, said) done order e =
+refusal words (CheckAll names folders plan) holds lists asked asked' old new s (are, says, said) done order e =
+    inr (inr (inr (inl (named_all words (map (λ n. n.now) names.items) folders holds lists asked asked' old new outcome.Refused s are says done (refused_outcome s (only_refused s e))))))
+refusal words (CheckListed is_null folders plan) holds lists asked asked' old new s (list, says_n, says_f, said) done order e =
+    inr (inr (inr (inl (listed_all words is_null folders holds lists asked asked' old new outcome.Refused s list says_n says_f done (refused_outcome s (only_refused s e))))))
+refusal words (Explain path) holds lists asked asked' old new s named (v, text, explained, is, written) order e =
+    inl (v, sym is ∙ only_refused s e, inr (inl record { path = path.now; named = named; only = order; text = text; explained = explained; written = written }))
+refusal words (ExplainCalls path calls) holds lists asked asked' old new s named (text, explained, written) order e =
+    inr (inr (inl (calls_explained words path calls holds asked asked' old new s ModuleRefused text named explained written order (only_refused s e))))
+refusal words (Exports path) holds lists asked asked' old new s named (v, text, list, is, written) order e =
+    inl (v, sym is ∙ only_refused s e, inr (inr record { path = path.now; named = named; only = order; text = text; list = list; written = written }))
+refusal words (Run path calls settings plan) holds lists asked asked' old new s (named, said) done order e =
     inr (inl (answer words path calls settings holds asked asked' old new s ModuleRefused named said.0 done order (only_refused s e)))
-refusal words (Text text) holds asked asked' old new s asks shown order e = absurd (not_refused s shown.0 (only_refused s e))
+refusal words (Stream path calls settings plan) holds lists asked asked' old new s (named, said) (done, order) asks e =
+    inr (inr (inr (inr (stream words path calls settings holds asked asked' old new s ModuleRefused named said.0 done order (only_refused s e)))))
+refusal words (Text text) holds lists asked asked' old new s asks shown order e = absurd (not_refused s shown.0 (only_refused s e))
 
-pub calls_refusal : (words : List (List ℕ)) (request : Request) (holds : List ℕ → Option (List ℕ)) (asked asked' : Option (List (List ℕ))) (old new : Option (List ℕ)) (s : Status) → IsRequestOf words request → AnswersRequest request holds old new (Ok s) → AsksFor request asked asked' (Ok s) → answer_status s ≡ 3 → PrintsCallsRefusal words holds asked asked' old new
-calls_refusal words (Check path plan) holds asked asked' old new s named (v, judged, is, written) order e =
+pub calls_refusal : (words : List (List ℕ)) (request : Request) (holds : List ℕ → Option (List ℕ)) (lists : List ℕ → Option (List (List ℕ))) (asked asked' : Option (List (List ℕ))) (old new : Option (List ℕ)) (s : Status) → IsRequestOf words request → AnswersRequest request holds lists asked asked' old new (Ok s) → AsksFor request asked asked' (Ok s) → answer_status s ≡ 3 → PrintsCallsRefusal words holds asked asked' old new
+calls_refusal words (Check path plan) holds lists asked asked' old new s named (v, judged, is, written) order e =
     absurd (no_verdict v (sym is ∙ only_calls_refused s e))
-calls_refusal words (Explain path) holds asked asked' old new s named (v, text, explained, is, written) order e =
+calls_refusal words (CheckAll names folders plan) holds lists asked asked' old new s named done order e =
+    absurd (no_named_calls (IsSpread folders lists (map (λ n. n.now) names.items)) holds asked asked' old new s done (only_calls_refused s e))
+calls_refusal words (CheckListed is_null folders plan) holds lists asked asked' old new s named done order e =
+    absurd (no_listed_calls is_null folders holds lists asked asked' old new s done (only_calls_refused s e))
+calls_refusal words (Explain path) holds lists asked asked' old new s named (v, text, explained, is, written) order e =
     absurd (no_verdict v (sym is ∙ only_calls_refused s e))
-calls_refusal words (ExplainCalls path calls) holds asked asked' old new s named (text, explained, written) order e =
-    inr (calls_explained words path calls holds asked asked' old new s CallsRefused text named explained written order (only_calls_refused s e))
-calls_refusal words (Exports path) holds asked asked' old new s named (v, text, list, is, written) order e =
+calls_refusal words (ExplainCalls path calls) holds lists asked asked' old new s named (text, explained, written) order e =
+    inr (inl (calls_explained words path calls holds asked asked' old new s CallsRefused text named explained written order (only_calls_refused s e)))
+calls_refusal words (Exports path) holds lists asked asked' old new s named (v, text, list, is, written) order e =
     absurd (no_verdict v (sym is ∙ only_calls_refused s e))
-calls_refusal words (Run path calls settings plan) holds asked asked' old new s (named, said) done order e =
+calls_refusal words (Run path calls settings plan) holds lists asked asked' old new s (named, said) done order e =
     inl (answer words path calls settings holds asked asked' old new s CallsRefused named said.0 done order (only_calls_refused s e))
-calls_refusal words (Text text) holds asked asked' old new s asks shown order e = absurd (not_calls_refused s shown.0 (only_calls_refused s e))
+calls_refusal words (Stream path calls settings plan) holds lists asked asked' old new s (named, said) (done, order) asks e =
+    inr (inr (stream words path calls settings holds asked asked' old new s CallsRefused named said.0 done order (only_calls_refused s e)))
+calls_refusal words (Text text) holds lists asked asked' old new s asks shown order e = absurd (not_calls_refused s shown.0 (only_calls_refused s e))

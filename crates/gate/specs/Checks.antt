@@ -7,8 +7,8 @@ use Rattle.batch.specs.Report.{Reports}
 use Rattle.batch.specs.declared.status.Status.{Status}
 use Rattle.batch.specs.declared.status.AnswerFault.TheVariants as answer
 use Rattle.gate.specs.Reads.{IsRead}
-use Rattle.gate.specs.declared.fault.Fault.{Fault}
-use Rattle.gate.specs.declared.fault.Fault.TheVariants as fault
+use Rattle.gate.specs.declared.fault.ProgramFault.{ProgramFault}
+use Rattle.gate.specs.declared.fault.ProgramFault.TheVariants as fault
 
 -- the verdict on what is read of a path that holds this
 pub record Judges (held : Option (List ℕ)) (v : Verdict) : Type 0 where
@@ -17,7 +17,7 @@ pub record Judges (held : Option (List ℕ)) (v : Verdict) : Type 0 where
   pub verdict : IsVerdict bytes v
 
 -- a check of a path that holds this reports its verdict; where there is none, nothing is written
-abbrev pub Checks : Option (List ℕ) → Option (List ℕ) → Option (List ℕ) → Result Status Fault → Type 0
+abbrev pub Checks : Option (List ℕ) → Option (List ℕ) → Option (List ℕ) → Result Status ProgramFault → Type 0
 Checks held old new (Ok status) = Reports (Judges held) old new (Ok status)
 Checks held old new (Err fault.Write) = Reports (Judges held) old new (Err answer.Write)
 Checks held old new (Err _) = Keeps old new

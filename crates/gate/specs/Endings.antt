@@ -6,8 +6,8 @@ use Rattle.batch.specs.declared.status.AnswerFault.{AnswerFault}
 use Rattle.batch.specs.declared.status.AnswerFault.TheVariants as answer
 use Rattle.command.specs.declared.fault.WordsFault.{WordsFault}
 use Rattle.command.specs.declared.fault.WordsFault.TheVariants as words
-use Rattle.gate.specs.declared.fault.Fault.{Fault}
-use Rattle.gate.specs.declared.fault.Fault.TheVariants as fault
+use Rattle.gate.specs.declared.fault.ProgramFault.{ProgramFault}
+use Rattle.gate.specs.declared.fault.ProgramFault.TheVariants as fault
 
 -- of an answer
 abbrev pub answer_status : Status → ℕ
@@ -16,25 +16,28 @@ answer_status ModuleRefused = 2
 answer_status CallsRefused = 3
 
 -- where the words ask for nothing that can be done
-abbrev pub fault_of : WordsFault → Fault
+abbrev pub fault_of : WordsFault → ProgramFault
 fault_of (words.Usage text) = fault.Usage text
 fault_of words.Memory = fault.Memory
 
 -- where there is no answer
-abbrev pub fault_status : Fault → ℕ
+abbrev pub fault_status : ProgramFault → ℕ
 fault_status (fault.Usage text) = 64
+fault_status fault.Names = 64
 fault_status (fault.Unreadable path) = 74
+fault_status (fault.Unread path reason) = 74
+fault_status fault.SomeUnread = 74
 fault_status fault.Write = 74
 fault_status fault.Memory = 70
 
 -- what is told of an answer: after one that was written whole a flush may fail
-abbrev pub EndsAs : Result Status AnswerFault → Result Status Fault → Type 0
+abbrev pub EndsAs : Result Status AnswerFault → Result Status ProgramFault → Type 0
 EndsAs (Ok status) r = (r ≡ Ok status) ⊎ (r ≡ Err fault.Write)
 EndsAs (Err answer.Write) r = r ≡ Err fault.Write
 EndsAs (Err answer.Memory) r = r ≡ Err fault.Memory
 
 -- of what came of a request
-abbrev pub result_status : Result Status Fault → ℕ
+abbrev pub result_status : Result Status ProgramFault → ℕ
 result_status (Ok status) = answer_status status
 result_status (Err f) = fault_status f
 

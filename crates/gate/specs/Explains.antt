@@ -15,15 +15,15 @@ use Rattle.explain.specs.declared.explaining_calls.Refused.{Refused}
 use Rattle.explain.specs.declared.explaining_calls.Refused.TheVariants.{Module, Calls}
 use Rattle.gate.specs.Checks.{Judges}
 use Rattle.gate.specs.Reads.{IsRead}
-use Rattle.gate.specs.declared.fault.Fault.{Fault}
-use Rattle.gate.specs.declared.fault.Fault.TheVariants as fault
+use Rattle.gate.specs.declared.fault.ProgramFault.{ProgramFault}
+use Rattle.gate.specs.declared.fault.ProgramFault.TheVariants as fault
 
 -- the text begins with the line of a verdict with P
 abbrev pub IsExplained : (Verdict → Type 0) → Verdict → List ℕ → Type 0
 IsExplained P v text = P v × BeginsWith (verdict_line v) text
 
 -- the explanation of a path that holds this begins with the line of its verdict, which the status goes by; where there is none, nothing is written
-abbrev pub Explains : Option (List ℕ) → Option (List ℕ) → Option (List ℕ) → Result Status Fault → Type 0
+abbrev pub Explains : Option (List ℕ) → Option (List ℕ) → Option (List ℕ) → Result Status ProgramFault → Type 0
 Explains held old new (Ok status) = (v : Verdict) × (text : List ℕ) × IsExplained (Judges held) v text × (status ≡ status_of v) × Appends old new text
 Explains held old new (Err fault.Write) = (v : Verdict) × (text : List ℕ) × IsExplained (Judges held) v text × AppendsFront old new text
 Explains held old new (Err _) = Keeps old new
@@ -48,7 +48,7 @@ pub record IsCallsExplained (held_module held_calls : Option (List ℕ)) (status
   pub begins : BeginsWith (verdict_line v) out
 
 -- that text is written; where there is none, nothing is written
-abbrev pub ExplainsCalls : Option (List ℕ) → Option (List ℕ) → Option (List ℕ) → Option (List ℕ) → Result Status Fault → Type 0
+abbrev pub ExplainsCalls : Option (List ℕ) → Option (List ℕ) → Option (List ℕ) → Option (List ℕ) → Result Status ProgramFault → Type 0
 ExplainsCalls held_module held_calls old new (Ok status) = (out : List ℕ) × IsCallsExplained held_module held_calls status out × Appends old new out
 ExplainsCalls held_module held_calls old new (Err fault.Write) =
     (status : Status) × (out : List ℕ) × IsCallsExplained held_module held_calls status out × AppendsFront old new out

@@ -9,16 +9,16 @@ use Rattle.wsyntax.specs.Execution.Start.{start_refusal}
 use Rattle.wsyntax.specs.Texts.Lines.{verdict_line}
 use Rattle.wsyntax.specs.Validation.ModuleContext.{module_context}
 use Rattle.wsyntax.specs.Validation.Verdict.{Verdict, Accepted, IsVerdict}
-use Rattle.accepted.specs.Judgement.{shapes_of}
-use Rattle.accepted.specs.Kept.{IsAcceptedFrom}
-use Rattle.accepted.specs.declared.accepted.Accepted.{Accepted as AcceptedModule}
+use Rattle.accepted_module.specs.Judgement.{shapes_of}
+use Rattle.accepted_module.specs.Kept.{IsAcceptedFrom}
+use Rattle.accepted_module.specs.declared.accepted.Accepted.{Accepted as AcceptedModule}
 use Rattle.batch.specs.Output.{AppendsFront}
 use Rattle.batch.specs.Report.{status_of}
 use Rattle.batch.specs.declared.status.Status.{Status}
 use Rattle.explain.specs.Exports.{IsExportsText}
 use Rattle.gate.specs.Reads.{IsRead}
-use Rattle.gate.specs.declared.fault.Fault.{Fault}
-use Rattle.gate.specs.declared.fault.Fault.TheVariants as fault
+use Rattle.gate.specs.declared.fault.ProgramFault.{ProgramFault}
+use Rattle.gate.specs.declared.fault.ProgramFault.TheVariants as fault
 
 -- the lines of the exports of that module, and the one on its start within the pages that a call has where the words say none
 abbrev pub IsListOf : AcceptedModule → List ℕ → Type 0
@@ -38,13 +38,13 @@ pub record IsList (held : Option (List ℕ)) (v : Verdict) (text : List ℕ) : T
   pub list : IsListBy bytes v text
 
 -- the list on a path that holds this is written, with the status of the verdict; where there is none, nothing is written
-abbrev pub Lists : Option (List ℕ) → Option (List ℕ) → Option (List ℕ) → Result Status Fault → Type 0
+abbrev pub Lists : Option (List ℕ) → Option (List ℕ) → Option (List ℕ) → Result Status ProgramFault → Type 0
 Lists held old new (Ok status) = (v : Verdict) × (text : List ℕ) × IsList held v text × (status ≡ status_of v) × Appends old new text
 Lists held old new (Err fault.Write) = (v : Verdict) × (text : List ℕ) × IsList held v text × AppendsFront old new text
 Lists held old new (Err _) = Keeps old new
 
 -- a text is written, with that status, or a beginning of it where a write failed; where there was no memory for it, nothing is written
-abbrev pub ShowsText : Result (String Global) AllocError → Status → Option (List ℕ) → Option (List ℕ) → Result Status Fault → Type 0
+abbrev pub ShowsText : Result (String Global) AllocError → Status → Option (List ℕ) → Option (List ℕ) → Result Status ProgramFault → Type 0
 ShowsText (Ok text) status old new (Ok ended) = (ended ≡ status) × Appends old new (string_bytes text)
 ShowsText (Ok text) status old new (Err fault.Write) = AppendsFront old new (string_bytes text)
 ShowsText (Ok text) status old new (Err _) = ⊥

@@ -9,8 +9,8 @@ use Rattle.batch.specs.declared.status.Status.{Status}
 use Rattle.batch.specs.declared.status.AnswerFault.{AnswerFault}
 use Rattle.batch.specs.declared.status.AnswerFault.TheVariants as answer
 use Rattle.gate.specs.Reads.{IsRead}
-use Rattle.gate.specs.declared.fault.Fault.{Fault}
-use Rattle.gate.specs.declared.fault.Fault.TheVariants as fault
+use Rattle.gate.specs.declared.fault.ProgramFault.{ProgramFault}
+use Rattle.gate.specs.declared.fault.ProgramFault.TheVariants as fault
 
 -- the answer to what is read of a module's path and of a path of calls, that hold these, is written: whole, or a beginning of it where a write failed
 pub record AnswersRead (held_module held_calls : Option (List ℕ)) (l : Limits) (old new : Option (List ℕ)) (r : Result Status AnswerFault) : Type 0 where
@@ -22,7 +22,7 @@ pub record AnswersRead (held_module held_calls : Option (List ℕ)) (l : Limits)
   pub status : (s : Status) → r ≡ Ok s → HasStatus bytes text s
 
 -- a run answers; where there is no answer, nothing is written
-abbrev pub RunsOn : Option (List ℕ) → Option (List ℕ) → Limits → Option (List ℕ) → Option (List ℕ) → Result Status Fault → Type 0
+abbrev pub RunsOn : Option (List ℕ) → Option (List ℕ) → Limits → Option (List ℕ) → Option (List ℕ) → Result Status ProgramFault → Type 0
 RunsOn held_module held_calls l old new (Ok status) = AnswersRead held_module held_calls l old new (Ok status)
 RunsOn held_module held_calls l old new (Err fault.Write) = AnswersRead held_module held_calls l old new (Err answer.Write)
 RunsOn held_module held_calls l old new (Err _) = Keeps old new

@@ -3,7 +3,7 @@ ghost use Rattle.wstore.specs.CallLimits.{limits_of};
 ghost use Rattle.gate.specs.Reads.{ReadsInOrder};
 ghost use Rattle.gate.specs.Runs.{RunsOn};
 
-use crate::fault::Fault;
+use crate::fault::ProgramFault;
 use crate::finishing::finish;
 use crate::reading::read_file;
 use crate::source::Source;
@@ -24,7 +24,7 @@ pub fn answer_files<'a, R: Threads + Wait + Sync, S: Source, O: Write>(
     plan: Plan,
     source: &mut S,
     out: &mut O,
-) -> Result<Status, Fault<'a>>
+) -> Result<Status, ProgramFault<'a>>
     ensures answer { RunsOn (S.holds source.old path.entry.now) (S.holds source.old calls.entry.now) (limits_of settings)
         (O.contents out.old) (O.contents out.new) result }
     ensures order { ReadsInOrder path.entry.now calls.entry.now (S.asked source.old) (S.asked source.new) result }

@@ -1,7 +1,8 @@
 //! The program, on the arguments and the streams of its process.
 use crate::disk::Disk;
-use crate::fault::{Fault, end};
+use crate::fault::{ProgramFault, end};
 use crate::program::run;
+use crate::progress::Progress;
 use command::{WordsFault, usage};
 use std::alloc::{AllocError, Global};
 use std::env;
@@ -10,21 +11,35 @@ use std::rt::{Env, Files};
 use std::sync::Wait;
 use std::thread::Threads;
 
-/// Runs the program on the words of the process, and answers its status.
-pub fn run_process<R: Env + Files + AllocGlobal + Threads + Wait + Sync, O: Write, E: Write>(
-    rt: &R,
-    out: &mut O,
-    err: &mut E,
-) -> u8 {
+/// Runs the program on the words of the process, and answers its status. `told` hears how far it is, where the words ask for it.
+pub fn run_process<
+    R: Env + Files + AllocGlobal + Threads + Wait + Sync + Clone + Drop,
+    O: Write,
+    E: Write,
+    T: Write,
+>(rt: &R, out: &mut O, err: &mut E, told: &mut T) -> u8 {
     let words = match words_of(rt) {
         Ok(words) => words,
-        Err(fault) => return end(&Fault::from(fault), err),
+        Err(fault) => return end(&ProgramFault::from(fault), err),
     };
     let texts = match texts_of(rt.alloc(), words.as_slice()) {
         Ok(texts) => texts,
-        Err(_) => return end(&Fault::Memory, err),
+        Err(_) => return end(&ProgramFault::Memory, err),
     };
-    run(rt, rt.alloc(), texts.as_slice(), &mut Disk { rt }, out, err)
+    let (alloc, words) = (rt.alloc(), texts.as_slice());
+    if !wants_progress(words) {
+        return run(rt, alloc, words, &mut Disk { rt }, out, err);
+    }
+    let mut out = Progress::new(out, told);
+    run(rt, alloc, words, &mut Disk { rt }, &mut out, err)
+}
+
+/// Whether a word before the first `--` asks to be told how far the program is.
+fn wants_progress(words: &[&str]) -> bool {
+    words
+        .iter()
+        .take_while(|word| **word != "--")
+        .any(|word| *word == "--progress")
 }
 
 /// The words after the program's name.

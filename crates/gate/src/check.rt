@@ -3,7 +3,7 @@ ghost use Rattle.std.specs.Prelude.{List, [], ◌∷◌};
 ghost use Rattle.gate.specs.Sources.{ReadsPaths};
 ghost use Rattle.gate.specs.Checks.{Checks};
 
-use crate::fault::Fault;
+use crate::fault::ProgramFault;
 use crate::finishing::finish;
 use crate::reading::read_file;
 use crate::source::Source;
@@ -22,7 +22,7 @@ pub fn check_file<'a, R: Threads + Wait + Sync, S: Source, O: Write>(
     plan: Plan,
     source: &mut S,
     out: &mut O,
-) -> Result<Status, Fault<'a>>
+) -> Result<Status, ProgramFault<'a>>
     ensures check { Checks (S.holds source.old path.entry.now) (O.contents out.old) (O.contents out.new) result }
     ensures only { ReadsPaths (S.asked source.old) (S.asked source.new) (path.entry.now ∷ []) }
 {

@@ -1,8 +1,10 @@
 //! Files as a source.
-ghost use Rattle.std.specs.Prelude.{◌≡◌, ◌≤◌, IfOk, IfSome, take, vec_len};
+ghost use Rattle.std.specs.Prelude.{◌≡◌, ◌≤◌, ◌-◌, ◌++◌, IfOk, OnOk, IfSome, length, take, vec_len};
+ghost use Rattle.std.specs.Io.KnownBytes.{Consumes};
 
-use crate::source::{ReadFault, Source};
-use std::alloc::Global;
+use crate::source::{ReadFault, Reason, Source};
+use crate::walking::files_of;
+use std::alloc::{AllocError, Global};
 use std::fs::OpenFile;
 use std::io::{ErrorKind, Read};
 use std::rt::Files;
@@ -14,24 +16,77 @@ pub struct Disk<'a, R> {
     pub rt: &'a R,
 }
 
-impl<R: Files> Source for Disk<'_, R> {
+impl<R: Files + AllocGlobal + Clone + Drop> Source for Disk<'_, R> {
     fn read(&mut self, alloc: Global, path: &str, most: usize) -> Result<Vec<u8>, ReadFault> {
         let mut file = fs::open(self.rt, path).map_err(fault_of)?;
         let expected = file.metadata().map_or(0, |data| data.len());
         read_up_to(&mut file, alloc, expected, most)
     }
-}
 
-/// Why a read failed. Only out of memory is told apart.
-fn fault_of(error: io::Error) -> ReadFault {
-    match error.kind() {
-        ErrorKind::OutOfMemory => ReadFault::Memory,
-        _ => ReadFault::Unreadable,
+    type File = R::File;
+
+    fn open(&mut self, path: &str) -> Result<R::File, ReadFault> {
+        fs::open(self.rt, path).map_err(fault_of)
+    }
+
+    fn list(&mut self, alloc: Global, path: &str) -> Result<Vec<String>, AllocError> {
+        files_of(self.rt, alloc, path)
     }
 }
 
+/// Why a read failed.
+fn fault_of(error: io::Error) -> ReadFault {
+    let reason = match error.kind() {
+        ErrorKind::OutOfMemory => return ReadFault::Memory,
+        ErrorKind::NotFound => Reason::Missing,
+        ErrorKind::IsADirectory => Reason::Folder,
+        ErrorKind::PermissionDenied => Reason::Denied,
+        ErrorKind::FilesystemLoop => Reason::Links,
+        ErrorKind::NotADirectory => Reason::NoFolder,
+        ErrorKind::InvalidFilename | ErrorKind::InvalidInput => Reason::BadName,
+        _ => Reason::Failed,
+    };
+    ReadFault::Unreadable(reason)
+}
+
+/// One read into `buffer`: how many bytes it gave, none where it was interrupted.
+fn read_once<F: Read>(file: &mut F, buffer: &mut [u8]) -> io::Result<usize>
+    ensures same { length buffer.new ≡ length buffer.old }
+    ensures fits { IfOk result (λ count. count ≤ length buffer.new) }
+    ensures given { IfOk result (λ count. Consumes (F.remaining file.old) (F.remaining file.new) (take count buffer.new)) }
+{
+    match file.read(buffer) {
+        Err(error) if error.kind() == ErrorKind::Interrupted => Ok(0),
+        read => read,
+    }
+}
+
+/// Reads on behind the bytes that are there, up to `most` of all.
+fn read_on<F: Read>(file: &mut F, bytes: &mut Vec<u8>, most: usize) -> io::Result<()>
+    requires { vec_len bytes.old ≤ most }
+    ensures known { OnOk result (IfSome (F.remaining file.old)
+        (λ rest. bytes.new.items ≡ bytes.old.items ++ take (most - length bytes.old.items) rest)) }
+{
+    let room = most - bytes.len();
+    file.take(room as u64).read_to_end(bytes)?;
+    Ok(())
+}
+
+/// Reads up to `most` bytes: the first read fills what `bytes` has, of which nothing else stays.
+fn read_whole<F: Read>(file: &mut F, bytes: &mut Vec<u8>, most: usize) -> io::Result<()>
+    requires { vec_len bytes.old ≤ most }
+    ensures most { OnOk result (vec_len bytes.new ≤ most) }
+    ensures known { OnOk result (IfSome (F.remaining file.old) (λ held. bytes.new.items ≡ take most held)) }
+{
+    let count = read_once(file, bytes.as_mut_slice())?;
+    bytes.truncate(count);
+    read_on(file, bytes, most)?;
+    bytes.truncate(most);
+    Ok(())
+}
+
 /// What a reader has left, `most` bytes of it where there is more. Where it has as many as expected, or fewer, room is made
-/// once: for a byte more, since the end is found by a read that gives nothing.
+/// once, and one read fills it: for a byte more, since the end is found by a read that gives nothing.
 pub fn read_up_to<F: Read>(
     file: &mut F,
     alloc: Global,
@@ -42,10 +97,7 @@ pub fn read_up_to<F: Read>(
     ensures known { IfOk result (λ bytes. IfSome (F.remaining file.old) (λ held. bytes.items ≡ take most held)) }
 {
     let room = expected.saturating_add(1).min(most as u64) as usize;
-    let mut bytes = Vec::with_capacity(alloc, room).map_err(|_| ReadFault::Memory)?;
-    file.take(most as u64)
-        .read_to_end(&mut bytes)
-        .map_err(fault_of)?;
-    bytes.truncate(most);
+    let mut bytes = vec![in alloc; 0_u8; room].map_err(|_| ReadFault::Memory)?;
+    read_whole(file, &mut bytes, most).map_err(fault_of)?;
     Ok(bytes)
 }

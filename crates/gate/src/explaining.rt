@@ -7,10 +7,10 @@ ghost use Rattle.gate.specs.Sources.{ReadsPaths};
 ghost use Rattle.gate.specs.Explains.{Explains, ExplainsCalls, refused_status};
 ghost use Rattle.gate.specs.Reads.{ReadsInOrder};
 
-use crate::fault::Fault;
+use crate::fault::ProgramFault;
 use crate::finishing::show;
 use crate::listing::PAGES;
-use crate::reading::read_file;
+use crate::reading::read_told;
 use crate::source::Source;
 use batch::Status;
 use explain::{Explanation, Refused, explain, explain_calls, explanation_text};
@@ -34,16 +34,16 @@ pub fn explain_file<'a, S: Source, O: Write>(
     path: &'a str,
     source: &mut S,
     out: &mut O,
-) -> Result<Status, Fault<'a>>
+) -> Result<Status, ProgramFault<'a>>
     ensures explained { Explains (S.holds source.old path.entry.now) (O.contents out.old) (O.contents out.new) result }
     ensures only { ReadsPaths (S.asked source.old) (S.asked source.new) (path.entry.now ∷ []) }
 {
-    let bytes = read_file(alloc, path, MODULE_LIMIT, source)?;
+    let bytes = read_told(alloc, path, MODULE_LIMIT, source)?;
     let explanation = explain(alloc, bytes.as_slice());
     let status = status(&explanation);
     match explanation_text(alloc, &explanation) {
         Ok(text) => show(text.as_bytes(), status, out),
-        Err(_) => Err(Fault::Memory),
+        Err(_) => Err(ProgramFault::Memory),
     }
 }
 
@@ -66,15 +66,15 @@ pub fn explain_files<'a, S: Source, O: Write>(
     calls: &'a str,
     source: &mut S,
     out: &mut O,
-) -> Result<Status, Fault<'a>>
+) -> Result<Status, ProgramFault<'a>>
     ensures explained { ExplainsCalls (S.holds source.old path.entry.now) (S.holds source.old calls.entry.now)
         (O.contents out.old) (O.contents out.new) result }
     ensures order { ReadsInOrder path.entry.now calls.entry.now (S.asked source.old) (S.asked source.new) result }
 {
-    let bytes = read_file(alloc, path, MODULE_LIMIT, source)?;
-    let text = read_file(alloc, calls, CALLS_LIMIT, source)?;
+    let bytes = read_told(alloc, path, MODULE_LIMIT, source)?;
+    let text = read_told(alloc, calls, CALLS_LIMIT, source)?;
     match explain_calls(alloc, bytes.as_slice(), text.as_slice(), PAGES) {
         Ok(told) => show(told.text.as_bytes(), status_of_refused(told.refused), out),
-        Err(_) => Err(Fault::Memory),
+        Err(_) => Err(ProgramFault::Memory),
     }
 }

@@ -2,19 +2,29 @@
 ghost use Rattle.std.specs.Prelude.{◌≡◌};
 ghost use Rattle.gate.specs.Endings.{fault_status};
 
+use crate::source::Reason;
 use command::WordsFault;
 use std::io::Write;
 use thiserror::Error;
 
 /// Why no answer is given, or not the whole of it. Its text is what standard error is told.
 #[derive(Debug, Drop, Error)]
-pub enum Fault<'a> {
+pub enum ProgramFault<'a> {
     /// The words are no command, or a number lies outside its range. The text says which.
     #[error("{0}")]
     Usage(String),
     /// No file of this path can be read.
     #[error("gate: cannot read {0}\n")]
     Unreadable(&'a str),
+    /// The same, and why.
+    #[error("gate: cannot read {path}: {reason}\n")]
+    Unread { path: &'a str, reason: Reason },
+    /// Of many files some cannot be read; the line of each says so.
+    #[error("gate: cannot read some files\n")]
+    SomeUnread,
+    /// The names of files are no text.
+    #[error("gate: the names are not UTF-8\n")]
+    Names,
     /// A write to standard output failed, or took no byte.
     #[error("gate: write failed\n")]
     Write,
@@ -23,34 +33,37 @@ pub enum Fault<'a> {
     Memory,
 }
 
-impl From<WordsFault> for Fault<'_> {
+impl From<WordsFault> for ProgramFault<'_> {
     ghost use Rattle.gate.specs.Endings.{fault_of};
 
     ghost from_gives = { λ w f. f ≡ fault_of w };
 
     fn from(fault: WordsFault) -> Self {
         match fault {
-            WordsFault::Usage(text) => Fault::Usage(text),
-            WordsFault::Memory => Fault::Memory,
+            WordsFault::Usage(text) => ProgramFault::Usage(text),
+            WordsFault::Memory => ProgramFault::Memory,
         }
     }
 }
 
-impl Fault<'_> {
+impl ProgramFault<'_> {
     /// The status of the program.
     pub fn status(&self) -> u8
         ensures { result ≡ fault_status self.now }
     {
         match self {
-            Fault::Usage(_) => 64,
-            Fault::Unreadable(_) | Fault::Write => 74,
-            Fault::Memory => 70,
+            ProgramFault::Usage(_) | ProgramFault::Names => 64,
+            ProgramFault::Unreadable(_)
+            | ProgramFault::Unread { .. }
+            | ProgramFault::SomeUnread
+            | ProgramFault::Write => 74,
+            ProgramFault::Memory => 70,
         }
     }
 }
 
 /// Tells the fault, as far as the writer takes it, and answers the status.
-pub fn end<E: Write>(fault: &Fault<'_>, err: &mut E) -> u8
+pub fn end<E: Write>(fault: &ProgramFault<'_>, err: &mut E) -> u8
     ensures { result ≡ fault_status fault.now }
 {
     let _ = write!(err, "{fault}");

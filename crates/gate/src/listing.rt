@@ -3,9 +3,9 @@ ghost use Rattle.std.specs.Prelude.{List, [], ◌∷◌};
 ghost use Rattle.gate.specs.Sources.{ReadsPaths};
 ghost use Rattle.gate.specs.Lists.{Lists, ShowsText};
 
-use crate::fault::Fault;
+use crate::fault::ProgramFault;
 use crate::finishing::show;
-use crate::reading::read_file;
+use crate::reading::read_told;
 use crate::source::Source;
 use batch::{Status, verdict_line};
 use explain::text_of_exports;
@@ -18,16 +18,16 @@ use wsyntax::MODULE_LIMIT;
 pub const PAGES: u32 = 256;
 
 /// Writes a text, where there was memory for it, and flushes it.
-fn show_text<'a, O: Write>(
+pub fn show_text<'a, O: Write>(
     text: Result<String, AllocError>,
     status: Status,
     out: &mut O,
-) -> Result<Status, Fault<'a>>
+) -> Result<Status, ProgramFault<'a>>
     ensures { ShowsText text status (O.contents out.old) (O.contents out.new) result }
 {
     match text {
         Ok(text) => show(text.as_bytes(), status, out),
-        Err(_) => Err(Fault::Memory),
+        Err(_) => Err(ProgramFault::Memory),
     }
 }
 
@@ -37,11 +37,11 @@ pub fn list_file<'a, S: Source, O: Write>(
     path: &'a str,
     source: &mut S,
     out: &mut O,
-) -> Result<Status, Fault<'a>>
+) -> Result<Status, ProgramFault<'a>>
     ensures listed { Lists (S.holds source.old path.entry.now) (O.contents out.old) (O.contents out.new) result }
     ensures only { ReadsPaths (S.asked source.old) (S.asked source.new) (path.entry.now ∷ []) }
 {
-    let bytes = read_file(alloc, path, MODULE_LIMIT, source)?;
+    let bytes = read_told(alloc, path, MODULE_LIMIT, source)?;
     match judge_alone(alloc, bytes.as_slice()) {
         Ok(accepted) => {
             let text = text_of_exports(alloc, bytes.as_slice(), &accepted, PAGES);

@@ -2,15 +2,18 @@
 ghost use Rattle.std.specs.Prelude.{◌≡◌, ◌⊎◌, map};
 ghost use Rattle.std.specs.Io.KnownBytes.{Keeps};
 ghost use Rattle.gate.specs.Endings.{answer_status, IsStatus};
-ghost use Rattle.gate.specs.Prints.{AsksFor, AnswersRequest, AnswersWords, PrintsCallsRefusal, PrintsGood, PrintsRefusal};
+ghost use Rattle.gate.specs.Prints.{AsksFor, AnswersRequest, AnswersWords};
+ghost use Rattle.gate.specs.Prints.{PrintsCallsRefusal, PrintsFirst, PrintsFirstCalls, PrintsGood, PrintsRefusal};
 
 use crate::answer::answer_files;
 use crate::check::check_file;
+use crate::checking_all::{check_listed, check_names};
 use crate::explaining::{explain_file, explain_files};
-use crate::fault::{Fault, end};
+use crate::fault::{ProgramFault, end};
 use crate::finishing::show;
 use crate::listing::list_file;
 use crate::source::Source;
+use crate::streaming::stream_files;
 use batch::Status;
 use command::{Request, read_words};
 use std::alloc::Global;
@@ -29,14 +32,20 @@ pub fn run<R: Threads + Wait + Sync, S: Source, O: Write, E: Write>(
     err: &mut E,
 ) -> u8
     ensures named { IsStatus result }
-    ensures obeyed { AnswersWords (map (λ w. w.now) words.now) (S.holds source.old) (S.asked source.old) (S.asked source.new)
+    ensures obeyed { AnswersWords (map (λ w. w.now) words.now) (S.holds source.old) (S.lists source.old)
+        (S.asked source.old) (S.asked source.new)
         (O.contents out.old) (O.contents out.new) result }
-    ensures silent { (result ≡ 64) ⊎ (result ≡ 70) → Keeps (O.contents out.old) (O.contents out.new) }
+    ensures silent { result ≡ 64 → Keeps (O.contents out.old) (O.contents out.new) }
+    ensures short { result ≡ 70 → Keeps (O.contents out.old) (O.contents out.new)
+        ⊎ (PrintsFirst (map (λ w. w.now) words.now) (S.holds source.old) (S.lists source.old) (S.asked source.old) (S.asked source.new)
+        (O.contents out.old) (O.contents out.new)
+        ⊎ PrintsFirstCalls (map (λ w. w.now) words.now) (S.holds source.old) (S.asked source.old) (S.asked source.new)
+        (O.contents out.old) (O.contents out.new)) }
     ensures accepted { result ≡ 0 →
-        PrintsGood (map (λ w. w.now) words.now) (S.holds source.old) (S.asked source.old) (S.asked source.new)
+        PrintsGood (map (λ w. w.now) words.now) (S.holds source.old) (S.lists source.old) (S.asked source.old) (S.asked source.new)
         (O.contents out.old) (O.contents out.new) }
     ensures refused { result ≡ 2 →
-        PrintsRefusal (map (λ w. w.now) words.now) (S.holds source.old) (S.asked source.old) (S.asked source.new)
+        PrintsRefusal (map (λ w. w.now) words.now) (S.holds source.old) (S.lists source.old) (S.asked source.old) (S.asked source.new)
         (O.contents out.old) (O.contents out.new) }
     ensures calls_refused { result ≡ 3 →
         PrintsCallsRefusal (map (λ w. w.now) words.now) (S.holds source.old) (S.asked source.old) (S.asked source.new)
@@ -44,7 +53,7 @@ pub fn run<R: Threads + Wait + Sync, S: Source, O: Write, E: Write>(
 {
     let request = match read_words(alloc, words) {
         Ok(request) => request,
-        Err(fault) => return end(&Fault::from(fault), err),
+        Err(fault) => return end(&ProgramFault::from(fault), err),
     };
     match obey(rt, alloc, request, source, out) {
         Ok(status) => number(status),
@@ -59,8 +68,9 @@ fn obey<'a, R: Threads + Wait + Sync, S: Source, O: Write>(
     request: Request<'a>,
     source: &mut S,
     out: &mut O,
-) -> Result<Status, Fault<'a>>
-    ensures done { AnswersRequest request.entry (S.holds source.old) (O.contents out.old) (O.contents out.new) result }
+) -> Result<Status, ProgramFault<'a>>
+    ensures done { AnswersRequest request.entry (S.holds source.old) (S.lists source.old)
+        (S.asked source.old) (S.asked source.new) (O.contents out.old) (O.contents out.new) result }
     ensures asked { AsksFor request.entry (S.asked source.old) (S.asked source.new) result }
 {
     match request {
@@ -71,9 +81,25 @@ fn obey<'a, R: Threads + Wait + Sync, S: Source, O: Write>(
             settings,
             plan,
         } => answer_files(rt, alloc, path, calls, settings, plan, source, out),
+        Request::CheckAll {
+            names,
+            folders,
+            plan,
+        } => check_names(rt, alloc, names.as_slice(), folders, plan, source, out),
+        Request::CheckListed {
+            is_null,
+            folders,
+            plan,
+        } => check_listed(rt, alloc, is_null, folders, plan, source, out),
         Request::Explain { path } => explain_file(alloc, path, source, out),
         Request::ExplainCalls { path, calls } => explain_files(alloc, path, calls, source, out),
         Request::Exports { path } => list_file(alloc, path, source, out),
+        Request::Stream {
+            path,
+            calls,
+            settings,
+            plan,
+        } => stream_files(rt, alloc, path, calls, settings, plan, source, out),
         Request::Text(text) => show(text.as_bytes(), Status::Good, out),
     }
 }

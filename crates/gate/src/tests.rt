@@ -1,16 +1,17 @@
 //! The program over a source and writers in memory.
 mod answers;
+mod streams;
 
 use crate::program::run;
-use crate::source::{ReadFault, Source};
-use std::alloc::Global;
+use crate::source::{ReadFault, Reason, Source};
+use std::alloc::{AllocError, Global};
 use std::io;
-use std::io::{ErrorKind, Write};
+use std::io::{ErrorKind, Read, Write};
 use std::sync::Wait;
 use std::test::Fail;
 use std::thread::Threads;
 
-/// A module as `x.wasm` and calls as `x.calls`; or out of memory at each read.
+/// A module as `x.wasm`, and calls as `x.calls` and on standard input; or out of memory at each read.
 #[derive(Clone, Copy)]
 struct Held<'a> {
     module: &'a [u8],
@@ -28,18 +29,46 @@ impl<'a> Held<'a> {
     }
 }
 
-impl Source for Held<'_> {
+impl<'a> Source for Held<'a> {
     fn read(&mut self, alloc: Global, path: &str, most: usize) -> Result<Vec<u8>, ReadFault> {
         let bytes = match path {
             "x.wasm" => self.module,
-            "x.calls" => self.calls,
-            _ => return Err(ReadFault::Unreadable),
+            "x.calls" | "/dev/stdin" => self.calls,
+            _ => return Err(ReadFault::Unreadable(Reason::Missing)),
         };
         if !self.has_memory {
             return Err(ReadFault::Memory);
         }
         let front = &bytes[..bytes.len().min(most)];
         front.to_vec(alloc).map_err(|_| ReadFault::Memory)
+    }
+
+    type File = Given<'a>;
+
+    fn open(&mut self, path: &str) -> Result<Given<'a>, ReadFault> {
+        match path {
+            "x.calls" | "/dev/stdin" if self.has_memory => Ok(Given(self.calls)),
+            "x.calls" | "/dev/stdin" => Err(ReadFault::Memory),
+            _ => Err(ReadFault::Unreadable(Reason::Missing)),
+        }
+    }
+
+    fn list(&mut self, alloc: Global, path: &str) -> Result<Vec<String>, AllocError> {
+        Ok(vec![in alloc; String::from_str(alloc, path)?]?)
+    }
+}
+
+/// Gives the bytes three a read.
+#[derive(Drop)]
+struct Given<'a>(&'a [u8]);
+
+impl Read for Given<'_> {
+    fn read(&mut self, buf: &mut [u8]) -> io::Result<usize> {
+        let count = buf.len().min(self.0.len()).min(3);
+        let (front, rest) = self.0.split_at(count);
+        buf[..count].copy_from_slice(front);
+        self.0 = rest;
+        Ok(count)
     }
 }
 
@@ -103,7 +132,7 @@ fn status_of<R: Threads + Wait + Sync>(
 
 #[test]
 fn help_goes_to_standard_output(rt: HostRuntime) {
-    let asked: [&[&str]; 18] = [
+    let asked: [&[&str]; 20] = [
         &["--help"],
         &["-h"],
         &["help"],
@@ -112,6 +141,8 @@ fn help_goes_to_standard_output(rt: HostRuntime) {
         &["help", "run"],
         &["explain", "--help"],
         &["help", "explain"],
+        &["stream", "--help"],
+        &["help", "stream"],
         &["--version"],
         &["-V"],
         &["-hV"],
@@ -132,9 +163,13 @@ fn help_goes_to_standard_output(rt: HostRuntime) {
 
 #[test]
 fn words_that_are_no_command(rt: HostRuntime) {
-    let wrong: [&[&str]; 38] = [
+    let wrong: [&[&str]; 45] = [
         &[],
         &["judge"],
+        &["check-all"],
+        &["check-all", "-0"],
+        &["check-all", "x.wasm", "-"],
+        &["check-all", "x.wasm", "--workers", "0"],
         &["explain"],
         &["explain", "x.wasm", "x.calls", "y"],
         &["exports"],
@@ -151,6 +186,9 @@ fn words_that_are_no_command(rt: HostRuntime) {
         &["run", "x.wasm", "x.calls", "--frames", "0"],
         &["run", "x.wasm", "x.calls", "--frames", "4097"],
         &["run", "x.wasm", "x.calls", "--pages", "1025"],
+        &["stream"],
+        &["stream", "x.wasm", "x.calls", "y"],
+        &["stream", "x.wasm", "x.calls", "--frames", "0"],
         &["check", "x.wasm", "--fuel", "1"],
         &["check", "x.wasm", "--workers", "0"],
         &["check", "x.wasm", "--workers", "65"],
@@ -189,12 +227,23 @@ fn the_version_goes_to_standard_output(rt: HostRuntime) {
     let (mut out, mut err) = (Screen::wide(rt.alloc()), Screen::wide(rt.alloc()));
     let status = status_of(&rt, rt.alloc(), &["--version"], &mut out, &mut err);
     assert_eq!(rt; status, 0);
-    assert_eq!(rt; out.shown.as_slice(), b"gate 0.1.0\n".as_slice());
+    assert_eq!(rt;
+        out.shown.as_slice(),
+        b"gate 0.1.0 (commit ------------, rattle-kit-13f)\n".as_slice()
+    );
 }
 
 #[test]
 fn a_file_that_cannot_be_read(rt: HostRuntime) {
-    let asked: [(&[&str], &[u8]); 7] = [
+    let asked: [(&[&str], &[u8]); 9] = [
+        (
+            &["explain", "y.wasm"],
+            b"gate: cannot read y.wasm: no such file\n",
+        ),
+        (
+            &["exports", "y.wasm"],
+            b"gate: cannot read y.wasm: no such file\n",
+        ),
         (&["check", "y.wasm"], b"gate: cannot read y.wasm\n"),
         (&["run", "y.wasm", "x.calls"], b"gate: cannot read y.wasm\n"),
         (&["run", "y.wasm", "y.calls"], b"gate: cannot read y.wasm\n"),
@@ -223,13 +272,40 @@ fn a_file_that_cannot_be_read(rt: HostRuntime) {
 }
 
 #[test]
+fn a_file_of_many_that_cannot_be_read(rt: HostRuntime) {
+    let words = ["check-all", "x.wasm", "y\t.wasm", "x.wasm"];
+    let mut source = Held::new(&HEADER, &[]);
+    let (mut out, mut err) = (Screen::wide(rt.alloc()), Screen::wide(rt.alloc()));
+    let status = run(
+        &rt,
+        rt.alloc(),
+        words.as_slice(),
+        &mut source,
+        &mut out,
+        &mut err,
+    );
+    assert_eq!(rt; status, 74);
+    assert_eq!(rt;
+        out.shown.as_slice(),
+        b"x.wasm\taccepted\ny\\09.wasm\tcannot read: no such file\nx.wasm\taccepted\n".as_slice()
+    );
+    assert_eq!(rt;
+        err.shown.as_slice(),
+        b"gate: cannot read some files\n".as_slice()
+    );
+}
+
+#[test]
 fn a_read_that_wants_memory(rt: HostRuntime) {
     let mut source = Held {
         module: &HEADER,
         calls: &[],
         has_memory: false,
     };
-    let asked: [&[&str]; 2] = [
+    let asked: [&[&str]; 5] = [
+        &["check-all", "x.wasm", "x.wasm"],
+        &["check-all", "-"],
+        &["stream", "x.wasm", "x.calls"],
         &["check", "x.wasm", "--workers", "64", "--piece", "65535"],
         &["run", "x.wasm", "x.calls", "--fuel", "0", "--pages", "0"],
     ];
@@ -292,7 +368,22 @@ fn a_flush_that_fails_after_an_answer(rt: HostRuntime) {
     let check: &[&str] = &["check", "x.wasm"];
     let calls: &[&str] = &["run", "x.wasm", "x.calls"];
     let explain: &[&str] = &["explain", "x.wasm"];
-    let answers: [(&[&str], &[u8], &[u8], &[u8], u8); 7] = [
+    let many: &[&str] = &["check-all", "-0", "-"];
+    let answers: [(&[&str], &[u8], &[u8], &[u8], u8); 9] = [
+        (
+            many,
+            &HEADER,
+            b"x.wasm\0x.wasm",
+            b"x.wasm\taccepted\nx.wasm\taccepted\n",
+            0,
+        ),
+        (
+            many,
+            &HEADER[..7],
+            b"x.wasm\0",
+            b"x.wasm\trefused malformed\n",
+            2,
+        ),
         (check, &HEADER, b"", b"accepted\n", 0),
         (check, &HEADER[..7], b"", b"refused malformed\n", 2),
         (calls, &HEADER[..7], b"", b"refused malformed\n", 2),

@@ -13,6 +13,7 @@ mod history;
 mod linear_memory;
 mod marks;
 mod pool;
+mod tuning;
 
 pub use clean::CleanMem;
 pub use history::{PoolEntry, PoolStep, TicketView};

@@ -13,9 +13,7 @@ use crate::clean::CleanMem;
 use crate::marks::{clear, mark, mark_all, provide_buffer};
 use std::alloc::AllocError;
 use std::marker::Model;
-
-/// The number of bytes of a page.
-const PAGE: usize = 65_536;
+use wsyntax::{PAGE, PAGE_RANGE};
 
 /// A memory instance: whole pages of bytes, its declared maximum, and the greatest number of pages that the
 /// settings allow. Its buffer may have more bytes than it; those are zero. It marks the blocks that are written, so
@@ -48,7 +46,7 @@ fn allows(most: Option<u32>, pages: u32, count: u64) -> bool
         Some(most) => count <= u64::from(most),
         None => true,
     };
-    declared && count <= 65_536 && count <= u64::from(pages)
+    declared && count <= u64::from(PAGE_RANGE) && count <= u64::from(pages)
 }
 
 impl LinearMemory {

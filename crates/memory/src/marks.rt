@@ -6,11 +6,8 @@ ghost use Rattle.memory.specs.Zeros.{AreZero, AreUnmarked, AreZeroUnmarked};
 ghost use Rattle.memory.specs.Buffered.{StaysShort};
 
 use crate::bytes::{provide, zero};
+use crate::tuning::BLOCK;
 use std::alloc::AllocError;
-
-/// The number of bytes of a block.
-// PERF: with marks of blocks, cleaning costs what was written, and not all between two far writes (bench/LAB.md, Instances and memory).
-pub const BLOCK: usize = 4_096;
 
 /// A store writes at most `REACH` bytes after its first.
 // PERF: a store marks the block of its first byte alone, so that it makes one mark, and `clear` looks `REACH` bytes further.

@@ -8,9 +8,9 @@ use std::alloc::{AllocError, Global};
 use std::sync::Wait;
 
 /// The queue is a queue: there is one legal history of all steps, and it leaves what the queue holds.
-pub struct InOrder;
+pub struct PoolProtocol;
 
-impl Protocol<CleanMem, TicketView> for InOrder {
+impl Protocol<CleanMem, TicketView> for PoolProtocol {
     ghost use Rattle.std.specs.Prelude.{true, []};
     ghost use Rattle.memory.specs.PoolHistory.{IsInOrder, ticket_view};
 
@@ -65,7 +65,7 @@ impl Split<TicketView> for Issue {
 /// they were given.
 #[derive(Drop)]
 pub struct Pool {
-    pub(crate) queue: RuledArrayQueue<CleanMem, TicketView, InOrder>,
+    pub(crate) queue: RuledArrayQueue<CleanMem, TicketView, PoolProtocol>,
     alloc: Global,
 }
 

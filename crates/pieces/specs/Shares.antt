@@ -13,7 +13,7 @@ use Rattle.pieces.specs.declared.share.Access.TheVariants.{Pops, Steals}
 use Rattle.pieces.specs.declared.share.Share.{Share}
 use Rattle.crossbeam_deque.specs.declared.handles.Worker.{Worker}
 use Rattle.pieces.specs.declared.task.Task.{Task}
-use Rattle.pieces.specs.declared.bag.InOrder.{InOrder}
+use Rattle.pieces.specs.declared.bag.BagProtocol.{BagProtocol}
 use Rattle.pieces.specs.Counting.{total}
 use Rattle.pieces.specs.Deque.{bag_view}
 use Rattle.pieces.specs.MarkRule.{mark_view}
@@ -141,5 +141,5 @@ pub record IsNew (deque : DequeId) (count : ℕ) (mark : TableId) (s : Share) : 
   pub met : s.met ≡ false
 
 -- a call of the owner keeps which deque it is
-abbrev pub SameDeque : Worker Task Global BagView InOrder → Worker Task Global BagView InOrder → Type 0
+abbrev pub SameDeque : Worker Task Global BagView BagProtocol → Worker Task Global BagView BagProtocol → Type 0
 SameDeque old new = (worker_deque new ≡ worker_deque old) × (worker_flavor new ≡ worker_flavor old)

@@ -11,9 +11,9 @@ use crossbeam_deque::protocol::{Outcome, Protocol};
 use std::sync::Wait;
 
 /// The deque holds the pieces in order, and then the end marks.
-pub struct InOrder;
+pub struct BagProtocol;
 
-impl Protocol<Task, BagView> for InOrder {
+impl Protocol<Task, BagView> for BagProtocol {
     ghost use Rattle.std.specs.Prelude.{false, []};
     ghost use Rattle.pieces.specs.Deque.{bag_view, IsInOrder};
 

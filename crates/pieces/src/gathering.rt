@@ -11,14 +11,11 @@ use crate::opening::open;
 use crate::plan::Plan;
 use crate::settling::settle;
 use crate::share::Share;
+use crate::tuning::FEW_ANSWERS;
 use crossbeam_utils::CachePadded;
 use std::alloc::{AllocError, Global};
 use std::sync::Wait;
 use std::thread::Threads;
-
-/// For how many answers each worker has room from the beginning, at most: threads that ask for memory at once wait for
-/// one another.
-const FEW_ANSWERS: u32 = 256;
 
 /// The workers, each with its share, its local, and room for `room` answers.
 fn new_crew<L: Drop, O: Drop, F: Drop>(

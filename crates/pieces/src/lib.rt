@@ -22,6 +22,7 @@ mod settling;
 mod share;
 mod task;
 mod trying;
+mod tuning;
 mod views;
 mod watch;
 mod work;

@@ -3,6 +3,8 @@ ghost use Rattle.std.specs.Prelude.{◌≡◌, ◌≤◌, IfNone, IfSome};
 ghost use Rattle.std.specs.Int.{div_ceil};
 ghost use Rattle.pieces.specs.Cuts.{InRange, pieces};
 
+use crate::tuning::MOST_GROUPS;
+
 /// A number of workers from 1 to 64, and a size of pieces from 1 to 65,535. No answer of `gather` or
 /// `try_all` depends on it, as far as their contracts say.
 #[derive(Clone, Copy, Drop)]
@@ -17,9 +19,6 @@ const MOST_WORKERS: u32 = 64;
 
 /// The greatest size of a piece.
 const LONGEST_PIECE: u32 = 65_535;
-
-/// How many groups there are for each worker, at most, so that one that comes late is not waited for long.
-const MOST_GROUPS: u32 = 64;
 
 impl Plan {
     /// `None` exactly where there are no workers or more than 64, or where a piece is empty or longer than

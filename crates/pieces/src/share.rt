@@ -1,6 +1,6 @@
 //! What one worker has of a bag and a mark.
 
-use crate::bag::InOrder;
+use crate::bag::BagProtocol;
 use crate::mark::Register;
 use crate::task::Task;
 use crate::views::{BagView, MarkView};
@@ -9,9 +9,9 @@ use crossbeam_deque::{Pass, Stealer, Worker};
 use std::alloc::Global;
 use std::sync::Arc;
 
-pub type BagOwner = Worker<Task, Global, BagView, InOrder>;
+pub type BagOwner = Worker<Task, Global, BagView, BagProtocol>;
 
-pub type BagStealer = Stealer<Task, Global, BagView, InOrder>;
+pub type BagStealer = Stealer<Task, Global, BagView, BagProtocol>;
 
 pub type BagPass = Pass<Task, BagView>;
 

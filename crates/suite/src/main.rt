@@ -16,12 +16,12 @@ mod tests;
 
 use anyhow::Result;
 use std::env;
-use table::{Kind, run_table};
+use table::{TableKind, run_table};
 
 fn main(rt: HostRuntime) -> Result<()> {
     let mut args = env::args(&rt)?;
     let _program = args.next();
-    for kind in [Kind::Verdicts, Kind::Runs] {
+    for kind in [TableKind::Verdicts, TableKind::Runs] {
         if let Some(path) = args.next() {
             run_table(&rt, kind, path.as_str())?;
         }

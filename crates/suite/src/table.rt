@@ -9,7 +9,7 @@ use std::thread::Threads;
 
 /// What the rows of a table are.
 #[derive(Clone, Copy)]
-pub enum Kind {
+pub enum TableKind {
     Verdicts,
     Runs,
 }
@@ -18,7 +18,7 @@ pub enum Kind {
 /// as many as the last line says.
 pub fn run_table<R: Files + Print + AllocGlobal + Threads + Wait + Sync>(
     rt: &R,
-    kind: Kind,
+    kind: TableKind,
     path: &str,
 ) -> Result<()> {
     let text = fs::read_to_string(rt, path)?;
@@ -30,8 +30,8 @@ pub fn run_table<R: Files + Print + AllocGlobal + Threads + Wait + Sync>(
             continue;
         }
         match kind {
-            Kind::Verdicts => judge_row(rt, line)?,
-            Kind::Runs => run_row(rt, line)?,
+            TableKind::Verdicts => judge_row(rt, line)?,
+            TableKind::Runs => run_row(rt, line)?,
         }
         ran = ran.saturating_add(1);
     }

@@ -7,8 +7,8 @@ use Rattle.std.proofs.lemmas.Option.{slice_get_within}
 use Rattle.wsyntax.specs.declared.types.GlobalType.{GlobalType}
 use Rattle.wsyntax.specs.Modules.{ModuleShape}
 use Rattle.wsyntax.specs.Validation.ModuleContext.{IndexedContext, module_context}
-use Rattle.checked.specs.declared.body.CheckedBody.{CheckedBody}
-use Rattle.accepted.specs.Judgement.{IsJudged}
+use Rattle.checked_body.specs.declared.body.CheckedBody.{CheckedBody}
+use Rattle.accepted_module.specs.Judgement.{IsJudged}
 
 pub declared_content : (m : ModuleShape) (x : IndexedContext) (all : List CheckedBody) (k : ℕ) (g : GlobalType) → ∥ IsJudged m x all ∥₁ → slice_get x.context.globals k ≡ Some g
     → option_map (λ (g : GlobalType). g.content) (slice_get (module_context m).globals k) ≡ Some g.content

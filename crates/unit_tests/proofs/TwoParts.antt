@@ -2,10 +2,10 @@
 use Rattle.std.proofs.Common.{◌≡◌, ℕ, ◌+◌, ◌<◌, ◌^◌, List, [], ◌∷◌, ◌++◌, length, refl, sym, subst, length-append, arith}
 use Rattle.std.proofs.lemmas.List.{append-nil, length-map}
 use Rattle.wsyntax.specs.Texts.Report.{CallEnd}
-use Rattle.texts.specs.declared.line.Line.{Line}
-use Rattle.texts.specs.declared.part.Part.{Part}
-use Rattle.texts.specs.Ends.{end_of, ends_of}
-use Rattle.texts.specs.Parts.{IsPart, AreParts}
+use Rattle.batch_text.specs.declared.line.Line.{Line}
+use Rattle.batch_text.specs.declared.part.Part.{Part}
+use Rattle.batch_text.specs.Ends.{end_of, ends_of}
+use Rattle.batch_text.specs.Parts.{IsPart, AreParts}
 
 -- two parts are the parts of both lists of calls
 pub two_parts : (front back : List Line) (p q : Part) → IsPart 0 (ends_of front) p → IsPart (length front) (ends_of back) q → length front + length back < 2 ^ 64

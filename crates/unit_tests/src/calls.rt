@@ -1,12 +1,12 @@
 //! Reports and texts of calls, word by word.
 ghost use Rattle.std.specs.Prelude.{◌+◌, ◌<◌, ◌^◌, length};
 
-use std::alloc::{AllocError, Global};
-use std::test::Fail;
-use texts::{
+use batch_text::{
     CallsFault, Line, Outcome, Part, StartRefusal, count_calls, cut_lines, last_line, read_calls,
     report,
 };
+use std::alloc::{AllocError, Global};
+use std::test::Fail;
 use wnum::NumTrap;
 use wsyntax::{Trap, Value};
 

@@ -4,7 +4,7 @@ ghost use Rattle.std.specs.Prelude.{◌≡◌, ◌<◌, ◌^◌, [], IfOk, IsTru
 ghost use Rattle.wsyntax.specs.BranchTables.{FollowAll};
 ghost use Rattle.wsyntax.specs.Brackets.{closes, lies_within};
 
-use checked::{Branch, entry_at};
+use checked_body::{Branch, entry_at};
 use std::alloc::{AllocError, Global};
 use std::process::Abort;
 use std::test::Fail;

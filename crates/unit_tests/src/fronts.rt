@@ -1,7 +1,7 @@
 //! The tree of ends says what comparing says.
 use std::alloc::{AllocError, Global};
 use std::test::Fail;
-use wcontext::{Context, Front, TypeList, check_early};
+use wcontext::{Context, TypeList, TypePrefix, check_early};
 use wsyntax::ValType::{self, I32, I64};
 use wsyntax::{FuncTypes, Module};
 
@@ -66,11 +66,11 @@ fn says_as_comparing(
     one: (u32, u32),
     other: (u32, u32),
 ) -> bool {
-    let short = Front {
+    let short = TypePrefix {
         list: TypeList::Params(one.0),
         count: one.1,
     };
-    let long = Front {
+    let long = TypePrefix {
         list: TypeList::Params(other.0),
         count: other.1,
     };

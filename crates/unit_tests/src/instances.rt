@@ -8,7 +8,9 @@ use std::sync::Wait;
 use std::test::*;
 use std::thread::Threads;
 use verdict::{Accepted, judge};
-use wstore::{Entry, Instance, NotStarted, Settings, StartFault, accepted_is_judged, instantiate};
+use wstore::{
+    Instance, NotStarted, Settings, StartFault, TableElem, accepted_is_judged, instantiate,
+};
 use wsyntax::{StartRefusal, ValType, Value};
 
 /// (module (memory 1 2) (table 3 4 funcref) (global (mut i32) (i32.const -2)) (global (mut i64) (i64.const -3))
@@ -140,7 +142,12 @@ fn expect_fresh<R: Abort>(rt: &R, alloc: Global, accepted: &Accepted<'_>) -> Res
     assert_eq!(rt; instance.pages(), 1);
     assert_eq!(rt; read_at(&instance, 65_532, 4), Some(0x072A_0000));
     assert_eq!(rt; read_at(&instance, 65_535, 2), None);
-    let entries = [Entry::Unset, Entry::Func(0), Entry::Unset, Entry::Outside];
+    let entries = [
+        TableElem::Unset,
+        TableElem::Func(0),
+        TableElem::Unset,
+        TableElem::Outside,
+    ];
     for (at, entry) in (0..).zip(entries) {
         assert_eq!(rt; instance.entry(at), entry);
     }
@@ -226,7 +233,10 @@ fn expect_empty<R: Abort>(
     let Ok(instance) = start(alloc, accepted, 0, clean) else {
         return Err("no instance".into());
     };
-    assert_eq!(rt; (instance.pages(), instance.entry(0)), (0, Entry::Outside));
+    assert_eq!(rt;
+        (instance.pages(), instance.entry(0)),
+        (0, TableElem::Outside)
+    );
     assert_eq!(rt; read_at(&instance, 0, 1), None);
     Ok(instance.close())
 }

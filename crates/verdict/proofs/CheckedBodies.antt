@@ -3,8 +3,8 @@ use Rattle.std.proofs.Common.{Bor, ◌≡◌, ℕ, zero, suc, ◌+◌, ◌<◌, 
 use Rattle.std.specs.Prelude.{slice_get}
 use Rattle.std.proofs.lemmas.List.{length_push}
 use Rattle.wsyntax.specs.Validation.Context.{Context}
-use Rattle.checked.specs.declared.body.CheckedBody.{CheckedBody}
-use Rattle.accepted.specs.Judgement.{IsCheckedFrom, IsCheckedAt, AreChecked}
+use Rattle.checked_body.specs.declared.body.CheckedBody.{CheckedBody}
+use Rattle.accepted_module.specs.Judgement.{IsCheckedFrom, IsCheckedAt, AreChecked}
 use Rattle.verdict.proofs.Groups.{bytes_there}
 
 -- ---- one body more

@@ -10,12 +10,12 @@ use Rattle.wsyntax.specs.Validation.Algorithm.{Accepted, Refused, alg}
 use Rattle.wsyntax.specs.Validation.Laws.{TypedIsAccepted, RefusedAtFirstFault}
 use Rattle.wsyntax.specs.Validation.ModuleContext.{function_context}
 use Rattle.wsyntax.specs.Validation.Verdict.{result_of}
-use Rattle.checked.specs.declared.body.CheckedBody.{CheckedBody}
-use Rattle.checked.specs.Bodies.{IsTypedAs, FitsAs}
+use Rattle.checked_body.specs.declared.body.CheckedBody.{CheckedBody}
+use Rattle.checked_body.specs.Bodies.{IsTypedAs, FitsAs}
 use Rattle.wcheck.specs.Refusals.{IsFaultyAt}
 use Rattle.verdict.specs.declared.refusal.BodyRefusal.TheVariants.{IllTyped}
 use Rattle.verdict.specs.Judged.{body_refusal_of}
-use Rattle.accepted.specs.Judgement.{IsCheckedFrom}
+use Rattle.accepted_module.specs.Judgement.{IsCheckedFrom}
 use Rattle.verdict.proofs.Bodies.{tree_of, refusal_typing}
 
 pub typed_refusal : Agrees body → TypedIsAccepted → (C : Context) (f : ℕ) (bytes : List ℕ) (b : Body) → SpellsBody bytes (body_shape b) → FewLocals (body_shape b) → IsTypedAs C f b → body_refusal_of C f bytes ≡ None

@@ -1,5 +1,5 @@
 -- From what is known of the bodies of a module to how it stands.
-use Rattle.std.proofs.Common.{Bor, ◌≡◌, ℕ, zero, suc, ◌+◌, ◌-◌, ◌<◌, ◌≤◌, min, List, [], ◌∷◌, ◌++◌, length, map, get_or, Option, Some, None, Result, Ok, Err, Vec, Global, refl, sym, ap, subst, ◌∙◌, append_assoc, arith, inl, inr}
+use Rattle.std.proofs.Common.{Bor, ◌≡◌, ℕ, zero, suc, ◌+◌, ◌-◌, ◌<◌, ◌≤◌, min, List, [], ◌∷◌, ◌++◌, length, map, get_or, Option, Some, None, Result, Ok, Err, Vec, Global, sym, ap, subst, ◌∙◌, append_assoc, arith, inl, inr}
 use Rattle.std.specs.Prelude.{slice_get, All, IfSome, IfOk, IsSomeAnd, IsErrAnd}
 use Rattle.std.specs.List.{Contains, range_with_len}
 use Rattle.std.proofs.lemmas.List.{length-map, append-nil}
@@ -11,21 +11,21 @@ use Rattle.wsyntax.specs.declared.module.Module.{Module}
 use Rattle.wsyntax.specs.Modules.{ModuleShape, module_shape}
 use Rattle.wsyntax.specs.Binary.Shell.{Shell}
 use Rattle.wsyntax.specs.Validation.Context.{Context}
-use Rattle.wsyntax.specs.Validation.ModuleContext.{IndexedContext, indexed_context, module_context, imported_functions}
+use Rattle.wsyntax.specs.Validation.ModuleContext.{IndexedContext, module_context, imported_functions}
 use Rattle.wsyntax.specs.Validation.Verdict.{IsVerdict, function_at, Accepted as accepted_verdict}
-use Rattle.checked.specs.declared.body.CheckedBody.{CheckedBody}
+use Rattle.checked_body.specs.declared.body.CheckedBody.{CheckedBody}
 use Rattle.wcheck.specs.Checking.{Checking}
-use Rattle.accepted.specs.declared.accepted.Accepted.{Accepted}
-use Rattle.accepted.specs.Kept.{IsAcceptedFrom}
-use Rattle.accepted.specs.Judgement.{IsCheckedFrom, IsCheckedAt, AreChecked, IsJudged}
+use Rattle.accepted_module.specs.declared.accepted.Accepted.{Accepted}
+use Rattle.accepted_module.specs.Kept.{IsAcceptedFrom}
+use Rattle.accepted_module.specs.Judgement.{IsCheckedFrom, IsCheckedAt, IsJudged}
 use Rattle.verdict.specs.declared.refusal.BodyRefusal.{BodyRefusal}
 use Rattle.verdict.specs.declared.refusal.Refusal.{Refusal}
 use Rattle.verdict.specs.declared.refusal.Refusal.TheVariants.{TooLarge, Malformed, Rule, Body, Memory}
 use Rattle.verdict.specs.declared.refused_body.RefusedBody.{RefusedBody}
-use Rattle.verdict.specs.Judged.{body_refusal_of, given_refusal, body_refusal_at, PassBefore}
+use Rattle.verdict.specs.Judged.{body_refusal_of, given_refusal, body_refusal_at}
 use Rattle.verdict.specs.Refusals.{verdict_of}
 use Rattle.verdict.specs.Rules.{KeepsRules}
-use Rattle.verdict.specs.Steps.{Progress, refusal_in, Passes, AllPassed, IsFirstGap, IsFirstOpen, HasBodies, IsChecker, IsSound, IsKept, IsRefusedBody, AllChecked, HasAll, PassFrom, with_passed, clipped, JudgesAt, JudgesFrom}
+use Rattle.verdict.specs.Steps.{Progress, refusal_in, Passes, AllPassed, IsFirstGap, IsFirstOpen, HasBodies, IsChecker, IsSound, IsKept, AllChecked, HasAll, PassFrom, with_passed, clipped, JudgesAt, JudgesFrom}
 use Rattle.verdict.proofs.Firsts.{all_accepted, body_refused, indices_fit}
 use Rattle.verdict.proofs.Groups.{bytes_there, refusal_there}
 use Rattle.verdict.proofs.Judgements.{accepted_from}

@@ -5,10 +5,10 @@ use Rattle.wsyntax.specs.Modules.{ModuleShape, module_shape}
 use Rattle.wsyntax.specs.Binary.Shell.{Shell}
 use Rattle.wsyntax.specs.Validation.ModuleContext.{IndexedContext, indexed_context, module_context, imported_functions}
 use Rattle.wsyntax.specs.Validation.Rules.{NoneBroken}
-use Rattle.checked.specs.declared.body.CheckedBody.{CheckedBody}
-use Rattle.accepted.specs.declared.accepted.Accepted.{Accepted}
-use Rattle.accepted.specs.Judgement.{AreChecked, IsJudged}
-use Rattle.accepted.specs.Kept.{IsAcceptedFrom}
+use Rattle.checked_body.specs.declared.body.CheckedBody.{CheckedBody}
+use Rattle.accepted_module.specs.declared.accepted.Accepted.{Accepted}
+use Rattle.accepted_module.specs.Judgement.{AreChecked, IsJudged}
+use Rattle.accepted_module.specs.Kept.{IsAcceptedFrom}
 
 -- the bodies were checked under the context that was made, and are those of the module
 pub is_judged : (m : ModuleShape) (x : IndexedContext) (bodies : List (List ℕ)) (n : ℕ) (all : List CheckedBody) → NoneBroken m → x ≡ indexed_context m → length m.functions ≡ length m.bodies → bodies ≡ m.bodies → n ≡ length m.bodies → AreChecked x.context x.imported bodies n all → IsJudged m x all

@@ -13,8 +13,8 @@ use Rattle.pieces.specs.TryAll.{AllPass, StopsAt}
 use Rattle.pieces.specs.declared.trying.TryFault.{TryFault}
 use Rattle.pieces.specs.declared.trying.TryFault.TheVariants.{Stopped}
 use Rattle.wsyntax.specs.Validation.Context.{Context}
-use Rattle.checked.specs.declared.body.CheckedBody.{CheckedBody}
-use Rattle.accepted.specs.Judgement.{IsCheckedAt, AreChecked}
+use Rattle.checked_body.specs.declared.body.CheckedBody.{CheckedBody}
+use Rattle.accepted_module.specs.Judgement.{IsCheckedAt, AreChecked}
 use Rattle.verdict.specs.declared.refused_body.RefusedBody.{RefusedBody}
 use Rattle.verdict.specs.declared.refusal.Refusal.TheVariants.{Body}
 use Rattle.verdict.specs.Judged.{body_refusal_at, PassBefore, IsFirstBody}

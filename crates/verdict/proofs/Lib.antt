@@ -18,3 +18,5 @@ pub mod KeptGroups
 pub mod SlotSteps
 pub mod InSteps
 pub mod Noted
+pub mod FrontTokens
+pub mod KeptPass

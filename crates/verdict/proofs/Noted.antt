@@ -7,7 +7,7 @@ use Rattle.std.proofs.lemmas.List.Elements.{All-append}
 use Rattle.std.proofs.lemmas.Option.{slice_get-map, slice_get_within, get_or_from_slice_get}
 use Rattle.wsyntax.specs.Modules.{ModuleShape}
 use Rattle.wsyntax.specs.Binary.Shell.{Shell}
-use Rattle.checked.specs.declared.body.CheckedBody.{CheckedBody}
+use Rattle.checked_body.specs.declared.body.CheckedBody.{CheckedBody}
 use Rattle.verdict.specs.declared.kept_body.KeptBody.{KeptBody}
 use Rattle.verdict.specs.declared.refused_body.RefusedBody.{RefusedBody}
 use Rattle.verdict.specs.declared.judged_bodies.JudgedBodies.TheInside.{Inside}

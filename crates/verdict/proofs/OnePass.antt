@@ -34,19 +34,19 @@ when_some false o y e = absurd cc
 -- ---- what is open, by the frames
 
 -- of each open block, whether an else may still come; the function's own frame is none
-abbrev flags : List Frame → List Bool
+abbrev pub flags : List Frame → List Bool
 flags [] = []
 flags (f ∷ []) = []
 flags (f ∷ g ∷ fs) = f.is_then ∷ flags (g ∷ fs)
 
 -- no else comes in the function's own frame
-abbrev Grounded : List Frame → Type 0
+abbrev pub Grounded : List Frame → Type 0
 Grounded [] = Unit {0}
 Grounded (f ∷ []) = f.is_then ≡ false
 Grounded (f ∷ g ∷ fs) = Grounded (g ∷ fs)
 
 -- what a token makes of the open blocks is what it makes of the frames
-abbrev Follows : Option (Option (List Bool)) → List Frame → Type 0
+abbrev pub Follows : Option (Option (List Bool)) → List Frame → Type 0
 Follows None gs = ⊥
 Follows (Some None) gs = gs ≡ []
 Follows (Some (Some inner)) [] = ⊥
@@ -97,7 +97,7 @@ closes f (g ∷ hs) gs h e =
     let v = when_some (may_lack_else f) _ gs w.1 in
     stays g hs gs (put f.gives g.operands) h (some_is _ _ v.1)
 
-follows : (C : Context) (t : Token) (f : Frame) (fs gs : List Frame) → Grounded (f ∷ fs) → step C t (f ∷ fs) ≡ Some gs → Follows (nest (flags (f ∷ fs)) t) gs
+pub follows : (C : Context) (t : Token) (f : Frame) (fs gs : List Frame) → Grounded (f ∷ fs) → step C t (f ∷ fs) ≡ Some gs → Follows (nest (flags (f ∷ fs)) t) gs
 follows C (Do i) f fs gs h e =
     let a = on_some (rule (context_in C (f ∷ fs)) i) (λ r. on (apply r f.operands) (λ o. Some (record f { operands = o } ∷ fs))) gs e in
     let b = on_some (apply a.0 f.operands) (λ o. Some (record f { operands = o } ∷ fs)) gs a.1 in
@@ -187,7 +187,7 @@ told old new bytes after t (Ok false) read lt step_is same =
     λ u rest e. ap (λ (x : Token × List ℕ). step old.inside x.0 old.frames) (some_is _ _ (sym e ∙ read)) ∙ step_is
 told old new bytes after t (Err e) read lt step_is same = tt
 
-front : (bytes : List ℕ) (b : ℕ) → 1 ≤ length bytes → get_or bytes 0 0 ≡ b → b ∷ take (length bytes - 1) (drop 1 bytes) ≡ bytes
+pub front : (bytes : List ℕ) (b : ℕ) → 1 ≤ length bytes → get_or bytes 0 0 ≡ b → b ∷ take (length bytes - 1) (drop 1 bytes) ≡ bytes
 front bytes b some is = ap (λ (x : ℕ). x ∷ take (length bytes - 1) (drop 1 bytes)) (sym is) ∙ in_front bytes some
 
 -- a frequent instruction that is read and looked at

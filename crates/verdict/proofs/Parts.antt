@@ -18,7 +18,7 @@ use Rattle.wsyntax.specs.Validation.Rules.{NoneBroken, LeastBroken}
 use Rattle.wsyntax.specs.Validation.Verdict.{IsVerdict, Accepted}
 use Rattle.wcontext.specs.declared.fault.ModuleFault.{ModuleFault}
 use Rattle.wcontext.specs.declared.fault.ModuleFault.TheVariants as rules
-use Rattle.wdecode.specs.declared.front.Front.{Front}
+use Rattle.wdecode.specs.declared.front.ModuleHead.{ModuleHead}
 use Rattle.verdict.specs.declared.head.Head.{Head}
 use Rattle.wsyntax.specs.Validation.Context.{Context}
 use Rattle.verdict.specs.declared.refusal.BodyRefusal.{BodyRefusal}
@@ -142,15 +142,15 @@ body_run h place (Err y) x is lt passes before a = subst (AllowsFault (IsFirstFa
 
 -- ---- the verdict
 
-known : (bytes : List ℕ) (f : Front) (m : ModuleShape) → Decoded bytes f → IsWhole f m → NoneBroken m → Known bytes m
+known : (bytes : List ℕ) (f : ModuleHead) (m : ModuleShape) → Decoded bytes f → IsWhole f m → NoneBroken m → Known bytes m
 known bytes f m d is kept =
     record { whole = record { small = d.small; shell = (d.whole m).1 is }; rules = kept; reads = d.reads; typed = d.typed; faults = d.faults }
 
 -- the context and the bodies are those of the front
-same_context : (f : Front) (m : ModuleShape) → IsWhole f m → indexed_context (module_shape f.«module») ≡ indexed_context m
+same_context : (f : ModuleHead) (m : ModuleShape) → IsWhole f m → indexed_context (module_shape f.«module») ≡ indexed_context m
 same_context f m is = ap indexed_context (sym is.2)
 
-same_bodies : (f : Front) (m : ModuleShape) → IsWhole f m → (module_shape f.«module»).bodies ≡ m.bodies
+same_bodies : (f : ModuleHead) (m : ModuleShape) → IsWhole f m → (module_shape f.«module»).bodies ≡ m.bodies
 same_bodies f m is = ap (λ (n : ModuleShape). n.bodies) (sym is.2)
 
 -- all pass
@@ -187,11 +187,11 @@ fault_judged h r i x d is same first =
 
 -- ---- an early rule is broken
 
-pub early_for : (f : Front) (m : ModuleShape) (e : ModuleFault) → IsWhole f m → IsEarlyRefusal f e (of_rules e)
+pub early_for : (f : ModuleHead) (m : ModuleShape) (e : ModuleFault) → IsWhole f m → IsEarlyRefusal f e (of_rules e)
 early_for f m (rules.Rule k) is = (refl, m, is)
 early_for f m rules.Memory is = tt
 
-pub is_early : (f : Front) (bytes : List ℕ) (e : ModuleFault) (r : Refusal) → Decoded bytes f → ((k : ℕ) → e ≡ rules.Rule k → (k < 9) × LeastBroken (module_shape f.«module») k) → IsEarlyRefusal f e r → IfSome (verdict_of r) (IsVerdict bytes)
+pub is_early : (f : ModuleHead) (bytes : List ℕ) (e : ModuleFault) (r : Refusal) → Decoded bytes f → ((k : ℕ) → e ≡ rules.Rule k → (k < 9) × LeastBroken (module_shape f.«module») k) → IsEarlyRefusal f e r → IfSome (verdict_of r) (IsVerdict bytes)
 unfolding IsVerdict
 is_early f bytes e TooLarge d broken h = absurd h
 is_early f bytes e Malformed d broken h = (d.small, λ m s. h m ((d.whole m).0 s))
@@ -204,7 +204,7 @@ is_early f bytes e (Body g c) d broken h = absurd h
 is_early f bytes e Memory d broken h = tt
 
 -- there is one whole
-pub one_whole : (bytes : List ℕ) (f : Front) → ((m : ModuleShape) → Shell bytes m ↔ IsWhole f m) → ((bytes : List ℕ) (m n : ModuleShape) → Shell bytes m → Shell bytes n → m ≡ n) → UniqueWhole f
+pub one_whole : (bytes : List ℕ) (f : ModuleHead) → ((m : ModuleShape) → Shell bytes m ↔ IsWhole f m) → ((bytes : List ℕ) (m n : ModuleShape) → Shell bytes m → Shell bytes n → m ≡ n) → UniqueWhole f
 one_whole bytes f whole determined m n a b = determined bytes m n ((whole m).1 a) ((whole n).1 b)
 
 -- ---- the functions
@@ -218,7 +218,7 @@ each_has_type m x is paired =
     omega arith
 
 -- bytes that are fewer spell no module
-pub no_module : (bytes : List ℕ) (f : Front) (x : IndexedContext) (count : ℕ) → ((m : ModuleShape) → Shell bytes m ↔ IsWhole f m) → x ≡ indexed_context (module_shape f.«module») → length (module_shape f.«module»).functions ≡ length (module_shape f.«module»).bodies → count ≡ length x.context.functions → length bytes < count → (m : ModuleShape) → Shell bytes m → ⊥
+pub no_module : (bytes : List ℕ) (f : ModuleHead) (x : IndexedContext) (count : ℕ) → ((m : ModuleShape) → Shell bytes m ↔ IsWhole f m) → x ≡ indexed_context (module_shape f.«module») → length (module_shape f.«module»).functions ≡ length (module_shape f.«module»).bodies → count ≡ length x.context.functions → length bytes < count → (m : ModuleShape) → Shell bytes m → ⊥
 no_module bytes f x count whole is paired functions few m s =
     let front = module_shape f.«module» in
     let w : IsWhole f m = (whole m).0 s in

@@ -7,11 +7,11 @@ use Rattle.wsyntax.specs.Modules.{module_shape}
 use Rattle.wsyntax.specs.Binary.Shell.{module_limit}
 use Rattle.wsyntax.specs.Validation.ModuleContext.{IndexedContext}
 use Rattle.wsyntax.specs.Validation.Verdict.{IsVerdict, Accepted as accepted_verdict}
-use Rattle.checked.specs.declared.body.CheckedBody.{CheckedBody}
-use Rattle.accepted.specs.declared.accepted.Accepted.{Accepted}
-use Rattle.accepted.specs.Judgement.{AreChecked, IsJudged}
-use Rattle.accepted.specs.Small.{IsSmall}
-use Rattle.accepted.specs.Kept.{IsAcceptedFrom}
+use Rattle.checked_body.specs.declared.body.CheckedBody.{CheckedBody}
+use Rattle.accepted_module.specs.declared.accepted.Accepted.{Accepted}
+use Rattle.accepted_module.specs.Judgement.{AreChecked, IsJudged}
+use Rattle.accepted_module.specs.Small.{IsSmall}
+use Rattle.accepted_module.specs.Kept.{IsAcceptedFrom}
 use Rattle.verdict.specs.declared.refusal.Refusal.{Refusal}
 use Rattle.verdict.specs.Judged.{PassBefore, IsFirstBody}
 use Rattle.verdict.specs.Refusals.{verdict_of}

@@ -1,12 +1,12 @@
 -- Marks and slots, a body at a time.
 use Rattle.std.proofs.Common.{◌≡◌, ◌≢◌, ℕ, zero, suc, ◌+◌, ◌<◌, ◌≤◌, Bool, true, false, List, [], ◌∷◌, ◌++◌, length, map, get_or, replicate, Option, Some, None, ◌⊎◌, inl, inr, refl, sym, ap, subst, ◌∙◌, arith}
-use Rattle.std.specs.Prelude.{slice_get, slice_set, option_map, IsSome, All}
+use Rattle.std.specs.Prelude.{slice_get, slice_set, option_map, All}
 use Rattle.std.specs.List.{Contains}
 use Rattle.std.proofs.lemmas.Option.{slice_get-map, slice_get-get_or, slice_get_within, get_or_from_slice_get}
 use Rattle.std.proofs.lemmas.List.{length-map, length-replicate, length-set, get_or-replicate}
 use mathlib.Core.Logic.{dite}
 use native.Mathlib.Decide.{ℕ_discrete as dec_eq}
-use Rattle.checked.specs.declared.body.CheckedBody.{CheckedBody}
+use Rattle.checked_body.specs.declared.body.CheckedBody.{CheckedBody}
 use Rattle.verdict.specs.declared.kept_body.KeptBody.{KeptBody}
 use Rattle.verdict.specs.Slots.{AreMarks, AreSlots}
 

@@ -5,9 +5,9 @@ use Rattle.wsyntax.specs.Modules.{ModuleShape, tokens_of, body_shape}
 use Rattle.wsyntax.specs.Binary.Shell.{module_limit}
 use Rattle.wsyntax.specs.Validation.ModuleContext.{IndexedContext}
 use Rattle.wsyntax.specs.Validation.Verdict.{IsModule}
-use Rattle.checked.specs.declared.body.CheckedBody.{CheckedBody}
-use Rattle.accepted.specs.Judgement.{IsJudged}
-use Rattle.accepted.specs.Small.{IsSmall}
+use Rattle.checked_body.specs.declared.body.CheckedBody.{CheckedBody}
+use Rattle.accepted_module.specs.Judgement.{IsJudged}
+use Rattle.accepted_module.specs.Small.{IsSmall}
 use Rattle.verdict.proofs.Sizes.{types_fit, segments_fit, body_fits}
 use Rattle.verdict.proofs.TokenCounts.{tokens_fit}
 

@@ -55,7 +55,7 @@ refused_here C (u ∷ us) fs gs bytes rest after t p refuses read e =
     let lt = p.3 in
     absurd (omega arith)
 
-same_read : (x y : Token × List ℕ) (o : Option (Token × List ℕ)) → o ≡ Some x → o ≡ Some y → x ≡ y
+pub same_read : (x y : Token × List ℕ) (o : Option (Token × List ℕ)) → o ≡ Some x → o ≡ Some y → x ≡ y
 same_read x y o a b = let e : Some x ≡ Some y = sym a ∙ b in cc
 
 -- before that place it is taken
@@ -228,7 +228,7 @@ whole_few C f runs None few = refl
 whole_few C f runs (Some (ts, [])) few = rw few refl
 whole_few C f runs (Some (ts, b ∷ bs)) few = rw (not_zero (length bs)) refl
 
-body_read : (bytes rest : List ℕ) (runs : List LocalRun) (o : Option (List Token × List ℕ)) → locals.read bytes ≡ Some (runs, rest) → expression.read rest ≡ o
+pub body_read : (bytes rest : List ℕ) (runs : List LocalRun) (o : Option (List Token × List ℕ)) → locals.read bytes ≡ Some (runs, rest) → expression.read rest ≡ o
     → whole_at body.read bytes ≡ (o >>= λ x. cond (eqb (length x.1) 0) (Some record { runs = runs; code = x.0 }) None)
 unfolding body
 body_read bytes rest runs None a b = rw (a, b) refl

@@ -5,8 +5,8 @@ use Rattle.std.proofs.Math.Nat.{le_antisymm, lt_of_not-le}
 use mathlib.Core.Logic.{dite}
 use native.Mathlib.Decide.{dec_le}
 use Rattle.wsyntax.specs.Validation.Context.{Context}
-use Rattle.checked.specs.declared.body.CheckedBody.{CheckedBody}
-use Rattle.accepted.specs.Judgement.{IsCheckedAt}
+use Rattle.checked_body.specs.declared.body.CheckedBody.{CheckedBody}
+use Rattle.accepted_module.specs.Judgement.{IsCheckedAt}
 use Rattle.verdict.specs.declared.refused_body.RefusedBody.{RefusedBody}
 use Rattle.verdict.specs.Judged.{body_refusal_at, none_and_some, one_body_refusal}
 

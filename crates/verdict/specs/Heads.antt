@@ -13,7 +13,7 @@ use Rattle.wcontext.specs.declared.space_sizes.SpaceSizes.{SpaceSizes}
 use Rattle.wcontext.specs.Counted.{AreCountsOf}
 use Rattle.wcontext.specs.declared.fault.ModuleFault.{ModuleFault}
 use Rattle.wcontext.specs.declared.fault.ModuleFault.TheVariants as rules
-use Rattle.wdecode.specs.declared.front.Front.{Front}
+use Rattle.wdecode.specs.declared.front.ModuleHead.{ModuleHead}
 use Rattle.wdecode.specs.Fronts.{EndsFront, with_segments}
 use Rattle.verdict.specs.declared.refusal.Refusal.{Refusal}
 use Rattle.verdict.specs.declared.refusal.Refusal.TheVariants as refusal
@@ -21,15 +21,15 @@ use Rattle.verdict.specs.declared.part_fault.RestFault.{RestFault}
 use Rattle.verdict.specs.declared.part_fault.RestFault.TheVariants.{Malformed, Rule}
 
 -- the module whose front it is: the same, with the data segments that end it
-abbrev pub IsWhole : Front → ModuleShape → Type 0
+abbrev pub IsWhole : ModuleHead → ModuleShape → Type 0
 IsWhole f m = (segments : List DataShape) × EndsFront f segments × (m ≡ with_segments (module_shape f.«module») segments)
 
 -- there is one at most
-abbrev pub UniqueWhole : Front → Type 0
+abbrev pub UniqueWhole : ModuleHead → Type 0
 UniqueWhole f = (m n : ModuleShape) → IsWhole f m → IsWhole f n → m ≡ n
 
 -- the bytes are no more than a module may have, and spell the whole of that front and no other; and the laws by which its bodies are judged
-pub record Decoded (bytes : List ℕ) (f : Front) : Type 0 where
+pub record Decoded (bytes : List ℕ) (f : ModuleHead) : Type 0 where
   pub small : length bytes ≤ module_limit
   pub whole : (m : ModuleShape) → Shell bytes m ↔ IsWhole f m
   pub one : UniqueWhole f
@@ -38,28 +38,28 @@ pub record Decoded (bytes : List ℕ) (f : Front) : Type 0 where
   pub faults : RefusedAtFirstFault
 
 -- what is known before the rest is judged: the early rules are kept, and these are the module's counts
-pub record EarlyRulesHold (f : Front) (c : SpaceSizes) : Type 0 where
+pub record EarlyRulesHold (f : ModuleHead) (c : SpaceSizes) : Type 0 where
   pub counted : AreCountsOf (module_shape f.«module») c
   pub early : (k : ℕ) → k < 9 → Keeps (module_shape f.«module») k
 
 -- the same of the head of the module of these bytes
-pub record IsHead (bytes : List ℕ) (f : Front) (c : SpaceSizes) : Type 0 where
+pub record IsHead (bytes : List ℕ) (f : ModuleHead) (c : SpaceSizes) : Type 0 where
   pub decoded : Decoded bytes f
   pub early_hold : EarlyRulesHold f c
 
 -- ---- the rest
 
 -- it is a module, and keeps all rules
-abbrev pub RestPasses : Front → Type 0
+abbrev pub RestPasses : ModuleHead → Type 0
 RestPasses f = (m : ModuleShape) × IsWhole f m × NoneBroken m
 
 -- it is none, or that is the least rule that it breaks
-abbrev pub RestRefused : Front → RestFault → Type 0
+abbrev pub RestRefused : ModuleHead → RestFault → Type 0
 RestRefused f Malformed = (m : ModuleShape) → IsWhole f m → ⊥
 RestRefused f (Rule k) = (m : ModuleShape) × IsWhole f m × LeastBroken m k
 
 -- where an early rule is broken: that of the rule, or, since that goes before, that the front is that of no module
-abbrev pub IsEarlyRefusal : Front → ModuleFault → Refusal → Type 0
+abbrev pub IsEarlyRefusal : ModuleHead → ModuleFault → Refusal → Type 0
 IsEarlyRefusal f e refusal.Malformed = RestRefused f Malformed
 IsEarlyRefusal f e (refusal.Rule k) = (e ≡ rules.Rule k) × (m : ModuleShape) × IsWhole f m
 IsEarlyRefusal f e refusal.Memory = Unit {0}
@@ -76,17 +76,17 @@ pub record Known (bytes : List ℕ) (m : ModuleShape) : Type 0 where
 
 -- ---- no rest both passes and is refused, nor is refused for two reasons
 
-kept : (f : Front) (k : ℕ) → UniqueWhole f → RestPasses f → RestRefused f (Rule k) → ⊥
+kept : (f : ModuleHead) (k : ℕ) → UniqueWhole f → RestPasses f → RestRefused f (Rule k) → ⊥
 kept f k one p r = r.2.broken (subst (λ (m : ModuleShape). Keeps m k) (one p.0 r.0 p.1 r.1) (p.2 k))
 
-pub rest_passes_or_refused : (f : Front) (r : RestFault) → UniqueWhole f → RestPasses f → RestRefused f r → ⊥
+pub rest_passes_or_refused : (f : ModuleHead) (r : RestFault) → UniqueWhole f → RestPasses f → RestRefused f r → ⊥
 rest_passes_or_refused f Malformed one p r = r p.0 p.1
 rest_passes_or_refused f (Rule k) one p r = kept f k one p r
 
-not_sooner : (f : Front) (j k : ℕ) → UniqueWhole f → RestRefused f (Rule j) → RestRefused f (Rule k) → j < k → ⊥
+not_sooner : (f : ModuleHead) (j k : ℕ) → UniqueWhole f → RestRefused f (Rule j) → RestRefused f (Rule k) → j < k → ⊥
 not_sooner f j k one r s lt = r.2.broken (subst (λ (m : ModuleShape). Keeps m j) (one s.0 r.0 s.1 r.1) (s.2.before j lt))
 
-pub one_rest : (f : Front) (r s : RestFault) → UniqueWhole f → RestRefused f r → RestRefused f s → r ≡ s
+pub one_rest : (f : ModuleHead) (r s : RestFault) → UniqueWhole f → RestRefused f r → RestRefused f s → r ≡ s
 one_rest f Malformed Malformed one r s = refl
 one_rest f Malformed (Rule k) one r s = absurd (r s.0 s.1)
 one_rest f (Rule j) Malformed one r s = absurd (s r.0 r.1)

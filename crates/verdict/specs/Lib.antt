@@ -10,3 +10,5 @@ pub mod Laws
 pub mod Slots
 pub mod Steps
 pub mod JudgedBodies
+pub mod FrontTokens
+pub mod Keeping

@@ -1,7 +1,7 @@
 -- Places of bodies, marked or filled.
 use Rattle.std.specs.Prelude.{◌≡◌, ℕ, Bool, true, false, List, Option, Some, length, slice_get}
 use Rattle.std.specs.List.{Contains}
-use Rattle.checked.specs.declared.body.CheckedBody.{CheckedBody}
+use Rattle.checked_body.specs.declared.body.CheckedBody.{CheckedBody}
 use Rattle.verdict.specs.declared.kept_body.KeptBody.{KeptBody}
 
 -- of each place below `count` it is said whether it is one of these

@@ -7,9 +7,9 @@ use Rattle.wsyntax.specs.Binary.Shell.{Shell}
 use Rattle.wsyntax.specs.Validation.ModuleContext.{module_context, imported_functions}
 use Rattle.wsyntax.specs.Validation.Rules.{NoneBroken}
 use Rattle.wsyntax.specs.Validation.Verdict.{IsModule, IsVerdict, function_at, Accepted as accepted_verdict}
-use Rattle.accepted.specs.Judgement.{IsCheckedAt, AreChecked}
+use Rattle.accepted_module.specs.Judgement.{IsCheckedAt, AreChecked}
 use Rattle.wcheck.specs.Checking.{Checking}
-use Rattle.checked.specs.declared.body.CheckedBody.{CheckedBody}
+use Rattle.checked_body.specs.declared.body.CheckedBody.{CheckedBody}
 use Rattle.verdict.specs.declared.refusal.BodyRefusal.{BodyRefusal}
 use Rattle.verdict.specs.declared.refusal.Refusal.{Refusal}
 use Rattle.verdict.specs.declared.refusal.Refusal.TheVariants as refusal

@@ -10,14 +10,14 @@ use crate::refusal::Refusal;
 use soundness::validation::{accepted_is_typed, refused_at_first_fault};
 use std::alloc::Global;
 use wcontext::{Context, ModuleFault, SpaceSizes, check_early};
-use wdecode::{Fault, Front, decode_front, grammar_is_read, shells_are_determined};
+use wdecode::{Fault, ModuleHead, decode_front, grammar_is_read, shells_are_determined};
 
 /// The head of a module that keeps the early rules.
 #[derive(Drop)]
 pub(crate) struct Head<'a> {
     /// All bytes of the module.
     pub(crate) bytes: &'a [u8],
-    pub(crate) front: Front<'a>,
+    pub(crate) front: ModuleHead<'a>,
     /// What its bodies are judged under.
     pub(crate) context: Context,
     /// What its late rules look up.
@@ -29,7 +29,7 @@ pub(crate) struct Head<'a> {
 }
 
 /// The refusal of a module that breaks an early rule. That its bytes spell no module goes before.
-fn refused_early(alloc: Global, front: Front<'_>, fault: ModuleFault) -> Refusal
+fn refused_early(alloc: Global, front: ModuleHead<'_>, fault: ModuleFault) -> Refusal
     ensures { IsEarlyRefusal front.entry fault result }
 {
     match front.whole(alloc) {

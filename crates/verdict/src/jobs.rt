@@ -1,11 +1,11 @@
-ghost use Rattle.std.specs.Prelude.{◌≡◌, ◌+◌, ◌*◌, ◌-◌, ◌<◌, min, suc, Some, None, MatchResult, length};
-ghost use Rattle.std.specs.Int.{div_ceil};
+ghost use Rattle.std.specs.Prelude.{◌≡◌, ◌<◌, None, MatchResult, length};
 ghost use Rattle.pieces.specs.Faults.{AllowsFault};
 ghost use Rattle.verdict.specs.Judged.{body_refusal_of};
 ghost use Rattle.verdict.specs.Heads.{EarlyRulesHold};
 ghost use Rattle.verdict.specs.Parts.{bodies_of, body_refusal_in, parts_of, IsBodyAt};
 
 use crate::body::judge_body;
+use crate::grouping::places_of;
 use crate::head::Head;
 use crate::part_fault::PartFault;
 use crate::passing::Scratch;
@@ -84,17 +84,6 @@ impl<'a, 'b, W> ModuleParts<'a, 'b, W> {
     {
         1 + (self.head.front.module.bodies.len() as u32).div_ceil(self.size)
     }
-
-    /// The places of the bodies of a group: the first, and that after the last.
-    fn group(&self, group: u32) -> (u32, u32)
-        requires { group < div_ceil (length (bodies_of self.now.head.now)) self.now.size }
-        ensures from { result.0 ≡ group * self.now.size }
-        ensures to { result.1 ≡ group * self.now.size + min self.now.size (length (bodies_of self.now.head.now) - group * self.now.size) }
-    {
-        let from = group * self.size;
-        let left = self.head.front.module.bodies.len() as u32 - from;
-        (from, from + self.size.min(left))
-    }
 }
 
 impl<'a, 'b, W: Watch> Job for ModuleParts<'a, 'b, W> {
@@ -125,7 +114,8 @@ impl<'a, 'b, W: Watch> Job for ModuleParts<'a, 'b, W> {
         if index == 0 {
             return judge_rest(self.alloc, self.head, &mut scratch.names);
         }
-        let (from, to) = self.group(index - 1);
+        let bodies = self.head.front.module.bodies.len() as u32;
+        let (from, to) = places_of(index - 1, self.size, bodies);
         for place in from..to {
             self.watch.note(Stage::Body, place);
             judge_at(self.alloc, self.head, scratch, place)?;

@@ -6,7 +6,7 @@ ghost use Rattle.verdict.specs.Steps.{IsSound, IsValidShell, HasBodies, HasAll, 
 use crate::kept_body::KeptBody;
 use crate::refused_body::RefusedBody;
 use crate::slots::{emptied, first_unmarked, in_slots, marks_of};
-use checked::CheckedBody;
+use checked_body::CheckedBody;
 use std::alloc::{AllocError, Global};
 use std::marker::Model;
 

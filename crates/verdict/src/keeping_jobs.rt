@@ -1,13 +1,13 @@
 ghost use Rattle.std.specs.Prelude.{◌≡◌, ◌+◌, ◌<◌, ◌^◌, Some, None, MatchResult, All, length, map};
 ghost use Rattle.pieces.specs.Faults.{AllowsFault};
-ghost use Rattle.accepted.specs.Judgement.{IsCheckedAt};
+ghost use Rattle.accepted_module.specs.Judgement.{IsCheckedAt};
 ghost use Rattle.verdict.specs.Judged.{body_refusal_at};
 
 use crate::grouping::places_of;
 use crate::keeping::checked_body;
 use crate::refusal::BodyRefusal;
 use crate::refused_body::RefusedBody;
-use checked::CheckedBody;
+use checked_body::CheckedBody;
 use pieces::{Job, JobFault, Stage, Watch};
 use std::alloc::Global;
 use std::sync::Wait;

@@ -20,6 +20,7 @@
 
 mod body;
 mod examining;
+mod front_token;
 mod grouping;
 mod head;
 mod jobs;
@@ -27,6 +28,7 @@ mod judged_bodies;
 mod judging;
 mod keeping;
 mod keeping_jobs;
+mod keeping_pass;
 mod kept_body;
 mod laws;
 mod part_fault;
@@ -39,7 +41,7 @@ mod standing;
 mod steps;
 mod tuning;
 
-pub use accepted::Accepted;
+pub use accepted_module::Accepted;
 pub use examining::{examine, examine_alone};
 pub use judged_bodies::JudgedBodies;
 pub use judging::{judge, judge_alone};

@@ -3,7 +3,7 @@ ghost use Rattle.std.specs.Prelude.{◌≡◌, ◌<◌, ◌≤◌, ℕ, IfOk, Is
 ghost use Rattle.verdict.specs.Slots.{AreMarks, AreSlots};
 
 use crate::kept_body::KeptBody;
-use checked::CheckedBody;
+use checked_body::CheckedBody;
 use std::alloc::{AllocError, Global};
 
 /// Of each place below `count` whether a body is kept there.

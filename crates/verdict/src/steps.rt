@@ -3,7 +3,7 @@ ghost use Rattle.std.specs.Prelude.{◌≡◌, ◌<◌, MatchResult, IfOk, IfSom
 ghost use Rattle.wsyntax.specs.Modules.{ModuleShape};
 ghost use Rattle.wsyntax.specs.Binary.Shell.{Shell};
 ghost use Rattle.wsyntax.specs.Validation.Verdict.{IsVerdict, Accepted as accepted_verdict};
-ghost use Rattle.accepted.specs.Kept.{IsAcceptedFrom};
+ghost use Rattle.accepted_module.specs.Kept.{IsAcceptedFrom};
 ghost use Rattle.verdict.specs.Refusals.{verdict_of};
 ghost use Rattle.verdict.specs.Steps.{no_progress, IsValidShell, HasBodies, HasAll, IsChecker, JudgesAt, JudgesFrom, IsStanding};
 
@@ -14,7 +14,7 @@ use crate::kept_body::KeptBody;
 use crate::refusal::Refusal;
 use crate::refused_body::RefusedBody;
 use crate::standing::Standing;
-use accepted::Accepted;
+use accepted_module::Accepted;
 use pieces::JobFault;
 use std::alloc::{AllocError, Global};
 use std::marker::Model;

@@ -6,5 +6,6 @@
 
 mod judging;
 mod small;
+mod tuning;
 
 pub use judging::judge_all;

@@ -1,13 +1,11 @@
 //! The modules that one worker judges alone.
 ghost use Rattle.std.specs.Prelude.{length};
 
+use crate::tuning::LARGE;
 use pieces::{Job, JobFault};
 use std::alloc::Global;
 use std::sync::Wait;
 use verdict::{Refusal, examine_alone};
-
-/// A module of so many bytes is judged by all workers, body by body, so that none is waited for long.
-const LARGE: usize = 1_048_576;
 
 /// Modules, of which each small one is judged by one worker. One index of the job is one module, and its result the
 /// verdict, or `None` for a large one.

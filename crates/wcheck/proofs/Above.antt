@@ -1,7 +1,7 @@
 -- One list of operands, what of it lies above a height, and what below.
-use Rattle.std.proofs.Common.{◌≡◌, ◌≤◌, ◌<◌, ◌-◌, ◌+◌, ℕ, Bool, true, false, List, [], ◌∷◌, ◌++◌, map, drop, take, reverse, length, Option, Some, refl, sym, ap, ◌∙◌, arith, length-append, length-drop}
+use Rattle.std.proofs.Common.{◌≡◌, ◌≤◌, ◌<◌, ◌-◌, ◌+◌, ℕ, Bool, false, List, [], ◌∷◌, ◌++◌, map, drop, take, reverse, length, Option, Some, sym, ap, ◌∙◌, arith, length-append, length-drop}
 use Rattle.std.specs.Prelude.{min}
-use Rattle.std.proofs.lemmas.List.{append_assoc, reverse-append, reverse-reverse, length-reverse, length-map, length-take, take-append-drop, take-append-le, append-nil, drop-append-le, take-take, take_min}
+use Rattle.std.proofs.lemmas.List.{reverse-append, reverse-reverse, length-reverse, length-map, length-take, take-append-drop, take-append-le, append-nil, drop-append-le, take-take, take_min}
 use Rattle.std.proofs.Math.Seq.{drop-append_seam, take-append_seam}
 use Rattle.std.proofs.Math.ListN.{drop_of_length-le}
 use Rattle.std.proofs.Math.Nat.{lt_of_not-le}
@@ -10,10 +10,9 @@ use native.Mathlib.Decide.{dec_le}
 use Rattle.wsyntax.specs.declared.ValType.{ValType}
 use Rattle.wsyntax.specs.Types.{FuncType}
 use Rattle.wsyntax.specs.Validation.Algorithm as alg
-use Rattle.wsyntax.specs.Validation.Context.{Stack}
-use Rattle.wsyntax.specs.Validation.Algorithm.{Operands, Frame, Takes, Drops, when, on, apply, take_any, take_one, put, fresh, ends_with, is_used_up, may_lack_else}
+use Rattle.wsyntax.specs.Validation.Algorithm.{Operands, Takes, Drops, when, on, apply, take_one, put}
 use Rattle.wcheck.specs.Heights.{Stacked, above_of, stacked, all_of, without, over}
-use Rattle.wcheck.specs.declared.entry.Entry.{Entry}
+use Rattle.wcheck.specs.declared.entry.StackEntry.{StackEntry}
 use Rattle.wcheck.specs.Runs.{types_in, IsCounted, last_types, types_before}
 use Rattle.wcheck.proofs.Behind.{map-reverse}
 use Rattle.wcheck.proofs.Stretched.{none, least}
@@ -58,10 +57,10 @@ base_size xs types b d s w le =
     ap (λ z. length z.below) (sym w) ∙ (let size : length (take b xs) ≡ b = omega (arith, le, length-take b xs) in size)
 
 -- no entries
-pub empty_stack : (xs : List Entry) (rs : List (List ValType)) (types : List FuncType) → xs ≡ [] → stacked (types_in xs rs) types 0 false ≡ record { below = []; above = record { known = []; is_dead = false }; types = types }
+pub empty_stack : (xs : List StackEntry) (rs : List (List ValType)) (types : List FuncType) → xs ≡ [] → stacked (types_in xs rs) types 0 false ≡ record { below = []; above = record { known = []; is_dead = false }; types = types }
 empty_stack xs rs types e = ap (λ z. stacked z types 0 false) (ap (λ z. types_in z rs) e ∙ none rs)
 
-pub empty_counted : (xs : List Entry) (rs : List (List ValType)) → xs ≡ [] → IsCounted xs rs 0
+pub empty_counted : (xs : List StackEntry) (rs : List (List ValType)) → xs ≡ [] → IsCounted xs rs 0
 empty_counted xs rs e = record {
   count = omega (arith, ap length e, ap length (ap (λ z. types_in z rs) e ∙ none rs));
   small = omega arith;
@@ -80,48 +79,8 @@ closed xs types b d s w le below e k m n q =
     let size : b ≡ length xs = sym (base_size xs types b d s w le) ∙ ap length (e ∙ sym all) in
     ap (λ j. reverse (drop j xs)) (q ∙ ap (λ j. min j n) size) ∙ ap reverse (drop_min xs n) ∙ ap (λ z. reverse (drop n z)) all
 
--- where a frame goes back to a height below it, what it had is above that
-pub left_over : (xs : List (Option ValType)) (types : List FuncType) (b : ℕ) (d : Bool) (s : Stacked) → stacked xs types b d ≡ s → b ≤ length xs → (m n : ℕ) → m ≡ min b n → reverse (drop m xs) ≡ s.above.known ++ reverse (drop n s.below)
-left_over xs types b d s w le m n q =
-    let size : length (take b xs) ≡ b = omega (arith, le, length-take b xs) in
-    above_more xs (take b xs) (drop b xs) m (sym (take-append-drop b xs)) (omega (arith, q, size))
-    ∙ ap (λ z. reverse (drop b xs) ++ reverse z) (ap (λ j. drop j (take b xs)) (q ∙ ap (λ j. min j n) (sym size)) ∙ drop_min (take b xs) n)
-    ∙ ap (λ z. z.above.known ++ reverse (drop n z.below)) w
-
--- where a frame begins under the topmost c operands of another one, at the height m
-module _ (s : Stacked) (xs : List (Option ValType)) (c m : ℕ) (e : all_of s ≡ xs) (le : c ≤ length s.above.known) (q : m ≡ length s.below + length s.above.known - c) where
-  lower : List (Option ValType)
-  lower = s.below ++ reverse (drop c s.above.known)
-
-  parts : xs ≡ lower ++ reverse (take c s.above.known)
-  unfolding lower
-  parts =
-      sym e
-      ∙ ap (λ z. s.below ++ reverse z) (sym (take-append-drop c s.above.known))
-      ∙ ap (λ z. s.below ++ z) (reverse-append (take c s.above.known) (drop c s.above.known))
-      ∙ sym (append_assoc s.below (reverse (drop c s.above.known)) (reverse (take c s.above.known)))
-
-  begins : m ≡ length lower
-  unfolding lower
-  begins =
-      omega (arith, q, le, length-append s.below (reverse (drop c s.above.known)), length-reverse (drop c s.above.known), length-drop c s.above.known)
-
-  pub begun_above : reverse (drop m xs) ≡ take c s.above.known
-  begun_above =
-      ap (λ z. reverse (drop m z)) parts
-      ∙ ap (λ n. reverse (drop n (lower ++ reverse (take c s.above.known)))) begins
-      ∙ ap reverse (drop-append_seam lower (reverse (take c s.above.known)))
-      ∙ reverse-reverse (take c s.above.known)
-
-  pub begun_below : take m xs ≡ s.below ++ reverse (drop c s.above.known)
-  unfolding lower
-  begun_below =
-      ap (take m) parts
-      ∙ ap (λ n. take n (lower ++ reverse (take c s.above.known))) begins
-      ∙ take-append_seam lower (reverse (take c s.above.known))
-
 -- the entries without the last k reach above b, if the entries do
-pub reaches : (xs : List Entry) (rs : List (List ValType)) (n k b : ℕ) → n ≡ length xs → b ≤ n - k → b ≤ length (types_in (take (n - k) xs) rs)
+pub reaches : (xs : List StackEntry) (rs : List (List ValType)) (n k b : ℕ) → n ≡ length xs → b ≤ n - k → b ≤ length (types_in (take (n - k) xs) rs)
 reaches xs rs n k b c le = omega (arith, le, c, least (take (n - k) xs) rs, length-take (n - k) xs)
 
 -- ---- what the list xs becomes by a change of the topmost
@@ -226,11 +185,6 @@ on_top s rest ts e le =
     ∙ ap (λ n. take n (map Some (reverse ts) ++ reverse rest)) (sym size)
     ∙ take-append_seam (map Some (reverse ts)) (reverse rest)
 
--- the same, that many of them
-pub first_on_top : (s : Stacked) (rest : List (Option ValType)) (ts : List ValType) (n : ℕ) → all_of s ≡ rest ++ map Some ts → n ≡ length ts → n ≤ length s.above.known → take n s.above.known ≡ map Some (reverse ts)
-first_on_top s rest ts n e k le =
-    ap (λ m. take m s.above.known) k ∙ on_top s rest ts e (omega (arith, k, le))
-
 top_types : (s : Stacked) (rest : List (Option ValType)) (ts : List ValType) → all_of s ≡ rest ++ map Some ts → length ts ≤ length s.above.known → s.above.known ≡ map Some (reverse ts) ++ drop (length ts) s.above.known
 top_types s rest ts e le =
     sym (take-append-drop (length ts) s.above.known) ∙ ap (λ z. z ++ drop (length ts) s.above.known) (on_top s rest ts e le)
@@ -255,28 +209,3 @@ all_taken s rest ts k o e le ek eo =
     ∙ taken_whole (reverse ts) (drop (length ts) s.above.known) s.above.is_dead
     ∙ ap (λ z. Some record { known = drop z s.above.known; is_dead = s.above.is_dead }) (sym ek)
     ∙ ap Some (sym eo)
-
--- ---- the topmost n operands of a frame are of the types ts
-
-pub known_taken : (ts : Stack) (o : Operands) (n : ℕ) → take n o.known ≡ map Some ts → alg.take_all ts o ≡ Some record { known = drop n o.known; is_dead = o.is_dead }
-known_taken ts o n e =
-    ap (λ z. alg.take_all ts record { known = z; is_dead = o.is_dead }) (sym (take-append-drop n o.known) ∙ ap (λ z. z ++ drop n o.known) e) ∙ taken_whole ts (drop n o.known) o.is_dead
-
-pub known_fresh : (ts : Stack) (o : Operands) (n : ℕ) → take n o.known ≡ map Some ts → record { known = take n o.known; is_dead = false } ≡ fresh ts
-known_fresh ts o n e = ap (λ z. record { known = z; is_dead = false }) (e ∙ sym (append-nil (map Some ts)))
-
--- and all are
-pub known_end : (ts : Stack) (o : Operands) → o.known ≡ map Some ts → ends_with ts o ≡ true
-known_end ts o e =
-    let all : alg.take_all ts o ≡ Some record { known = []; is_dead = o.is_dead } =
-    ap (λ z. alg.take_all ts record { known = z; is_dead = o.is_dead }) (e ∙ sym (append-nil (map Some ts))) ∙ taken_whole ts [] o.is_dead in
-    ap is_used_up all
-
-lacking : (b r : Bool) → (b ≡ true → r ≡ true) → (elim b [ true ↦ r | false ↦ true ]) ≡ true
-lacking true r k = k refl
-lacking false r k = refl
-
--- the frame gives what it has, which is what it began with where its else may still come
-pub known_else : (f : Frame) → f.operands.known ≡ map Some f.gives → (f.is_then ≡ true → f.operands.known ≡ map Some f.starts) → may_lack_else f ≡ true
-known_else f e k =
-    lacking f.is_then (ends_with f.gives (fresh f.starts)) (λ yes. known_end f.gives (fresh f.starts) (append-nil (map Some f.starts) ∙ sym (k yes) ∙ e))

@@ -1,8 +1,7 @@
 -- What the code's proofs need.
-use Rattle.std.proofs.Common.{◌≡◌, ℕ, zero, suc, ◌-◌, ◌≤◌, ◌<◌, get_or, slice_get, Bool, true, false, List, [], ◌∷◌, ◌++◌, map, reverse, take, length, Option, Some, None, refl, sym, ap, ◌∙◌, arith}
-use mathlib.Core.List.{append_assoc}
+use Rattle.std.proofs.Common.{◌≡◌, ℕ, zero, suc, ◌-◌, ◌≤◌, ◌<◌, get_or, slice_get, Bool, true, false, List, [], ◌∷◌, ◌++◌, map, reverse, take, length, Option, Some, refl, sym, ap, ◌∙◌, arith}
 use Rattle.std.proofs.lemmas.List.{reverse-append, map-append, get_or-reverse, length-reverse, get_or-map, length-map}
-use Rattle.std.proofs.lemmas.Option.{slice_get-get_or, slice_get_past}
+use Rattle.std.proofs.lemmas.Option.{slice_get-get_or}
 use Rattle.wsyntax.specs.declared.ValType.{ValType}
 use Rattle.wcheck.proofs.SameTypes.{same_types-true}
 use Rattle.wsyntax.specs.Validation.Algorithm.{Frame}
@@ -16,16 +15,6 @@ map-reverse f (x ∷ xs) =
     ap (map f) (reverse-append (x ∷ []) xs) ∙ map-append f (reverse xs) (x ∷ []) ∙ ap (λ z. z ++ f x ∷ []) (map-reverse f xs) ∙ sym (reverse-append (f x ∷ []) (map f xs))
 
 -- the place l of a list that begins with b and then goes backwards
-pub behind : {A B : Type 0} (f : A → B) (b : B) (xs : List A) (l : ℕ) (x : A) → (l ≡ 0 → ⊥) → l ≤ length xs → x ≡ get_or xs (length xs - l) x → slice_get (b ∷ reverse (map f xs)) l ≡ Some (f x)
-behind f b xs zero x nz le e = absurd (nz refl)
-behind f b xs (suc m) x nz le e =
-    let lt : m < length (map f xs) = omega (arith, length-map xs f) in
-    let lt' : m < length (reverse (map f xs)) = omega (arith, length-reverse (map f xs)) in
-    let k : length (map f xs) - 1 - m ≡ length xs - suc m = omega (arith, length-map xs f) in
-    let lt'' : length xs - suc m < length xs = omega arith in
-    slice_get-get_or (reverse (map f xs)) m (f x) lt'
-    ∙ ap Some (get_or-reverse (map f xs) m (f x) lt ∙ ap (λ i. get_or (map f xs) i (f x)) k ∙ get_or-map f xs (length xs - suc m) x (f x) lt'' ∙ ap f (sym e))
-
 pub behind_or : {A B : Type 0} (f : A → B) (b : B) (xs : List A) (l : ℕ) (d : A) → (l ≡ 0 → ⊥) → l ≤ length xs → slice_get (b ∷ reverse (map f xs)) l ≡ Some (f (get_or xs (length xs - l) d))
 behind_or f b xs zero d nz le = absurd (nz refl)
 behind_or f b xs (suc m) d nz le =
@@ -35,13 +24,6 @@ behind_or f b xs (suc m) d nz le =
     let lt'' : length xs - suc m < length xs = omega arith in
     slice_get-get_or (reverse (map f xs)) m (f d) lt'
     ∙ ap Some (get_or-reverse (map f xs) m (f d) lt ∙ ap (λ i. get_or (map f xs) i (f d)) k ∙ get_or-map f xs (length xs - suc m) d (f d) lt'')
-
-pub not_behind : {A B : Type 0} (f : A → B) (b : B) (xs : List A) (l : ℕ) → length xs < l → slice_get (b ∷ reverse (map f xs)) l ≡ None
-not_behind f b xs l h = slice_get_past (b ∷ reverse (map f xs)) l (omega (arith, length-map xs f, length-reverse (map f xs)))
-
--- one more at the end is one more in front of the reversed
-pub pushed : {A B : Type 0} (f : A → B) (xs : List A) (x : A) → reverse (map f (xs ++ x ∷ [])) ≡ f x ∷ reverse (map f xs)
-pushed f xs x = ap reverse (map-append f xs (x ∷ [])) ∙ reverse-append (map f xs) (f x ∷ [])
 
 -- stacks of different lengths
 pub differ : (a b : List ValType) → (length a ≡ length b → ⊥) → (v : Bool) → same_types (reverse a) (reverse b) ≡ v → false ≡ same_types (reverse a) (reverse b)
@@ -59,7 +41,3 @@ labels_outside types xs below = labels_same types (reverse xs) below ∙ map-rev
 
 pub reversed_last : {A : Type 0} (xs : List A) (x : A) → reverse (xs ++ x ∷ []) ≡ x ∷ reverse xs
 reversed_last xs x = reverse-append xs (x ∷ [])
-
--- the same of two lists, one after the other
-pub reversed_both : {A : Type 0} (xs ys : List A) (x : A) → reverse (xs ++ (ys ++ x ∷ [])) ≡ x ∷ reverse (xs ++ ys)
-reversed_both xs ys x = ap reverse (sym (append_assoc xs ys (x ∷ []))) ∙ reversed_last (xs ++ ys) x

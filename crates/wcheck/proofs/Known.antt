@@ -3,7 +3,7 @@ use Rattle.std.proofs.Common.{◌≡◌, ℕ, suc, false, ◌-◌, ◌+◌, ◌<
 use Rattle.std.specs.Prelude.{set}
 use Rattle.std.proofs.lemmas.List.{append_assoc, append-nil, map-append, take_more, take_all}
 use Rattle.wsyntax.specs.declared.ValType.{ValType}
-use Rattle.wcheck.specs.declared.entry.Entry.{Entry}
+use Rattle.wcheck.specs.declared.entry.StackEntry.{StackEntry}
 use Rattle.wcheck.specs.Heights.{type_of}
 use Rattle.wcheck.specs.Runs.{is_several, types_in, IsCounted}
 use Rattle.wcheck.proofs.Lasts.{front, last_two, set_last, split_at_last}
@@ -11,7 +11,7 @@ use Rattle.wcheck.proofs.Stretched.{single, counted_front, counted_single}
 use Rattle.wcheck.proofs.Topmost.{known_single}
 
 -- the places xs with the runs rs stand for v, and x is the topmost place, of the type t
-module _ (xs : List Entry) (rs : List (List ValType)) (v : List (Option ValType)) (n : ℕ) (x : Entry) (t : ValType) (w : types_in xs rs ≡ v) (c : n ≡ length xs) (le : 1 ≤ n) (e : x ≡ get_or xs (n - 1) x) (k : type_of x ≡ Some t) where
+module _ (xs : List StackEntry) (rs : List (List ValType)) (v : List (Option ValType)) (n : ℕ) (x : StackEntry) (t : ValType) (w : types_in xs rs ≡ v) (c : n ≡ length xs) (le : 1 ≤ n) (e : x ≡ get_or xs (n - 1) x) (k : type_of x ≡ Some t) where
   split : xs ≡ take (n - 1) xs ++ x ∷ []
   split = split_at_last xs n (n - 1) x c refl (omega (arith, c, le)) e
 
@@ -27,7 +27,7 @@ module _ (xs : List Entry) (rs : List (List ValType)) (v : List (Option ValType)
       counted_front (take (n - 1) xs) rs x (type_of x) m (single (take (n - 1) xs) rs x (known_single x t k)) (subst (λ z. IsCounted z rs m) split h)
 
   -- the place y of the type u is written over it
-  module _ (y : Entry) (u : ValType) (q : type_of y ≡ Some u) where
+  module _ (y : StackEntry) (u : ValType) (q : type_of y ≡ Some u) where
     written : set xs (n - 1) y ≡ take (n - 1) xs ++ y ∷ []
     written =
         set_last xs (n - 1) y (omega (arith, c, le)) (omega (arith, c)) ∙ ap (λ i. take (i - 1) xs ++ y ∷ []) (sym c)
@@ -43,7 +43,7 @@ module _ (xs : List Entry) (rs : List (List ValType)) (v : List (Option ValType)
         subst (λ z. IsCounted z rs m) (sym written) (counted_single (take (n - 1) xs) rs y m (one_off_counted m h) (known_single y u q))
 
 -- x is the topmost place, and stands for one operand
-module _ (xs : List Entry) (rs : List (List ValType)) (v : List (Option ValType)) (n : ℕ) (x : Entry) (w : types_in xs rs ≡ v) (c : n ≡ length xs) (le : 1 ≤ n) (e : x ≡ get_or xs (n - 1) x) (k : is_several x ≡ false) where
+module _ (xs : List StackEntry) (rs : List (List ValType)) (v : List (Option ValType)) (n : ℕ) (x : StackEntry) (w : types_in xs rs ≡ v) (c : n ≡ length xs) (le : 1 ≤ n) (e : x ≡ get_or xs (n - 1) x) (k : is_several x ≡ false) where
   parted : xs ≡ take (n - 1) xs ++ x ∷ []
   parted = split_at_last xs n (n - 1) x c refl (omega (arith, c, le)) e
 
@@ -59,7 +59,7 @@ set_end [] x z = refl
 set_end (a ∷ rest) x z = ap (λ l. a ∷ l) (set_end rest x z)
 
 -- x and y are the two topmost places, of the types t and u
-module _ (xs : List Entry) (rs : List (List ValType)) (v : List (Option ValType)) (n : ℕ) (x y : Entry) (t u : ValType) (w : types_in xs rs ≡ v) (c : n ≡ length xs) (le : 2 ≤ n) (ex : x ≡ get_or xs (n - 2) x) (ey : y ≡ get_or xs (n - 1) y) (kx : type_of x ≡ Some t) (ky : type_of y ≡ Some u) where
+module _ (xs : List StackEntry) (rs : List (List ValType)) (v : List (Option ValType)) (n : ℕ) (x y : StackEntry) (t u : ValType) (w : types_in xs rs ≡ v) (c : n ≡ length xs) (le : 2 ≤ n) (ex : x ≡ get_or xs (n - 2) x) (ey : y ≡ get_or xs (n - 1) y) (kx : type_of x ≡ Some t) (ky : type_of y ≡ Some u) where
   split_two : xs ≡ (take (n - 2) xs ++ x ∷ []) ++ y ∷ []
   split_two =
       last_two xs (n - 2) x y (omega (arith, c, le))
@@ -86,7 +86,7 @@ module _ (xs : List Entry) (rs : List (List ValType)) (v : List (Option ValType)
       counted_front (take (n - 2) xs) rs x (type_of x) m (single (take (n - 2) xs) rs x (known_single x t kx)) without
 
   -- the place z of the type s is written in their place
-  module _ (ys : List Entry) (z : Entry) (s : ValType) (off : ys ≡ take (n - 1) xs) (q : type_of z ≡ Some s) where
+  module _ (ys : List StackEntry) (z : StackEntry) (s : ValType) (off : ys ≡ take (n - 1) xs) (q : type_of z ≡ Some s) where
     in_place : set ys (n - 2) z ≡ take (n - 2) xs ++ z ∷ []
     in_place =
         let long : length (take (n - 2) xs) ≡ n - 2 = omega (arith, length-take (n - 2) xs, c) in
@@ -107,10 +107,10 @@ module _ (xs : List Entry) (rs : List (List ValType)) (v : List (Option ValType)
         subst (λ l. IsCounted l rs m) (sym in_place) (counted_single (take (n - 2) xs) rs z m (two_off_counted m h) (known_single z s q))
 
 -- one more place from s + i on, of the next of the types ts
-pub known_more : (xs : List Entry) (rs : List (List ValType)) (ts : List ValType) (s i : ℕ) (x : Entry) (t : ValType) → s + i < length xs → i < length ts → type_of (get_or xs (s + i) x) ≡ Some (get_or ts i t) → types_in (take (s + i) xs) rs ≡ types_in (take s xs) rs ++ map Some (take i ts) → types_in (take (s + (i + 1)) xs) rs ≡ types_in (take s xs) rs ++ map Some (take (i + 1) ts)
+pub known_more : (xs : List StackEntry) (rs : List (List ValType)) (ts : List ValType) (s i : ℕ) (x : StackEntry) (t : ValType) → s + i < length xs → i < length ts → type_of (get_or xs (s + i) x) ≡ Some (get_or ts i t) → types_in (take (s + i) xs) rs ≡ types_in (take s xs) rs ++ map Some (take i ts) → types_in (take (s + (i + 1)) xs) rs ≡ types_in (take s xs) rs ++ map Some (take (i + 1) ts)
 known_more xs rs ts s i x t lx lt k h =
     let at : s + (i + 1) ≡ s + i + 1 = omega arith in
-    let y : Entry = get_or xs (s + i) x in
+    let y : StackEntry = get_or xs (s + i) x in
     let u : ValType = get_or ts i t in
     ap (λ n. types_in (take n xs) rs) at
     ∙ ap (λ z. types_in z rs) (take_more xs (s + i) x lx)
@@ -121,13 +121,13 @@ known_more xs rs ts s i x t lx lt k h =
     ∙ ap (λ z. types_in (take s xs) rs ++ z) (sym (ap (map Some) (take_more ts i t lt) ∙ map-append Some (take i ts) (u ∷ [])))
 
 -- none of them
-pub known_none : (xs : List Entry) (rs : List (List ValType)) (ts : List ValType) (s : ℕ) → types_in (take (s + 0) xs) rs ≡ types_in (take s xs) rs ++ map Some (take 0 ts)
+pub known_none : (xs : List StackEntry) (rs : List (List ValType)) (ts : List ValType) (s : ℕ) → types_in (take (s + 0) xs) rs ≡ types_in (take s xs) rs ++ map Some (take 0 ts)
 known_none xs rs ts s =
     let at : s + 0 ≡ s = omega arith in
     ap (λ n. types_in (take n xs) rs) at ∙ sym (append-nil (types_in (take s xs) rs))
 
 -- all of the types ts
-pub known_all : (xs : List Entry) (rs : List (List ValType)) (ts : List ValType) (i : ℕ) → length ts ≤ length xs → i ≡ length ts → types_in (take (length xs - length ts + i) xs) rs ≡ types_in (take (length xs - length ts) xs) rs ++ map Some (take i ts) → types_in xs rs ≡ types_in (take (length xs - length ts) xs) rs ++ map Some ts
+pub known_all : (xs : List StackEntry) (rs : List (List ValType)) (ts : List ValType) (i : ℕ) → length ts ≤ length xs → i ≡ length ts → types_in (take (length xs - length ts + i) xs) rs ≡ types_in (take (length xs - length ts) xs) rs ++ map Some (take i ts) → types_in xs rs ≡ types_in (take (length xs - length ts) xs) rs ++ map Some ts
 known_all xs rs ts i le e h =
     ap (λ z. types_in z rs) (sym (take_all (length xs - length ts + i) xs (omega (arith, le, e))))
     ∙ h

@@ -32,19 +32,19 @@ open_of x h = go x.is_open h
     go true k = refl
     go false k = absurd (k refl)
 
-labels_open : (x : Control) (types : List FuncType) → x.is_open ≡ true → x.operands.types ≡ types → labels_of (frames_of x) ≡ labels_in types x.top x.outer
+labels_open : (x : Control) (types : List FuncType) → x.is_open ≡ true → x.operands.types ≡ types → labels_of (frames_of x) ≡ labels_in types x.top x.outer.items
 labels_open x types o e =
     ap labels_of (frames_open x o)
-    ∙ labels_inside x.operands.types x.top x.outer x.operands.below x.operands.above
-    ∙ ap (λ ts. labels_in ts x.top x.outer) e
+    ∙ labels_inside x.operands.types x.top x.outer.items x.operands.below x.operands.above
+    ∙ ap (λ ts. labels_in ts x.top x.outer.items) e
 
-pub label_at_most : (x : Control) (types : List FuncType) (l : ℕ) → x.is_open ≡ true → x.operands.types ≡ types → slice_get (labels_in types x.top x.outer) l ≡ None → None ≡ slice_get (labels_of (frames_of x)) l
+pub label_at_most : (x : Control) (types : List FuncType) (l : ℕ) → x.is_open ≡ true → x.operands.types ≡ types → slice_get (labels_in types x.top x.outer.items) l ≡ None → None ≡ slice_get (labels_of (frames_of x)) l
 label_at_most x types l o e h = sym (ap (λ ls. slice_get ls l) (labels_open x types o e) ∙ h)
 
-pub label_there : (x : Control) (types : List FuncType) (l : ℕ) (r ts : List ValType) → x.is_open ≡ true → x.operands.types ≡ types → slice_get (labels_in types x.top x.outer) l ≡ Some (reverse r) → ts ≡ r → Some (reverse ts) ≡ slice_get (labels_of (frames_of x)) l
+pub label_there : (x : Control) (types : List FuncType) (l : ℕ) (r ts : List ValType) → x.is_open ≡ true → x.operands.types ≡ types → slice_get (labels_in types x.top x.outer.items) l ≡ Some (reverse r) → ts ≡ r → Some (reverse ts) ≡ slice_get (labels_of (frames_of x)) l
 label_there x types l r ts o e h k = sym (ap (λ ls. slice_get ls l) (labels_open x types o e) ∙ h ∙ ap (λ z. Some (reverse z)) (sym k))
 
-pub rule_at : (s : Scope) (x : Control) (t : Token) (r : Option Rule) → (frames_of x ≡ [] → ⊥) → x.operands.types ≡ s.context.now.context.types → r ≡ token_rule (context_at s x.top x.outer) t → r ≡ token_rule (context_in (scope_context s) (frames_of x)) t
+pub rule_at : (s : Scope) (x : Control) (t : Token) (r : Option Rule) → (frames_of x ≡ [] → ⊥) → x.operands.types ≡ s.context.now.context.types → r ≡ token_rule (context_at s x.top x.outer.items) t → r ≡ token_rule (context_in (scope_context s) (frames_of x)) t
 unfolding with_labels
 rule_at s x t r o e h =
     h ∙ ap (λ ls. token_rule (with_labels s ls) t) (sym (labels_open x s.context.now.context.types (open_of x o) e))

@@ -2,7 +2,6 @@ pub mod SameTypes
 pub mod ListFacts
 pub mod Cuts
 pub mod Behind
-pub mod Outside
 pub mod Declared
 pub mod Access
 pub mod Plain

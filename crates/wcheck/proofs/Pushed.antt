@@ -7,18 +7,18 @@ use Rattle.wsyntax.specs.declared.ValType.{ValType}
 use Rattle.wsyntax.specs.Types.{FuncType}
 use Rattle.wcontext.specs.declared.lists.TypeList.{TypeList}
 use Rattle.wcontext.specs.Lists.{list_of, front_of}
-use Rattle.wcheck.specs.declared.entry.Entry.{Entry}
-use Rattle.wcontext.specs.declared.lists.Front.{Front}
-use Rattle.wcheck.specs.declared.entry.Entry.TheVariants.{Run}
+use Rattle.wcheck.specs.declared.entry.StackEntry.{StackEntry}
+use Rattle.wcontext.specs.declared.lists.TypePrefix.{TypePrefix}
+use Rattle.wcheck.specs.declared.entry.StackEntry.TheVariants.{Run}
 use Rattle.wcheck.specs.Heights.{type_of}
 use Rattle.wcheck.specs.Runs.{is_several, of_run, types_in, IsCounted}
 use Rattle.wcheck.proofs.Stretched.{single, several, whole_run, counted_single, counted_run}
 
-pub pushed : (xs ys : List Entry) (rs : List (List ValType)) (v : List (Option ValType)) (x : Entry) (t : Option ValType) → ys ≡ xs ++ x ∷ [] → types_in xs rs ≡ v → is_several x ≡ false → type_of x ≡ t → types_in ys rs ≡ v ++ t ∷ []
+pub pushed : (xs ys : List StackEntry) (rs : List (List ValType)) (v : List (Option ValType)) (x : StackEntry) (t : Option ValType) → ys ≡ xs ++ x ∷ [] → types_in xs rs ≡ v → is_several x ≡ false → type_of x ≡ t → types_in ys rs ≡ v ++ t ∷ []
 pushed xs ys rs v x t e w q k =
     ap (λ z. types_in z rs) e ∙ single xs rs x q ∙ ap (λ z. z ++ type_of x ∷ []) w ∙ ap (λ z. v ++ z ∷ []) k
 
-pub pushed_counted : (xs ys : List Entry) (rs : List (List ValType)) (x : Entry) (m : ℕ) → ys ≡ xs ++ x ∷ [] → is_several x ≡ false → IsCounted xs rs m → IsCounted ys rs m
+pub pushed_counted : (xs ys : List StackEntry) (rs : List (List ValType)) (x : StackEntry) (m : ℕ) → ys ≡ xs ++ x ∷ [] → is_several x ≡ false → IsCounted xs rs m → IsCounted ys rs m
 pushed_counted xs ys rs x m e q c = subst (λ z. IsCounted z rs m) (sym e) (counted_single xs rs x m c q)
 
 -- what was pushed, where no error came
@@ -34,7 +34,7 @@ whole_list types list left e = take-all_at (list_of types list) left e
     take-all_at xs n h = ap (λ k. take k xs) h ∙ take-length xs
 
 -- the run stands for the types r
-module _ (types : List FuncType) (xs ys : List Entry) (rs qs : List Front) (run : Front) (r : List ValType) (k : front_of types run ≡ r) (e : ys ≡ xs ++ Run ∷ []) (f : qs ≡ rs ++ run ∷ []) where
+module _ (types : List FuncType) (xs ys : List StackEntry) (rs qs : List TypePrefix) (run : TypePrefix) (r : List ValType) (k : front_of types run ≡ r) (e : ys ≡ xs ++ Run ∷ []) (f : qs ≡ rs ++ run ∷ []) where
   runs_are : map (front_of types) qs ≡ map (front_of types) rs ++ r ∷ []
   runs_are =
       ap (map (front_of types)) f

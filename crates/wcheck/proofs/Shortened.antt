@@ -7,20 +7,20 @@ use Rattle.std.proofs.lemmas.List.{get_or-map, append_assoc, length-map, map-app
 use Rattle.wsyntax.specs.declared.ValType.{ValType}
 use Rattle.wsyntax.specs.Types.{FuncType}
 use Rattle.wcontext.specs.Lists.{list_of, front_of}
-use Rattle.wcheck.specs.declared.entry.Entry.{Entry}
-use Rattle.wcontext.specs.declared.lists.Front.{Front}
-use Rattle.wcheck.specs.declared.entry.Entry.TheVariants.{Run}
+use Rattle.wcheck.specs.declared.entry.StackEntry.{StackEntry}
+use Rattle.wcontext.specs.declared.lists.TypePrefix.{TypePrefix}
+use Rattle.wcheck.specs.declared.entry.StackEntry.TheVariants.{Run}
 use Rattle.wcheck.specs.Heights.{type_of}
 use Rattle.wcheck.specs.Runs.{run_at, of_run, types_in, IsCounted}
 use Rattle.wcheck.proofs.Lasts.{front, set_last}
 use Rattle.wcheck.proofs.Stretched.{none, several, whole_run, run_length, counted_front, run_counted, counted_less, no_run, a_run}
 
-pub nonempty : (xs : List Entry) (rs : List (List ValType)) (v : List (Option ValType)) → types_in xs rs ≡ v → 0 < length v → 0 < length xs
+pub nonempty : (xs : List StackEntry) (rs : List (List ValType)) (v : List (Option ValType)) → types_in xs rs ≡ v → 0 < length v → 0 < length xs
 nonempty [] rs v w lt = absurd (omega (arith, lt, ap length w, ap length (none rs)))
 nonempty (x ∷ xs) rs v w lt = omega arith
 
 -- the places xs with the runs rs stand for v, and x is the topmost place
-module _ (xs : List Entry) (rs : List (List ValType)) (x : Entry) (v : List (Option ValType)) (n : ℕ) (w : types_in xs rs ≡ v) (s : xs ≡ take n xs ++ x ∷ []) where
+module _ (xs : List StackEntry) (rs : List (List ValType)) (x : StackEntry) (v : List (Option ValType)) (n : ℕ) (w : types_in xs rs ≡ v) (s : xs ≡ take n xs ++ x ∷ []) where
   pub one_less : run_at x rs ≡ None → types_in (take n xs) rs ≡ take (length v - 1) v
   one_less q = front v (types_in (take n xs) rs) (type_of x ∷ []) (sym w ∙ ap (λ z. types_in z rs) s ∙ no_run (take n xs) rs x q)
 
@@ -90,7 +90,7 @@ module _ (xs : List Entry) (rs : List (List ValType)) (x : Entry) (v : List (Opt
       }
 
 -- the runs with another in the place of the last
-pub last_run_written : (types : List FuncType) (rs : List Front) (count n : ℕ) (run : Front) (r : List ValType) → front_of types run ≡ r → count ≡ length rs → n ≡ count - 1 → 0 < length (map (front_of types) rs) → map (front_of types) (set rs n run) ≡ take (length (map (front_of types) rs) - 1) (map (front_of types) rs) ++ r ∷ []
+pub last_run_written : (types : List FuncType) (rs : List TypePrefix) (count n : ℕ) (run : TypePrefix) (r : List ValType) → front_of types run ≡ r → count ≡ length rs → n ≡ count - 1 → 0 < length (map (front_of types) rs) → map (front_of types) (set rs n run) ≡ take (length (map (front_of types) rs) - 1) (map (front_of types) rs) ++ r ∷ []
 last_run_written types rs count n run r k c e lt =
     map-set (front_of types) rs n run
     ∙ set_last (map (front_of types) rs) n (front_of types run) lt (omega (arith, c, e, length-map rs (front_of types)))
@@ -104,7 +104,7 @@ take_less (x ∷ xs) (suc n) zero le = refl
 take_less (x ∷ xs) (suc n) (suc left) le = ap (λ z. x ∷ z) (take_less xs n left (omega (arith, le)))
 
 -- the last run, cut
-pub last_run_cut : (types : List FuncType) (rs : List Front) (count n left : ℕ) (run : Front) (x : Entry) (r : List ValType) → run_at x (map (front_of types) rs) ≡ Some r → count ≡ length rs → n ≡ count - 1 → run ≡ get_or rs n run → left ≤ length r → front_of types (record run { count = left }) ≡ take left r
+pub last_run_cut : (types : List FuncType) (rs : List TypePrefix) (count n left : ℕ) (run : TypePrefix) (x : StackEntry) (r : List ValType) → run_at x (map (front_of types) rs) ≡ Some r → count ≡ length rs → n ≡ count - 1 → run ≡ get_or rs n run → left ≤ length r → front_of types (record run { count = left }) ≡ take left r
 last_run_cut types rs count n left run x r q c e h le =
     let there = a_run (map (front_of types) rs) x r q in
     let size : length (map (front_of types) rs) ≡ length rs = length-map rs (front_of types) in
@@ -119,7 +119,7 @@ last_run_cut types rs count n left run x r q c e h le =
     take_less (list_of types run.list) run.count left (subst (λ z. left ≤ length z) (sym is) le) ∙ ap (take left) is
 
 -- the runs without the last
-pub last_run_gone : (types : List FuncType) (rs qs : List Front) (count n : ℕ) → count ≡ length rs → n ≡ count - 1 → qs ≡ take n rs → map (front_of types) qs ≡ take (length (map (front_of types) rs) - 1) (map (front_of types) rs)
+pub last_run_gone : (types : List FuncType) (rs qs : List TypePrefix) (count n : ℕ) → count ≡ length rs → n ≡ count - 1 → qs ≡ take n rs → map (front_of types) qs ≡ take (length (map (front_of types) rs) - 1) (map (front_of types) rs)
 last_run_gone types rs qs count n c e h =
     let k : n ≡ length (map (front_of types) rs) - 1 = omega (arith, c, e, length-map rs (front_of types)) in
     ap (map (front_of types)) h ∙ sym (take-map (front_of types) n rs) ∙ ap (λ z. take z (map (front_of types) rs)) k

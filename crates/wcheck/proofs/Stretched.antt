@@ -2,8 +2,8 @@
 use Rattle.std.proofs.Common.{◌≡◌, ℕ, suc, ◌+◌, ◌-◌, ◌^◌, ◌<◌, ◌≤◌, false, List, [], ◌∷◌, ◌++◌, map, length, take, reverse, Option, Some, None, refl, sym, ap, ◌∙◌, arith, length-append}
 use Rattle.std.proofs.lemmas.List.{reverse-append, reverse-reverse, length-reverse, length-map, map-append}
 use Rattle.wsyntax.specs.declared.ValType.{ValType}
-use Rattle.wcheck.specs.declared.entry.Entry.{Entry}
-use Rattle.wcheck.specs.declared.entry.Entry.TheVariants.{I32, I64, F32, F64, Unknown, Run}
+use Rattle.wcheck.specs.declared.entry.StackEntry.{StackEntry}
+use Rattle.wcheck.specs.declared.entry.StackEntry.TheVariants.{I32, I64, F32, F64, Unknown, Run}
 use Rattle.wcheck.specs.Heights.{type_of}
 use Rattle.wcheck.specs.Runs.{is_several, run_at, of_run, stretched, types_in, IsCounted}
 use Rattle.wcheck.proofs.Lasts.{no_last, is_there}
@@ -17,7 +17,7 @@ map-reverse f (x ∷ xs) =
     ap (map f) (reverse-append (x ∷ []) xs) ∙ map-append f (reverse xs) (x ∷ []) ∙ ap (λ z. z ++ f x ∷ []) (map-reverse f xs) ∙ sym (reverse-append (f x ∷ []) (map f xs))
 
 -- the topmost place, where no run stands
-top_single : (x : Entry) (ys : List Entry) (rs : List (List ValType)) → is_several x ≡ false → stretched (x ∷ ys) rs ≡ type_of x ∷ stretched ys rs
+top_single : (x : StackEntry) (ys : List StackEntry) (rs : List (List ValType)) → is_several x ≡ false → stretched (x ∷ ys) rs ≡ type_of x ∷ stretched ys rs
 top_single I32 ys rs e = refl
 top_single I64 ys rs e = refl
 top_single F32 ys rs e = refl
@@ -26,7 +26,7 @@ top_single Unknown ys rs e = refl
 top_single Run ys rs e = absurd cc
 
 -- a place more, where no run stands
-pub single : (xs : List Entry) (rs : List (List ValType)) (x : Entry) → is_several x ≡ false → types_in (xs ++ x ∷ []) rs ≡ types_in xs rs ++ type_of x ∷ []
+pub single : (xs : List StackEntry) (rs : List (List ValType)) (x : StackEntry) → is_several x ≡ false → types_in (xs ++ x ∷ []) rs ≡ types_in xs rs ++ type_of x ∷ []
 unfolding types_in
 single xs rs x e =
     ap (λ z. reverse (stretched z (reverse rs))) (reversed_last xs x)
@@ -34,7 +34,7 @@ single xs rs x e =
     ∙ reverse-append (type_of x ∷ []) (stretched (reverse xs) (reverse rs))
 
 -- a run more
-pub several : (xs : List Entry) (rs : List (List ValType)) (r : List ValType) → types_in (xs ++ Run ∷ []) (rs ++ r ∷ []) ≡ types_in xs rs ++ of_run r
+pub several : (xs : List StackEntry) (rs : List (List ValType)) (r : List ValType) → types_in (xs ++ Run ∷ []) (rs ++ r ∷ []) ≡ types_in xs rs ++ of_run r
 unfolding types_in
 several xs rs r =
     ap (λ z. reverse (stretched z (reverse (rs ++ r ∷ [])))) (reversed_last xs Run)
@@ -43,13 +43,13 @@ several xs rs r =
     ∙ ap (λ z. reverse (stretched (reverse xs) (reverse rs)) ++ z) (reverse-reverse (of_run r))
 
 -- a place of a run that there is not
-pub lone : (xs : List Entry) → types_in (xs ++ Run ∷ []) [] ≡ types_in xs [] ++ None ∷ []
+pub lone : (xs : List StackEntry) → types_in (xs ++ Run ∷ []) [] ≡ types_in xs [] ++ None ∷ []
 unfolding types_in
 lone xs =
     ap (λ z. reverse (stretched z [])) (reversed_last xs Run)
     ∙ reverse-append (None ∷ []) (stretched (reverse xs) [])
 
-stretched_least : (xs : List Entry) (rs : List (List ValType)) → length xs ≤ length (stretched xs rs)
+stretched_least : (xs : List StackEntry) (rs : List (List ValType)) → length xs ≤ length (stretched xs rs)
 stretched_least [] rs = omega arith
 stretched_least (I32 ∷ xs) rs = omega (arith, stretched_least xs rs)
 stretched_least (I64 ∷ xs) rs = omega (arith, stretched_least xs rs)
@@ -62,12 +62,12 @@ stretched_least (Run ∷ xs) ((t ∷ ts) ∷ rs) =
     omega (arith, stretched_least xs rs, length-append (reverse (of_run (t ∷ ts))) (stretched xs rs), length-reverse (of_run (t ∷ ts)))
 
 -- each place stands for an operand or more
-pub least : (xs : List Entry) (rs : List (List ValType)) → length xs ≤ length (types_in xs rs)
+pub least : (xs : List StackEntry) (rs : List (List ValType)) → length xs ≤ length (types_in xs rs)
 unfolding types_in
 least xs rs =
     omega (arith, stretched_least (reverse xs) (reverse rs), length-reverse xs, length-reverse (stretched (reverse xs) (reverse rs)))
 
-stretched_singles : (xs : List Entry) → stretched xs [] ≡ map type_of xs
+stretched_singles : (xs : List StackEntry) → stretched xs [] ≡ map type_of xs
 stretched_singles [] = refl
 stretched_singles (I32 ∷ xs) = ap (λ z. type_of I32 ∷ z) (stretched_singles xs)
 stretched_singles (I64 ∷ xs) = ap (λ z. type_of I64 ∷ z) (stretched_singles xs)
@@ -77,7 +77,7 @@ stretched_singles (Unknown ∷ xs) = ap (λ z. type_of Unknown ∷ z) (stretched
 stretched_singles (Run ∷ xs) = ap (λ z. None ∷ z) (stretched_singles xs)
 
 -- where there is no run, each place is an operand
-pub singles : (xs : List Entry) → types_in xs [] ≡ map type_of xs
+pub singles : (xs : List StackEntry) → types_in xs [] ≡ map type_of xs
 unfolding types_in
 singles xs =
     ap reverse (stretched_singles (reverse xs)) ∙ ap reverse (map-reverse type_of xs) ∙ reverse-reverse (map type_of xs)
@@ -97,31 +97,31 @@ run_length (t ∷ ts) = omega (arith, length-map ts (λ (x : ValType). Some x))
 
 -- ---- the count
 
-pub counted_single : (xs : List Entry) (rs : List (List ValType)) (x : Entry) (m : ℕ) → IsCounted xs rs m → is_several x ≡ false → IsCounted (xs ++ x ∷ []) rs m
+pub counted_single : (xs : List StackEntry) (rs : List (List ValType)) (x : StackEntry) (m : ℕ) → IsCounted xs rs m → is_several x ≡ false → IsCounted (xs ++ x ∷ []) rs m
 counted_single xs rs x m c e = record {
   count = omega (arith, c.count, ap length (single xs rs x e), length-append (types_in xs rs) (type_of x ∷ []), length-append xs (x ∷ []));
   small = c.small;
 }
 
-pub counted_run : (xs : List Entry) (rs : List (List ValType)) (r : List ValType) (m more : ℕ) → IsCounted xs rs m → more ≡ m + (length r - 1) → more ≤ 2 ^ 63 → IsCounted (xs ++ Run ∷ []) (rs ++ r ∷ []) more
+pub counted_run : (xs : List StackEntry) (rs : List (List ValType)) (r : List ValType) (m more : ℕ) → IsCounted xs rs m → more ≡ m + (length r - 1) → more ≤ 2 ^ 63 → IsCounted (xs ++ Run ∷ []) (rs ++ r ∷ []) more
 counted_run xs rs r m more c e le = record {
   count = omega (arith, c.count, e, ap length (several xs rs r), length-append (types_in xs rs) (of_run r), run_length r, length-append xs (Run ∷ []));
   small = le;
 }
 
 -- without the last place
-pub counted_front : (xs : List Entry) (rs : List (List ValType)) (x : Entry) (y : Option ValType) (m : ℕ) → types_in (xs ++ x ∷ []) rs ≡ types_in xs rs ++ y ∷ [] → IsCounted (xs ++ x ∷ []) rs m → IsCounted xs rs m
+pub counted_front : (xs : List StackEntry) (rs : List (List ValType)) (x : StackEntry) (y : Option ValType) (m : ℕ) → types_in (xs ++ x ∷ []) rs ≡ types_in xs rs ++ y ∷ [] → IsCounted (xs ++ x ∷ []) rs m → IsCounted xs rs m
 counted_front xs rs x y m e c = record {
   count = omega (arith, c.count, ap length e, length-append (types_in xs rs) (y ∷ []), length-append xs (x ∷ []));
   small = c.small;
 }
 
 -- what a run adds to the places is counted
-pub run_counted : (xs : List Entry) (rs : List (List ValType)) (r : List ValType) (m : ℕ) → IsCounted (xs ++ Run ∷ []) (rs ++ r ∷ []) m → length r - 1 ≤ m
+pub run_counted : (xs : List StackEntry) (rs : List (List ValType)) (r : List ValType) (m : ℕ) → IsCounted (xs ++ Run ∷ []) (rs ++ r ∷ []) m → length r - 1 ≤ m
 run_counted xs rs r m c =
     omega (arith, c.count, ap length (several xs rs r), length-append (types_in xs rs) (of_run r), run_length r, length-append xs (Run ∷ []), least xs rs)
 
-pub counted_less : (xs : List Entry) (rs : List (List ValType)) (r : List ValType) (m : ℕ) → IsCounted (xs ++ Run ∷ []) (rs ++ r ∷ []) m → IsCounted xs rs (m - (length r - 1))
+pub counted_less : (xs : List StackEntry) (rs : List (List ValType)) (r : List ValType) (m : ℕ) → IsCounted (xs ++ Run ∷ []) (rs ++ r ∷ []) m → IsCounted xs rs (m - (length r - 1))
 counted_less xs rs r m c = record {
   count = omega (arith, c.count, ap length (several xs rs r), length-append (types_in xs rs) (of_run r), run_length r, length-append xs (Run ∷ []), least xs rs);
   small = omega (arith, c.small);
@@ -130,7 +130,7 @@ counted_less xs rs r m c = record {
 -- ---- the topmost place
 
 -- no run stands there
-pub no_run : (xs : List Entry) (rs : List (List ValType)) (x : Entry) → run_at x rs ≡ None → types_in (xs ++ x ∷ []) rs ≡ types_in xs rs ++ type_of x ∷ []
+pub no_run : (xs : List StackEntry) (rs : List (List ValType)) (x : StackEntry) → run_at x rs ≡ None → types_in (xs ++ x ∷ []) rs ≡ types_in xs rs ++ type_of x ∷ []
 no_run xs rs I32 e = single xs rs I32 refl
 no_run xs rs I64 e = single xs rs I64 refl
 no_run xs rs F32 e = single xs rs F32 refl
@@ -140,7 +140,7 @@ no_run xs rs Run e =
     let n = no_last rs e in ap (λ z. types_in (xs ++ Run ∷ []) z) n ∙ lone xs ∙ ap (λ z. types_in xs z ++ None ∷ []) (sym n)
 
 -- a run stands there
-pub a_run : (rs : List (List ValType)) (x : Entry) (r : List ValType) → run_at x rs ≡ Some r → (x ≡ Run) × (rs ≡ take (length rs - 1) rs ++ r ∷ [])
+pub a_run : (rs : List (List ValType)) (x : StackEntry) (r : List ValType) → run_at x rs ≡ Some r → (x ≡ Run) × (rs ≡ take (length rs - 1) rs ++ r ∷ [])
 a_run rs I32 r e = absurd cc
 a_run rs I64 r e = absurd cc
 a_run rs F32 r e = absurd cc

@@ -6,7 +6,7 @@ use Rattle.wsyntax.specs.Types.{FuncType, same_type, same_types}
 use Rattle.wsyntax.specs.Validation.Context.{Stack}
 use Rattle.wsyntax.specs.Validation.Algorithm.{when, on, take_all}
 use Rattle.wcontext.specs.declared.lists.TypeList.{TypeList}
-use Rattle.wcontext.specs.declared.lists.Front.{Front}
+use Rattle.wcontext.specs.declared.lists.TypePrefix.{TypePrefix}
 use Rattle.wcontext.specs.Lists.{list_of, front_of, IsEnd}
 
 pub same_as_itself : (t : ValType) → same_type t t ≡ true
@@ -32,7 +32,7 @@ same_ends ts us e end = go end.0 end.1
     go [] h = ap (λ z. same_types (reverse ts) (reverse z)) h ∙ same_list (reverse ts)
     go (t ∷ rest) h = absurd (omega (arith, e, ap length h, length-append rest ts))
 
-pub same_wholes : (types : List FuncType) (a b : TypeList) (one other : Front) → front_of types one ≡ list_of types a → front_of types other ≡ list_of types b → one.count ≡ length (list_of types a) → other.count ≡ length (list_of types b) → one.count ≡ other.count → IsEnd (front_of types one) (front_of types other) → same_types (reverse (list_of types a)) (reverse (list_of types b)) ≡ true
+pub same_wholes : (types : List FuncType) (a b : TypeList) (one other : TypePrefix) → front_of types one ≡ list_of types a → front_of types other ≡ list_of types b → one.count ≡ length (list_of types a) → other.count ≡ length (list_of types b) → one.count ≡ other.count → IsEnd (front_of types one) (front_of types other) → same_types (reverse (list_of types a)) (reverse (list_of types b)) ≡ true
 same_wholes types a b one other ea eb la lb same end =
     same_ends (list_of types a) (list_of types b) (sym la ∙ same ∙ lb) (end.0, sym eb ∙ end.1 ∙ ap (λ z. end.0 ++ z) ea)
 

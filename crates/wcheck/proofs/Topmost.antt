@@ -7,16 +7,16 @@ use Rattle.std.proofs.lemmas.Option.{slice_get-get_or, slice_get-map}
 use Rattle.wsyntax.specs.declared.ValType.{ValType}
 use Rattle.wsyntax.specs.Types.{FuncType}
 use Rattle.wcontext.specs.Lists.{front_of}
-use Rattle.wcontext.specs.declared.lists.Front.{Front}
-use Rattle.wcheck.specs.declared.entry.Entry.{Entry}
-use Rattle.wcheck.specs.declared.entry.Entry.TheVariants.{I32, I64, F32, F64, Unknown, Run}
+use Rattle.wcontext.specs.declared.lists.TypePrefix.{TypePrefix}
+use Rattle.wcheck.specs.declared.entry.StackEntry.{StackEntry}
+use Rattle.wcheck.specs.declared.entry.StackEntry.TheVariants.{I32, I64, F32, F64, Unknown, Run}
 use Rattle.wcheck.specs.Heights.{type_of}
 use Rattle.wcheck.specs.Runs.{is_several, run_at, of_run, types_in, last_types, types_before}
 use Rattle.wcheck.proofs.Lasts.{last_split, no_last, is_there}
 use Rattle.wcheck.proofs.Stretched.{none, whole_run, no_run}
 use Rattle.wcheck.proofs.Shortened.{split_run}
 
-pub known_single : (x : Entry) (t : ValType) → type_of x ≡ Some t → is_several x ≡ false
+pub known_single : (x : StackEntry) (t : ValType) → type_of x ≡ Some t → is_several x ≡ false
 known_single I32 t e = refl
 known_single I64 t e = refl
 known_single F32 t e = refl
@@ -24,10 +24,10 @@ known_single F64 t e = refl
 known_single Unknown t e = absurd cc
 known_single Run t e = absurd cc
 
-pub nothing_there : (xs : List Entry) (rs : List (List ValType)) (v : List (Option ValType)) → types_in xs rs ≡ v → None ≡ slice_get xs (length xs - 1) → v ≡ []
+pub nothing_there : (xs : List StackEntry) (rs : List (List ValType)) (v : List (Option ValType)) → types_in xs rs ≡ v → None ≡ slice_get xs (length xs - 1) → v ≡ []
 nothing_there xs rs v w e = sym w ∙ ap (λ z. types_in z rs) (no_last xs (sym e)) ∙ none rs
 
-pub last_single : (xs : List Entry) (rs : List (List ValType)) (v : List (Option ValType)) (x : Entry) (t : Option ValType) → types_in xs rs ≡ v → Some x ≡ slice_get xs (length xs - 1) → run_at x rs ≡ None → t ≡ type_of x → (rest : List (Option ValType)) × (v ≡ rest ++ t ∷ [])
+pub last_single : (xs : List StackEntry) (rs : List (List ValType)) (v : List (Option ValType)) (x : StackEntry) (t : Option ValType) → types_in xs rs ≡ v → Some x ≡ slice_get xs (length xs - 1) → run_at x rs ≡ None → t ≡ type_of x → (rest : List (Option ValType)) × (v ≡ rest ++ t ∷ [])
 last_single xs rs v x t w e q k =
     (types_in (take (length xs - 1) xs) rs, sym w ∙ ap (λ z. types_in z rs) (is_there xs x (sym e)) ∙ no_run (take (length xs - 1) xs) rs x q ∙ ap (λ z. types_in (take (length xs - 1) xs) rs ++ z ∷ []) (sym k))
 
@@ -42,7 +42,7 @@ last_of_run (u ∷ us) t e =
           ∙ ap (λ z. map Some (take (length (u ∷ us) - 1) (u ∷ us)) ++ z ∷ []) (sym (e ∙ there)),
     )
 
-pub last_in_run : (xs : List Entry) (rs : List (List ValType)) (v : List (Option ValType)) (x : Entry) (r : List ValType) (t : Option ValType) → types_in xs rs ≡ v → Some x ≡ slice_get xs (length xs - 1) → run_at x rs ≡ Some r → t ≡ slice_get r (length r - 1) → (rest : List (Option ValType)) × (v ≡ rest ++ t ∷ [])
+pub last_in_run : (xs : List StackEntry) (rs : List (List ValType)) (v : List (Option ValType)) (x : StackEntry) (r : List ValType) (t : Option ValType) → types_in xs rs ≡ v → Some x ≡ slice_get xs (length xs - 1) → run_at x rs ≡ Some r → t ≡ slice_get r (length r - 1) → (rest : List (Option ValType)) × (v ≡ rest ++ t ∷ [])
 last_in_run xs rs v x r t w e q k =
     let l = last_of_run r t k in (
       types_in (take (length xs - 1) xs) (take (length rs - 1) rs) ++ l.0,
@@ -51,7 +51,7 @@ last_in_run xs rs v x r t w e q k =
           ∙ sym (append_assoc (types_in (take (length xs - 1) xs) (take (length rs - 1) rs)) l.0 (t ∷ [])),
     )
 
-a_several : (x : Entry) → is_several x ≡ true → x ≡ Run
+a_several : (x : StackEntry) → is_several x ≡ true → x ≡ Run
 a_several I32 e = absurd cc
 a_several I64 e = absurd cc
 a_several F32 e = absurd cc
@@ -60,12 +60,12 @@ a_several Unknown e = absurd cc
 a_several Run e = refl
 
 -- the last operands, where the run on top has some
-pub last_of_run_on_top : (xs : List Entry) (rs : List (List ValType)) (v : List (Option ValType)) (x : Entry) (r : List ValType) → types_in xs rs ≡ v → Some x ≡ slice_get xs (length xs - 1) → run_at x rs ≡ Some r → 0 < length r → (rest : List (Option ValType)) × (v ≡ rest ++ map Some r)
+pub last_of_run_on_top : (xs : List StackEntry) (rs : List (List ValType)) (v : List (Option ValType)) (x : StackEntry) (r : List ValType) → types_in xs rs ≡ v → Some x ≡ slice_get xs (length xs - 1) → run_at x rs ≡ Some r → 0 < length r → (rest : List (Option ValType)) × (v ≡ rest ++ map Some r)
 last_of_run_on_top xs rs v x r w e q some =
     (types_in (take (length xs - 1) xs) (take (length rs - 1) rs), split_run xs rs x v (length xs - 1) w (is_there xs x (sym e)) r q ∙ ap (λ z. types_in (take (length xs - 1) xs) (take (length rs - 1) rs) ++ z) (whole_run r some))
 
 -- the last operands, where this run is on top
-pub last_of_front : (types u : List FuncType) (xs : List Entry) (rs : List Front) (v : List (Option ValType)) (x : Entry) (run : Front) → types_in xs (map (front_of types) rs) ≡ v → Some x ≡ slice_get xs (length xs - 1) → is_several x ≡ true → Some run ≡ slice_get rs (length rs - 1) → types ≡ u → 0 < length (front_of u run) → (rest : List (Option ValType)) × (v ≡ rest ++ map Some (front_of u run))
+pub last_of_front : (types u : List FuncType) (xs : List StackEntry) (rs : List TypePrefix) (v : List (Option ValType)) (x : StackEntry) (run : TypePrefix) → types_in xs (map (front_of types) rs) ≡ v → Some x ≡ slice_get xs (length xs - 1) → is_several x ≡ true → Some run ≡ slice_get rs (length rs - 1) → types ≡ u → 0 < length (front_of u run) → (rest : List (Option ValType)) × (v ≡ rest ++ map Some (front_of u run))
 last_of_front types u xs rs v x run w e several q same some =
     let size : length (map (front_of types) rs) - 1 ≡ length rs - 1 = ap (λ k. k - 1) (length-map rs (front_of types)) in
     let top : run_at Run (map (front_of types) rs) ≡ Some (front_of u run) =

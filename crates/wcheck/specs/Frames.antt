@@ -18,7 +18,7 @@ innermost_of x = frame_of x.operands.types x.top x.operands.above
 
 -- the frames outside the innermost one, the innermost of them first
 abbrev pub outside_of : Control → List Frame
-outside_of x = cut x.operands.types (reverse x.outer) x.operands.below
+outside_of x = cut x.operands.types (reverse x.outer.items) x.operands.below
 
 -- the innermost frame first
 abbrev pub inner_of : Control → List Frame
@@ -30,7 +30,7 @@ frames_of x = cond x.is_open (inner_of x) []
 
 -- nothing lies under the outermost frame
 abbrev pub IsTight : Control → Type 0
-IsTight x = under_all (reverse x.outer) x.operands.below ≡ []
+IsTight x = under_all (reverse x.outer.items) x.operands.below ≡ []
 
 -- the innermost frame, once another one is pushed
 abbrev pub outer_frame_of : ControlFrame → Stacked → OuterFrame
@@ -39,7 +39,7 @@ outer_frame_of top operands = record { frame = top; unreachable = operands.above
 -- the same, once the frame outside it was taken off the others
 abbrev pub gone_back : OuterFrame → Control → List Frame
 gone_back outer x =
-    pass_on (innermost_of x).gives (cut x.operands.types (outer ∷ reverse x.outer) x.operands.below)
+    pass_on (innermost_of x).gives (cut x.operands.types (outer ∷ reverse x.outer.items) x.operands.below)
 
 -- what a branch to a frame with that opener takes
 abbrev pub label_by : Opener → FuncType → Stack

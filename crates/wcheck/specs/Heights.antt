@@ -3,8 +3,8 @@ use Rattle.std.specs.Prelude.{◌≡◌, ◌<◌, ◌≤◌, ◌+◌, ◌-◌, �
 use Rattle.wsyntax.specs.declared.ValType.{ValType}
 use Rattle.wsyntax.specs.Types.{FuncType}
 use Rattle.wsyntax.specs.declared.ValType.TheVariants as types
-use Rattle.wcheck.specs.declared.entry.Entry.{Entry}
-use Rattle.wcheck.specs.declared.entry.Entry.TheVariants.{I32, I64, F32, F64, Unknown, Run}
+use Rattle.wcheck.specs.declared.entry.StackEntry.{StackEntry}
+use Rattle.wcheck.specs.declared.entry.StackEntry.TheVariants.{I32, I64, F32, F64, Unknown, Run}
 use Rattle.wsyntax.specs.Validation.Algorithm.{Operands}
 
 -- what stands below the height of the innermost frame, the lowest first, that frame's operands, and the function types
@@ -45,7 +45,7 @@ abbrev pub EndsIn : List ValType → Stacked → Type 0
 EndsIn ts s = (rest : List (Option ValType)) × (all_of s ≡ rest ++ map Some ts)
 
 -- the type of an entry, None where it is not known, and where it is a run
-abbrev pub type_of : Entry → Option ValType
+abbrev pub type_of : StackEntry → Option ValType
 type_of I32 = Some types.I32
 type_of I64 = Some types.I64
 type_of F32 = Some types.F32

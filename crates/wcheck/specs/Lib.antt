@@ -1,6 +1,5 @@
 pub mod Heights
 pub mod Runs
-pub mod Packed
 pub mod Views
 pub mod OperandRules
 pub mod Frames

@@ -6,7 +6,7 @@ use Rattle.wsyntax.specs.Validation.Context.{Context}
 use Rattle.wsyntax.specs.Validation.FirstFault.{FirstFault}
 use Rattle.wsyntax.specs.Validation.ModuleContext.{function_context}
 use Rattle.wsyntax.specs.Validation.Verdict.{result_of}
-use Rattle.checked.specs.Promise.{IsCodeOf}
+use Rattle.checked_body.specs.Promise.{IsCodeOf}
 use Rattle.wcheck.specs.declared.check.CheckFault.{CheckFault}
 use Rattle.wcheck.specs.declared.check.CheckFault.TheVariants.{IllTyped, Memory}
 

@@ -2,14 +2,14 @@
 use Rattle.std.specs.Prelude.{◌≡◌, ℕ, ◌+◌, ◌-◌, ◌^◌, ◌≤◌, Bool, true, false, List, [], ◌∷◌, ◌++◌, map, length, take, drop, reverse, Option, Some, None, slice_get}
 use Rattle.wsyntax.specs.declared.ValType.{ValType}
 use Rattle.wsyntax.specs.Types.{FuncType}
-use Rattle.wcontext.specs.declared.lists.Front.{Front}
+use Rattle.wcontext.specs.declared.lists.TypePrefix.{TypePrefix}
 use Rattle.wcontext.specs.Lists.{front_of}
-use Rattle.wcheck.specs.declared.entry.Entry.{Entry}
-use Rattle.wcheck.specs.declared.entry.Entry.TheVariants.{I32, I64, F32, F64, Unknown, Run}
+use Rattle.wcheck.specs.declared.entry.StackEntry.{StackEntry}
+use Rattle.wcheck.specs.declared.entry.StackEntry.TheVariants.{I32, I64, F32, F64, Unknown, Run}
 use Rattle.wcheck.specs.Heights.{type_of}
 
 -- whether the entry is that of a run
-abbrev pub is_several : Entry → Bool
+abbrev pub is_several : StackEntry → Bool
 is_several Run = true
 is_several I32 = false
 is_several I64 = false
@@ -25,7 +25,7 @@ abbrev pub types_before : ℕ → List ValType → List ValType
 types_before n ts = take (length ts - n) ts
 
 -- the run of the topmost entry, if it has one
-abbrev pub run_at : Entry → List (List ValType) → Option (List ValType)
+abbrev pub run_at : StackEntry → List (List ValType) → Option (List ValType)
 run_at Run rs = slice_get rs (length rs - 1)
 run_at I32 rs = None
 run_at I64 rs = None
@@ -39,7 +39,7 @@ of_run [] = None ∷ []
 of_run (t ∷ ts) = Some t ∷ map Some ts
 
 -- the operands of these entries with these runs, each topmost first
-abbrev pub stretched : List Entry → List (List ValType) → List (Option ValType)
+abbrev pub stretched : List StackEntry → List (List ValType) → List (Option ValType)
 stretched [] rs = []
 stretched (Run ∷ xs) [] = None ∷ stretched xs []
 stretched (Run ∷ xs) (r ∷ rs) = reverse (of_run r) ++ stretched xs rs
@@ -50,19 +50,19 @@ stretched (F64 ∷ xs) rs = type_of F64 ∷ stretched xs rs
 stretched (Unknown ∷ xs) rs = type_of Unknown ∷ stretched xs rs
 
 -- the same, each the lowest first
-unfoldable pub types_in : List Entry → List (List ValType) → List (Option ValType)
+unfoldable pub types_in : List StackEntry → List (List ValType) → List (Option ValType)
 types_in xs rs = reverse (stretched (reverse xs) (reverse rs))
 
 -- there are `extra` more operands than entries
-pub record IsCounted (xs : List Entry) (rs : List (List ValType)) (extra : ℕ) : Type 0 where
+pub record IsCounted (xs : List StackEntry) (rs : List (List ValType)) (extra : ℕ) : Type 0 where
   pub count : length (types_in xs rs) ≡ length xs + extra
   pub small : extra ≤ 2 ^ 63
 
 -- the operands of these entries with these runs, where these are the function types
-abbrev pub items_of : List FuncType → List Entry → List Front → List (Option ValType)
+abbrev pub items_of : List FuncType → List StackEntry → List TypePrefix → List (Option ValType)
 items_of types xs runs = types_in xs (map (front_of types) runs)
 
 -- they are counted, and the innermost frame begins among them
-abbrev pub IsStanding : List FuncType → List Entry → List Front → ℕ → ℕ → Type 0
+abbrev pub IsStanding : List FuncType → List StackEntry → List TypePrefix → ℕ → ℕ → Type 0
 IsStanding types xs runs extra base =
     IsCounted xs (map (front_of types) runs) extra × (base ≤ length (items_of types xs runs))

@@ -1,12 +1,11 @@
 -- What the code's values stand for.
-use Rattle.std.specs.Prelude.{◌≡◌, ◌<◌, ◌≤◌, ◌-◌, ℕ, Bool, false, List, [], ◌∷◌, Option, None, MatchOption, reverse, map, cond, take, drop, length, get_or}
+use Rattle.std.specs.Prelude.{Bool, false, List, [], ◌∷◌, Option, None, reverse, map, cond, take, drop}
 use Rattle.wsyntax.specs.declared.ValType.{ValType}
 use Rattle.wsyntax.specs.Types.{FuncType}
 use Rattle.wsyntax.specs.Instructions.{Token, Do}
 use Rattle.wsyntax.specs.Validation.Context.{Stack, Context, body_context}
 use Rattle.wsyntax.specs.Validation.Algorithm.{Operands, Frame, Rule, rule}
 use Rattle.wcontext.specs.Lists.{list_of}
-use Rattle.wcontext.specs.declared.lists.TypeList.{TypeList}
 use Rattle.wcheck.specs.declared.frames.ControlFrame.{ControlFrame}
 use Rattle.wcheck.specs.declared.frames.OuterFrame.{OuterFrame}
 use Rattle.wcheck.specs.declared.scope.Scope.{Scope}
@@ -21,12 +20,6 @@ label_of types x = cond x.is_loop (reverse (list_of types x.start_types)) (rever
 
 abbrev pub labels_in : List FuncType → ControlFrame → List OuterFrame → List Stack
 labels_in types x outer = label_of types x ∷ reverse (map (λ y. label_of types y.frame) outer)
-
--- what a branch to the frame that is that many places from the end of these takes, whatever the function types; none where there are
--- fewer frames
-abbrev pub IsLabelBehind : List OuterFrame → ℕ → Option TypeList → Type 0
-IsLabelBehind outer n r =
-    MatchOption r (length outer < n) (λ x. (n ≤ length outer) × ((types : List FuncType) (d : OuterFrame) → reverse (list_of types x) ≡ label_of types (get_or outer (length outer - n) d).frame))
 
 -- the context in the innermost frame
 abbrev pub context_at : Scope → ControlFrame → List OuterFrame → Context

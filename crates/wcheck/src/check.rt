@@ -2,13 +2,14 @@ ghost use Rattle.std.specs.Prelude.{◌≡◌, ◌<◌, ◌^◌, length, IfOk, I
 ghost use Rattle.wsyntax.specs.BranchTables.{FollowAll};
 ghost use Rattle.wsyntax.specs.Modules.{body_shape};
 ghost use Rattle.side_table.specs.Written.{AllSuit, IsWritten};
-ghost use Rattle.checked.specs.Bodies.{IsTypedAs, FitsAs};
+ghost use Rattle.checked_body.specs.Bodies.{IsTypedAs, FitsAs};
 ghost use Rattle.wcheck.specs.Kept.{KeepsBody};
+ghost use Rattle.wcheck.specs.Outcomes.{HasPassed};
 ghost use Rattle.wcheck.specs.Refusals.{RefusedFor};
 
-use crate::body::{Outcome, pass_body};
+use crate::body::{BodyPass, pass_body};
 use crate::checker::Checker;
-use checked::{CheckedBody, SideTable};
+use checked_body::{CheckedBody, SideTable};
 use side_table::{
     TableBuilder, pass_is_algorithm, passed_bounded, passed_fits, passed_is_code, written_fills,
 };
@@ -57,6 +58,35 @@ fn written(alloc: Global, body: Body, builder: TableBuilder) -> Result<WrittenBo
     })
 }
 
+/// Keeps the body of the function of that index, imported ones counted, whose tokens the checker took, with its side table as it
+/// was written down.
+pub fn keep_body(
+    alloc: Global,
+    checker: &Checker<'_>,
+    func: u32,
+    body: Body,
+    builder: TableBuilder,
+    has_floats: bool,
+) -> Result<CheckedBody, AllocError>
+    requires func { func < length checker.now.outside.functions }
+    requires passed { HasPassed checker.now.outside func body builder has_floats }
+    ensures kept { IfOk result (λ c. body_shape c.body ≡ body_shape body) }
+    ensures unchecked { IfOk result (λ c. KeepsBody body c.body) }
+    ensures typed { IfOk result (λ c. IsTypedAs checker.now.outside func c.body) }
+    ensures fits { IfOk result (λ c. FitsAs checker.now.outside func c) }
+{
+    accepted_is_typed();
+    pass_is_algorithm();
+    passed_is_code();
+    passed_fits();
+    passed_bounded();
+    written_fills();
+    match written(alloc, body, builder) {
+        Ok(WrittenBody { body, table }) => Ok(CheckedBody::new(body, table, has_floats)),
+        Err(fault) => Err(fault),
+    }
+}
+
 /// Checks the body of the function of that index, imported ones counted: it is taken exactly where it is typed, and
 /// else its first fault is named. Of a body that is taken nothing changes but where its tokens go on. Time and memory are
 /// linear in the tokens and the targets, and in the types of operands that the body itself puts.
@@ -85,24 +115,19 @@ pub fn check_body(
     ensures refused { IfErr result (λ fault. RefusedFor checker.old.outside func body fault) }
     ensures outside { checker.new.outside ≡ checker.old.outside }
 {
-    accepted_is_typed();
     refused_at_first_fault();
     pass_is_algorithm();
-    passed_is_code();
-    passed_fits();
-    passed_bounded();
-    written_fills();
     match pass_body(alloc, checker, func, &body) {
         Ok(
-            Outcome::Passes {
+            BodyPass::Passes {
                 builder,
                 has_floats,
             },
-        ) => match written(alloc, body, builder) {
-            Ok(WrittenBody { body, table }) => Ok(CheckedBody::new(body, table, has_floats)),
+        ) => match keep_body(alloc, checker, func, body, builder, has_floats) {
+            Ok(checked) => Ok(checked),
             Err(_) => Err(CheckFault::Memory),
         },
-        Ok(Outcome::Refused(at)) => Err(CheckFault::IllTyped { at }),
+        Ok(BodyPass::Refused(at)) => Err(CheckFault::IllTyped { at }),
         Err(_) => Err(CheckFault::Memory),
     }
 }

@@ -7,10 +7,9 @@ ghost use Rattle.side_table.specs.Pass.{reachable_height, outer_dead, below_size
 mod inspect;
 
 use crate::control::{Control, is_past_expanded, step_control, step_known};
-use crate::frames::{ControlFrame, label};
+use crate::frames::{ControlFrame, is_last_dead, label};
 use crate::locals::Locals;
 use crate::operand_stack::OperandStack;
-use crate::outer_frames::OuterFrames;
 use crate::scope::{Scope, none};
 use crate::tuning::{LOCAL_RUNS, OPEN_FRAMES, OPERANDS};
 pub use inspect::OpenFrame;
@@ -59,7 +58,7 @@ impl<'a> Checker<'a> {
         let control = Control {
             operands: OperandStack::new(alloc, context),
             top,
-            outer: OuterFrames::new(alloc),
+            outer: Vec::new(alloc),
             is_open: false,
         };
         Checker { scope, control }
@@ -136,6 +135,7 @@ impl<'a> Checker<'a> {
     }
 
     /// The operands in all open frames, none where what follows in the innermost one is unreachable.
+    #[inline(always)]
     #[tactic(auto, using(crate::proofs::Cuts::tight_height))]
     pub(crate) fn reachable_height(&self) -> usize
         ensures { result ≡ reachable_height self.now.frames }
@@ -161,7 +161,7 @@ impl<'a> Checker<'a> {
 
     /// How many operands a branch to the innermost frame takes.
     #[tactic(auto, using(crate::proofs::ListFacts::reverse_length))]
-    pub(crate) fn arity(&self) -> usize
+    pub fn arity(&self) -> usize
         ensures size { result ≡ label_size self.now.frames }
         ensures few { result < 2 ^ 32 }
     {
@@ -177,11 +177,12 @@ impl<'a> Checker<'a> {
     pub(crate) fn is_outer_dead(&self) -> bool
         ensures { result ≡ outer_dead self.now.frames }
     {
-        self.control.is_open && self.control.outer.is_last_dead()
+        self.control.is_open && is_last_dead(&self.control.outer)
     }
 
     /// Whether the innermost frame is an if whose else may still come.
-    pub(crate) fn is_if(&self) -> bool
+    #[inline(always)]
+    pub fn is_if(&self) -> bool
         ensures { result ≡ in_if self.now.frames }
     {
         self.control.is_open && self.control.top.is_if

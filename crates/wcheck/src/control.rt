@@ -1,8 +1,7 @@
-ghost use Rattle.std.specs.Prelude.{◌≡◌, ◌≤◌, [], ◌∷◌, ◌++◌, true, false, Some, IfOk, IfErr, reverse, length, map, take};
-ghost use Rattle.wcontext.specs.Lists.{list_of};
+ghost use Rattle.std.specs.Prelude.{◌≡◌, [], ◌∷◌, ◌++◌, true, false, Some, IfOk, IfErr, reverse};
 ghost use Rattle.wsyntax.specs.Instructions.{Op, Do};
 ghost use Rattle.wsyntax.specs.Modules.{seen};
-ghost use Rattle.wsyntax.specs.Validation.Algorithm.{when, may_lack_else, pass_on, step};
+ghost use Rattle.wsyntax.specs.Validation.Algorithm.{when, step};
 ghost use Rattle.wcheck.specs.Views.{scope_context, under_all};
 ghost use Rattle.wcheck.specs.Frames.{innermost_of, outside_of, inner_of, frames_of, IsTight};
 ghost use Rattle.wcheck.specs.Frames.{outer_frame_of, gone_back, opened, switched, closed};
@@ -10,7 +9,6 @@ ghost use Rattle.wcheck.specs.Frames.{outer_frame_of, gone_back, opened, switche
 use crate::apply::{apply_known, apply_rule};
 use crate::frames::{ControlFrame, OuterFrame};
 use crate::operand_stack::OperandStack;
-use crate::outer_frames::OuterFrames;
 use crate::rule::rule_of_token;
 use crate::scope::{Scope, block_signature};
 use side_table::Opener;
@@ -18,61 +16,60 @@ use std::alloc::AllocError;
 use wcontext::{ListPair, TypeList};
 use wsyntax::{Token, ValType};
 
-/// The open frames: the innermost one apart, and the others.
+/// The open frames: the innermost one apart, and the others, the outermost first.
 #[derive(Drop)]
 pub(crate) struct Control<'a> {
     pub(crate) operands: OperandStack<'a>,
     pub(crate) top: ControlFrame,
-    pub(crate) outer: OuterFrames,
+    pub(crate) outer: Vec<OuterFrame>,
     /// False once the function is closed.
     pub(crate) is_open: bool,
 }
 
-/// Pushes the innermost frame on the others. After an error these are as before.
+/// The same as `push_outer`, where there may be no room.
 #[inline(never)]
-fn push_outer(
-    outer: &mut OuterFrames,
+fn push_beyond(
+    outer: &mut Vec<OuterFrame>,
     top: &ControlFrame,
     operands: &OperandStack,
 ) -> Result<(), AllocError>
-    ensures laid { IfOk result (λ _. outer.new ≡ outer.old ++ outer_frame_of top.now operands.now ∷ []) }
-    ensures refused { IfErr result (λ _. outer.new ≡ outer.old) }
+    ensures pushed { IfOk result (λ _. outer.new.items ≡ outer.old.items ++ outer_frame_of top.now operands.now ∷ []) }
+    ensures refused { IfErr result (λ _. outer.new.items ≡ outer.old.items) }
 {
-    outer.push(top, operands.is_unreachable(), operands.base())
+    outer.push(OuterFrame {
+        frame: *top,
+        unreachable: operands.is_unreachable(),
+        height: operands.base(),
+    })?;
+    Ok(())
 }
 
-/// Opens a frame over the topmost `count` operands, which are of its start types.
-#[inline(always)]
-#[tactic(auto, using(crate::proofs::Cuts::opened_frames, crate::proofs::Cuts::opened_under, crate::proofs::Above::known_taken, crate::proofs::Above::known_fresh))]
-fn open_in_place(
-    control: &mut Control,
-    opener: Opener,
-    params: TypeList,
-    results: TypeList,
-    count: usize,
-) -> Result<bool, AllocError>
-    requires there { count ≤ length control.old.operands.above.known }
-    requires types { take count control.old.operands.above.known ≡ map Some (reverse (list_of control.old.operands.types params)) }
-    ensures frames { IfOk result (λ yes. opened opener params results control.old ≡ when yes (Some (inner_of control.new))) }
-    ensures open { IfOk result (λ yes. control.new.is_open ≡ control.old.is_open) }
-    ensures tight { IsTight control.old → IsTight control.new }
-    ensures types { control.new.operands.types ≡ control.old.operands.types }
-{
-    push_outer(&mut control.outer, &control.top, &control.operands)?;
-    control.operands.open_over(count);
-    control.top = ControlFrame {
-        is_if: opener.is_if(),
-        is_loop: opener.is_loop(),
-        start_types: params,
-        end_types: results,
-    };
-    Ok(true)
-}
-
-/// Opens a frame whose start types are taken, and put again.
+/// Pushes the innermost frame on the others. After an error these are as before.
+// PERF: where room is asked for on the way, the frame is written twice, and waited for.
 #[inline(never)]
+fn push_outer(
+    outer: &mut Vec<OuterFrame>,
+    top: &ControlFrame,
+    operands: &OperandStack,
+) -> Result<(), AllocError>
+    ensures pushed { IfOk result (λ _. outer.new.items ≡ outer.old.items ++ outer_frame_of top.now operands.now ∷ []) }
+    ensures refused { IfErr result (λ _. outer.new.items ≡ outer.old.items) }
+{
+    if outer.len() == outer.capacity() {
+        return push_beyond(outer, top, operands);
+    }
+    outer.push(OuterFrame {
+        frame: *top,
+        unreachable: operands.is_unreachable(),
+        height: operands.base(),
+    })?;
+    Ok(())
+}
+
+/// Opens a frame, whose start types are taken from the frame outside it.
+#[inline(always)]
 #[tactic(auto, using(crate::proofs::Cuts::opened_frames, crate::proofs::Cuts::opened_under))]
-fn open_anew(
+fn open_frame(
     control: &mut Control,
     opener: Opener,
     params: TypeList,
@@ -98,27 +95,8 @@ fn open_anew(
     Ok(true)
 }
 
-/// Opens a frame.
-#[inline(always)]
-pub(crate) fn open_frame(
-    control: &mut Control,
-    opener: Opener,
-    params: TypeList,
-    results: TypeList,
-) -> Result<bool, AllocError>
-    ensures frames { IfOk result (λ yes. opened opener params results control.old ≡ when yes (Some (inner_of control.new))) }
-    ensures open { IfOk result (λ yes. control.new.is_open ≡ control.old.is_open) }
-    ensures tight { IsTight control.old → IsTight control.new }
-    ensures types { control.new.operands.types ≡ control.old.operands.types }
-{
-    match control.operands.known_on_top(params) {
-        Some(count) => open_in_place(control, opener, params, results, count),
-        None => open_anew(control, opener, params, results),
-    }
-}
-
 /// Goes on from the first branch of an if to the second.
-pub(crate) fn other_branch(control: &mut Control) -> Result<bool, AllocError>
+fn other_branch(control: &mut Control) -> Result<bool, AllocError>
     ensures frames { IfOk result (λ yes.
         switched (innermost_of control.old) (outside_of control.old) ≡ when yes (Some (inner_of control.new))) }
     ensures open { IfOk result (λ yes. control.new.is_open ≡ control.old.is_open) }
@@ -141,7 +119,7 @@ pub(crate) fn other_branch(control: &mut Control) -> Result<bool, AllocError>
 #[inline(always)]
 fn go_back(control: &mut Control, outer: OuterFrame) -> Result<(), AllocError>
     ensures frames { IfOk result (λ _. inner_of control.new ≡ gone_back outer control.old) }
-    ensures tight { under_all (outer ∷ reverse control.old.outer) control.old.operands.below ≡ [] → IsTight control.new }
+    ensures tight { under_all (outer ∷ reverse control.old.outer.items) control.old.operands.below ≡ [] → IsTight control.new }
     ensures open { control.new.is_open ≡ control.old.is_open }
     ensures types { control.new.operands.types ≡ control.old.operands.types }
 {
@@ -151,49 +129,10 @@ fn go_back(control: &mut Control, outer: OuterFrame) -> Result<(), AllocError>
     Ok(())
 }
 
-/// Leaves the innermost frame, where it is the function's own or the one outside it is packed.
-#[inline(never)]
-#[tactic(auto, using(crate::proofs::Cuts::closed_under, crate::proofs::Behind::reversed_last))]
-fn leave_far(control: &mut Control) -> Result<bool, AllocError>
-    requires { control.old.is_open ≡ true }
-    ensures tight { IsTight control.old → IsTight control.new }
-    ensures types { control.new.operands.types ≡ control.old.operands.types }
-    ensures frames { IfOk result (λ yes.
-        Some (pass_on (innermost_of control.old).gives (outside_of control.old)) ≡ when yes (Some (frames_of control.new))) }
-{
-    match control.outer.pop() {
-        Some(outer) => go_back(control, outer)?,
-        None => control.is_open = false,
-    }
-    Ok(true)
-}
-
-/// Closes the innermost frame, whose operands go to the frame outside it as they are.
+/// Closes the innermost frame.
 #[inline(always)]
-#[tactic(auto, using(crate::proofs::Cuts::closed_under, crate::proofs::Behind::reversed_last, crate::proofs::Above::known_end))]
-fn close_in_place(control: &mut Control) -> Result<bool, AllocError>
-    requires open { control.old.is_open ≡ true }
-    requires known { control.old.operands.above.known ≡ map Some (innermost_of control.old).gives }
-    requires ended { may_lack_else (innermost_of control.old) ≡ true }
-    ensures tight { IsTight control.old → IsTight control.new }
-    ensures types { control.new.operands.types ≡ control.old.operands.types }
-    ensures frames { IfOk result (λ yes.
-        closed (innermost_of control.old) (outside_of control.old) ≡ when yes (Some (frames_of control.new))) }
-{
-    match control.outer.pop_near() {
-        Some(outer) => {
-            control.operands.close_over(outer.height, outer.unreachable);
-            control.top = outer.frame;
-            Ok(true)
-        }
-        None => leave_far(control),
-    }
-}
-
-/// Closes the innermost frame, whose end types are taken, and put on the frame outside it.
-#[inline(never)]
 #[tactic(auto, using(crate::proofs::Cuts::closed_under, crate::proofs::Behind::reversed_last))]
-fn close_anew(control: &mut Control) -> Result<bool, AllocError>
+fn close_frame(control: &mut Control) -> Result<bool, AllocError>
     requires { control.old.is_open ≡ true }
     ensures tight { IsTight control.old → IsTight control.new }
     ensures types { control.new.operands.types ≡ control.old.operands.types }
@@ -210,38 +149,11 @@ fn close_anew(control: &mut Control) -> Result<bool, AllocError>
             return Ok(false);
         }
     }
-    match control.outer.pop_near() {
+    match control.outer.pop() {
         Some(outer) => go_back(control, outer)?,
-        None => return leave_far(control),
+        None => control.is_open = false,
     }
     Ok(true)
-}
-
-/// Whether the innermost frame, whose operands are known to be its end types, may surely be closed without an `else`: it is no
-/// `if` whose `else` may still come, or the operands are known to be its start types too.
-#[inline(always)]
-#[tactic(auto, using(crate::proofs::Above::known_else))]
-fn may_lack_else(control: &Control) -> bool
-    requires { control.now.operands.above.known ≡ map Some (innermost_of control.now).gives }
-    ensures { result ≡ true → may_lack_else (innermost_of control.now) ≡ true }
-{
-    !control.top.is_if || control.operands.are_known(control.top.start_types)
-}
-
-/// Closes the innermost frame.
-#[inline(always)]
-pub(crate) fn close_frame(control: &mut Control) -> Result<bool, AllocError>
-    requires { control.old.is_open ≡ true }
-    ensures tight { IsTight control.old → IsTight control.new }
-    ensures types { control.new.operands.types ≡ control.old.operands.types }
-    ensures frames { IfOk result (λ yes.
-        closed (innermost_of control.old) (outside_of control.old) ≡ when yes (Some (frames_of control.new))) }
-{
-    if control.operands.are_known(control.top.end_types) && may_lack_else(control) {
-        close_in_place(control)
-    } else {
-        close_anew(control)
-    }
 }
 
 /// An instruction without a body.

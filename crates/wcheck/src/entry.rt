@@ -5,13 +5,13 @@ ghost use Rattle.wcheck.specs.Heights.{type_of};
 ghost use Rattle.wcheck.specs.Runs.{is_several, run_at, types_in, last_types};
 
 use crate::types::first_of;
-use wcontext::{Context, Front};
+use wcontext::{Context, TypePrefix};
 use wsyntax::ValType;
 
 /// An entry of the operand stack in one byte: an operand, or a run of several. The types come first, in the order of
 /// `ValType`, and `Unknown` is an operand of any type.
 #[derive(Clone, Copy)]
-pub(crate) enum Entry {
+pub(crate) enum StackEntry {
     I32,
     I64,
     F32,
@@ -21,35 +21,35 @@ pub(crate) enum Entry {
 }
 
 #[inline]
-pub(crate) fn packed(x: Option<ValType>) -> Entry
+pub(crate) fn packed(x: Option<ValType>) -> StackEntry
     ensures value { type_of result ≡ x }
     ensures single { is_several result ≡ false }
 {
     match x {
-        Some(ValType::I32) => Entry::I32,
-        Some(ValType::I64) => Entry::I64,
-        Some(ValType::F32) => Entry::F32,
-        Some(ValType::F64) => Entry::F64,
-        None => Entry::Unknown,
+        Some(ValType::I32) => StackEntry::I32,
+        Some(ValType::I64) => StackEntry::I64,
+        Some(ValType::F32) => StackEntry::F32,
+        Some(ValType::F64) => StackEntry::F64,
+        None => StackEntry::Unknown,
     }
 }
 
 #[inline]
-pub(crate) fn unpacked(x: Entry) -> Option<ValType>
+pub(crate) fn unpacked(x: StackEntry) -> Option<ValType>
     ensures { result ≡ type_of x }
 {
     match x {
-        Entry::I32 => Some(ValType::I32),
-        Entry::I64 => Some(ValType::I64),
-        Entry::F32 => Some(ValType::F32),
-        Entry::F64 => Some(ValType::F64),
-        Entry::Unknown | Entry::Run => None,
+        StackEntry::I32 => Some(ValType::I32),
+        StackEntry::I64 => Some(ValType::I64),
+        StackEntry::F32 => Some(ValType::F32),
+        StackEntry::F64 => Some(ValType::F64),
+        StackEntry::Unknown | StackEntry::Run => None,
     }
 }
 
 /// Whether the operand is known to be of this type.
 #[inline]
-pub(crate) fn is_known(x: Entry, t: ValType) -> bool
+pub(crate) fn is_known(x: StackEntry, t: ValType) -> bool
     ensures { result ≡ true → type_of x ≡ Some t }
 {
     x as u8 == t as u8
@@ -57,7 +57,7 @@ pub(crate) fn is_known(x: Entry, t: ValType) -> bool
 
 /// Whether the last entries are known to be of these types.
 #[inline]
-pub(crate) fn end_in_singles(entries: &[Entry], ts: &[ValType]) -> bool
+pub(crate) fn end_in_singles(entries: &[StackEntry], ts: &[ValType]) -> bool
     ensures { result ≡ true → (runs : List (List ValType)) → types_in entries.now runs
         ≡ types_in (take (length entries.now - length ts.now) entries.now) runs ++ map Some ts.now }
 {
@@ -75,15 +75,15 @@ pub(crate) fn end_in_singles(entries: &[Entry], ts: &[ValType]) -> bool
 
 /// Whether the entry is that of a run.
 #[inline]
-pub(crate) fn is_run(entry: Entry) -> bool
+pub(crate) fn is_run(entry: StackEntry) -> bool
     ensures { result ≡ is_several entry }
 {
-    matches!(entry, Entry::Run)
+    matches!(entry, StackEntry::Run)
 }
 
 /// The types of a front.
 #[inline]
-pub(crate) fn types_of_front(context: &Context, front: Front) -> &[ValType]
+pub(crate) fn types_of_front(context: &Context, front: TypePrefix) -> &[ValType]
     ensures types { result.now ≡ front_of context.now.context.types front }
     ensures few { length result.now < 2 ^ 32 }
 {
@@ -94,8 +94,8 @@ pub(crate) fn types_of_front(context: &Context, front: Front) -> &[ValType]
 #[inline]
 pub(crate) fn top_run<'a>(
     context: &'a Context,
-    entry: Entry,
-    runs: &[Front],
+    entry: StackEntry,
+    runs: &[TypePrefix],
 ) -> Option<&'a [ValType]>
     ensures found { MatchOption result
         (run_at entry (map (front_of context.now.context.types) runs.now) ≡ None)
@@ -103,18 +103,22 @@ pub(crate) fn top_run<'a>(
     ensures few { IfSome result (λ r. length r.now < 2 ^ 32) }
 {
     match entry {
-        Entry::Run => match runs.last() {
+        StackEntry::Run => match runs.last() {
             Some(run) => Some(types_of_front(context, *run)),
             None => None,
         },
-        Entry::I32 | Entry::I64 | Entry::F32 | Entry::F64 | Entry::Unknown => None,
+        StackEntry::I32
+        | StackEntry::I64
+        | StackEntry::F32
+        | StackEntry::F64
+        | StackEntry::Unknown => None,
     }
 }
 
 /// The length of the shorter of two fronts, where its types are known to be the last types of the longer one. `None` says
 /// nothing.
 #[inline(always)]
-pub(crate) fn shared_end(context: &Context, one: Front, other: Front) -> Option<usize>
+pub(crate) fn shared_end(context: &Context, one: TypePrefix, other: TypePrefix) -> Option<usize>
     requires whole { one.count ≡ length (front_of context.now.context.types one) }
     ensures first { IfSome result (λ n. n ≤ length (front_of context.now.context.types one)) }
     ensures second { IfSome result (λ n. n ≤ length (front_of context.now.context.types other)) }

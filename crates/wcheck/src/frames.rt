@@ -2,12 +2,11 @@ ghost use Rattle.std.specs.Prelude.{◌≡◌, List, MatchOption, length, revers
 ghost use Rattle.wsyntax.specs.Types.{FuncType, same_types};
 ghost use Rattle.wcontext.specs.Lists.{list_of, front_of};
 ghost use Rattle.wsyntax.specs.Validation.Algorithm.{all_take};
-ghost use Rattle.wcheck.specs.Views.{label_of, labels_in};
+ghost use Rattle.wcheck.specs.Views.{label_of, labels_in, first_dead};
 
-use crate::outer_frames::OuterFrames;
 use crate::tuning::COMPARED_TYPES;
 use crate::types::is_same;
-use wcontext::{Context, Front, TypeList};
+use wcontext::{Context, TypeList, TypePrefix};
 use wsyntax::ValType;
 
 /// A control frame (7.3), its operands aside: its opcode, the types that it takes at its start, and those that it leaves at
@@ -43,7 +42,7 @@ pub(crate) fn label(frame: ControlFrame) -> TypeList
 
 /// What a branch to this label takes.
 #[inline]
-pub(crate) fn label_at(frame: ControlFrame, outer: &OuterFrames, l: u32) -> Option<TypeList>
+pub(crate) fn label_at(frame: ControlFrame, outer: &[OuterFrame], l: u32) -> Option<TypeList>
     ensures { (types : List FuncType) → MatchOption result
         (slice_get (labels_in types frame outer.now) l ≡ None)
         (λ r. slice_get (labels_in types frame outer.now) l ≡ Some (reverse (list_of types r))) }
@@ -51,7 +50,23 @@ pub(crate) fn label_at(frame: ControlFrame, outer: &OuterFrames, l: u32) -> Opti
     if l == 0 {
         return Some(label(frame));
     }
-    outer.label(l as usize)
+    let depth = l as usize;
+    if depth > outer.len() {
+        return None;
+    }
+    let frame = &outer[outer.len() - depth];
+    Some(label(frame.frame))
+}
+
+/// Whether what follows in the last of these is unreachable; `false` where there is none.
+#[tactic(auto, using(crate::proofs::Behind::reversed_last))]
+pub(crate) fn is_last_dead(outer: &[OuterFrame]) -> bool
+    ensures { result ≡ first_dead (reverse outer.now) }
+{
+    match outer.last() {
+        Some(frame) => frame.unreachable,
+        None => false,
+    }
 }
 
 /// Whether two lists of types are the same.
@@ -73,11 +88,11 @@ fn are_same(a: &[ValType], b: &[ValType]) -> bool
 
 /// All of a list.
 #[inline]
-fn whole(context: &Context, list: TypeList) -> Front
+fn whole(context: &Context, list: TypeList) -> TypePrefix
     ensures types { front_of context.now.context.types result ≡ list_of context.now.context.types list }
     ensures count { result.count ≡ length (list_of context.now.context.types list) }
 {
-    Front {
+    TypePrefix {
         list,
         count: context.list(list).len() as u32,
     }
@@ -107,7 +122,7 @@ pub(crate) fn are_same_lists(context: &Context, a: TypeList, b: TypeList) -> boo
 pub(crate) fn all_labels_take(
     context: &Context,
     frame: ControlFrame,
-    outer: &OuterFrames,
+    outer: &[OuterFrame],
     r: TypeList,
     ls: &[u32],
 ) -> bool

@@ -28,14 +28,13 @@ mod frames;
 mod locals;
 mod operand_rules;
 mod operand_stack;
-mod outer_frames;
-mod packed;
 mod rule;
 mod scope;
 mod tuning;
 mod types;
 
-pub use check::{CheckFault, check_body};
-pub use checked::CheckedBody;
+pub use building::{is_plain, note_plain, note_token};
+pub use check::{CheckFault, check_body, keep_body};
+pub use checked_body::CheckedBody;
 pub use checker::{Checker, OpenFrame};
 pub use rule::OperandRule;

@@ -1,16 +1,15 @@
 //! What an instruction does to several operands at once, in the innermost frame (7.3).
 ghost use Rattle.std.specs.Prelude.{◌≡◌, ◌≤◌, ◌<◌, ◌-◌, ◌^◌, [], ◌∷◌, true, false, Some};
-ghost use Rattle.std.specs.Prelude.{IfSome, IfNone, IfOk, reverse, length, map, take};
+ghost use Rattle.std.specs.Prelude.{IfSome, IfNone, IfOk, reverse, length};
 ghost use Rattle.wcontext.specs.Lists.{list_of, front_of};
 ghost use Rattle.wsyntax.specs.Validation.Algorithm.{Takes, when, apply, take_one, take_all, put, ends_with};
-ghost use Rattle.wcheck.specs.Heights.{EndsIn};
 ghost use Rattle.wcheck.specs.Runs.{types_before};
 
 use crate::operand_stack::OperandStack;
 use crate::tuning::SHORT_LIST;
 use crate::types::is_same;
 use std::alloc::AllocError;
-use wcontext::{Front, TypeList};
+use wcontext::{TypeList, TypePrefix};
 use wsyntax::ValType;
 
 impl OperandStack<'_> {
@@ -130,7 +129,7 @@ impl OperandStack<'_> {
 
     /// Takes operands of the last types of a front, as many as it shares with the run on top: none where no run is there.
     /// `None`: nothing was taken, since the run has other types.
-    fn take_run(&mut self, front: Front) -> Option<usize>
+    fn take_run(&mut self, front: TypePrefix) -> Option<usize>
         requires whole { front.count ≡ length (front_of self.old.types front) }
         ensures count { IfSome result (λ n. n ≤ length (front_of self.old.types front)) }
         ensures taken { IfSome result (λ n. take_all (reverse (front_of self.old.types front)) self.old.above
@@ -218,7 +217,7 @@ impl OperandStack<'_> {
                 return self.is_unreachable();
             }
             let count = left as u32;
-            let Some(taken) = self.take_run(Front { list, count }) else {
+            let Some(taken) = self.take_run(TypePrefix { list, count }) else {
                 break;
             };
             if taken > 0 {
@@ -231,61 +230,6 @@ impl OperandStack<'_> {
             }
         }
         self.take_each(&ts[..left])
-    }
-
-    /// How many types a list has, where the topmost operands of the innermost frame are known to be of these, and no run has
-    /// some of them and others. `None` says nothing.
-    #[inline(always)]
-    pub(crate) fn known_on_top(&self, list: TypeList) -> Option<usize>
-        ensures there { IfSome result (λ n. n ≤ length self.now.above.known) }
-        ensures types { IfSome result (λ n.
-            take n self.now.above.known ≡ map Some (reverse (list_of self.now.types list))) }
-    {
-        match list {
-            TypeList::Nothing => Some(0),
-            TypeList::One(_) | TypeList::Params(_) | TypeList::Results(_) => self.some_on_top(list),
-        }
-    }
-
-    #[inline(never)]
-    fn some_on_top(&self, list: TypeList) -> Option<usize>
-        ensures there { IfSome result (λ n. n ≤ length self.now.above.known) }
-        ensures types { IfSome result (λ n.
-            take n self.now.above.known ≡ map Some (reverse (list_of self.now.types list))) }
-    {
-        let ts = self.types_of(list);
-        if self.height() - self.base() < ts.len() {
-            return None;
-        }
-        if !self.ends_apart(list, ts) {
-            return None;
-        }
-        Some(ts.len())
-    }
-
-    /// Whether the last operands are known to be of the types of a list, which are these, and no run has some of them and
-    /// others. `false` says nothing.
-    #[inline(always)]
-    fn ends_apart(&self, list: TypeList, ts: &[ValType]) -> bool
-        requires types { ts.now ≡ list_of self.now.types list }
-        requires few { length ts.now < 2 ^ 32 }
-        ensures { result ≡ true → EndsIn ts.now self.now }
-    {
-        if ts.len() > SHORT_LIST {
-            return self.ends_in_whole_run(list, ts.len());
-        }
-        self.ends_in_singles(ts)
-    }
-
-    /// Whether the operands are known to be exactly these. `false` says nothing.
-    #[inline(always)]
-    pub(crate) fn are_known(&self, list: TypeList) -> bool
-        ensures { result ≡ true → self.now.above.known ≡ map Some (reverse (list_of self.now.types list)) }
-    {
-        match self.known_on_top(list) {
-            Some(count) => count == self.height() - self.base(),
-            None => false,
-        }
     }
 
     /// Puts operands of the types of a list, the last one topmost.

@@ -9,12 +9,12 @@ ghost use Rattle.wcheck.specs.Runs.{last_types};
 mod known;
 
 use crate::entry::{
-    Entry, end_in_singles, is_run, packed, shared_end, top_run, types_of_front, unpacked,
+    StackEntry, end_in_singles, is_run, packed, shared_end, top_run, types_of_front, unpacked,
 };
 use crate::tuning::OPERAND_RUNS;
 use std::alloc::{AllocError, Global};
 use std::marker::Model;
-use wcontext::{Context, Front, TypeList};
+use wcontext::{Context, TypeList, TypePrefix};
 use wsyntax::ValType;
 
 /// The types of the operands of all open frames, in one list. `None` is a type that is not known. A run takes one entry, so
@@ -22,9 +22,9 @@ use wsyntax::ValType;
 #[derive(Drop)]
 pub(crate) struct OperandStack<'a> {
     context: &'a Context,
-    entries: Vec<Entry>,
+    entries: Vec<StackEntry>,
     /// The run of each entry `Run`: the first types of a list, the last of them topmost.
-    runs: Vec<Front>,
+    runs: Vec<TypePrefix>,
     /// How many more operands there are than entries.
     extra: usize,
     /// How many operands lie below the innermost frame.
@@ -220,7 +220,7 @@ impl<'a> OperandStack<'a> {
         ensures below { self.new.below ≡ self.old.below }
         ensures types { self.new.types ≡ self.old.types }
     {
-        let run = Front {
+        let run = TypePrefix {
             list,
             count: count as u32,
         };
@@ -228,7 +228,7 @@ impl<'a> OperandStack<'a> {
         if extra > MOST {
             return Err(AllocError);
         }
-        self.entries.push(Entry::Run)?;
+        self.entries.push(StackEntry::Run)?;
         if self.runs.push(run).is_err() {
             self.entries.pop();
             return Err(AllocError);
@@ -266,7 +266,7 @@ impl<'a> OperandStack<'a> {
     /// How many operands of the run on top are the last types of a front: all that the shorter of both has, or none where
     /// no run is on top. `None`: not all of these are.
     #[inline(always)]
-    pub(crate) fn ends_in_run(&self, front: Front) -> Option<usize>
+    pub(crate) fn ends_in_run(&self, front: TypePrefix) -> Option<usize>
         requires whole { front.count ≡ length (front_of self.now.types front) }
         ensures count { IfSome result (λ n. n ≤ length (front_of self.now.types front)) }
         ensures last { IfSome result (λ n. EndsIn (last_types n (front_of self.now.types front)) self.now) }
@@ -281,25 +281,6 @@ impl<'a> OperandStack<'a> {
             return Some(0);
         }
         shared_end(self.context, front, *run)
-    }
-
-    /// Whether a run of just the `count` types of a list is surely on top.
-    pub(crate) fn ends_in_whole_run(&self, list: TypeList, count: usize) -> bool
-        requires all { count ≡ length (list_of self.now.types list) }
-        requires few { count < 2 ^ 32 }
-        ensures { result ≡ true → EndsIn (list_of self.now.types list) self.now }
-    {
-        let Some(run) = self.runs.last() else {
-            return false;
-        };
-        let count = count as u32;
-        if run.count != count {
-            return false;
-        }
-        match self.ends_in_run(Front { list, count }) {
-            Some(shared) => shared == count as usize,
-            None => false,
-        }
     }
 
     /// What follows cannot be reached: no operand is known, and any may be taken.
@@ -324,18 +305,6 @@ impl<'a> OperandStack<'a> {
         self.unreachable = false;
     }
 
-    /// Begins a frame with the topmost `count` operands.
-    #[inline(always)]
-    pub(crate) fn open_over(&mut self, count: usize)
-        requires { count ≤ length self.old.above.known }
-        ensures above { self.new.above ≡ record { known = take count self.old.above.known; is_dead = false } }
-        ensures below { self.new.below ≡ self.old.below ++ reverse (drop count self.old.above.known) }
-        ensures types { self.new.types ≡ self.old.types }
-    {
-        self.base = self.height() - count;
-        self.unreachable = false;
-    }
-
     /// Begins the frame again, with no operands.
     #[inline]
     pub(crate) fn begin_again(&mut self)
@@ -355,20 +324,6 @@ impl<'a> OperandStack<'a> {
         ensures types { self.new.types ≡ self.old.types }
     {
         self.truncate(self.base);
-        self.base = self.base.min(base);
-        self.unreachable = unreachable;
-    }
-
-    /// Goes back to the frame that began at this height, and leaves it the operands of the innermost one.
-    #[inline(always)]
-    pub(crate) fn close_over(&mut self, base: usize, unreachable: bool)
-        ensures above { self.new.above ≡ record {
-          known = self.old.above.known ++ reverse (drop base self.old.below);
-          is_dead = unreachable;
-        } }
-        ensures below { self.new.below ≡ take base self.old.below }
-        ensures types { self.new.types ≡ self.old.types }
-    {
         self.base = self.base.min(base);
         self.unreachable = unreachable;
     }

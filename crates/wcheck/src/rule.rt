@@ -9,8 +9,7 @@ ghost use Rattle.wsyntax.specs.Validation.Algorithm.{rule, Takes};
 ghost use Rattle.wcheck.specs.Views.{context_at, token_rule};
 ghost use Rattle.wcheck.specs.OperandRules.{rule_of};
 
-use crate::frames::{ControlFrame, all_labels_take, label_at};
-use crate::outer_frames::OuterFrames;
+use crate::frames::{ControlFrame, OuterFrame, all_labels_take, label_at};
 use crate::scope::Scope;
 use wcontext::{Context, ListPair, TypeList};
 use wsyntax::{AccessRow, Arity, Load, Operator, OperatorRow, Store, Token, ValType};
@@ -136,7 +135,7 @@ pub(crate) fn table_default(targets: &[u32], first: usize, count: u32) -> u32
 pub(crate) fn rule_of_token(
     scope: &Scope,
     frame: ControlFrame,
-    outer: &OuterFrames,
+    outer: &[OuterFrame],
     targets: &[u32],
     token: Token,
 ) -> Option<OperandRule>

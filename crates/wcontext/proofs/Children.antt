@@ -4,7 +4,7 @@ use Rattle.std.proofs.lemmas.Bool.{cases_eq}
 use Rattle.std.proofs.lemmas.List.{get_or_append_left, get_or_at, get_or-set_same, get_or-set_other, length_push}
 use Rattle.wsyntax.specs.declared.ValType.{ValType}
 use Rattle.wsyntax.specs.declared.ValType.TheVariants.{I32, I64, F32, F64}
-use Rattle.wcontext.specs.Nodes.{type_number, above_at, below_at, IsOnly, HasChild, HasNoOther, AreChildren, AreAllChildren, PutsChild}
+use Rattle.wcontext.specs.Nodes.{type_number, above_at, below_at, IsOnly, HasChild, AreChildren, PutsChild}
 use Rattle.wcontext.specs.declared.nodes.Node.{Node}
 use Rattle.wcontext.specs.declared.nodes.Fork.{Fork}
 use Rattle.wcontext.specs.declared.nodes.Nodes.{Nodes}
@@ -38,18 +38,10 @@ below_kept nodes p n q other = ap (λ (x : Node). x.below) (get_or-set_other nod
 
 -- A fork.
 
--- four children are all, where each is the only one by its type
-pub all_four : (n : Nodes) (p a b c d : ℕ) → HasNoOther n p I32 a → HasNoOther n p I64 b → HasNoOther n p F32 c → HasNoOther n p F64 d → AreAllChildren n p (a ∷ b ∷ c ∷ d ∷ [])
-all_four n p a b c d by_a by_b by_c by_d I32 = by_a
-all_four n p a b c d by_a by_b by_c by_d I64 = by_b
-all_four n p a b c d by_a by_b by_c by_d F32 = by_c
-all_four n p a b c d by_a by_b by_c by_d F64 = by_d
-
 -- the children of a node become those of a new fork
 pub fork_put : (old new : Nodes) (p : ℕ) (t : ValType) (d : ℕ) (n : Node) (children : List ℕ) → p < length old.nodes.items → n.above ≡ above_at old.nodes.items p → n.below ≡ 2147483648 + length old.forks.items
-    → AreChildren old p children → AreAllChildren old p children → length children ≡ 4
-    → new.links ≡ old.links → new.growing ≡ old.growing → new.next ≡ old.next → new.nodes.items ≡ set old.nodes.items p n → new.forks.items ≡ old.forks.items ++ record { children = set children (type_number t) d } ∷ [] → PutsChild old new p t d
-fork_put old new p t d n children within above below are all four links growing next nodes forks =
+    → AreChildren old p children → length children ≡ 4 → new.links ≡ old.links → new.nodes.items ≡ set old.nodes.items p n → new.forks.items ≡ old.forks.items ++ record { children = set children (type_number t) d } ∷ [] → PutsChild old new p t d
+fork_put old new p t d n children within above below are four links nodes forks =
     let there : (q : ℕ) → q ≡ p → below_at new.nodes.items q ≡ n.below = λ q is. rw nodes (below_there old.nodes.items p n q within is) in
     let same_below : (q : ℕ) → (q ≡ p → ⊥) → below_at new.nodes.items q ≡ below_at old.nodes.items q = λ q other. rw nodes (below_kept old.nodes.items p n q other) in
     let row = set children (type_number t) d in
@@ -65,8 +57,6 @@ fork_put old new p t d n children within above below are all four links growing 
       size = ap length nodes ∙ length-set old.nodes.items p n;
       aboves = λ q. rw nodes (above_kept old.nodes.items p n q within above);
       links = links;
-      growing = growing;
-      next = next;
       forks = λ were q. elim (cases_eq q p) [
         | inl is ↦ omega (arith, there q is, below, more)
         | inr other ↦ omega (arith, same_below q other, were q, more)
@@ -89,21 +79,6 @@ fork_put old new p t d n children within above below are all four links growing 
               let from : 2147483648 ≤ below_at old.nodes.items q = omega (arith, forked.fork, same_below q other) in
               let same = same_fork q other (omega (arith, were q, from)) in
               inl (inr (record { fork = from; is = ap (λ (f : Fork). get_or f.children (type_number u) 0) (sym same) ∙ forked.is }))
-        ]
-      ];
-      put = inr (record { fork = omega (arith, there p refl, below); is = ap (λ (f : Fork). get_or f.children (type_number t) 0) (made p refl) ∙ get_or-set_same children (type_number t) d 0 inside });
-      kept = λ were q u e some has. elim (cases_eq q p) [
-        | inl is ↦ elim (cases_eq (type_number u) (type_number t)) [
-          | inl same ↦ inr (is, number_same u t same)
-          | inr other ↦
-              let was : e ≡ get_or children (type_number u) 0 = all u e some (subst (λ z. HasChild old z u e) is has) in
-              inl (inr (record { fork = omega (arith, there q is, below); is = ap (λ (f : Fork). get_or f.children (type_number u) 0) (made q is) ∙ get_or-set_other children (type_number t) (type_number u) d 0 other ∙ sym was }))
-        ]
-        | inr other ↦ elim has [
-          | inl only ↦ inl (inl (subst (λ b. IsOnly b u e) (sym (same_below q other)) only))
-          | inr forked ↦
-              let same = same_fork q other (omega (arith, were q, forked.fork)) in
-              inl (inr (record { fork = omega (arith, forked.fork, same_below q other); is = ap (λ (f : Fork). get_or f.children (type_number u) 0) same ∙ forked.is }))
         ]
       ];
     }

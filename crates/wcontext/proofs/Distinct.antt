@@ -1,148 +1,80 @@
--- Names are distinct exactly where, once their numbers and the long ones are sorted, each differs from the next.
-use Rattle.std.proofs.Common.{◌≡◌, ◌≢◌, ℕ, ◌+◌, ◌<◌, ◌↔◌, Bool, true, false, IsTrue, List, [], ◌∷◌, length, Bor, Option, Some, None, cond, refl, ap, sym, ◌∙◌, arith}
-use Rattle.std.specs.List.{AllPairs, AllAdjacentBelow, AllByRecursion, IsDistinct, slice_index_or}
-use Rattle.std.specs.List.Sorted.{IsPermutation, IsSorted, IsStrictlySortedBy}
-use Rattle.std.specs.Option.{IfSome}
+-- Names are distinct exactly where, once they are sorted, each differs from the next.
+use Rattle.std.proofs.Common.{◌≡◌, ◌≢◌, ℕ, ◌+◌, ◌↔◌, Bool, true, false, IsTrue, List, [], ◌∷◌, Bor, map, refl, sym, ◌∙◌, subst, arith, not}
+use Rattle.std.specs.Bool.{Decides}
+use Rattle.std.specs.List.{AllPairs, IsDistinct, IsAllAdjacentAnswer, slice_index_or}
+use Rattle.std.specs.List.Sorted.{IsPermutation, IsSorted}
 use Rattle.std.specs.Str.{bytes_eq}
 use Rattle.std.specs.Cmp.{IsTotalOrder}
-use Rattle.std.specs.Cmp.Lexicographic.{slice_cmp}
-use Rattle.std.specs.Ordering.{MatchOrdering, eq_by_cmp, nat_cmp, is_eq, is_lt, ordering_reverse}
+use Rattle.std.specs.Cmp.Lexicographic.{slice_cmp, on_texts, texts_ties}
+use Rattle.std.specs.Ordering.{eq_by_cmp, nat_cmp, is_eq, is_lt, ordering_reverse}
 use Rattle.std.specs.declared.cmp.Ordering.{Ordering}
 use Rattle.std.specs.declared.cmp.Ordering.TheVariants.{Less, Equal, Greater}
-use Rattle.std.proofs.lemmas.Bool.Decides.{nat_tests}
-use Rattle.std.proofs.lemmas.Cmp.{nat_cmp_total, nat_list_cmp_total, on_total, ranked, same_from_slice_cmp, tied_itself}
+use Rattle.std.proofs.lemmas.Bool.{both_ways, iff_false, not-true, not-false, false_from_ne_true}
+use Rattle.std.proofs.lemmas.Cmp.{eq_by_cmp_equiv}
 use Rattle.std.proofs.lemmas.Slice.Eq.{bytes_eq-Decides}
-use Rattle.std.proofs.lemmas.List.{get_or_default}
 use Rattle.std.proofs.lemmas.List.Sorted.{IsPermutation-sym}
 use Rattle.std.proofs.lemmas.Map.Keys.{sorted_from_all_adjacent, IsDistinct-from_sorted, IsDistinct-IsPermutation, apart_from_distinct, IsDistinct-from_apart}
-use Rattle.wcontext.specs.Names.{name_number, short_number, numbers_of, long_of, AreBytes, IsOfBytes}
-use Rattle.wcontext.proofs.NameNumbers.{same_name}
-use Rattle.wcontext.proofs.Split.{alike, distinct_apart}
-
--- What is sorted.
-
-false_unless : (b : Bool) → (b ≡ true → ⊥) → b ≡ false
-false_unless true never = absurd (never refl)
-false_unless false never = refl
-
-less_if : (o p : Ordering) → o ≡ ordering_reverse p → is_lt p ≡ false → is_eq o ≡ false → o ≡ Less
-less_if Less p back up differ = refl
-less_if Equal p back up differ = cc
-less_if Greater Less back up differ = cc
-less_if Greater Equal back up differ = cc
-less_if Greater Greater back up differ = cc
-
-eq_back : (o : Ordering) → is_eq (ordering_reverse o) ≡ is_eq o
-eq_back Less = refl
-eq_back Equal = refl
-eq_back Greater = refl
-
-module _ {X : Type 0} (order : X → X → Ordering) (total : IsTotalOrder order) (R : X → X → Type 0) (apart : (x y : X) → eq_by_cmp order x y ≡ false ↔ R x y) where
-  -- an item that is not above the next and differs from it is below it
-  below_next : (x y : X) → is_lt (order y x) ≡ false → R x y → order x y ≡ Less
-  below_next x y up differs = less_if _ _ (total.antisymm x y) up ((apart x y).1 differs)
-
-  strictly : (ys : List X) → IsSorted order ys → AllAdjacentBelow R ys (length ys) → IsStrictlySortedBy order ys
-  unfolding IsStrictlySortedBy
-  strictly [] up differ = tt
-  strictly (y ∷ ys) up differ =
-      sorted_from_all_adjacent total (y ∷ ys) y (λ k below. below_next (slice_index_or (y ∷ ys) k y) (slice_index_or (y ∷ ys) (k + 1) y) (up k y (omega arith) below) (differ k y below))
-
-  flips : (x y : X) → eq_by_cmp order x y ≡ eq_by_cmp order y x
-  flips x y = ap is_eq (total.antisymm x y) ∙ eq_back (order y x)
-
-  pub distinct_by_sorting : (xs ys : List X) (b : Bool) → IsPermutation xs ys → IsSorted order ys → (IsTrue b ↔ AllAdjacentBelow R ys (length ys)) → (IsTrue b ↔ IsDistinct (eq_by_cmp order) xs)
-  distinct_by_sorting xs ys b moved up test = (
-    λ t. IsDistinct-IsPermutation (eq_by_cmp order) flips ys xs (IsPermutation-sym xs ys moved) (IsDistinct-from_sorted order ys (strictly ys up (test.0 t))),
-    λ pairs. let distinct = IsDistinct-IsPermutation (eq_by_cmp order) flips xs ys moved pairs in
-        test.1 (λ k d below. (apart (slice_index_or ys k d) (slice_index_or ys (k + 1) d)).0 (apart_from_distinct (eq_by_cmp order) ys k (k + 1) d distinct (omega arith) below)),
-  )
-
--- Numbers.
-
-matched_equal : (k m : ℕ) (o : Ordering) → MatchOrdering o (k < m) (k ≡ m) (m < k) → is_eq o ≡ true → k ≡ m
-matched_equal k m Less below equal = cc
-matched_equal k m Equal same equal = same
-matched_equal k m Greater above equal = cc
-
-same_number : (k m : ℕ) → eq_by_cmp nat_cmp k m ≡ true → k ≡ m
-same_number k m = matched_equal k m (nat_cmp k m) (ranked k m _ refl)
-
-tied_number : (k m : ℕ) → k ≡ m → eq_by_cmp nat_cmp k m ≡ true
-tied_number k m same = let itself : nat_cmp k k ≡ Equal = tied_itself nat_cmp_total k in cc
-
-pub number_apart : (k m : ℕ) → eq_by_cmp nat_cmp k m ≡ false ↔ (k ≢ m)
-number_apart k m = (λ told same. let equal = tied_number k m same in cc, λ differ. false_unless _ (λ equal. differ (same_number k m equal)))
-
--- Names.
+use Rattle.wcontext.proofs.Shapes.{AllPairs-map, AllPairs-unmap}
 
 -- the order of names
-abbrev pub name_cmp : Bor (List ℕ) → Bor (List ℕ) → Ordering
+abbrev name_cmp : Bor (List ℕ) → Bor (List ℕ) → Ordering
 name_cmp x y = slice_cmp nat_cmp x.now y.now
 
-pub name_total : IsTotalOrder name_cmp
-name_total = on_total (λ (x : Bor (List ℕ)). x.now) nat_list_cmp_total
+name_total : IsTotalOrder name_cmp
+name_total = on_texts (λ (x : Bor (List ℕ)). x.now)
 
-tied : (xs ys : List ℕ) → is_eq (slice_cmp nat_cmp xs ys) ≡ bytes_eq xs ys
-tied xs ys =
-    same_from_slice_cmp nat_cmp is_eq bytes_eq refl (λ _ _. refl) (λ _ _. refl) (λ x y us vs o h. grind (arith, nat_tests)) xs ys _ refl
+-- whether the order ties two names
+abbrev tied : Bor (List ℕ) → Bor (List ℕ) → Bool
+tied = eq_by_cmp name_cmp
 
-same_text : (x y : Bor (List ℕ)) → eq_by_cmp name_cmp x y ≡ true → x.now ≡ y.now
-same_text x y equal = (bytes_eq-Decides x.now y.now).0 (sym (tied x.now y.now) ∙ equal)
+-- two names that it does not tie differ, and back
+names_apart : (x y : Bor (List ℕ)) → tied x y ≡ false ↔ (x.now ≢ y.now)
+names_apart x y =
+    let same : Decides (tied x y) (x.now ≡ y.now) = subst (λ b. Decides b (x.now ≡ y.now)) (texts_ties x.now y.now) (bytes_eq-Decides x.now y.now) in
+    (iff_false same, λ differ. false_from_ne_true (tied x y) (λ told. differ (same.0 told)))
 
-tied_text : (x y : Bor (List ℕ)) → x.now ≡ y.now → eq_by_cmp name_cmp x y ≡ true
-tied_text x y same = tied x.now y.now ∙ (bytes_eq-Decides x.now y.now).1 same
+less_if : (o p : Ordering) → o ≡ ordering_reverse p → is_lt p ≡ false → is_eq o ≡ false → o ≡ Less
+less_if o Less back up differ = cc
+less_if o Equal back up differ = cc
+less_if o Greater back up differ = back
 
--- two names that the order tells apart differ, and back
-pub name_apart : (x y : Bor (List ℕ)) → eq_by_cmp name_cmp x y ≡ false ↔ (x.now ≢ y.now)
-name_apart x y = (λ told same. let equal = tied_text x y same in cc, λ differ. false_unless _ (λ equal. differ (same_text x y equal)))
+-- a name that is not above the next and differs from it is below it
+below_next : (x y : Bor (List ℕ)) → is_lt (name_cmp y x) ≡ false → true ≡ not (bytes_eq x.now y.now) → name_cmp x y ≡ Less
+below_next x y up differ = less_if (name_cmp x y) (name_cmp y x) (name_total.antisymm x y) up (sym (texts_ties x.now y.now) ∙ not-true _ (sym differ))
 
-distinct_pairs : (xs : List (Bor (List ℕ))) → IsDistinct (eq_by_cmp name_cmp) xs → AllPairs (λ a b. a.now ≢ b.now) xs
-distinct_pairs xs distinct i j d before below = (name_apart (slice_index_or xs i d) (slice_index_or xs j d)).0 (apart_from_distinct (eq_by_cmp name_cmp) xs i j d distinct before below)
+same_next : (x y : Bor (List ℕ)) → tied x y ≡ false → false ≡ not (bytes_eq x.now y.now) → ⊥
+same_next x y apart same = both_ways (tied x y) apart (sym (texts_ties x.now y.now) ∙ not-false _ (sym same))
 
-pairs_distinct : (xs : List (Bor (List ℕ))) → AllPairs (λ a b. a.now ≢ b.now) xs → IsDistinct (eq_by_cmp name_cmp) xs
-pairs_distinct xs pairs = IsDistinct-from_apart (eq_by_cmp name_cmp) xs (λ i j d before below. (name_apart (slice_index_or xs i d) (slice_index_or xs j d)).1 (pairs i j d before below))
+-- the answer of a test of neighbours
+abbrev pub NeighboursDiffer : List (Bor (List ℕ)) → Bool → Type 0
+NeighboursDiffer = IsAllAdjacentAnswer (λ x y r. r ≡ not (bytes_eq x.now y.now))
 
--- Short names and the others.
+sorted_distinct : (ys : List (Bor (List ℕ))) (b : Bool) → IsSorted name_cmp ys → NeighboursDiffer ys b → IsTrue b ↔ IsDistinct tied ys
+unfolding IsDistinct
+sorted_distinct [] true up answer = (λ t. tt, λ distinct. refl)
+sorted_distinct [] false up answer = absurd (omega (arith, answer.1))
+sorted_distinct (y ∷ ys) true up answer = (
+  λ t. IsDistinct-from_sorted name_cmp (y ∷ ys) (sorted_from_all_adjacent name_total (y ∷ ys) y (λ k below.
+      below_next (slice_index_or (y ∷ ys) k y) (slice_index_or (y ∷ ys) (k + 1) y) (up k y (omega arith) below) (answer k y below))),
+  λ distinct. refl,
+)
+sorted_distinct (y ∷ ys) false up answer = (
+  λ t. cc,
+  λ distinct. absurd (same_next (slice_index_or (y ∷ ys) answer.0 y) (slice_index_or (y ∷ ys) (answer.0 + 1) y)
+      (apart_from_distinct tied (y ∷ ys) answer.0 (answer.0 + 1) y distinct (omega arith) answer.1) (answer.2 y)),
+)
 
-same_answer : (a b : Bool) → (a ≡ true → b ≡ true) → (b ≡ true → a ≡ true) → a ≡ b
-same_answer true b there back = sym (there refl)
-same_answer false b there back = sym (false_unless b (λ t. let told = back t in cc))
+-- names of which no two are tied are distinct, and back
+distinct_names : (xs : List (Bor (List ℕ))) → IsDistinct tied xs ↔ AllPairs (λ x y. x.now ≢ y.now) xs
+distinct_names xs = (
+  λ distinct i j d before below. (names_apart (slice_index_or xs i d) (slice_index_or xs j d)).0 (apart_from_distinct tied xs i j d distinct before below),
+  λ pairs. IsDistinct-from_apart tied xs (λ i j d before below. (names_apart (slice_index_or xs i d) (slice_index_or xs j d)).1 (pairs i j d before below)),
+)
 
-number_is : (b : Bool) (n k : ℕ) → cond b (Some n) None ≡ Some k → n ≡ k
-number_is true n k is = cc
-number_is false n k is = cc
-
-alike_names : (x y : Bor (List ℕ)) (o p : Option ℕ) → short_number x.now ≡ o → short_number y.now ≡ p → IfSome o (λ n. AreBytes x.now) → IfSome p (λ n. AreBytes y.now) → eq_by_cmp name_cmp x y ≡ alike (eq_by_cmp nat_cmp) o p (eq_by_cmp name_cmp x y)
-alike_names x y (Some k) (Some m) first second few low =
-    let one : name_number x.now ≡ k = number_is _ _ _ first in
-    let two : name_number y.now ≡ m = number_is _ _ _ second in
-    same_answer _ _
-    (λ equal. tied_number k m (sym one ∙ ap name_number (same_text x y equal) ∙ two))
-    (λ equal. tied_text x y (same_name x.now y.now few low (one ∙ same_number k m equal ∙ sym two)))
-alike_names x y (Some k) None first second few low =
-    false_unless _ (λ equal. let same = ap short_number (same_text x y equal) in cc)
-alike_names x y None (Some m) first second few low =
-    false_unless _ (λ equal. let same = ap short_number (same_text x y equal) in cc)
-alike_names x y None None first second few low = refl
-
-names_apart : (xs : List (Bor (List ℕ))) → AllByRecursion IsOfBytes xs → IsDistinct (eq_by_cmp name_cmp) xs ↔ (IsDistinct (eq_by_cmp nat_cmp) (numbers_of xs) × IsDistinct (eq_by_cmp name_cmp) (long_of xs))
-names_apart = distinct_apart (eq_by_cmp name_cmp) (eq_by_cmp nat_cmp) (λ x. short_number x.now) IsOfBytes
-    (λ x y few low. alike_names x y (short_number x.now) (short_number y.now) refl refl few low)
-
--- both tests pass
-pub names_distinct : (xs : List (Bor (List ℕ))) (b : Bool) → AllByRecursion IsOfBytes xs → IsDistinct (eq_by_cmp nat_cmp) (numbers_of xs) → (IsTrue b ↔ IsDistinct (eq_by_cmp name_cmp) (long_of xs)) → (IsTrue b ↔ AllPairs (λ a c. a.now ≢ c.now) xs)
-names_distinct xs b bytes numbers test =
-    let apart = names_apart xs bytes in
-    (λ t. distinct_pairs xs (apart.1 (numbers, test.0 t)), λ pairs. test.1 (apart.0 (pairs_distinct xs pairs)).1)
-
--- two numbers are the same
-pub names_tied : (xs : List (Bor (List ℕ))) (b : Bool) → b ≡ false → AllByRecursion IsOfBytes xs → (IsTrue b ↔ IsDistinct (eq_by_cmp nat_cmp) (numbers_of xs)) → (IsTrue false ↔ AllPairs (λ a c. a.now ≢ c.now) xs)
-names_tied xs b failed bytes test =
-    (λ t. cc, λ pairs. let told : b ≡ true = test.1 ((names_apart xs bytes).0 (pairs_distinct xs pairs)).0 in cc)
-
--- two reads that are not equal
-pub differs_at : (xs : List (Bor (List ℕ))) (i j : ℕ) (d e f : Bor (List ℕ)) (b : Bool) → i < length xs → j < length xs → b ≡ bytes_eq (slice_index_or xs i e).now (slice_index_or xs j f).now → b ≡ false → (slice_index_or xs i d).now ≢ (slice_index_or xs j d).now
-differs_at xs i j d e f b first second test failed same =
-    let equal : (slice_index_or xs i e).now ≡ (slice_index_or xs j f).now = ap (λ (x : Bor (List ℕ)). x.now) (get_or_default xs i e d first) ∙ same ∙ ap (λ (x : Bor (List ℕ)). x.now) (get_or_default xs j d f second) in
-    let holds : bytes_eq (slice_index_or xs i e).now (slice_index_or xs j f).now ≡ true = (bytes_eq-Decides _ _).1 equal in cc
+pub exports_distinct : {E : Type 0} (f : E → Bor (List ℕ)) (es : List E) (ys : List (Bor (List ℕ))) (b : Bool) → IsPermutation (map f es) ys → IsSorted name_cmp ys → NeighboursDiffer ys b → IsTrue b ↔ AllPairs (λ x y. (f x).now ≢ (f y).now) es
+exports_distinct f es ys b moved up answer =
+    let test = sorted_distinct ys b up answer in
+    let flips = (eq_by_cmp_equiv name_total).symm in (
+      λ t. AllPairs-unmap f (λ x y. x.now ≢ y.now) es ((distinct_names (map f es)).0 (IsDistinct-IsPermutation tied flips ys (map f es) (IsPermutation-sym (map f es) ys moved) (test.0 t))),
+      λ pairs. test.1 (IsDistinct-IsPermutation tied flips (map f es) ys moved ((distinct_names (map f es)).1 (AllPairs-map f (λ x y. x.now ≢ y.now) es pairs))),
+    )

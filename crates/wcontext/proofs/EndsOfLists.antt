@@ -6,7 +6,7 @@ use Rattle.std.proofs.Math.Seq.{take-length}
 use Rattle.std.proofs.lemmas.List.{take-append-drop, length-take, take_min}
 use Rattle.wsyntax.specs.Types.{FuncType}
 use Rattle.wsyntax.specs.declared.ValType.{ValType}
-use Rattle.wcontext.specs.declared.lists.Front.{Front}
+use Rattle.wcontext.specs.declared.lists.TypePrefix.{TypePrefix}
 use Rattle.wcontext.specs.declared.end_tree.EndTree.{EndTree}
 use Rattle.wcontext.specs.Lists.{list_of, front_of, IsEnd}
 use Rattle.wcontext.specs.EndTree.{IsEndTree, TellsEnd}
@@ -32,12 +32,12 @@ end_from tells long short k within h =
 
 -- What the tree of ends tells.
 
-front_whole : (types : List FuncType) (f : Front) (n : ℕ) → n ≡ length (front_of types f) → (n ≤ length (list_of types f.list)) × (take n (list_of types f.list) ≡ front_of types f)
+front_whole : (types : List FuncType) (f : TypePrefix) (n : ℕ) → n ≡ length (front_of types f) → (n ≤ length (list_of types f.list)) × (take n (list_of types f.list) ≡ front_of types f)
 front_whole types f n is =
     let size : n ≡ min f.count (length (list_of types f.list)) = is ∙ length-take f.count (list_of types f.list) in
     (omega (arith, size), ap (λ k. take k (list_of types f.list)) size ∙ take_min f.count (list_of types f.list))
 
-pub told : (types : List FuncType) (t : EndTree) (short long : Front) (n m : ℕ) (r : Option Bool) → IfSome r (λ a. a ≡ true → TellsEnd t short.list n long.list m) → IsEndTree types t
+pub told : (types : List FuncType) (t : EndTree) (short long : TypePrefix) (n m : ℕ) (r : Option Bool) → IfSome r (λ a. a ≡ true → TellsEnd t short.list n long.list m) → IsEndTree types t
     → n ≡ length (front_of types short) → m ≡ length (front_of types long) → IfSome r (λ a. a ≡ true → IsEnd (front_of types short) (front_of types long))
 told types t short long n m None h tree first second = h
 told types t short long n m (Some a) h tree first second = λ yes.

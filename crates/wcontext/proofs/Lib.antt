@@ -1,16 +1,12 @@
 pub mod Shapes
 pub mod Constants
 pub mod Counted
-pub mod NameNumbers
-pub mod Split
 pub mod Distinct
-pub mod Exports
 pub mod Made
 pub mod Kept
 pub mod EndsOfLists
 pub mod Children
 pub mod Links
-pub mod Passing
 pub mod Tries
 pub mod Walks
 pub mod Gathering

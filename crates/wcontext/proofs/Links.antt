@@ -1,12 +1,13 @@
 -- The links of nodes, and nodes that are made.
-use Rattle.std.proofs.Common.{◌≡◌, ◌⊎◌, ℕ, ◌+◌, ◌<◌, List, [], ◌∷◌, ◌++◌, length, refl, sym, ap, subst, ◌∙◌, arith, inl, inr}
+use Rattle.std.proofs.Common.{◌≡◌, ◌≢◌, ◌⊎◌, ℕ, zero, suc, ◌+◌, ◌<◌, List, [], ◌∷◌, ◌++◌, length, set, refl, sym, ap, subst, ◌∙◌, arith, inl, inr, length-set}
 use Rattle.std.proofs.lemmas.Bool.{cases_lt, cases_eq}
-use Rattle.std.proofs.lemmas.List.{get_or_append_left, get_or_at, get_or_push, get_or_past, append-nil, append_assoc, length_push}
+use Rattle.std.proofs.lemmas.List.{get_or_append_left, get_or_at, get_or_push, get_or_past, get_or-set_same, get_or-set_other, append-nil, append_assoc, length_push}
 use Rattle.wsyntax.specs.declared.ValType.{ValType}
 use Rattle.wcontext.specs.Lists.{IsEnd}
-use Rattle.wcontext.specs.Nodes.{text, link_at, above_at, below_at, IsOnly, IsForked, HasChild, HasNoOther, AreForksThere, PutsChild, KeepsChildren, LeadsUp, IsLinked, AreNodes, IsOnTheWay, IsNodeAfter}
+use Rattle.wcontext.specs.Nodes.{text, link_at, above_at, below_at, IsOnly, IsForked, HasChild, PutsChild, LeadsUp, IsLinked, AreNodes, KeepsTexts, IsOnTheWay, IsNodeAfter}
 use Rattle.wcontext.specs.declared.nodes.Node.{Node}
 use Rattle.wcontext.specs.declared.nodes.Nodes.{Nodes}
+use Rattle.wcontext.proofs.Children.{below_there, below_kept}
 
 -- Ends.
 
@@ -146,27 +147,7 @@ found_after n p d t some has texts are parent =
     let same : texts ≡ texts ++ [] = sym (append-nil texts) in
     ([], subst (λ z. AreNodes z n) same are, subst (λ z. d < length z) same child.1, subst (λ z. text z d ≡ text texts p ++ t ∷ []) same child.2)
 
--- where the node after p is made, as p has no child by that type, all others stay
-pub kept_after : (old mid new : Nodes) (p d : ℕ) (t : ValType) (n : Node) → HasNoOther old p t 0 → n.below ≡ 0 → mid.nodes.items ≡ old.nodes.items ++ n ∷ [] → mid.forks ≡ old.forks → PutsChild mid new p t d → KeepsChildren old new
-kept_after old mid new p d t n none childless nodes forks puts were q u e some has =
-    let same : (r : ℕ) → below_at old.nodes.items r ≡ below_at mid.nodes.items r = λ r. sym (same_below old.nodes.items mid.nodes.items n childless nodes r) in
-    let there : AreForksThere mid = λ r. omega (arith, same r, were r, ap (λ v. length v.items) forks) in
-    let made : HasChild mid q u e = subst (λ v. IsOnly (below_at mid.nodes.items q) u e ⊎ IsForked (below_at mid.nodes.items q) v.items u e) (sym forks) (subst (λ b. IsOnly b u e ⊎ IsForked b old.forks.items u e) (same q) has) in
-    elim (puts.kept there q u e some made) [
-      | inl new ↦ new
-      | inr put ↦ absurd (omega (arith, some, none e some (subst (λ z. HasChild old z t e) put.0 (subst (λ z. HasChild old q z e) put.1 has))))
-    ]
-
-pub kept_itself : (n : Nodes) → KeepsChildren n n
-kept_itself n there q u e some has = has
-
-pub link_made : (old mid new : Nodes) (p d : ℕ) (t : ValType) (l : ℕ) → mid.links.items ≡ old.links.items ++ l ∷ [] → d ≡ length old.links.items → PutsChild mid new p t d → link_at new.links.items d ≡ l
-link_made old mid new p d t l links is puts = rw (puts.links, links) (get_or_push old.links.items l 0 d (sym is))
-
--- Nodes that are kept.
-
-pub none_after : (old new : Nodes) (q : ℕ) (t : ValType) → below_at new.nodes.items q ≡ below_at old.nodes.items q → new.forks ≡ old.forks → HasNoOther old q t 0 → HasNoOther new q t 0
-none_after old new q t same forks none e some has = none e some (child_before old new q t e same forks has)
+-- Nodes that keep their texts.
 
 -- the links, the forks and what lies below stay
 pub nodes_kept : (texts : List (List ValType)) (old new : Nodes) → new.links ≡ old.links → new.forks ≡ old.forks → ((q : ℕ) → below_at new.nodes.items q ≡ below_at old.nodes.items q) → IsLinked texts new.nodes.items → AreNodes texts old → AreNodes texts new
@@ -178,3 +159,54 @@ nodes_kept texts old new links forks same aboves are = record {
   forks = λ q. omega (arith, same q, are.forks q, ap (λ v. length v.items) forks);
   children = λ p t d some has. are.children p t d some (child_before old new p t d (same p) forks has);
 }
+
+-- above a node is kept what is above its link
+pub passed : (old new : Nodes) (p l : ℕ) (n : Node) → l ≡ link_at old.links.items p → p < length old.nodes.items → n.above ≡ above_at old.nodes.items l → n.above < l → l < p → n.below ≡ below_at old.nodes.items p
+    → new.nodes.items ≡ set old.nodes.items p n → new.links ≡ old.links → new.forks ≡ old.forks → KeepsTexts old new
+passed old new p l n link within above less low under nodes links forks texts are =
+    let none : Node = record { above = 0; below = 0 } in
+    let count : length new.nodes.items ≡ length old.nodes.items = ap length nodes ∙ length-set old.nodes.items p n in
+    let here : above_at new.nodes.items p ≡ n.above = rw nodes (ap (λ (x : Node). x.above) (get_or-set_same old.nodes.items p n none within)) in
+    let there : (q : ℕ) → q ≢ p → above_at new.nodes.items q ≡ above_at old.nodes.items q = λ q away. rw nodes (ap (λ (x : Node). x.above) (get_or-set_other old.nodes.items p q n none away)) in
+    let same : (q : ℕ) → below_at new.nodes.items q ≡ below_at old.nodes.items q = λ q. elim (cases_eq q p) [
+      | inl is ↦
+          let now : below_at new.nodes.items q ≡ n.below = rw nodes (below_there old.nodes.items p n q within is) in
+          now ∙ under ∙ ap (below_at old.nodes.items) (sym is)
+      | inr away ↦ rw nodes (below_kept old.nodes.items p n q away)
+    ] in
+    nodes_kept texts old new links forks same (record {
+      size = count ∙ are.aboves.size;
+      below = λ q above inside. elim (cases_eq q p) [
+        | inl is ↦ omega (arith, ap (above_at new.nodes.items) is, here, is, less, low)
+        | inr away ↦ omega (arith, there q away, are.aboves.below q above inside)
+      ];
+      ends = λ q some inside. elim (cases_eq q p) [
+        | inl is ↦
+            let first = are.linked.ends q some inside in
+            let at : link_at old.links.items q ≡ l = ap (link_at old.links.items) is ∙ sym link in
+            let second = are.aboves.ends l (omega (arith, less)) (omega (arith, low, is, inside)) in
+            rw (ap (above_at new.nodes.items) is ∙ here ∙ above) (end_through _ _ _ second (subst (λ z. IsEnd (text texts z) (text texts q)) at first))
+        | inr away ↦ rw (there q away) (are.aboves.ends q some inside)
+      ];
+    }) are
+
+-- Node 0.
+
+one_below : (q : ℕ) → below_at (record { above = 0; below = 0 } ∷ []) q ≡ 0
+one_below zero = refl
+one_below (suc q) = refl
+
+no_child : (n : Nodes) (q : ℕ) (t : ValType) (d : ℕ) → below_at n.nodes.items q ≡ 0 → 0 < d → HasChild n q t d → ⊥
+no_child n q t d none some (inl has) = omega (arith, none, some, has.is)
+no_child n q t d none some (inr has) = omega (arith, none, has.fork)
+
+pub first_node : (n : Nodes) → n.nodes.items ≡ record { above = 0; below = 0 } ∷ [] → n.links.items ≡ 0 ∷ [] → AreNodes ([] ∷ []) n
+first_node n nodes links =
+    let below : (q : ℕ) → below_at n.nodes.items q ≡ 0 = λ q. rw nodes (one_below q) in record {
+      some = omega arith;
+      root = refl;
+      linked = record { size = ap length links; below = λ q some within. absurd (omega (arith, some, within)); ends = λ q some within. absurd (omega (arith, some, within)) };
+      aboves = record { size = ap length nodes; below = λ q some within. absurd (omega (arith, some, within)); ends = λ q some within. absurd (omega (arith, some, within)) };
+      forks = λ q. omega (arith, below q);
+      children = λ p t d some has. absurd (no_child n p t d (below p) some has);
+    }

@@ -167,7 +167,7 @@ pub none_read : (lists : List Reading) (trie : Trie) → IsNew trie → ReadsTo 
 none_read lists trie new all each = (
   ([] ∷ []),
   new.0,
-  new.2 all,
+  new.1 all,
   λ k d within.
       let unread = each k d within in
       record { fronts = unread.fronts; within = omega (arith, unread.node); is = rw unread.node refl },

@@ -8,4 +8,3 @@ pub mod Nodes
 pub mod Trie
 pub mod Walk
 pub mod EndTree
-pub mod Names

@@ -6,7 +6,7 @@ use Rattle.wsyntax.specs.Validation.ModuleContext.{type_at}
 use Rattle.wcontext.specs.declared.lists.TypeList.{TypeList}
 use Rattle.wcontext.specs.declared.lists.TypeList.TheVariants.{Nothing, One, Params, Results}
 use Rattle.wcontext.specs.declared.lists.ListPair.{ListPair}
-use Rattle.wcontext.specs.declared.lists.Front.{Front}
+use Rattle.wcontext.specs.declared.lists.TypePrefix.{TypePrefix}
 
 -- the list at a place, where these are the function types
 abbrev pub list_of : List FuncType → TypeList → List ValType
@@ -16,7 +16,7 @@ list_of types (Params y) = (type_at types y).params
 list_of types (Results y) = (type_at types y).results
 
 -- the first types of a list, as many as the front has
-abbrev pub front_of : List FuncType → Front → List ValType
+abbrev pub front_of : List FuncType → TypePrefix → List ValType
 front_of types f = take f.count (list_of types f.list)
 
 -- one list of types is the end of another

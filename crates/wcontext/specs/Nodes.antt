@@ -48,39 +48,22 @@ HasChildIn nodes forks p t d = IsOnly (below_at nodes p) t d ⊎ IsForked (below
 abbrev pub HasChild : Nodes → ℕ → ValType → ℕ → Type 0
 HasChild n p t d = HasChildIn n.nodes.items n.forks.items p t d
 
--- a node has no child by that type but d, and none where d is 0
-abbrev pub HasNoOther : Nodes → ℕ → ValType → ℕ → Type 0
-HasNoOther n p t d = (e : ℕ) → 0 < e → HasChild n p t e → e ≡ d
-
 -- these are the node's children, by the numbers of their types
 abbrev pub AreChildren : Nodes → ℕ → List ℕ → Type 0
 AreChildren n p children = (t : ValType) → 0 < get_or children (type_number t) 0 → HasChild n p t (get_or children (type_number t) 0)
-
--- and it has no others
-abbrev pub AreAllChildren : Nodes → ℕ → List ℕ → Type 0
-AreAllChildren n p children = (t : ValType) → HasNoOther n p t (get_or children (type_number t) 0)
 
 -- the forks that lie below nodes are there
 abbrev pub AreForksThere : Nodes → Type 0
 AreForksThere n = (q : ℕ) → below_at n.nodes.items q < 2147483648 + length n.forks.items
 
--- a node has got a child by a type, in place of the one that it had by that type, and all else is as it was
+-- a node has got a child by a type, no node has another new one, and what is above them is as it was
 pub record PutsChild (old new : Nodes) (p : ℕ) (t : ValType) (d : ℕ) : Type 0 where
   pub size : length new.nodes.items ≡ length old.nodes.items
   pub aboves : (q : ℕ) → above_at new.nodes.items q ≡ above_at old.nodes.items q
   pub links : new.links ≡ old.links
-  pub growing : new.growing ≡ old.growing
-  pub next : new.next ≡ old.next
   pub forks : AreForksThere old → AreForksThere new
   pub children : AreForksThere old → (q : ℕ) (u : ValType) (e : ℕ) → 0 < e → HasChild new q u e
       → HasChild old q u e ⊎ ((q ≡ p) × (u ≡ t) × (e ≡ d))
-  pub put : HasChild new p t d
-  pub kept : AreForksThere old → (q : ℕ) (u : ValType) (e : ℕ) → 0 < e → HasChild old q u e
-      → HasChild new q u e ⊎ ((q ≡ p) × (u ≡ t))
-
--- each node still has the children that it had
-abbrev pub KeepsChildren : Nodes → Nodes → Type 0
-KeepsChildren old new = AreForksThere old → (q : ℕ) (u : ValType) (e : ℕ) → 0 < e → HasChild old q u e → HasChild new q u e
 
 -- each of `count` nodes leads to an earlier one whose text is an end of its own
 pub record LeadsUp (texts : List (List ValType)) (count : ℕ) (up : ℕ → ℕ) : Type 0 where
@@ -102,6 +85,10 @@ pub record AreNodes (texts : List (List ValType)) (n : Nodes) : Type 0 where
   pub children : (p : ℕ) (t : ValType) (d : ℕ) → 0 < d → HasChild n p t d
       → (p < length texts) × (d < length texts) × (text texts d ≡ text texts p ++ t ∷ [])
 
+-- the nodes have the texts that they had
+abbrev pub KeepsTexts : Nodes → Nodes → Type 0
+KeepsTexts old new = (texts : List (List ValType)) → AreNodes texts old → AreNodes texts new
+
 -- the links of the nodes are above these
 abbrev pub GivesLinks : Nodes → List Node → Type 0
 GivesLinks n nodes = (texts : List (List ValType)) → AreNodes texts n → IsLinked texts nodes
@@ -114,45 +101,6 @@ IsOnTheWay texts p q = (q < length texts) × IsEnd (text texts q) (text texts p)
 abbrev pub FindsEnd : Nodes → ℕ → ValType → ℕ → Type 0
 FindsEnd n p t l = (texts : List (List ValType)) → AreNodes texts n → p < length texts
     → (l < length texts) × IsEnd (text texts l) (text texts p ++ t ∷ [])
-
--- going up the links from a node, l is the first child by that type that is met, or 0 where none is
-pub data IsFirstAbove (n : Nodes) (t : ValType) (l : ℕ) : ℕ → Type 0 where
-  Met : (q : ℕ) → link_at n.links.items q < q → 0 < l → HasChild n (link_at n.links.items q) t l → IsFirstAbove n t l q
-  Further : (q : ℕ) → link_at n.links.items q < q → HasNoOther n (link_at n.links.items q) t 0 → IsFirstAbove n t l (link_at n.links.items q) → IsFirstAbove n t l q
-  Top : (q : ℕ) → q ≤ link_at n.links.items q → l ≡ 0 → IsFirstAbove n t l q
-  Outside : (q : ℕ) → length n.links.items ≤ q → l ≡ 0 → IsFirstAbove n t l q
-
--- going up the links from a node to s, no node that is met before s has a child by that type
-pub data Passes (n : Nodes) (t : ValType) (s : ℕ) : ℕ → Type 0 where
-  Here : (q : ℕ) → link_at n.links.items q < q → link_at n.links.items q ≡ s → Passes n t s q
-  On : (q : ℕ) → link_at n.links.items q < q → HasNoOther n (link_at n.links.items q) t 0 → Passes n t s (link_at n.links.items q) → Passes n t s q
-
--- above a node its link is kept, or a node up to which no child is missed by a type by which the node has none
-abbrev pub MissesNone : Nodes → ℕ → Type 0
-MissesNone n q = (above_at n.nodes.items q ≡ link_at n.links.items q)
-    ⊎ ((link_at n.links.items q < n.growing) × ((t : ValType) → HasNoOther n q t 0 → Passes n t (above_at n.nodes.items q) q))
-
--- that is so of each node
-pub record MissNone (n : Nodes) : Type 0 where
-  pub some : 0 < length n.nodes.items
-  pub size : length n.links.items ≡ length n.nodes.items
-  pub order : n.growing ≤ n.next
-  pub last : n.next ≤ length n.nodes.items
-  pub forks : AreForksThere n
-  pub each : (q : ℕ) → MissesNone n q
-
--- the nodes have the texts and the children that they had, and no child is missed on the way up
-pub record KeepsNodes (old new : Nodes) : Type 0 where
-  pub texts : (texts : List (List ValType)) → AreNodes texts old → AreNodes texts new
-  pub none : MissNone old → MissNone new
-  pub links : new.links ≡ old.links
-  pub forks : new.forks ≡ old.forks
-  pub below : (q : ℕ) → below_at new.nodes.items q ≡ below_at old.nodes.items q
-
--- d was the child of p by that type, or p had none and d is made, with a link to the first that is found above
-abbrev pub IsFoundOrMade : Nodes → Nodes → ℕ → ValType → ℕ → Type 0
-IsFoundOrMade old new p t d = ((0 < d) × HasChild old p t d)
-    ⊎ (HasNoOther old p t 0 × (d ≡ length old.nodes.items) × IsFirstAbove old t (link_at new.links.items d) p)
 
 -- d has the text of p and one type more
 abbrev pub IsNodeAfter : Nodes → Nodes → ℕ → ValType → ℕ → Type 0

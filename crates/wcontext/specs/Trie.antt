@@ -5,7 +5,7 @@ use Rattle.wsyntax.specs.declared.ValType.{ValType}
 use Rattle.wcontext.specs.declared.trie.Trie.{Trie}
 use Rattle.wcontext.specs.declared.trie.Reading.{Reading}
 use Rattle.wcontext.specs.declared.nodes.Nodes.{Nodes}
-use Rattle.wcontext.specs.Nodes.{text, AreNodes, MissNone}
+use Rattle.wcontext.specs.Nodes.{text, AreNodes}
 
 -- each node that is not 0 has the text that is wanted at its place
 abbrev pub AreTexts : List (List ValType) → (ℕ → List ValType) → List ℕ → Type 0
@@ -47,8 +47,7 @@ BeginsBlocks lists now base = (all texts : List (List ValType)) → All (IsReadi
 
 -- node 0 alone, and no front that was read
 abbrev pub IsNew : Trie → Type 0
-IsNew new = AreNodes ([] ∷ []) new.nodes × MissNone new.nodes
-    × ((all : List (List ValType)) → AreRead all ([] ∷ []) new.fronts.items)
+IsNew new = AreNodes ([] ∷ []) new.nodes × ((all : List (List ValType)) → AreRead all ([] ∷ []) new.fronts.items)
 
 -- of a list the type at i of its block was read, if it has one there
 abbrev pub ReadsType : Nodes → Nodes → Reading → Reading → ℕ → ℕ → Type 0

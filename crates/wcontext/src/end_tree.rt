@@ -5,19 +5,13 @@ ghost use Rattle.wcontext.specs.EndTree.{PutsList, IsGatheredFrom, IsEndTree, Ho
 use crate::lists::TypeList;
 use crate::nodes::Node;
 use crate::trie::{Reading, Trie};
+use crate::tuning::{COMPARED, LONG};
 use crate::walk::number;
 use std::alloc::Global;
 use wsyntax::{FuncTypes, ValType};
 
-/// A list of at least this many types is long. To compare shorter ones takes no longer than to look them up.
-pub(crate) const LONG: usize = 256;
-
 /// The start of a list that is not in the tree.
 const NONE: u32 = u32::MAX;
-
-/// Each byte of a body can have a list compared once. A list is left out of the tree where that compares at most this many
-/// types for each type of all long lists, since to put a type into the tree takes longer.
-const COMPARED: usize = 128;
 
 /// The places of the first fronts of a function type's lists.
 #[derive(Clone, Copy, Debug)]

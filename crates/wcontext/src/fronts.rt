@@ -3,8 +3,8 @@ ghost use Rattle.std.specs.Prelude.{◌≡◌, true, length, take, IfSome};
 ghost use Rattle.wcontext.specs.Lists.{front_of, IsEnd};
 
 use crate::context::Context;
-use crate::end_tree::LONG;
-use crate::lists::Front;
+use crate::lists::TypePrefix;
+use crate::tuning::LONG;
 use wsyntax::ValType;
 
 /// The first `count` types, or all where there are fewer.
@@ -30,9 +30,9 @@ impl Context {
     #[inline]
     fn known_end(
         &self,
-        short: Front,
+        short: TypePrefix,
         short_count: usize,
-        long: Front,
+        long: TypePrefix,
         long_count: usize,
     ) -> Option<bool>
         requires short { short_count ≡ length (front_of self.now.context.types short) }
@@ -47,7 +47,7 @@ impl Context {
     /// Whether the types of `short` are an end of those of `long`. It takes constant time, but where a front has fewer
     /// than 256 types, where the bodies are too short to ask much, or where memory was refused: then they are compared.
     /// No contract says that `false` is right.
-    pub fn is_end(&self, short: Front, long: Front) -> bool
+    pub fn is_end(&self, short: TypePrefix, long: TypePrefix) -> bool
         ensures { result ≡ true → IsEnd (front_of self.now.context.types short) (front_of self.now.context.types long) }
     {
         let short_types = first_of(self.list(short.list), short.count);

@@ -22,11 +22,14 @@ mod space_sizes;
 mod spaces;
 mod start;
 mod trie;
+mod tuning;
 mod walk;
 
 pub use check::{SEGMENTS_RULE, check_early, check_late, check_module};
 pub use context::Context;
 pub use fault::ModuleFault;
-pub use lists::{Front, ListPair, TypeList};
+pub use limits::{are_in_order, are_within_pages};
+pub use lists::{ListPair, TypeList, TypePrefix};
 pub use names::NameRoom;
 pub use space_sizes::SpaceSizes;
+pub use spaces::Spaces;

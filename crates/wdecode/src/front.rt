@@ -11,7 +11,7 @@ use wsyntax::Module;
 
 /// A module but for its data segments, and the bytes from their section on.
 #[derive(Drop)]
-pub struct Front<'a> {
+pub struct ModuleHead<'a> {
     /// All that the sections before say; it has no data segments.
     pub module: Module<'a>,
     /// The id of the last section that was read, custom ones aside.
@@ -23,7 +23,7 @@ pub struct Front<'a> {
     ghost next: { (id : ℕ) (tail : List ℕ) → rest.now ≡ id ∷ tail → id ≡ DATA_SECTION },
 }
 
-impl<'a> Front<'a> {
+impl<'a> ModuleHead<'a> {
     ghost use Rattle.std.specs.Prelude.{◌↔◌, IsTrue, IsErrOf, IfOk, All};
     ghost use Rattle.wsyntax.specs.Modules.{DataShape};
     ghost use Rattle.wdecode.specs.Fronts.{with_segments, EndsFront};
@@ -34,7 +34,7 @@ impl<'a> Front<'a> {
             × (module_shape m ≡ with_segments (module_shape self.entry.module) segments)) }
         ensures malformed { IsErrOf result Fault.Malformed → (segments : List DataShape) → EndsFront self.entry segments → ⊥ }
     {
-        let Front { module, last, rest } = self;
+        let ModuleHead { module, last, rest } = self;
         let end = advance(alloc, Progress { module, last, rest }, false)?;
         Ok(end.module)
     }

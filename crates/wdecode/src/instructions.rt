@@ -15,6 +15,7 @@ ghost use Rattle.wsyntax.specs.Binary.Nesting.{seen_as, nest, token_at as token_
 use crate::fault::Fault;
 use crate::frequent::frequent_at;
 use crate::op;
+use crate::tuning::{FEW_BLOCKS, FEW_TOKENS};
 use crate::types::block_type_at;
 use crate::values::u32_at;
 use smallvec::SmallVec;
@@ -311,14 +312,10 @@ pub fn token_at<'a>(targets: &mut Vec<u32>, bytes: &'a [u8]) -> Result<(Token, &
     }
 }
 
-/// How many open blocks need no memory of their own.
-// PERF: this stack is made anew for each body, and most bodies are not that deep.
-const FEW: usize = 16;
-
 /// Moves what is open by a token, the innermost block last: of each, whether an else may still come.
 /// The answer is whether the token closes the expression; Malformed says that it cannot stand there.
 #[inline(always)]
-pub fn enter(opened: &mut SmallVec<bool, FEW>, token: Token) -> Result<bool, Fault>
+pub fn enter(opened: &mut SmallVec<bool, FEW_BLOCKS>, token: Token) -> Result<bool, Fault>
     ensures ok { IfOk result (λ closed. (targets : List ℕ) → nest (reverse opened.old.items) (seen targets token)
         ≡ Some (if closed then None else Some (reverse opened.new.items))) }
     ensures err { IfErr result (λ e. (targets : List ℕ) → Fails e (nest (reverse opened.old.items) (seen targets token))) }
@@ -343,9 +340,6 @@ pub fn enter(opened: &mut SmallVec<bool, FEW>, token: Token) -> Result<bool, Fau
         _ => Ok(false),
     }
 }
-
-/// For how many tokens there is room at first, where so many bytes are left.
-const FEW_TOKENS: usize = 32;
 
 /// An expression (5.4.6) at the front, up to and with the end that closes it, and the bytes after it. It keeps room for no
 /// more tokens and targets than it has.

@@ -3,7 +3,7 @@
 //!
 //! Proved: `decode_module` gives the module of the binary grammar, and each refusal, exactly; `decode_body` does so for
 //! bodies, with the limit on locals, and its targets are the labels of the branch tables. `decode_front` leaves the data
-//! segments as bytes: `Front::whole` reads them, and `Front::segments_pass` asks a rule of each. Bytes spell one module
+//! segments as bytes: `ModuleHead::whole` reads them, and `ModuleHead::segments_pass` asks a rule of each. Bytes spell one module
 //! and one body at most.
 #![tactic(auto)]
 
@@ -20,6 +20,7 @@ pub mod op;
 mod rule;
 mod section;
 mod sections;
+mod tuning;
 mod types;
 mod values;
 
@@ -29,7 +30,7 @@ pub use frequent::{
     block_start, br, br_if, call_at, i32_const, i64_const, load_at, numeric_at, store_at,
     variable_at,
 };
-pub use front::Front;
+pub use front::ModuleHead;
 pub use instructions::{enter, expression_at, token_at};
 pub use laws::{
     bodies_are_determined, grammar_is_read, modules_are_determined, shells_are_determined,
@@ -37,3 +38,4 @@ pub use laws::{
 };
 pub use module::{decode_front, decode_module};
 pub use rule::SegmentRule;
+pub use tuning::FEW_BLOCKS;

@@ -7,7 +7,7 @@ ghost use Rattle.wsyntax.specs.Modules.{ModuleShape, DataShape, module_shape};
 ghost use Rattle.wsyntax.specs.Binary.Shell.{put as put_section, empty_module as empty_shape, strip, header, Shell, module_limit};
 
 use crate::fault::{DecodeFault, Fault};
-use crate::front::Front;
+use crate::front::ModuleHead;
 use crate::section::{DATA_SECTION, Section, section_at};
 use std::alloc::Global as Alloc;
 use wsyntax::{MODULE_LIMIT, Module};
@@ -112,7 +112,7 @@ fn after_header(bytes: &[u8]) -> Option<&[u8]>
 }
 
 /// All that stands before the data segments of a module, its bodies left as bytes (5.5.15).
-fn front_at(alloc: Alloc, bytes: &[u8]) -> Result<Front<'_>, Fault>
+fn front_at(alloc: Alloc, bytes: &[u8]) -> Result<ModuleHead<'_>, Fault>
     ensures whole { IfOk result (λ f. (m : ModuleShape) → Shell bytes.now m
         ↔ ((segments : List DataShape) × EndsFront f segments × (m ≡ with_segments (module_shape f.module) segments))) }
     ensures paired { IfOk result (λ f. length (module_shape f.module).functions ≡ length (module_shape f.module).bodies) }
@@ -128,7 +128,7 @@ fn front_at(alloc: Alloc, bytes: &[u8]) -> Result<Front<'_>, Fault>
     };
     let Progress { module, last, rest } = advance(alloc, start, true)?;
     if module.functions.len() == module.bodies.len() {
-        Ok(Front { module, last, rest })
+        Ok(ModuleHead { module, last, rest })
     } else {
         Err(Fault::Malformed)
     }
@@ -138,7 +138,7 @@ fn front_at(alloc: Alloc, bytes: &[u8]) -> Result<Front<'_>, Fault>
 /// which stay slices of the input. The bytes of the data segments are not looked at.
 ///
 /// The work is linear in the bytes before them, and nothing is allocated by a count that the bytes left cannot fill.
-pub fn decode_front(alloc: Alloc, bytes: &[u8]) -> Result<Front<'_>, DecodeFault>
+pub fn decode_front(alloc: Alloc, bytes: &[u8]) -> Result<ModuleHead<'_>, DecodeFault>
     // The bytes spell the module that is this one with the data segments that end it, and no other.
     ensures whole { IfOk result (λ f. (m : ModuleShape) → Shell bytes.now m
         ↔ ((segments : List DataShape) × EndsFront f segments × (m ≡ with_segments (module_shape f.module) segments))) }

@@ -3,7 +3,7 @@ use Rattle.std.proofs.Common.{◌≡◌, ℕ, List, [], sym, ◌∙◌, subst, a
 use Rattle.wsyntax.specs.declared.value.Value.{Value}
 use Rattle.wsyntax.specs.Execution.Chain.{Within, charged}
 use Rattle.wsyntax.specs.Execution.Ends.{start}
-use Rattle.accepted.specs.Judgement.{shapes_of}
+use Rattle.accepted_module.specs.Judgement.{shapes_of}
 use Rattle.wstore.specs.declared.instance.Instance.{Instance}
 use Rattle.wstore.specs.Runs.{GivesUp, longest}
 use Rattle.wstore.specs.Views.{store_in}

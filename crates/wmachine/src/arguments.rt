@@ -7,7 +7,7 @@ ghost use Rattle.wmachine.specs.Calls.{HasParams};
 ghost use Rattle.std.specs.List.{list_all, zip};
 ghost use Rattle.wmachine.specs.Arguments.{is_of_type, are_of_types};
 
-use accepted::Accepted;
+use accepted_module::Accepted;
 use wsyntax::{ValType, Value};
 
 /// Whether `value` is of type `of_type` (4.2.1).

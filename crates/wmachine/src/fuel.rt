@@ -1,8 +1,8 @@
 ghost use Rattle.std.specs.Prelude.{◌≡◌, ◌≤◌, ◌-◌, option_map};
+ghost use Rattle.wsyntax.specs.Texts.Answer.{fuel_limit};
 ghost use Rattle.wmachine.specs.Fuel.{limit_in_range};
 
-/// The most units of fuel.
-const MOST: u32 = 1_000_000_000;
+use wsyntax::FUEL_LIMIT;
 
 /// Fuel, of which each entry of a function and each turn of a loop takes a unit. The start function and the call take theirs from
 /// the same one.
@@ -10,7 +10,7 @@ const MOST: u32 = 1_000_000_000;
 pub struct Fuel {
     limit: u32,
     left: u32,
-    ghost in_range: { (left ≤ limit) × (limit ≤ 1000000000) },
+    ghost in_range: { (left ≤ limit) × (limit ≤ fuel_limit) },
 }
 
 impl Fuel {
@@ -19,7 +19,7 @@ impl Fuel {
         ensures limit { option_map (λ f. f.limit) result ≡ limit_in_range limit }
         ensures whole { option_map (λ f. f.left) result ≡ limit_in_range limit }
     {
-        if limit > MOST {
+        if limit > FUEL_LIMIT {
             return None;
         }
         Some(Fuel { limit, left: limit })

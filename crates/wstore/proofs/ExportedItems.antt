@@ -8,7 +8,7 @@ use Rattle.wsyntax.specs.Validation.ModuleContext.{module_context}
 use Rattle.wsyntax.specs.Validation.Rules.{NoneBroken, count_of}
 use Rattle.wsyntax.specs.declared.value.Value.{Value}
 use Rattle.wsyntax.specs.Execution.Store.{Store}
-use Rattle.accepted.specs.Exports.{IsExported}
+use Rattle.accepted_module.specs.Exports.{IsExported}
 use Rattle.wstore.specs.ExportedGlobals.{IsGlobalOf}
 
 -- an exported global is there

@@ -6,8 +6,8 @@ use Rattle.std.proofs.lemmas.Option.{slice_get-map}
 use Rattle.wsyntax.specs.Modules.{ModuleShape, BodyShape, body_shape}
 use Rattle.wsyntax.specs.Validation.ModuleContext.{IndexedContext, module_context}
 use Rattle.wsyntax.specs.Validation.Verdict.{function_at}
-use Rattle.checked.specs.declared.body.CheckedBody.{CheckedBody}
-use Rattle.accepted.specs.Judgement.{IsJudged, IsCheckedFrom, shapes_of}
+use Rattle.checked_body.specs.declared.body.CheckedBody.{CheckedBody}
+use Rattle.accepted_module.specs.Judgement.{IsJudged, IsCheckedFrom, shapes_of}
 use Rattle.soundness.specs.Instances.{Judged, TypedAt}
 
 typed_from : (m : ModuleShape) (place : ℕ) (bytes : List ℕ) (c : CheckedBody) → IsCheckedFrom (module_context m) (function_at m place) bytes c → TypedAt m place (body_shape c.body)

@@ -13,8 +13,8 @@ use Rattle.wsyntax.specs.Validation.Rules.{WithinRange, NoneBroken}
 use Rattle.wsyntax.specs.Execution.Store.{page, within, may_have}
 use Rattle.wsyntax.specs.Execution.Start.{StartRefusal, HasImports, HasFloats, TableLimit, MemoryLimit, ElementOutside, DataOutside, has_floats, first, layout_of, table_limit, first_outside, or_else, refused_if, start_refusal}
 use Rattle.memory.specs.Buffered.{zeros}
-use Rattle.accepted.specs.Sizes.{table_size, memory_pages}
-use Rattle.accepted.proofs.Outside.{all_within}
+use Rattle.accepted_module.specs.Sizes.{table_size, memory_pages}
+use Rattle.accepted_module.proofs.Outside.{all_within}
 use Rattle.wstore.specs.LaidOut.{IsLaidOut}
 
 -- What is not refused.

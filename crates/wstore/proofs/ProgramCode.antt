@@ -12,13 +12,13 @@ use Rattle.wsyntax.specs.Modules.{ModuleShape}
 use Rattle.wsyntax.specs.Binary.Sections.{locals_of}
 use Rattle.wsyntax.specs.Validation.ModuleContext.{type_at, empty_type, declared}
 use Rattle.wsyntax.specs.Validation.Rules.{FunctionsTyped}
-use Rattle.checked.specs.declared.function_shape.FunctionShape.{FunctionShape}
-use Rattle.checked.specs.declared.body.CheckedBody.{CheckedBody}
+use Rattle.checked_body.specs.declared.function_shape.FunctionShape.{FunctionShape}
+use Rattle.checked_body.specs.declared.body.CheckedBody.{CheckedBody}
 use Rattle.refinement.specs.Machine.{Body, Program}
 use Rattle.interpreter.specs.declared.code.Code.{Code}
 use Rattle.interpreter.specs.Code.{body_of, bodies_of, program_of, IsShapeOf, IsCode}
-use Rattle.accepted.specs.FunctionShapes.{function_shape, function_shapes}
-use Rattle.accepted.specs.TypeIds.{AreTypeIds}
+use Rattle.accepted_module.specs.FunctionShapes.{function_shape, function_shapes}
+use Rattle.accepted_module.specs.TypeIds.{AreTypeIds}
 use Rattle.wstore.proofs.Programs.{StandsAt, body_at}
 
 -- Shapes.

@@ -9,14 +9,14 @@ use Rattle.wsyntax.specs.Modules.{ModuleShape, tokens_of}
 use Rattle.wsyntax.specs.Validation.Context.{leave}
 use Rattle.wsyntax.specs.Validation.ModuleContext.{IndexedContext, module_context, imported_function, imported_functions, functions_of, type_at, empty_type, declared}
 use Rattle.wsyntax.specs.Execution.Start.{FunctionsOf}
-use Rattle.checked.specs.SideTable.{BodyFits}
-use Rattle.checked.specs.declared.body.CheckedBody.{CheckedBody}
-use Rattle.checked.specs.Bodies.{filled_of}
+use Rattle.checked_body.specs.SideTable.{BodyFits}
+use Rattle.checked_body.specs.declared.body.CheckedBody.{CheckedBody}
+use Rattle.checked_body.specs.Bodies.{filled_of}
 use Rattle.refinement.specs.Machine.{Body}
 use Rattle.refinement.specs.Reached.{BodyHolds}
 use Rattle.refinement.specs.Trees.{code_of, TreeIsFound}
 use Rattle.interpreter.specs.Code.{body_of, bodies_of}
-use Rattle.accepted.specs.Judgement.{IsJudged, shapes_of}
+use Rattle.accepted_module.specs.Judgement.{IsJudged, shapes_of}
 use Rattle.wstore.specs.Runs.{longest}
 
 -- Trees.

@@ -15,7 +15,7 @@ use Rattle.wsyntax.specs.Execution.Laws.{StoreKept}
 use Rattle.wsyntax.specs.Execution.Start.{InstanceOf}
 use Rattle.soundness.specs.Slots.{SlotStore, slot_store}
 use Rattle.soundness.specs.Instances.{Runnable, OneInstance}
-use Rattle.checked.specs.declared.body.CheckedBody.{CheckedBody}
+use Rattle.checked_body.specs.declared.body.CheckedBody.{CheckedBody}
 use Rattle.refinement.specs.Machine.{Program, module_of}
 use Rattle.refinement.specs.Reached.{BodyHolds, ProgramHolds, StopsShort as Short}
 use Rattle.refinement.specs.Trees.{TreeIsFound}
@@ -26,9 +26,9 @@ use Rattle.interpreter.specs.Execution.{call_of, Executes, LeavesCall}
 use Rattle.interpreter.specs.declared.machine.Execution.{Execution}
 use Rattle.interpreter.specs.declared.machine.OutOfMemory.{OutOfMemory}
 use Rattle.wsyntax.specs.Outcomes.{outcome_of}
-use Rattle.accepted.specs.Judgement.{IsJudged, shapes_of}
-use Rattle.accepted.specs.Small.{IsSmall}
-use Rattle.accepted.specs.TypeIds.{AreTypeIds}
+use Rattle.accepted_module.specs.Judgement.{IsJudged, shapes_of}
+use Rattle.accepted_module.specs.Small.{IsSmall}
+use Rattle.accepted_module.specs.TypeIds.{AreTypeIds}
 use Rattle.wstore.specs.Held.{store_of, IsHeld}
 use Rattle.wstore.specs.Runs.{Fits, Runs, StopsShort, IsTypedCall, longest}
 use Rattle.wstore.proofs.Held.{tagged_again, is_held}

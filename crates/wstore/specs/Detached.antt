@@ -5,8 +5,8 @@ use Rattle.wsyntax.specs.Validation.ModuleContext.{module_context}
 use Rattle.wsyntax.specs.Execution.Store.{Store}
 use Rattle.soundness.specs.Instances.{Runnable}
 use Rattle.interpreter.specs.Seen.{seen}
-use Rattle.accepted.specs.declared.accepted.Accepted.{Accepted}
-use Rattle.accepted.specs.Judgement.{shapes_of}
+use Rattle.accepted_module.specs.declared.accepted.Accepted.{Accepted}
+use Rattle.accepted_module.specs.Judgement.{shapes_of}
 use Rattle.wstore.specs.Held.{IsHeld, store_of}
 use Rattle.wstore.specs.declared.detached.Detached.{Detached}
 use Rattle.wstore.specs.declared.instance.Instance.{Instance}

@@ -4,7 +4,7 @@ use Rattle.wsyntax.specs.declared.module.ExportKind.TheVariants.{Global}
 use Rattle.wsyntax.specs.declared.value.Value.{Value}
 use Rattle.wsyntax.specs.Modules.{ModuleShape}
 use Rattle.wsyntax.specs.Execution.Store.{Store}
-use Rattle.accepted.specs.Exports.{IsExported}
+use Rattle.accepted_module.specs.Exports.{IsExported}
 
 -- 4.2.9 the value of the global that is exported under that name; or no global is
 abbrev pub IsGlobalOf : ModuleShape → Store → List ℕ → Option Value → Type 0

@@ -5,8 +5,9 @@ use Rattle.wsyntax.specs.Modules.{ModuleShape}
 use Rattle.wsyntax.specs.Execution.Store.{page, may_have}
 use Rattle.wsyntax.specs.Execution.Allocation.{AllWithin}
 use Rattle.wsyntax.specs.Execution.Start.{layout_of}
+use Rattle.wsyntax.specs.Texts.Answer.{pages_limit}
 use Rattle.memory.specs.Buffered.{zeros}
-use Rattle.accepted.specs.Sizes.{table_size, memory_pages}
+use Rattle.accepted_module.specs.Sizes.{table_size, memory_pages}
 
 -- every segment ends within its table or memory, which may have its minimum
 pub record IsLaidOut (pages : ℕ) (m : ModuleShape) : Type 0 where
@@ -14,4 +15,4 @@ pub record IsLaidOut (pages : ℕ) (m : ModuleShape) : Type 0 where
   pub segments : AllWithin (memory_pages m * page) (layout_of m).data'
   pub may_have_min : ForSome (layout_of m).memory (λ l. may_have (zeros l.min l.max pages) l.min ≡ true)
   pub minimum : memory_pages m ≤ pages
-  pub limit : pages ≤ 1024
+  pub limit : pages ≤ pages_limit

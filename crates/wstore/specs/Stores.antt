@@ -4,8 +4,8 @@ use Rattle.std.specs.Prelude.{◌≡◌, ◌≢◌, ℕ, ◌/◌, Bool, true, fa
 use Rattle.wsyntax.specs.Execution.Store as meant
 use Rattle.wsyntax.specs.Execution.Store.{Memory, page, write, grown}
 use Rattle.soundness.specs.Slots.{SlotStore}
-use Rattle.wstore.specs.declared.entry.Entry.{Entry}
-use Rattle.wstore.specs.declared.entry.Entry.TheVariants.{Outside, Unset, Func}
+use Rattle.wstore.specs.declared.entry.TableElem.{TableElem}
+use Rattle.wstore.specs.declared.entry.TableElem.TheVariants.{Outside, Unset, Func}
 
 -- the pages of a memory, 0 where there is none
 abbrev pub pages_in : Option Memory → ℕ
@@ -13,13 +13,13 @@ pages_in (Some m) = length m.bytes / page
 pages_in None = 0
 
 -- an entry that is looked for
-abbrev pub found_entry : Option meant.Entry → Entry
+abbrev pub found_entry : Option meant.Entry → TableElem
 found_entry (Some meant.Unset) = Unset
 found_entry (Some (meant.SetTo f)) = Func f
 found_entry None = Outside
 
 -- what stands at a place of a table; without a table every place lies outside
-abbrev pub entry_at : Option (List meant.Entry) → ℕ → Entry
+abbrev pub entry_at : Option (List meant.Entry) → ℕ → TableElem
 entry_at (Some entries) at = found_entry (slice_get entries at)
 entry_at None at = Outside
 

@@ -5,7 +5,7 @@ use Rattle.wsyntax.specs.Validation.Context.{Context}
 use Rattle.wsyntax.specs.Validation.ModuleContext.{module_context}
 use Rattle.wsyntax.specs.Execution.Store.{Store}
 use Rattle.interpreter.specs.Seen.{seen}
-use Rattle.accepted.specs.Judgement.{shapes_of}
+use Rattle.accepted_module.specs.Judgement.{shapes_of}
 use Rattle.wstore.specs.Held.{store_of}
 use Rattle.wstore.specs.declared.instance.Instance.{Instance}
 

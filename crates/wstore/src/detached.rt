@@ -4,7 +4,7 @@ ghost use Rattle.std.specs.Prelude.{◌≡◌};
 ghost use Rattle.wstore.specs.Detached.{IsDetached, IsInstanceOf};
 
 use crate::instance::Instance;
-use accepted::Accepted;
+use accepted_module::Accepted;
 use interpreter::StoreParts;
 use memory::CleanMem;
 

@@ -1,6 +1,6 @@
 /// What stands at a place of a table (4.2.7).
 #[derive(Clone, Copy, Debug, PartialEq, Eq)]
-pub enum Entry {
+pub enum TableElem {
     /// The place lies past the end.
     Outside,
     Unset,

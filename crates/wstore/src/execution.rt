@@ -8,7 +8,7 @@ ghost use Rattle.wstore.specs.Views.{module_in, bodies_in, context_in, KeepsMark
 ghost use Rattle.wstore.specs.Runs.{Fits, IsTypedCall, RunsOn, GivesUp};
 
 use crate::instance::Instance;
-use accepted::Accepted;
+use accepted_module::Accepted;
 use interpreter::{Code, Execution, OutOfMemory, execute};
 use std::alloc::Global;
 use wsyntax::Value;

@@ -4,12 +4,12 @@ ghost use Rattle.wsyntax.specs.Execution.Start.{fresh_store};
 ghost use Rattle.soundness.specs.Slots.{slot_store};
 ghost use Rattle.interpreter.specs.Seen.{seen};
 ghost use Rattle.interpreter.specs.Buffers.{room_with};
-ghost use Rattle.accepted.specs.Layouts.{IsLayoutOf};
+ghost use Rattle.accepted_module.specs.Layouts.{IsLayoutOf};
 ghost use Rattle.wstore.specs.LaidOut.{IsLaidOut};
 
 use crate::memory_part::module_memory;
 use crate::table_part::module_table;
-use accepted::Layout;
+use accepted_module::Layout;
 use interpreter::StoreParts;
 use memory::CleanMem;
 use std::alloc::Global;

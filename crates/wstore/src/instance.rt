@@ -4,10 +4,10 @@ ghost use Rattle.wsyntax.specs.Validation.ModuleContext.{module_context};
 ghost use Rattle.soundness.specs.Instances.{Runnable};
 ghost use Rattle.interpreter.specs.Seen.{seen};
 ghost use Rattle.interpreter.specs.Buffers.{room_with};
-ghost use Rattle.accepted.specs.Judgement.{shapes_of};
+ghost use Rattle.accepted_module.specs.Judgement.{shapes_of};
 ghost use Rattle.wstore.specs.Held.{IsHeld};
 
-use accepted::Accepted;
+use accepted_module::Accepted;
 use interpreter::StoreParts;
 use memory::CleanMem;
 

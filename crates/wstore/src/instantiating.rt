@@ -4,7 +4,7 @@ ghost use Rattle.wsyntax.specs.Execution.Start.{start_refusal, fresh_store};
 ghost use Rattle.soundness.specs.Slots.{slot_store};
 ghost use Rattle.interpreter.specs.Seen.{seen};
 ghost use Rattle.interpreter.specs.Buffers.{room_with};
-ghost use Rattle.accepted.specs.Judgement.{shapes_of};
+ghost use Rattle.accepted_module.specs.Judgement.{shapes_of};
 ghost use Rattle.wstore.specs.Faults.{IsFault};
 ghost use Rattle.wstore.specs.Views.{store_in};
 
@@ -13,7 +13,7 @@ use crate::fresh::fresh_parts;
 use crate::instance::Instance;
 use crate::refusal::refusal;
 use crate::settings::Settings;
-use accepted::Accepted;
+use accepted_module::Accepted;
 use memory::CleanMem;
 use soundness::instances::starts_typed;
 use std::alloc::Global;

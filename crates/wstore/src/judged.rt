@@ -1,8 +1,8 @@
 ghost use Rattle.wsyntax.specs.Modules.{module_shape};
 ghost use Rattle.soundness.specs.Instances.{Judged};
-ghost use Rattle.accepted.specs.Judgement.{shapes_of};
+ghost use Rattle.accepted_module.specs.Judgement.{shapes_of};
 
-use accepted::Accepted;
+use accepted_module::Accepted;
 
 /// The law that an accepted module is one that was judged: no rule is broken, and each function has its body, which is
 /// typed. So the laws on the execution of judged modules hold of its instances.

@@ -25,7 +25,7 @@ mod table_part;
 mod word;
 
 pub use detached::Detached;
-pub use entry::Entry;
+pub use entry::TableElem;
 pub use fault::{NotStarted, StartFault};
 pub use instance::Instance;
 pub use instantiating::instantiate;

@@ -2,13 +2,10 @@ ghost use Rattle.std.specs.Prelude.{◌≡◌, option_map, List, Some, None};
 ghost use Rattle.wsyntax.specs.Modules.{module_shape, BodyShape};
 ghost use Rattle.wsyntax.specs.Execution.Start.{start_refusal, has_floats};
 ghost use Rattle.wsyntax.specs.StartRefusals.{refusal_of};
-ghost use Rattle.accepted.specs.Layouts.{IsLayoutOf};
+ghost use Rattle.accepted_module.specs.Layouts.{IsLayoutOf};
 
-use accepted::{Layout, memory_pages, table_size};
-use wsyntax::{Module, StartRefusal};
-
-/// The most entries that the table of an instance may have.
-const TABLE_LIMIT: u32 = 65_536;
+use accepted_module::{Layout, memory_pages, table_size};
+use wsyntax::{Module, StartRefusal, TABLE_LIMIT};
 
 /// Why there is no instance of a module, the refusal of the least number where there are several. `uses_floats` says whether
 /// the module mentions floats. It takes constant time.

@@ -1,11 +1,7 @@
 ghost use Rattle.std.specs.Prelude.{◌≡◌, option_map};
 ghost use Rattle.wstore.specs.Settings.{AreSettings};
 
-const MOST_FUEL: u32 = 1_000_000_000;
-
-const MOST_FRAMES: u32 = 4_096;
-
-const MOST_PAGES: u32 = 1_024;
+use wsyntax::{FRAMES_LIMIT, FUEL_LIMIT, PAGES_LIMIT};
 
 /// The limits of each call: units of fuel, at most 1,000,000,000; frames, 1 to 4,096; and pages of memory, at most 1,024.
 #[derive(Clone, Copy, Debug, PartialEq, Eq)]
@@ -23,7 +19,7 @@ impl Settings {
     pub fn new(fuel: u32, frames: u32, pages: u32) -> Option<Settings>
         ensures { option_map (λ s. limits s.fuel s.frames s.pages) result ≡ limits_in_range fuel frames pages }
     {
-        if fuel <= MOST_FUEL && 1 <= frames && frames <= MOST_FRAMES && pages <= MOST_PAGES {
+        if fuel <= FUEL_LIMIT && 1 <= frames && frames <= FRAMES_LIMIT && pages <= PAGES_LIMIT {
             Some(Settings {
                 fuel,
                 frames,

@@ -11,7 +11,7 @@ ghost use Rattle.wstore.specs.Stores.{entry_at, pages_in, StoreWrites, StoreGrow
 ghost use Rattle.wstore.specs.Views.{context_in, store_in, KeepsMarks};
 ghost use Rattle.interpreter.specs.Growths.{LacksRoom};
 
-use crate::entry::Entry;
+use crate::entry::TableElem;
 use crate::instance::Instance;
 use crate::word::{value_in, word_of};
 use interpreter::TableEntry;
@@ -82,16 +82,16 @@ impl<'a> Instance<'a> {
     }
 
     /// The entry of its table at place `at`.
-    pub fn entry(&self, at: u32) -> Entry
+    pub fn entry(&self, at: u32) -> TableElem
         ensures { result ≡ entry_at (seen self.now.parts).table at }
     {
         let Some(entries) = &self.parts.table else {
-            return Entry::Outside;
+            return TableElem::Outside;
         };
         match entries.get(at as usize) {
-            Some(TableEntry::SetTo(func)) => Entry::Func(*func),
-            Some(TableEntry::Unset) => Entry::Unset,
-            None => Entry::Outside,
+            Some(TableEntry::SetTo(func)) => TableElem::Func(*func),
+            Some(TableEntry::Unset) => TableElem::Unset,
+            None => TableElem::Outside,
         }
     }
 

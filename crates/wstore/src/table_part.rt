@@ -6,12 +6,12 @@ ghost use Rattle.wsyntax.specs.Execution.Store.{SetTo, Unset};
 ghost use Rattle.interpreter.specs.Seen.{entry_of};
 ghost use Rattle.wsyntax.specs.Modules.{module_shape};
 ghost use Rattle.wsyntax.specs.Execution.Start.{layout_of};
-ghost use Rattle.accepted.specs.Layouts.{IsLayoutOf};
-ghost use Rattle.accepted.specs.Segments.{element_segments, places_of};
-ghost use Rattle.accepted.specs.Sizes.{table_size};
-ghost use Rattle.accepted.specs.Images.{entry_in};
+ghost use Rattle.accepted_module.specs.Layouts.{IsLayoutOf};
+ghost use Rattle.accepted_module.specs.Segments.{element_segments, places_of};
+ghost use Rattle.accepted_module.specs.Sizes.{table_size};
+ghost use Rattle.accepted_module.specs.Images.{entry_in};
 
-use accepted::Layout;
+use accepted_module::Layout;
 use interpreter::TableEntry;
 use std::alloc::{AllocError, Global};
 use wsyntax::{Elements, Module, Table};

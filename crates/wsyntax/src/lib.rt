@@ -28,7 +28,10 @@ mod types;
 mod value;
 
 pub use access_rows::AccessRow;
-pub use bounds::{CALLS_LIMIT, LINE_LIMIT, LOCAL_LIMIT, MODULE_LIMIT, limits_are_defined};
+pub use bounds::{
+    CALLS_LIMIT, FRAMES_LIMIT, FUEL_LIMIT, LINE_LIMIT, LOCAL_LIMIT, MODULE_LIMIT, PAGE, PAGE_RANGE,
+    PAGES_LIMIT, TABLE_LIMIT, limits_are_defined,
+};
 pub use elements::{Element, Elements};
 pub use func_types::{FuncType, FuncTypes};
 pub use instruction_row::{Immediates, Row};

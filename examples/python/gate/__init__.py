@@ -19,9 +19,9 @@ from gate.module import Module
 from gate.report import Report, Status, run
 from gate.settings import Settings
 from gate.values import I32, I64, Value, call_line, value_of
-from gate.verdict import Refusal, Verdict, check
+from gate.verdict import Refusal, Verdict, build, check
 
 __version__ = '0.1.0'
 __all__ = ['Closed', 'End', 'EndKind', 'Explanation', 'Export', 'ExportKind', 'FunctionType', 'I32', 'I64', 'Instance', 'Module',
            'ModuleRefused', 'NoGlobal', 'NoInstance', 'NotStarted', 'OutsideMemory', 'Refusal', 'Report', 'Settings', 'Status', 'Trap',
-           'Value', 'ValueType', 'Verdict', '__version__', 'call_line', 'check', 'explain', 'run', 'value_of']
+           'Value', 'ValueType', 'Verdict', '__version__', 'build', 'call_line', 'check', 'explain', 'run', 'value_of']

@@ -87,6 +87,8 @@ FUNCTIONS = {
     'gate_module_share': (c_uint32, [CModule, POINTER(CModule)]),
     'gate_module_free': (None, [CModule]),
     'gate_revision': (c_uint32, []),
+    'gate_build': (c_uint32, WRITTEN),
+    'gate_module_size': (c_uint64, [CModule]),
     'gate_module_export_count': (c_uint64, [CModule]),
     'gate_module_export': (c_uint32, [CModule, c_uint64, POINTER(CExport)]),
     'gate_module_export_name': (c_uint32, [CModule, c_uint64] + WRITTEN),

@@ -39,6 +39,13 @@ class Module(Handle[CModule]):
         self._found: dict[bytes, Export] = {}
 
     @property
+    def size(self) -> int:
+        """How many bytes its lists take, its own bytes apart."""
+        with self._open() as handle:
+            size: int = library.gate_module_size(handle)
+            return size
+
+    @property
     def exports(self) -> tuple[Export, ...]:
         """What the module exports, in its order."""
         with self._open() as handle:

@@ -7,7 +7,7 @@ from dataclasses import dataclass
 
 from gate._library import MODULE_REFUSED, OK, Bytes, CVerdict, expect, library, whole, whole_number
 
-# As gate.h says, enough for every line.
+# As gate.h says, enough for every line, and for the text of a build.
 LINE_ROOM = 64
 # How wide the numbers of a verdict are.
 BITS = {'rule': 32, 'function': 32, 'token': 64}
@@ -56,6 +56,13 @@ class Verdict:
         out, length = ctypes.create_string_buffer(LINE_ROOM), ctypes.c_size_t()
         expect(library.gate_verdict_line(verdict, out, LINE_ROOM, length), OK)
         return ctypes.string_at(out, length.value).decode().rstrip('\n')
+
+
+def build() -> str:
+    """Which build the library is: `gate 0.1.0 (commit 0123456789ab, rattle-kit-13f)`."""
+    out, length = ctypes.create_string_buffer(LINE_ROOM), ctypes.c_size_t()
+    expect(library.gate_build(out, LINE_ROOM, length), OK)
+    return ctypes.string_at(out, length.value).decode()
 
 
 def verdict_of(said: CVerdict) -> Verdict:

@@ -28,6 +28,9 @@ class Library(unittest.TestCase):
                              env={**os.environ, 'GATE_LIBRARY': library}, cwd=self.folder, capture_output=True, text=True)
         return ran.stderr.splitlines()[-1] if ran.returncode else ''
 
+    def test_build(self) -> None:
+        self.assertRegex(gate.build(), rf'^gate {gate.__version__} \(commit \S{{12}}, rattle-kit-\w+\)$')
+
     def test_missing(self) -> None:
         self.assertRegex(self.imports_with('/nowhere/libgate.so.1'), 'ImportError: /nowhere/libgate.so.1 is no libgate')
 

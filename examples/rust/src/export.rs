@@ -69,6 +69,12 @@ fn types_of(bytes: &[u8]) -> Result<Vec<ValueType>, NoMemory> {
 }
 
 impl Module<'_> {
+    /// How many bytes the module's lists take, its own bytes apart.
+    pub fn size(&self) -> u64 {
+        // SAFETY: the handle is not freed, and no other call has it.
+        unsafe { ffi::gate_module_size(self.handle) }
+    }
+
     /// What the module exports, in its order.
     ///
     /// ```

@@ -54,3 +54,14 @@ pub fn revision() -> u32 {
     // SAFETY: it takes and touches nothing.
     unsafe { ffi::gate_revision() }
 }
+
+/// Which build the library is: `gate 0.1.0 (commit 0123456789ab, rattle-kit-13f)`.
+pub fn build() -> Result<String, NoMemory> {
+    let (mut text, mut length) = (error::zeros(64)?, 0);
+    // SAFETY: `text` has the room that is told, and the two overlap nowhere.
+    match unsafe { ffi::gate_build(text.as_mut_ptr(), text.len(), &mut length) } {
+        ffi::GATE_OK => text.truncate(length),
+        status => error::beyond_interface("status", status),
+    }
+    Ok(String::from_utf8(text).expect("the library writes ASCII"))
+}

@@ -19,6 +19,7 @@ fn with_body(body: &[u8]) -> Vec<u8> {
 #[test]
 fn the_interface_is_the_crate_s() {
     assert_eq!((gate::interface(), gate::revision()), (1, 1));
+    assert!(gate::build().unwrap().starts_with("gate 0.1.0 (commit "));
 }
 
 #[test]
@@ -64,7 +65,10 @@ fn an_explanation_of_a_malformed_body() {
         (402, Some(10), None, Some(0xfc))
     );
     assert_eq!((found.body(), found.place()), (Some(22..26), Some(23..23)));
-    assert_eq!(found.line("hint"), Some("build the module with -mcpu=mvp, in Rust with -C target-cpu=mvp (docs/GUESTS.md)"));
+    assert_eq!(
+        found.line("hint"),
+        Some("build the module with -mcpu=mvp, in Rust with -C target-cpu=mvp (docs/GUESTS.md)")
+    );
     assert_eq!(found.line("hin"), None);
     assert_eq!(error.to_string(), format!("refused body 0 malformed: {because}"));
 }

@@ -3,14 +3,13 @@ ghost use Rattle.std.specs.Prelude.{◌≡◌, ◌≢◌, ◌<◌, true, AllPair
 ghost use Rattle.wsyntax.specs.Modules.{module_shape};
 ghost use Rattle.explain.specs.Rules.{BreaksIn, IsFirst};
 ghost use Rattle.explain.specs.Exported.{name_at};
-ghost use Rattle.explain.specs.Spaces.{AreSpacesOf, counted};
+ghost use Rattle.wcontext.specs.Spaces.{AreSpacesOf, counted};
 
 use super::repeats::{Repeat, proposed};
 use crate::broken_item::{BrokenItem, ItemFault};
 use crate::item_places::EXPORT;
-use crate::spaces::Spaces;
 use std::alloc::{AllocError, Global};
-use wcontext::{ModuleFault, check_module};
+use wcontext::{ModuleFault, Spaces, check_module};
 use wsyntax::{Export, Module};
 
 /// The number of the rule on the names of exports.

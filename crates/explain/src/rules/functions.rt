@@ -2,12 +2,12 @@
 ghost use Rattle.std.specs.Prelude.{◌<◌, All, IfSome, MatchOption};
 ghost use Rattle.wsyntax.specs.Modules.{module_shape};
 ghost use Rattle.explain.specs.Rules.{BreaksIn, IsFirst};
-ghost use Rattle.explain.specs.Spaces.{AreSpacesOf};
+ghost use Rattle.wcontext.specs.Spaces.{AreSpacesOf};
 
 use crate::broken_item::{BrokenItem, ItemFault};
 use crate::imported::import_of;
 use crate::item_places::{FUNCTION, IMPORT};
-use crate::spaces::Spaces;
+use wcontext::Spaces;
 use wsyntax::{ExportKind, Module};
 
 /// The first of these indices that is not below `count`, and its place.

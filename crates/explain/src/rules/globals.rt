@@ -2,12 +2,12 @@
 ghost use Rattle.std.specs.Prelude.{IfSome, map};
 ghost use Rattle.wsyntax.specs.Modules.{global_shape, module_shape};
 ghost use Rattle.explain.specs.Rules.{BreaksIn, TellsGlobal};
-ghost use Rattle.explain.specs.Spaces.{AreSpacesOf};
+ghost use Rattle.wcontext.specs.Spaces.{AreSpacesOf};
 
 use super::initial::{initial_of, is_constant};
 use crate::broken_item::{BrokenItem, Initial, ItemFault};
 use crate::item_places::GLOBAL;
-use crate::spaces::Spaces;
+use wcontext::Spaces;
 use wsyntax::{Global, GlobalType, Module, ValType};
 
 /// The first global whose first value is no constant expression of its type, under these imported globals: its number, that

@@ -1,36 +1,15 @@
 //! Rules 4 to 7: the limits of tables and memories, and that there is at most one of each.
-ghost use Rattle.std.specs.Prelude.{◌↔◌, IfSome, IsTrue};
+ghost use Rattle.std.specs.Prelude.{IfSome};
 ghost use Rattle.wsyntax.specs.Modules.{module_shape};
 ghost use Rattle.wsyntax.specs.Validation.Rules.{InOrder, WithinRange};
 ghost use Rattle.explain.specs.Rules.{BreaksIn, IsFirst};
-ghost use Rattle.explain.specs.Spaces.{AreSpacesOf};
+ghost use Rattle.wcontext.specs.Spaces.{AreSpacesOf};
 
 use crate::broken_item::{BrokenItem, ItemFault};
 use crate::imported::import_of;
 use crate::item_places::{IMPORT, MEMORY, TABLE};
-use crate::spaces::Spaces;
-use wsyntax::{ExportKind, Limits, Module, Table};
-
-/// The greatest size of a memory, in pages (3.2.4).
-pub(crate) const PAGES: u32 = 65536;
-
-/// Whether the minimum is at most the maximum, where there is one (3.2.1).
-fn are_in_order(limits: Limits) -> bool
-    ensures { IsTrue result ↔ InOrder limits }
-{
-    match limits.max {
-        Some(most) => limits.min <= most,
-        None => true,
-    }
-}
-
-/// Whether the limits are within the range of memories (3.2.1, 3.2.4).
-fn are_within_pages(limits: Limits) -> bool
-    ensures { IsTrue result ↔ WithinRange PAGES limits }
-{
-    let most = limits.max.unwrap_or(limits.min);
-    limits.min <= PAGES && most <= PAGES && are_in_order(limits)
-}
+use wcontext::{Spaces, are_in_order, are_within_pages};
+use wsyntax::{ExportKind, Limits, Module, PAGE_RANGE, Table};
 
 /// The first table whose limits are not in order.
 fn first_table(tables: &[Table]) -> Option<(usize, Limits)>
@@ -46,7 +25,7 @@ fn first_table(tables: &[Table]) -> Option<(usize, Limits)>
 
 /// The first memory whose limits are not within 65,536 pages.
 fn first_memory(memories: &[Limits]) -> Option<(usize, Limits)>
-    ensures { IfSome result (λ x. IsFirst (WithinRange PAGES) memories.now x.0 x.1) }
+    ensures { IfSome result (λ x. IsFirst (WithinRange PAGE_RANGE) memories.now x.0 x.1) }
 {
     for (index, limits) in memories.iter().enumerate() {
         if !are_within_pages(*limits) {

@@ -5,13 +5,13 @@ ghost use Rattle.wsyntax.specs.Modules.{data_shape, element_shape, module_shape}
 ghost use Rattle.wcontext.specs.Segments.{IsElementValid};
 ghost use Rattle.explain.specs.Rules.{BreaksIn, IsDataFault, IsElementFault};
 ghost use Rattle.explain.specs.Segments.{IsDataValid, IsFirstData, IsFirstElement};
-ghost use Rattle.explain.specs.Spaces.{AreSpacesOf};
+ghost use Rattle.wcontext.specs.Spaces.{AreSpacesOf};
 
 use super::functions::first_unknown;
 use super::initial::{initial_of, is_constant};
 use crate::broken_item::{BrokenItem, ItemFault};
 use crate::item_places::{DATA, ELEMENT};
-use crate::spaces::Spaces;
+use wcontext::Spaces;
 use wsyntax::{Data, Element, Elements, GlobalType, Module, ValType};
 
 /// What is wrong with an element segment, where there are so many tables and functions, and these imported globals.

@@ -2,13 +2,13 @@
 ghost use Rattle.std.specs.Prelude.{◌≡◌, IfOk, IfSome, Some};
 ghost use Rattle.wsyntax.specs.Modules.{module_shape};
 ghost use Rattle.explain.specs.Rules.{BreaksIn, TellsFault, rule_of};
-ghost use Rattle.explain.specs.Spaces.{AreSpacesOf};
+ghost use Rattle.wcontext.specs.Spaces.{AreSpacesOf};
 
 use crate::broken_item::{BrokenItem, ItemFault};
 use crate::explanation::Signature;
 use crate::item_places::START;
-use crate::spaces::Spaces;
 use std::alloc::{AllocError, Global};
+use wcontext::Spaces;
 use wsyntax::Module;
 
 /// What is wrong with the start function of that index.

@@ -32,7 +32,7 @@ pub(crate) struct Lapse<'a> {
 
 /// What comes of reading contents.
 #[derive(Clone, Copy)]
-pub(crate) enum Outcome<'a> {
+pub(crate) enum ContentsEnd<'a> {
     /// The bytes after them, and the first segment of a later standard.
     After {
         rest: &'a [u8],
@@ -67,13 +67,13 @@ fn part_read<'a>(
     part: SectionPart,
     read: Result<&'a [u8], Stuck<'a>>,
     segment: Option<LaterSegment<'a>>,
-) -> Result<Outcome<'a>, AllocError>
+) -> Result<ContentsEnd<'a>, AllocError>
     ensures { IfOk result (λ o. (left : Option (List ℕ)) → Passes left read.entry → Comes part left o) }
 {
     match read {
-        Ok(rest) => Ok(Outcome::After { rest, segment }),
+        Ok(rest) => Ok(ContentsEnd::After { rest, segment }),
         Err(Stuck::Memory) => Err(AllocError),
-        Err(Stuck::Here { rest, wrong }) => Ok(Outcome::Stopped(Lapse {
+        Err(Stuck::Here { rest, wrong }) => Ok(ContentsEnd::Stopped(Lapse {
             part,
             rest,
             wrong,
@@ -104,7 +104,7 @@ fn after_items<'a>(
     items: Items,
     count: u32,
     bytes: &'a [u8],
-) -> Result<Outcome<'a>, AllocError>
+) -> Result<ContentsEnd<'a>, AllocError>
     ensures { IfOk result (ItemsCome items count bytes.now) }
 {
     let mut rest = bytes;
@@ -113,22 +113,26 @@ fn after_items<'a>(
         segment = segment.or(later_segment(items, number, rest));
         let read = after_item(alloc, items, rest);
         match part_read(SectionPart::Item(number), read, segment)? {
-            Outcome::After { rest: after, .. } => rest = after,
-            Outcome::Stopped(lapse) => return Ok(Outcome::Stopped(lapse)),
-            Outcome::Unknown => return Ok(Outcome::Unknown),
+            ContentsEnd::After { rest: after, .. } => rest = after,
+            ContentsEnd::Stopped(lapse) => return Ok(ContentsEnd::Stopped(lapse)),
+            ContentsEnd::Unknown => return Ok(ContentsEnd::Unknown),
         }
     }
-    Ok(Outcome::After { rest, segment })
+    Ok(ContentsEnd::After { rest, segment })
 }
 
 /// Reads past a vector of items (5.1.3).
-fn after_vector<'a>(alloc: Global, items: Items, bytes: &'a [u8]) -> Result<Outcome<'a>, AllocError>
+fn after_vector<'a>(
+    alloc: Global,
+    items: Items,
+    bytes: &'a [u8],
+) -> Result<ContentsEnd<'a>, AllocError>
     ensures { IfOk result (VectorComes items bytes.now) }
 {
     match number_at(bytes, Wanted::Count) {
         Ok((count, first)) => after_items(alloc, items, count, first),
         Err(Stuck::Memory) => Err(AllocError),
-        Err(Stuck::Here { rest, wrong }) => Ok(Outcome::Stopped(Lapse {
+        Err(Stuck::Here { rest, wrong }) => Ok(ContentsEnd::Stopped(Lapse {
             part: SectionPart::Count,
             rest,
             wrong,
@@ -142,7 +146,7 @@ pub(crate) fn after_contents<'a>(
     alloc: Global,
     id: u8,
     bytes: &'a [u8],
-) -> Result<Outcome<'a>, AllocError>
+) -> Result<ContentsEnd<'a>, AllocError>
     ensures { IfOk result (ContentsCome id bytes.now) }
 {
     if let Some(items) = items_of(id) {
@@ -151,6 +155,6 @@ pub(crate) fn after_contents<'a>(
     match id {
         CUSTOM => part_read(SectionPart::Name, after_name(bytes), None),
         START => part_read(SectionPart::Start, after_index(bytes), None),
-        _ => Ok(Outcome::Unknown),
+        _ => Ok(ContentsEnd::Unknown),
     }
 }

@@ -3,7 +3,7 @@ ghost use Rattle.std.specs.Prelude.{◌≡◌, ℕ, List, Some, IfOk, IfSome, sl
 ghost use Rattle.explain.specs.Shells.{IsWrong, Stands, TellsPlace, TellsStep};
 
 use crate::explanation::Span;
-use crate::shell::contents::{Lapse, LaterSegment, Outcome, after_contents};
+use crate::shell::contents::{ContentsEnd, Lapse, LaterSegment, after_contents};
 use crate::shell::primitives::{Stuck, sized_at};
 use crate::shell_place::{FoundSection, OtherSegment, Place, SectionPart, Wanted, Wrong};
 use std::alloc::{AllocError, Global};
@@ -113,8 +113,8 @@ fn taken_from(
         return Ok(None);
     };
     match after_contents(alloc, id, rest)? {
-        Outcome::After { rest: after, .. } => Ok(Some(rest.len().saturating_sub(after.len()))),
-        Outcome::Stopped(_) | Outcome::Unknown => Ok(None),
+        ContentsEnd::After { rest: after, .. } => Ok(Some(rest.len().saturating_sub(after.len()))),
+        ContentsEnd::Stopped(_) | ContentsEnd::Unknown => Ok(None),
     }
 }
 
@@ -197,13 +197,13 @@ fn step_in(
         return Ok(Step::Stopped(told(bytes, section, lapse)));
     }
     match after_contents(alloc, section.id, contents)? {
-        Outcome::Unknown => Ok(Step::Stopped(None)),
-        Outcome::Stopped(lapse) => {
+        ContentsEnd::Unknown => Ok(Step::Stopped(None)),
+        ContentsEnd::Stopped(lapse) => {
             let wrong = mended(alloc, bytes, section, contents, lapse)?;
             let lapse = Lapse { wrong, ..lapse };
             Ok(Step::Stopped(told(bytes, section, lapse)))
         }
-        Outcome::After { rest, segment } => {
+        ContentsEnd::After { rest, segment } => {
             if rest.is_empty() || section.id == CUSTOM {
                 return Ok(Step::After(walk_after(walk, section, contents)));
             }

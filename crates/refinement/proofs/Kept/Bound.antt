@@ -5,8 +5,8 @@ use Rattle.std.proofs.lemmas.Option.{slice_get_within}
 use Rattle.wsyntax.specs.Types.{FuncType, same_func_type}
 use Rattle.wsyntax.specs.Instructions.{Op, Unreachable, Nop, Return, Br, BrIf, Call, CallIndirect, BrTable, Drop, Select, LocalGet, LocalSet, LocalTee, GlobalGet, GlobalSet, MemoryLoad, MemoryStore, MemorySize, MemoryGrow, Const, Numeric, Token, Do, OpenBlock, OpenLoop, OpenIf, Else, End}
 use Rattle.wsyntax.specs.Execution.Store.{Entry, Unset, SetTo}
-use Rattle.checked.specs.declared.branch.Branch.{Branch}
-use Rattle.checked.specs.SideTable.{LeadsOn, Bounded}
+use Rattle.checked_body.specs.declared.branch.Branch.{Branch}
+use Rattle.checked_body.specs.SideTable.{LeadsOn, Bounded}
 use Rattle.soundness.specs.Slots.{Effect, Puts, Fails, Off, effect}
 use Rattle.refinement.specs.Machine.{Body, Program, Caller, Machine, Gave, TrappedBy, NoFuel, NoFrames, Did, Going, Over, Broken, goes, on_found, on_operand, kept_by, lands, entry_here, jumps_here, moves_here, case_of, paid, leaves_to, entered, enters, enters_entry, takes_effect, does, takes, turn, ticked, token_here}
 use Rattle.refinement.specs.Joint.{Site, Joint, caller, machine_of}

@@ -14,8 +14,8 @@ use Rattle.wsyntax.specs.Execution.Values.{type_of, types}
 use Rattle.wsyntax.specs.Execution.Store.{SetTo}
 use Rattle.wsyntax.specs.Execution.Layers.{LabelLayer}
 use Rattle.wsyntax.specs.Execution.ConfigTyped.{MemoryTyped, TableTyped, ConfigTyped, global_types}
-use Rattle.checked.specs.declared.branch.Branch.{Branch}
-use Rattle.checked.specs.SideTable.{Lab, Place, Begins, Entering, Bounded, chosen_label}
+use Rattle.checked_body.specs.declared.branch.Branch.{Branch}
+use Rattle.checked_body.specs.SideTable.{Lab, Place, Begins, Entering, Bounded, chosen_label}
 use Rattle.soundness.specs.State.{belows, config_of}
 use Rattle.soundness.specs.Slots.{bits, slots}
 use Rattle.refinement.specs.Machine.{Machine}

@@ -6,7 +6,7 @@ use Rattle.wsyntax.specs.Validation.Context.{Stack, Context}
 use Rattle.wsyntax.specs.declared.value.Value.{Value}
 use Rattle.wsyntax.specs.Execution.Values.{types}
 use Rattle.wsyntax.specs.Execution.Layers.{LabelLayer}
-use Rattle.checked.specs.SideTable.{Filled, Lab, Place, Fits}
+use Rattle.checked_body.specs.SideTable.{Filled, Lab, Place, Fits}
 use Rattle.soundness.specs.State.{belows}
 use Rattle.refinement.specs.Invariant.{LevelsFit}
 use Rattle.refinement.proofs.Kept.Stacks.{some_same}

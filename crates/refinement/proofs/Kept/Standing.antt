@@ -8,7 +8,7 @@ use Rattle.wsyntax.specs.Validation.Context.{Stack, leave}
 use Rattle.wsyntax.specs.Execution.Values.{types}
 use Rattle.wsyntax.specs.Execution.Layers.{LabelLayer}
 use Rattle.wsyntax.specs.Execution.ConfigTyped.{ConfigTyped}
-use Rattle.checked.specs.SideTable.{Place, Closes, ByEnd, ByElse}
+use Rattle.checked_body.specs.SideTable.{Place, Closes, ByEnd, ByElse}
 use Rattle.soundness.specs.State.{config_of}
 use Rattle.refinement.specs.Machine.{token_here}
 use Rattle.refinement.specs.Joint.{Joint, state_of, machine_of}

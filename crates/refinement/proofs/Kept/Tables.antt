@@ -9,7 +9,7 @@ use Rattle.wsyntax.specs.Validation.Context.{Stack}
 use Rattle.wsyntax.specs.Validation.Algorithm.{Rule, Ends, when, all_take, rule}
 use Rattle.wsyntax.specs.Execution.Values.{types}
 use Rattle.wsyntax.specs.Execution.Layers.{LabelLayer}
-use Rattle.checked.specs.SideTable.{Lab, Place, Begins, Needs, Jumps, chosen_label, kepts}
+use Rattle.checked_body.specs.SideTable.{Lab, Place, Begins, Needs, Jumps, chosen_label, kepts}
 use Rattle.refinement.specs.Machine.{turn}
 use Rattle.refinement.specs.Joint.{machine_of}
 use Rattle.refinement.specs.Turns.{holding, branched}

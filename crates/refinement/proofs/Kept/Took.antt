@@ -8,8 +8,8 @@ use Rattle.wsyntax.specs.Validation.Context.{Stack}
 use Rattle.wsyntax.specs.Execution.Values.{types}
 use Rattle.wsyntax.specs.Execution.Layers.{LabelLayer}
 use Rattle.wsyntax.specs.Execution.ConfigTyped.{ConfigTyped}
-use Rattle.checked.specs.declared.branch.Branch.{Branch}
-use Rattle.checked.specs.SideTable.{Filled, Place, Closes, ByEnd, ByElse, Jumps}
+use Rattle.checked_body.specs.declared.branch.Branch.{Branch}
+use Rattle.checked_body.specs.SideTable.{Filled, Place, Closes, ByEnd, ByElse, Jumps}
 use Rattle.soundness.specs.State.{config_of}
 use Rattle.refinement.specs.Machine.{turn, ticked, token_here, entry_here}
 use Rattle.refinement.specs.Joint.{Joint, state_of, machine_of}

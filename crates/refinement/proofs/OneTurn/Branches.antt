@@ -10,8 +10,8 @@ use Rattle.wsyntax.specs.Execution.Chain.{Within}
 use Rattle.wsyntax.specs.Execution.Layers.{LabelLayer, in_labels}
 use Rattle.soundness.specs.State.{config_of, belows, frames_around}
 use Rattle.soundness.specs.Slots.{bits, slots}
-use Rattle.checked.specs.declared.branch.Branch.{Branch}
-use Rattle.checked.specs.SideTable.{chosen_label}
+use Rattle.checked_body.specs.declared.branch.Branch.{Branch}
+use Rattle.checked_body.specs.SideTable.{chosen_label}
 use Rattle.refinement.specs.Machine.{Program, module_of, Going, goes, lands, on_found, jumps_here, case_of, takes}
 use Rattle.refinement.specs.Joint.{Joint, activation, state_of, machine_of}
 use Rattle.refinement.specs.Reduction.{ReductionLaws}

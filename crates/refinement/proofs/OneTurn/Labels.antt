@@ -12,7 +12,7 @@ use Rattle.wsyntax.specs.Execution.Ends.{EndsAs}
 use Rattle.wsyntax.specs.Execution.Layers.{LabelLayer, label_around, in_labels}
 use Rattle.soundness.specs.State.{Activation, config_of, belows, frames_around}
 use Rattle.soundness.specs.Slots.{slots}
-use Rattle.checked.specs.declared.branch.Branch.{Branch}
+use Rattle.checked_body.specs.declared.branch.Branch.{Branch}
 use Rattle.refinement.specs.Machine.{Program, module_of, NoFuel, Going, Over, goes, paid, on_found, takes}
 use Rattle.refinement.specs.Joint.{Joint, activation, state_of, machine_of}
 use Rattle.refinement.specs.Reduction.{ReductionLaws}

@@ -13,7 +13,7 @@ use Rattle.wsyntax.specs.Execution.Chain.{Within}
 use Rattle.wsyntax.specs.Execution.Layers.{label_around, in_labels}
 use Rattle.soundness.specs.State.{config_of, belows, frames_around}
 use Rattle.soundness.specs.Slots.{slots}
-use Rattle.checked.specs.declared.branch.Branch.{Branch}
+use Rattle.checked_body.specs.declared.branch.Branch.{Branch}
 use Rattle.refinement.specs.Machine.{Program, module_of, goes, on_found, moves_here, takes}
 use Rattle.refinement.specs.Joint.{Joint, activation, state_of, machine_of}
 use Rattle.refinement.specs.Reduction.{ReductionLaws}

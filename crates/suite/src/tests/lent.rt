@@ -1,6 +1,6 @@
 //! What an accepted module lends: its parts, its context and its checked bodies.
 use batch::{Plan, Quiet};
-use checked::Branch;
+use checked_body::Branch;
 use std::alloc::Global;
 use std::process::Abort;
 use std::sync::Wait;
@@ -145,25 +145,35 @@ fn lends_the_shapes_of_functions<R: Abort>(rt: &R, accepted: &Accepted<'_>) -> R
         return Err("two shapes".into());
     };
     assert_eq!(rt;
-        (first.params, first.declared, first.results, first.type_id),
-        (1, 2, 1, 1)
+        (
+            first.params,
+            first.declared,
+            first.results,
+            Some(first.type_id)
+        ),
+        (1, 2, 1, accepted.type_id(1))
     );
     assert_eq!(rt;
         (
             second.params,
             second.declared,
             second.results,
-            second.type_id
+            Some(second.type_id)
         ),
-        (1, 0, 0, 2)
+        (1, 0, 0, accepted.type_id(2))
     );
     Ok(())
 }
 
-fn lends_the_numbers_of_types<R: Abort>(rt: &R, accepted: &Accepted<'_>) {
-    assert_eq!(rt; accepted.type_ids(), [0, 1, 2].as_slice());
-    assert_eq!(rt; accepted.function_type_id(2), Some(2));
+fn lends_the_numbers_of_types<R: Abort>(rt: &R, accepted: &Accepted<'_>) -> Result<(), Fail> {
+    // three types, no two of which are equal
+    let [one, two, three] = accepted.type_ids() else {
+        return Err("three types".into());
+    };
+    assert!(rt; *one != *two && *two != *three && *one != *three);
+    assert_eq!(rt; accepted.function_type_id(2), accepted.type_id(2));
     assert!(rt; !accepted.has_floats() && accepted.bodies().len() == 2);
+    Ok(())
 }
 
 fn lends_the_counts_of_locals<R: Abort>(rt: &R, accepted: &Accepted<'_>) {
@@ -177,7 +187,7 @@ fn lends_the_module<R: Abort>(rt: &R, accepted: &Accepted<'_>) -> Result<(), Fai
     lends_the_export(rt, accepted)?;
     lends_types_and_functions(rt, accepted);
     lends_the_shapes_of_functions(rt, accepted)?;
-    lends_the_numbers_of_types(rt, accepted);
+    lends_the_numbers_of_types(rt, accepted)?;
     lends_the_counts_of_locals(rt, accepted);
     lends_the_context(rt, accepted);
     the_context_knows_types(rt, accepted)

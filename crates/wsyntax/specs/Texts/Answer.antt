@@ -21,6 +21,16 @@ pub record Limits : Type 0 where
   pub frames : ℕ
   pub pages : ℕ
 
+-- the most fuel, frames and pages that a call may have; of frames it has one at least
+abbrev pub fuel_limit : ℕ
+fuel_limit = 1000000000
+
+abbrev pub frames_limit : ℕ
+frames_limit = 4096
+
+abbrev pub pages_limit : ℕ
+pages_limit = 1024
+
 -- One call, alone.
 
 -- no export has the name

@@ -34,9 +34,13 @@ WithinRange range l = (l.min ≤ range) × ForSome l.max (λ most. most ≤ rang
 abbrev pub TablesLimited : ModuleShape → Type 0
 TablesLimited m = All (λ t. InOrder t.limits) (tables_of m)
 
+-- 3.2.4 the most pages that the type of a memory may say
+abbrev pub page_range : ℕ
+page_range = 65536
+
 -- rule 5 (3.2.4): the limits of each memory, imported or defined, are within 65,536 pages
 abbrev pub MemoriesLimited : ModuleShape → Type 0
-MemoriesLimited m = All (WithinRange 65536) (memories_of m)
+MemoriesLimited m = All (WithinRange page_range) (memories_of m)
 
 -- rule 6 (3.4.10): there is at most one table, imported ones counted
 abbrev pub OneTable : ModuleShape → Type 0

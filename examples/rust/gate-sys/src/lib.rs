@@ -228,6 +228,12 @@ extern "C" {
     /// The number of what the library has beside the functions that came first.
     pub fn gate_revision() -> u32;
 
+    /// Writes which build the library is.
+    pub fn gate_build(out: *mut u8, room: usize, length: *mut usize) -> u32;
+
+    /// How many bytes the lists of a module take.
+    pub fn gate_module_size(module: gate_module) -> u64;
+
     /// How many exports there are.
     pub fn gate_module_export_count(module: gate_module) -> u64;
 

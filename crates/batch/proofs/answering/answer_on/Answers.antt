@@ -1,5 +1,5 @@
 use Rattle.std.proofs.Common.{◌<◌, ◌^◌, length, arith}
-use Rattle.texts.specs.Slices.{joined_calls}
+use Rattle.batch_text.specs.Slices.{joined_calls}
 use Rattle.wstore.specs.CallLimits.{limits_of}
 use Rattle.batch.specs.Answers.{IsAnswerFrom}
 use Rattle.batch.proofs.Answered.{few_ends, line_alone, refused_calls, report_is}

@@ -1,7 +1,7 @@
 use Rattle.std.proofs.Common.{◌≡◌, [], length, List, length-append, take, sym, ap, subst, arith}
 use Rattle.std.proofs.lemmas.List.{take_all}
-use Rattle.texts.specs.Slices.{joined_calls}
-use Rattle.texts.specs.declared.call.Call.{Call}
+use Rattle.batch_text.specs.Slices.{joined_calls}
+use Rattle.batch_text.specs.declared.call.Call.{Call}
 use Rattle.batch.specs.Groups.{AddsGroups}
 use Rattle.batch.proofs.GroupedLines.{adds_both, few_groups, slice_more, slice_fits}
 use Rattle.batch.proofs.groups.groups_of.Goals as goal

@@ -1,6 +1,6 @@
 -- The calls of the slices so far are in groups.
 use Rattle.std.proofs.Common.{◌≡◌, [], length, take}
-use Rattle.texts.specs.Slices.{joined_calls}
+use Rattle.batch_text.specs.Slices.{joined_calls}
 use Rattle.batch.specs.Groups.{AddsGroups}
 use Rattle.batch.proofs.groups.groups_of.Given as goal
 

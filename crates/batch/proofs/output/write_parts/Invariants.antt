@@ -1,7 +1,7 @@
 -- The texts of the parts so far are appended.
 use Rattle.std.proofs.Common.{take}
 use Rattle.std.specs.Io.KnownBytes.{Appends}
-use Rattle.texts.specs.Parts.{parts_text}
+use Rattle.batch_text.specs.Parts.{parts_text}
 use Rattle.batch.proofs.output.write_parts.Given as goal
 
 abbrev pub invariant-loop-part : goal.invariant-loop-part

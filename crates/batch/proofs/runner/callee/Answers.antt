@@ -2,7 +2,7 @@ use Rattle.std.proofs.Common.{◌≡◌, ℕ, List, refl, subst}
 use Rattle.wsyntax.specs.declared.module.ExportKind.{ExportKind}
 use Rattle.wsyntax.specs.declared.module.ExportKind.TheVariants.{Function}
 use Rattle.wsyntax.specs.Texts.Answer.{missing, other_kind}
-use Rattle.accepted.specs.Exports.{IsExported}
+use Rattle.accepted_module.specs.Exports.{IsExported}
 use Rattle.wsyntax.specs.Modules.{ModuleShape, module_shape}
 use Rattle.batch.proofs.CallEnds.{refused_arguments, callee_of, fits_no, fits_yes}
 use Rattle.batch.proofs.runner.callee.Goals as goal

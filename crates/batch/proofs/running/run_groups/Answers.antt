@@ -1,5 +1,5 @@
 use Rattle.std.proofs.Common.{◌≡◌, length, rules}
-use Rattle.texts.specs.Slices.{joined_calls}
+use Rattle.batch_text.specs.Slices.{joined_calls}
 use Rattle.batch.proofs.GroupedLines.{all_parts}
 use Rattle.batch.proofs.running.run_groups.Goals as goal
 

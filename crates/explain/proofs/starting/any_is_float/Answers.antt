@@ -3,7 +3,7 @@ use Rattle.std.specs.List.{list_any}
 use Rattle.std.proofs.lemmas.Iterator.{YieldsList-from_slice}
 use Rattle.std.proofs.lemmas.Iterator.Search.{any_from_yields_List}
 use Rattle.wsyntax.specs.Execution.Start.{is_float}
-use Rattle.accepted.proofs.Mentions.{any_is}
+use Rattle.accepted_module.proofs.Mentions.{any_is}
 use Rattle.explain.proofs.starting.any_is_float.Goals as goal
 
 pub returns : goal.returns

@@ -1,6 +1,6 @@
 -- No body so far has floats.
 use Rattle.std.proofs.Common.{◌≡◌, drop}
-use Rattle.accepted.specs.Judgement.{shapes_of}
+use Rattle.accepted_module.specs.Judgement.{shapes_of}
 use Rattle.explain.specs.Starting.{first_in}
 use Rattle.explain.proofs.starting.float_in_bodies.Given as goal
 

@@ -2,8 +2,8 @@ use Rattle.std.proofs.Common.{List, sym, ap, ◌∙◌}
 use Rattle.std.specs.Prelude.{position}
 use Rattle.wsyntax.specs.declared.module.Global.{Global}
 use Rattle.wsyntax.specs.Modules.{global_shape, module_shape}
-use Rattle.accepted.specs.Floats.{global_has_floats}
-use Rattle.accepted.specs.Judgement.{shapes_of}
+use Rattle.accepted_module.specs.Floats.{global_has_floats}
+use Rattle.accepted_module.specs.Judgement.{shapes_of}
 use Rattle.explain.proofs.FloatPlaces.{body_first, global_first, type_first}
 use Rattle.explain.proofs.Positions.{place_shown}
 use Rattle.explain.proofs.Refusals.{none_of}

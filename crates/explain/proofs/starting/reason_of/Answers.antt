@@ -1,8 +1,8 @@
 use Rattle.std.proofs.Common.{◌≤◌, ◌<◌, ◌∙◌, sym, arith}
 use Rattle.wsyntax.specs.Modules.{module_shape}
 use Rattle.wsyntax.specs.Execution.Start.{table_limit}
-use Rattle.accepted.specs.Judgement.{shapes_of}
-use Rattle.accepted.specs.Sizes.{table_size, memory_pages}
+use Rattle.accepted_module.specs.Judgement.{shapes_of}
+use Rattle.accepted_module.specs.Sizes.{table_size, memory_pages}
 use Rattle.explain.proofs.FloatPlaces.{no_import, some_import}
 use Rattle.explain.proofs.Refusals.{Passes, at_imports, at_floats, at_table, at_memory, at_element, at_data, at_none, none_of}
 use Rattle.explain.proofs.starting.reason_of.Goals as goal

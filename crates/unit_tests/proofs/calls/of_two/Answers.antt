@@ -1,5 +1,5 @@
 use Rattle.std.proofs.Common.{sym, subst, ◌∙◌}
-use Rattle.texts.specs.Parts.{AreParts}
+use Rattle.batch_text.specs.Parts.{AreParts}
 use Rattle.unit_tests.proofs.TwoParts.{two_parts}
 use Rattle.unit_tests.proofs.calls.of_two.Goals as goal
 

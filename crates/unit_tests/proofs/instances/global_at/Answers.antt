@@ -1,7 +1,7 @@
 use Rattle.std.proofs.Common.{◌≡◌, Some, sym, ap, ◌∙◌, subst}
 use Rattle.std.specs.Prelude.{slice_get}
 use Rattle.wsyntax.specs.Modules.{module_shape}
-use Rattle.accepted.specs.Judgement.{IsJudged}
+use Rattle.accepted_module.specs.Judgement.{IsJudged}
 use Rattle.unit_tests.proofs.Declared.{declared_below}
 use Rattle.unit_tests.proofs.instances.global_at.Goals as goal
 

@@ -2,7 +2,7 @@ use Rattle.std.proofs.Common.{◌≡◌, Some, sym, ap, ◌∙◌, subst}
 use Rattle.std.specs.Prelude.{slice_get}
 use Rattle.wsyntax.specs.Modules.{module_shape}
 use Rattle.wsyntax.specs.Execution.Values.{type_of}
-use Rattle.accepted.specs.Judgement.{IsJudged}
+use Rattle.accepted_module.specs.Judgement.{IsJudged}
 use Rattle.unit_tests.proofs.Declared.{declared_content}
 use Rattle.unit_tests.proofs.instances.set_global_at.Goals as goal
 

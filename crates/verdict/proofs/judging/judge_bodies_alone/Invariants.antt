@@ -1,5 +1,5 @@
 use Rattle.std.proofs.Common.{◌≡◌, map}
-use Rattle.accepted.specs.Judgement.{AreChecked}
+use Rattle.accepted_module.specs.Judgement.{AreChecked}
 use Rattle.verdict.specs.Judged.{PassBefore}
 use Rattle.verdict.proofs.judging.judge_bodies_alone.Given as goal
 

@@ -1,7 +1,7 @@
 use Rattle.std.proofs.Common.{◌≡◌, ℕ, ◌+◌, Option, None, refl, ap, ◌∙◌}
 use Rattle.std.proofs.lemmas.List.{length_push}
 use Rattle.std.proofs.lemmas.List.Elements.{All-push}
-use Rattle.checked.specs.declared.body.CheckedBody.{CheckedBody}
+use Rattle.checked_body.specs.declared.body.CheckedBody.{CheckedBody}
 use Rattle.verdict.proofs.slots.empty_slots.Goals as goal
 
 pub loop-preserved : goal.loop-preserved

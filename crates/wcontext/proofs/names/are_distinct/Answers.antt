@@ -1,15 +1,14 @@
-use Rattle.std.proofs.Common.{◌≢◌, ◌↔◌, List, ℕ, Bor, IsTrue, length, subst}
-use Rattle.std.specs.List.{AllAdjacentBelow}
-use Rattle.wcontext.proofs.Exports.{exports_distinct, exports_tied}
+use Rattle.std.proofs.Common.{List, ℕ, Bor, not, rules, subst}
+use Rattle.std.specs.List.Sorted.{IsPermutation}
+use Rattle.std.specs.Str.{bytes_eq}
+use Rattle.std.proofs.lemmas.Fn.{always_returns_same}
+use Rattle.wcontext.proofs.Distinct.{NeighboursDiffer, exports_distinct}
 use Rattle.wcontext.proofs.names.are_distinct.Goals as goal
-
-pub returns-then-not-numbers_differ : goal.returns-then-not-numbers_differ
-returns-then-not-numbers_differ c =
-    let numbers = subst (λ (l : List ℕ). IsTrue c.numbers_differ.result ↔ AllAdjacentBelow (λ a b. a ≢ b) l (length l)) c.deref.ensures.value c.numbers_differ.ensures in
-    exports_tied (λ e. e.name) c.args.exports.now _ _ _ c.in_ok-put_all.ensures.short c.in_ok-put_all.ensures.bytes c.sort_unstable.ensures.permutation c.sort_unstable.ensures.sorted numbers c.if-not-numbers_differ.true
 
 pub returns : goal.returns
 returns c =
-    let numbers = subst (λ (l : List ℕ). IsTrue c.numbers_differ.result ↔ AllAdjacentBelow (λ a b. a ≢ b) l (length l)) c.deref.ensures.value c.numbers_differ.ensures in
-    let names = subst (λ (l : List (Bor (List ℕ))). IsTrue c.names_differ.result ↔ AllAdjacentBelow (λ a b. a.now ≢ b.now) l (length l)) c.deref-2.ensures.value c.names_differ.ensures in
-    exports_distinct (λ e. e.name) c.args.exports.now _ _ _ _ _ _ c.in_ok-put_all.ensures.short c.in_ok-put_all.ensures.long c.in_ok-put_all.ensures.bytes c.sort_unstable.ensures.permutation c.sort_unstable.ensures.sorted numbers c.if-not-numbers_differ.false c.sort_unstable-2.ensures.permutation c.sort_unstable-2.ensures.sorted names
+    let answer = c.is_sorted_by.ensures.cases (λ x y. not (bytes_eq x.now y.now)) (always_returns_same _ _ _ (λ a r f q. search rules)) in
+    exports_distinct (λ e. e.name) c.args.exports.now _ c.is_sorted_by.result
+    (subst (λ (xs : List (Bor (List ℕ))). IsPermutation xs c.sort_unstable.new.self.items) c.in_ok-put_all.ensures c.sort_unstable.ensures.permutation)
+    c.sort_unstable.ensures.sorted
+    (subst (λ (ys : List (Bor (List ℕ))). NeighboursDiffer ys c.is_sorted_by.result) c.deref.ensures.value answer)

@@ -1,4 +1,4 @@
-use Rattle.accepted.specs.Judgement.{shapes_of}
+use Rattle.accepted_module.specs.Judgement.{shapes_of}
 use Rattle.interpreter.specs.Seen.{seen}
 use Rattle.wstore.specs.Views.{module_in}
 use Rattle.wmachine.proofs.Calling.{arguments_fit, call_never_stuck, gives_typed}

@@ -5,7 +5,7 @@ use Rattle.wsyntax.specs.declared.module.Module.{Module}
 use Rattle.wsyntax.specs.Validation.ModuleContext.{module_context, empty_type}
 use Rattle.wsyntax.specs.Execution.Ends.{Values}
 use Rattle.wsyntax.specs.Outcomes.{outcome_of}
-use Rattle.accepted.specs.declared.accepted.Accepted.{Accepted}
+use Rattle.accepted_module.specs.declared.accepted.Accepted.{Accepted}
 use Rattle.wmachine.specs.Calls.{GivesTyped}
 use Rattle.wstore.specs.Views.{context_in}
 use Rattle.wmachine.proofs.AfterStart.{takes_no_arguments, gives_no_values, not_there, ended_well}

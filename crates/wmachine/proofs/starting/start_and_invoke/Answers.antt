@@ -3,8 +3,8 @@ use Rattle.wsyntax.specs.Modules.{module_shape}
 use Rattle.wsyntax.specs.Execution.Ends as meant
 use Rattle.wsyntax.specs.declared.value.Value.{Value}
 use Rattle.wsyntax.specs.Execution.Store.{Store}
-use Rattle.accepted.specs.declared.accepted.Accepted.{Accepted}
-use Rattle.accepted.specs.Judgement.{shapes_of}
+use Rattle.accepted_module.specs.declared.accepted.Accepted.{Accepted}
+use Rattle.accepted_module.specs.Judgement.{shapes_of}
 use Rattle.wstore.specs.Runs.{Runs}
 use Rattle.wmachine.proofs.AfterStart.{ends_in_start, ends_in_call, fuel_is}
 use Rattle.wmachine.proofs.starting.start_and_invoke.Goals as goal

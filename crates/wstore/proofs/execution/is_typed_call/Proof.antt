@@ -6,7 +6,7 @@ use denote.Triple.Entry.{on_entry}
 use borrow.Fn.Kinds.{sig_of}
 use contract.Monad.{fact, fact_use, fact_i}
 use Rattle.interpreter.specs.Seen.{seen}
-use Rattle.accepted.specs.Judgement.{shapes_of}
+use Rattle.accepted_module.specs.Judgement.{shapes_of}
 use Rattle.wstore.specs.Views.{module_in}
 use Rattle.wstore.specs.Runs.{IsTypedCall}
 use Rattle.wstore.proofs.execution.is_typed_call.Statement.{statement}

@@ -7,7 +7,7 @@ use Rattle.wsyntax.specs.Execution.Start.{start_refusal, fresh_store}
 use Rattle.soundness.specs.Slots.{slot_store}
 use Rattle.soundness.specs.Instances.{Judged}
 use Rattle.interpreter.specs.Seen.{seen}
-use Rattle.accepted.specs.Judgement.{shapes_of}
+use Rattle.accepted_module.specs.Judgement.{shapes_of}
 use Rattle.wstore.specs.Held.{IsHeld, store_of}
 use Rattle.wstore.specs.LaidOut.{IsLaidOut}
 use Rattle.wstore.proofs.Held.{is_held, tagged_again}

@@ -1,7 +1,7 @@
 use Rattle.std.proofs.Common.{◌≡◌, ℕ, ◌∙◌, List, Option, Some, Bor, IfSome, refl, ap, subst, length, arith}
 use Rattle.wsyntax.specs.Execution.Allocation.{Segment, AllWithin, put_data}
-use Rattle.accepted.specs.Segments.{data_segments}
-use Rattle.accepted.proofs.Lists.{length-put_data, overwrite_all}
+use Rattle.accepted_module.specs.Segments.{data_segments}
+use Rattle.accepted_module.proofs.Lists.{length-put_data, overwrite_all}
 use Rattle.wstore.specs.Buffers.{with_bytes}
 use Rattle.wstore.proofs.memory_part.fill.Goals as goal
 

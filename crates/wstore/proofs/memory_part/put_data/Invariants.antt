@@ -1,7 +1,7 @@
 use Rattle.std.proofs.Common.{◌≡◌, length, drop}
 use Rattle.wsyntax.specs.Execution.Allocation.{put_data, AllWithin}
 use Rattle.wstore.specs.Buffers.{with_bytes}
-use Rattle.accepted.specs.Segments.{data_segments}
+use Rattle.accepted_module.specs.Segments.{data_segments}
 use Rattle.wstore.proofs.memory_part.put_data.Given as goal
 
 abbrev pub invariant-loop-number : goal.invariant-loop-number

@@ -2,7 +2,7 @@ use Rattle.std.proofs.Common.{rules, ◌≡◌, ◌≤◌, ◌<◌, ◌∙◌, s
 use Rattle.std.proofs.lemmas.List.{length-map}
 use Rattle.wsyntax.specs.Modules.{module_shape, import_shape}
 use Rattle.wsyntax.specs.Execution.Start.{table_limit}
-use Rattle.accepted.specs.Sizes.{table_size, memory_pages}
+use Rattle.accepted_module.specs.Sizes.{table_size, memory_pages}
 use Rattle.wstore.proofs.Refusals.{Passes, at_imports, at_floats, at_table, at_memory, at_element, at_data, at_none, none_of}
 use Rattle.wstore.proofs.refusal.refusal.Goals as goal
 

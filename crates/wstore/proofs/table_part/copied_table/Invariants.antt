@@ -1,6 +1,6 @@
 use Rattle.std.proofs.Common.{◌≡◌, map, take}
 use Rattle.interpreter.specs.Seen.{entry_of}
-use Rattle.accepted.specs.Images.{entry_in}
+use Rattle.accepted_module.specs.Images.{entry_in}
 use Rattle.wstore.proofs.table_part.copied_table.Given as goal
 
 abbrev pub invariant-loop-function : goal.invariant-loop-function

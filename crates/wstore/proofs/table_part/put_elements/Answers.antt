@@ -3,9 +3,9 @@ use Rattle.wsyntax.specs.Elements.{element_of}
 use Rattle.wsyntax.specs.Modules.{element_shape}
 use Rattle.wsyntax.specs.Execution.Start.{element_segment}
 use Rattle.interpreter.specs.Seen.{entry_of}
-use Rattle.accepted.specs.Segments.{element_segments}
-use Rattle.accepted.proofs.Outside.{elements_from}
-use Rattle.accepted.proofs.Steps.{element_placed, within_here, within_later, put_elements_here}
+use Rattle.accepted_module.specs.Segments.{element_segments}
+use Rattle.accepted_module.proofs.Outside.{elements_from}
+use Rattle.accepted_module.proofs.Steps.{element_placed, within_here, within_later, put_elements_here}
 use Rattle.wstore.proofs.table_part.put_elements.Goals as goal
 
 pub put_functions-requires : goal.put_functions-requires

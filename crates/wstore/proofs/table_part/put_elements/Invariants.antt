@@ -1,7 +1,7 @@
 use Rattle.std.proofs.Common.{◌≡◌, length, map, drop}
 use Rattle.wsyntax.specs.Execution.Allocation.{put_elements, AllWithin}
 use Rattle.interpreter.specs.Seen.{entry_of}
-use Rattle.accepted.specs.Segments.{element_segments}
+use Rattle.accepted_module.specs.Segments.{element_segments}
 use Rattle.wstore.proofs.table_part.put_elements.Given as goal
 
 abbrev pub invariant-loop-number : goal.invariant-loop-number

@@ -1,6 +1,6 @@
 use Rattle.std.proofs.Common.{take, ◌<◌}
 use Rattle.std.specs.List.{All}
-use Rattle.explain.specs.Spaces.{counted}
+use Rattle.wcontext.specs.Spaces.{counted}
 use Rattle.explain.proofs.rules.exports.first_missing.Given as goal
 
 abbrev pub invariant-loop-number : goal.invariant-loop-number

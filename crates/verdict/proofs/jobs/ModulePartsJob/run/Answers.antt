@@ -1,6 +1,6 @@
-use Rattle.std.proofs.Common.{◌≢◌, ◌-◌, ◌*◌, length, arith}
+use Rattle.std.proofs.Common.{◌≢◌, ◌+◌, ◌-◌, ◌*◌, ◌≤◌, ℕ, min, length, sym, subst, arith}
+use Rattle.std.proofs.lemmas.List.{length-map}
 use Rattle.std.proofs.Math.Nat.{min-le_left, min-le_right}
-use Rattle.verdict.specs.Parts.{bodies_of}
 use Rattle.verdict.proofs.Groups.{one_more}
 use Rattle.verdict.proofs.Parts.{body_part, group_part}
 use Rattle.verdict.proofs.jobs.ModulePartsJob.run.Goals as goal
@@ -19,14 +19,21 @@ returns-in_err-judge_at-clause-answer g c =
     let h = c.args.self.now.head.now in
     let size = c.args.self.now.size in
     let ne : c.args.index ≢ 0 = omega (arith, c.if-index-eq0.false) in
-    let most = min-le_left size (length (bodies_of h) - (c.args.index - 1) * size) in
-    let left = min-le_right size (length (bodies_of h) - (c.args.index - 1) * size) in
+    let items = h.front.«module».bodies.items in
+    let count = length-map items (λ b. b.now) in
+    let most = min-le_left size (length items - (c.args.index - 1) * size) in
+    let left = min-le_right size (length items - (c.args.index - 1) * size) in
     body_part h size c.args.index c.loop-place.place c.from_residual.result c.in_err-judge_at.field-0.0 c.from_residual.ensures.1 ne
-    record { from = omega (arith, c.loop-place.auto.place); to = omega (arith, most, c.loop-place-test.true); there = omega (arith, left, c.loop-place.auto.place, c.loop-place-test.true) }
+    record { from = omega (arith, c.loop-place.auto.place); to = omega (arith, most, c.loop-place-test.true); there = omega (arith, count, left, c.loop-place.auto.place, c.loop-place-test.true) }
     c.loop-place.invariant.passed
     c.in_err-judge_at.ensures.verdict
 
 pub returns-clause-answer : goal.returns-clause-answer
 returns-clause-answer g c =
     let ne : c.args.index ≢ 0 = omega (arith, c.if-index-eq0.false) in
-    (group_part c.args.self.now.head.now c.args.self.now.size c.args.index c.loop-place.place ne (omega (arith, c.loop-place-test.false)) c.loop-place.invariant.passed, tt)
+    let h = c.args.self.now.head.now in
+    let size = c.args.self.now.size in
+    let first = (c.args.index - 1) * size in
+    let count = length-map h.front.«module».bodies.items (λ b. b.now) in
+    let whole = subst (λ (n : ℕ). first + min size (n - first) ≤ c.loop-place.place) (sym count) (omega (arith, c.loop-place-test.false)) in
+    (group_part h size c.args.index c.loop-place.place ne whole c.loop-place.invariant.passed, tt)

@@ -3,7 +3,7 @@ use Rattle.std.proofs.lemmas.Option.{slice_get-get_or}
 use Rattle.wsyntax.specs.declared.ValType.{ValType}
 use Rattle.wsyntax.specs.Types.{FuncType}
 use Rattle.wcontext.specs.Lists.{front_of}
-use Rattle.wcheck.specs.declared.entry.Entry.{Entry}
+use Rattle.wcheck.specs.declared.entry.StackEntry.{StackEntry}
 use Rattle.wcheck.specs.Heights.{Stacked, stacked, all_of}
 use Rattle.wcheck.specs.Runs.{types_in, run_at, IsCounted}
 use Rattle.wcheck.proofs.Shortened.{nonempty, one_less, one_less_counted, there_is, is_counted, cut_less, cut_counted, run_less, run_less_counted, last_run_written, last_run_cut, last_run_gone}
@@ -12,13 +12,13 @@ use Rattle.wcheck.proofs.Topmost.{last_single, last_in_run}
 use Rattle.wcheck.proofs.Above.{all_items, frame_size, short_above, short_below, short_enough}
 use Rattle.wcheck.proofs.operand_stack.OperandStack.shorten.Goals as goal
 
-there : (xs : List Entry) (rs : List (List ValType)) (v : List (Option ValType)) (by : ℕ) → types_in xs rs ≡ v → 0 < by → by ≤ length v → 0 < length xs
+there : (xs : List StackEntry) (rs : List (List ValType)) (v : List (Option ValType)) (by : ℕ) → types_in xs rs ≡ v → 0 < by → by ≤ length v → 0 < length xs
 there xs rs v by w lt le = nonempty xs rs v w (omega (arith, lt, le))
 
 by_fits : (by : ℕ) (xs : List (Option ValType)) (types : List FuncType) (b : ℕ) (d : Bool) (s : Stacked) → stacked xs types b d ≡ s → by ≤ length s.above.known → by ≤ length xs
 by_fits by xs types b d s w le = omega (arith, le, frame_size xs types b d s w)
 
-last_is : (xs : List Entry) (n : ℕ) (x : Entry) → n ≡ length xs → 0 < length xs → x ≡ get_or xs (n - 1) x → Some x ≡ slice_get xs (length xs - 1)
+last_is : (xs : List StackEntry) (n : ℕ) (x : StackEntry) → n ≡ length xs → 0 < length xs → x ≡ get_or xs (n - 1) x → Some x ≡ slice_get xs (length xs - 1)
 last_is xs n x c lt e =
     ap Some (e ∙ ap (λ k. get_or xs (k - 1) x) c) ∙ sym (slice_get-get_or xs (length xs - 1) x (omega (arith, lt)))
 

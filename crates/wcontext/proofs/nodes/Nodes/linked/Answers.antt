@@ -1,4 +1,4 @@
-use Rattle.std.proofs.Common.{ℕ, ◌≡◌, ◌<◌, ◌≤◌, ◌∙◌, arith, length, min}
+use Rattle.std.proofs.Common.{ℕ, ◌<◌, ◌≤◌, ◌∙◌, arith, length, min}
 use Rattle.wcontext.proofs.nodes.Nodes.linked.Goals as goal
 
 pub returns : goal.returns

@@ -1,4 +1,4 @@
-use Rattle.std.proofs.Common.{◌≡◌, ℕ, ◌<◌, ◌≤◌, length}
+use Rattle.std.proofs.Common.{◌≡◌, ℕ, ◌<◌, length}
 use Rattle.wcontext.specs.Nodes.{link_at, above_at}
 use Rattle.wcontext.proofs.nodes.Nodes.linked.Given as goal
 

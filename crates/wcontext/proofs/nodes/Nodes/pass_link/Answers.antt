@@ -1,8 +1,8 @@
-use Rattle.std.proofs.Common.{◌≡◌, ◌<◌, ◌≤◌, ◌%◌, ap, arith, length, refl, sym, ◌∙◌}
+use Rattle.std.proofs.Common.{◌≡◌, ◌<◌, ap, arith, length, refl}
 use Rattle.std.proofs.lemmas.List.{get_or_read}
 use Rattle.wcontext.specs.Nodes.{link_at, above_at, below_at}
 use Rattle.wcontext.specs.declared.nodes.Node.{Node}
-use Rattle.wcontext.proofs.Passing.{keeps_itself, keeps_passed}
+use Rattle.wcontext.proofs.Links.{passed}
 use Rattle.wcontext.proofs.nodes.Nodes.pass_link.Goals as goal
 
 pub returns-then-by_same_type : goal.returns-then-by_same_type
@@ -14,8 +14,5 @@ returns-then-by_same_type c =
     let link : l ≡ link_at old.links.items p = grind arith in
     let within : p < length old.nodes.items = grind arith in
     let above : n.above ≡ above_at old.nodes.items l = grind arith in
-    let of : c.in_ok-of.field-0.now.below ≡ below_at old.nodes.items p = grind arith in
-    let other : c.in_ok-above.field-0.now.below ≡ below_at old.nodes.items l = grind arith in
     let under : n.below ≡ below_at old.nodes.items p = ap (λ (m : Node). m.below) (get_or_read old.nodes.items p c.index_mut.result.now within c.index_mut.ensures.value record { above = 0; below = 0 }) in
-    let same = c.by_same_type.ensures c.if-by_same_type.true in
-    keeps_passed old _ p l n link within above c.if-above-link.true c.if-link-node.true c.if-link-self.true under (omega (arith, same.0, of)) (omega (arith, same.1, of)) (omega (arith, same.2, other)) (ap (λ b. b % 4) (sym of) ∙ same.3 ∙ ap (λ b. b % 4) other) refl refl refl refl refl
+    passed old _ p l n link within above c.if-above-link.true c.if-link-node.true under refl refl refl

@@ -17,4 +17,4 @@ returns c =
     let below : n.below ≡ 2147483648 + length old.forks.items = grind arith in
     let four : length children ≡ 4 = grind arith in
     let row : c.push.new.self.items ≡ old.forks.items ++ record { children = set children (type_number c.args.t) c.args.child } ∷ [] = grind arith in
-    fork_put old _ p c.args.t c.args.child n children within above below c.children-children.ensures.there c.children-children.ensures.all four refl refl refl refl row
+    fork_put old _ p c.args.t c.args.child n children within above below c.children-children.ensures four refl refl row

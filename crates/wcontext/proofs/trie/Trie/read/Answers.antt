@@ -3,14 +3,13 @@ use Rattle.std.specs.Prelude.{nat_lt}
 use Rattle.std.specs.List.{filter}
 use Rattle.std.proofs.lemmas.List.{take_at}
 use Rattle.std.proofs.lemmas.Fn.{filter_same}
-use Rattle.wcontext.specs.Nodes.{MissNone}
 use Rattle.wcontext.specs.Trie.{BeginsBlocks, ReadsBlock, PutsBlock, ReadsTo}
 use Rattle.wcontext.specs.declared.trie.Reading.{Reading}
 use Rattle.wcontext.proofs.Tries.{none_read, block_read, fewer_left}
 use Rattle.wcontext.proofs.trie.Trie.read.Goals as goal
 
 pub loop-block-init : goal.loop-block-init
-loop-block-init c = record { none = c.in_ok-trie.ensures.1; read = none_read c.args.lists.items c.in_ok-trie.trie c.in_ok-trie.ensures }
+loop-block-init c = none_read c.args.lists.items c.in_ok-trie.trie c.in_ok-trie.ensures
 
 pub loop-block-preserved : goal.loop-block-preserved
 loop-block-preserved c =
@@ -24,7 +23,7 @@ loop-block-preserved c =
     let rest = c.read_block.new.lists in
     let longer = λ (r : Reading). nat_lt base (length r.types.now) in
     let fewer : left ≡ filter longer c.loop-block.lists.items = filter_same _ longer _ (λ x b f k. search rules) _ _ c.retain.ensures.filtered in
-    let before : ReadsTo lists old left base = fewer_left lists c.loop-block.lists.items left old base longer c.loop-block.invariant.read fewer in
+    let before : ReadsTo lists old left base = fewer_left lists c.loop-block.lists.items left old base longer c.loop-block.invariant fewer in
     let one : length begun ≡ c.retain.new.self.len = grind arith in
     let kept : take c.retain.new.self.len (begun ++ drop (length begun) left) ≡ begun = take_at begun (drop (length begun) left) c.retain.new.self.len one in
     let two : length rest ≡ c.retain.new.self.len = grind arith in
@@ -33,5 +32,4 @@ loop-block-preserved c =
     let begins : BeginsBlocks left begun base = subst (λ l. BeginsBlocks l begun base) c.deref_mut.ensures.value c.begin_block.ensures in
     let step : ReadsBlock old.nodes mid.nodes begun rest base 16 = subst (λ l. ReadsBlock old.nodes mid.nodes l rest base 16) kept (search rules) in
     let puts : PutsBlock mid.fronts.items new.fronts.items (take c.retain.new.self.len (rest ++ more)) base = subst (λ l. PutsBlock mid.fronts.items new.fronts.items l base) c.deref.ensures.value c.in_ok-end_block.ensures.fronts in
-    let read = block_read lists left begun (take c.retain.new.self.len (rest ++ more)) old mid new base ((c.loop-block.block + 1) * 16) before begins (subst (λ l. ReadsBlock old.nodes mid.nodes begun l base 16) (sym last) step) c.in_ok-read_block.ensures.fronts puts c.end_block.ensures.nodes (omega arith) in
-    record { none = subst MissNone (sym c.end_block.ensures.nodes) c.in_ok-read_block.ensures.none; read = read }
+    block_read lists left begun (take c.retain.new.self.len (rest ++ more)) old mid new base ((c.loop-block.block + 1) * 16) before begins (subst (λ l. ReadsBlock old.nodes mid.nodes begun l base 16) (sym last) step) c.in_ok-read_block.ensures.fronts puts c.end_block.ensures.nodes (omega arith)

@@ -1,7 +1,6 @@
 use Rattle.std.proofs.Common.{◌≡◌}
-use Rattle.wcontext.specs.Nodes.{MissNone}
 use Rattle.wcontext.specs.Trie.{ReadsBlock}
 use Rattle.wcontext.proofs.trie.Trie.read_block.Given as goal
 
 abbrev pub invariant-loop-i : goal.invariant-loop-i
-invariant-loop-i l = record { none : MissNone l.self.nodes; fronts : l.self.fronts ≡ l.fn.self.fronts; read : ReadsBlock l.fn.self.nodes l.self.nodes l.fn.lists l.lists l.base l.i }
+invariant-loop-i l = record { fronts : l.self.fronts ≡ l.fn.self.fronts; read : ReadsBlock l.fn.self.nodes l.self.nodes l.fn.lists l.lists l.base l.i }

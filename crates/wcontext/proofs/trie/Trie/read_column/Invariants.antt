@@ -1,7 +1,6 @@
 use Rattle.std.proofs.Common.{◌≡◌}
-use Rattle.wcontext.specs.Nodes.{MissNone}
 use Rattle.wcontext.specs.Trie.{ReadsSome}
 use Rattle.wcontext.proofs.trie.Trie.read_column.Given as goal
 
 abbrev pub invariant-loop-k : goal.invariant-loop-k
-invariant-loop-k l = record { none : MissNone l.self.nodes; fronts : l.self.fronts ≡ l.fn.self.fronts; read : ReadsSome l.fn.self.nodes l.self.nodes l.fn.lists l.lists l.base l.i l.k }
+invariant-loop-k l = record { fronts : l.self.fronts ≡ l.fn.self.fronts; read : ReadsSome l.fn.self.nodes l.self.nodes l.fn.lists l.lists l.base l.i l.k }

@@ -1,6 +1,6 @@
 use Rattle.std.proofs.Common.{◌∙◌}
 use Rattle.std.proofs.Math.Logic.{∥∥₁_map}
-use Rattle.accepted.specs.Judgement.{shapes_of}
+use Rattle.accepted_module.specs.Judgement.{shapes_of}
 use Rattle.interpreter.specs.Seen.{seen}
 use Rattle.wstore.specs.Views.{module_in}
 use Rattle.wstore.proofs.TypedCalls.{known, typed_call, all_runs, stops, held_after}

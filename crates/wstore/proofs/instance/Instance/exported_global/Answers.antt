@@ -2,7 +2,7 @@ use Rattle.std.proofs.Math.Logic.{∥∥₁_elim}
 use Rattle.std.proofs.Props.{props}
 use Rattle.wsyntax.specs.declared.module.ExportKind.TheVariants.{Global}
 use Rattle.wsyntax.specs.Modules.{ModuleShape}
-use Rattle.accepted.specs.Exports.{IsExported}
+use Rattle.accepted_module.specs.Exports.{IsExported}
 use Rattle.wstore.specs.Views.{module_in, store_in}
 use Rattle.wstore.proofs.ExportedItems.{exported_within, global_of, nothing_found, other_found, none_is}
 use Rattle.wstore.proofs.instance.Instance.exported_global.Goals as goal

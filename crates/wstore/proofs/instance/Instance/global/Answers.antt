@@ -4,7 +4,7 @@ use Rattle.std.proofs.lemmas.Option.{slice_get-get_or}
 use Rattle.wsyntax.specs.Modules.{module_shape}
 use Rattle.wsyntax.specs.Validation.ModuleContext.{module_context}
 use Rattle.interpreter.specs.Seen.{seen}
-use Rattle.accepted.specs.Judgement.{shapes_of}
+use Rattle.accepted_module.specs.Judgement.{shapes_of}
 use Rattle.wstore.proofs.Held.{as_many, global_there}
 use Rattle.wstore.proofs.Globals.{declared_count, declared_at}
 use Rattle.wstore.proofs.instance.Instance.global.Goals as goal

@@ -1,6 +1,0 @@
-use Rattle.wsyntax.specs.Modules.{module_shape}
-use Rattle.accepted.proofs.PlainStarts.{starts_plainly}
-use Rattle.accepted.proofs.accepted.Accepted.start_is_plain.Goals as goal
-
-pub returns : goal.returns
-returns c = starts_plainly (module_shape c.args.self.now.«module») c.args.self.now.context c.args.self.now.bodies.items c.args.self.now.judged c.start_is_plain.ensures

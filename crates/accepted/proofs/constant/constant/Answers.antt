@@ -1,5 +1,0 @@
-use Rattle.accepted.proofs.Numbers.{no_word}
-use Rattle.accepted.proofs.constant.constant.Goals as goal
-
-pub returns-in-GlobalGet : goal.returns-in-GlobalGet
-returns-in-GlobalGet c = no_word c.args.initial.now c.in-GlobalGet.is

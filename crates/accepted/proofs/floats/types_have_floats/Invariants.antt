@@ -1,6 +1,0 @@
-use Rattle.std.proofs.Common.{◌≡◌, false, take}
-use Rattle.wsyntax.specs.Execution.Start.{any, type_has_floats}
-use Rattle.accepted.proofs.floats.types_have_floats.Given as goal
-
-abbrev pub invariant-loop-index : goal.invariant-loop-index
-invariant-loop-index l = any type_has_floats (take l.index l.types) ≡ false

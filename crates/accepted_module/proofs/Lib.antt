@@ -1,0 +1,17 @@
+pub mod Offsets
+pub mod Outside
+pub mod Words
+pub mod Numbers
+pub mod SearchedNames
+pub mod ExportNumbers
+pub mod PlainStarts
+pub mod Mentions
+pub mod Floating
+pub mod FunctionShapes
+pub mod CheckedBodies
+pub mod Lendings
+pub mod Lists
+pub mod Steps
+pub mod Tables
+pub mod TypeOrder
+pub mod Numbering

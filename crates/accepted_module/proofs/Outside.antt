@@ -1,0 +1,67 @@
+-- The first segment that lies outside, segment by segment.
+use Rattle.std.proofs.Common.{◌≡◌, ℕ, suc, ◌+◌, ◌<◌, Bool, true, false, List, [], ◌∷◌, length, drop, map, get_or, Option, Some, None, refl, sym, ap, ◌∙◌, cond, arith}
+use Rattle.std.specs.Prelude.{nat_lt, is_some, slice_get}
+use lib.Dec.{leb}
+use Rattle.std.proofs.lemmas.Bool.{lt-ltb, le-ltb, ltb-false, leb-true, leb-false}
+use Rattle.std.proofs.lemmas.List.{drop-map, drop_more}
+use Rattle.std.proofs.lemmas.Option.{slice_get_within, get_or_from_slice_get}
+use Rattle.wsyntax.specs.Modules.{element_shape, data_shape}
+use Rattle.wsyntax.specs.HeldElement.{HeldElement}
+use Rattle.wsyntax.specs.declared.module.Data.{Data}
+use Rattle.wsyntax.specs.Execution.Allocation.{Segment, AllWithin}
+use Rattle.wsyntax.specs.Execution.Start.{element_segment, data_segment, first_outside}
+use Rattle.accepted_module.specs.Segments.{element_segments, data_segments}
+
+-- The segments from one on.
+
+-- of a list that is mapped twice
+from_here : {X Y Z : Type 0} (g : Y → Z) (f : X → Y) (xs : List X) (i : ℕ) (x : X) → x ≡ get_or xs i x → i < length xs
+    → drop i (map g (map f xs)) ≡ g (f x) ∷ drop (i + 1) (map g (map f xs))
+from_here g f xs i x is below =
+    drop-map g i (map f xs) ∙ ap (map g) (drop-map f i xs) ∙ ap (λ l. map g (map f l)) (drop_more xs i x below)
+    ∙ ap (λ y. g (f y) ∷ map g (map f (drop (i + 1) xs))) (sym is)
+    ∙ ap (λ l. g (f x) ∷ map g l) (sym (drop-map f (i + 1) xs)) ∙ ap (λ l. g (f x) ∷ l) (sym (drop-map g (i + 1) (map f xs)))
+
+pub elements_from : (es : List HeldElement) (i : ℕ) (e : HeldElement) → Some e ≡ slice_get es i
+    → drop i (element_segments es) ≡ element_segment (element_shape e) ∷ drop (i + 1) (element_segments es)
+elements_from es i e read =
+    from_here element_segment element_shape es i e (sym (get_or_from_slice_get es i e e (sym read))) (slice_get_within es i e (sym read))
+
+pub data_from : (ds : List Data) (i : ℕ) (d : Data) → d ≡ get_or ds i d → i < length ds
+    → drop i (data_segments ds) ≡ data_segment (data_shape d) ∷ drop (i + 1) (data_segments ds)
+data_from ds i d is below = from_here data_segment data_shape ds i d is below
+
+-- The first outside.
+
+pub outside_here : (n place count i : ℕ) (s : Segment) (all from rest : List Segment) (b : Bool) → from ≡ s ∷ rest → place ≡ s.place → count ≡ length s.items → b ≡ leb (place + count) n → b ≡ false
+    → first_outside 0 n all ≡ first_outside i n from → Some i ≡ first_outside 0 n all
+outside_here n place count i s all from rest b is at many test failed before =
+    let t : leb (place + count) n ≡ false = sym test ∙ failed in
+    let e : place + count ≡ s.place + length s.items = omega arith in
+    let out : nat_lt n (s.place + length s.items) ≡ true = ap (nat_lt n) (sym e) ∙ lt-ltb n (place + count) (leb-false (place + count) n t) in
+    sym (before ∙ ap (first_outside i n) is ∙ ap (λ x. cond x (Some i) (first_outside (suc i) n rest)) out)
+
+pub inside_here : (n place count i : ℕ) (s : Segment) (all from rest : List Segment) (b : Bool) → from ≡ s ∷ rest → place ≡ s.place → count ≡ length s.items → b ≡ leb (place + count) n → b ≡ true
+    → first_outside 0 n all ≡ first_outside i n from → first_outside 0 n all ≡ first_outside (i + 1) n rest
+inside_here n place count i s all from rest b is at many test holds before =
+    let t : leb (place + count) n ≡ true = sym test ∙ holds in
+    let e : place + count ≡ s.place + length s.items = omega arith in
+    let in' : nat_lt n (s.place + length s.items) ≡ false = ap (nat_lt n) (sym e) ∙ le-ltb n (place + count) (leb-true (place + count) n t) in
+    let next : suc i ≡ i + 1 = omega arith in
+    before ∙ ap (first_outside i n) is ∙ ap (λ x. cond x (Some i) (first_outside (suc i) n rest)) in' ∙ ap (λ k. first_outside k n rest) next
+
+-- Where none lies outside, all are within.
+
+within_if : (b : Bool) (k : ℕ) (o : Option ℕ) → cond b (Some k) o ≡ None → (b ≡ false) × (o ≡ None)
+within_if true k o e = absurd cc
+within_if false k o e = (refl, e)
+
+pub all_within : (k n : ℕ) (all : List Segment) → first_outside k n all ≡ None → AllWithin n all
+all_within k n [] e = tt
+all_within k n (s ∷ ss) e =
+    let h = within_if (nat_lt n (s.place + length s.items)) k (first_outside (suc k) n ss) e in
+    (ltb-false n (s.place + length s.items) h.0, all_within (suc k) n ss h.1)
+
+pub none_outside : (n : ℕ) (all : List Segment) (o : Option ℕ) (b : Bool) → b ≡ is_some o → b ≡ false → o ≡ first_outside 0 n all → AllWithin n all
+none_outside n all None b test found is = all_within 0 n all (sym is)
+none_outside n all (Some k) b test found is = absurd cc

@@ -1,0 +1,83 @@
+use Rattle.std.proofs.Common.{List, length, subst}
+use Rattle.std.specs.List.{range_with_len}
+use Rattle.std.specs.List.Sorted.{IsPermutation}
+use Rattle.wsyntax.specs.declared.module.Export.{Export}
+use Rattle.wsyntax.specs.Modules.{module_shape}
+use Rattle.accepted_module.specs.Exports.{AreAscending}
+use Rattle.accepted_module.proofs.Lendings.{shaped_same, looked_same, typed_same, numbered_same, paired_same, few_same}
+use Rattle.accepted_module.proofs.accepted.Accepted.of.Goals as goal
+
+-- What the shapes ask for.
+
+-- rule 3 is kept
+pub function_shapes-requires-clause-typed : goal.function_shapes-requires-clause-typed
+function_shapes-requires-clause-typed c =
+    typed_same c.args.«module».types c.deref-3.result.now c.args.«module».functions.items c.deref-3.ensures.value (c.requires.judged.rules 3)
+
+pub function_shapes-requires-clause-numbered : goal.function_shapes-requires-clause-numbered
+function_shapes-requires-clause-numbered c =
+    numbered_same c.args.«module».types c.deref-2.result.now c.in_ok-type_ids.type_ids.items c.deref-2.ensures.value c.in_ok-type_ids.ensures
+
+pub function_shapes-requires-clause-paired : goal.function_shapes-requires-clause-paired
+function_shapes-requires-clause-paired c =
+    paired_same c.deref-3.result.now c.deref-4.result.now c.args.bodies.items (module_shape c.args.«module») c.args.context c.deref-3.ensures.value c.deref-4.ensures.value c.requires.judged
+
+pub function_shapes-requires-clause-few : goal.function_shapes-requires-clause-few
+function_shapes-requires-clause-few c = few_same c.deref-4.result.now c.args.bodies.items (module_shape c.args.«module») c.args.context c.deref-4.ensures.value c.requires.judged
+
+-- What the layout asks for.
+
+pub of-requires-clause-few : goal.of-requires-clause-few
+of-requires-clause-few c = record { elements = c.requires.small.elements; segments = c.requires.small.segments }
+
+-- rule 12 is kept
+pub of-requires-clause-elements : goal.of-requires-clause-elements
+of-requires-clause-elements c = c.requires.judged.rules 12
+
+-- rule 13 is kept
+pub of-requires-clause-segments : goal.of-requires-clause-segments
+of-requires-clause-segments c = c.requires.judged.rules 13
+
+-- What the search for floats asks for.
+
+-- rule 8 is kept
+pub has_floats-uses_floats-requires-clause-globals : goal.has_floats-uses_floats-requires-clause-globals
+has_floats-uses_floats-requires-clause-globals c = c.requires.judged.rules 8
+
+pub has_floats-uses_floats-requires-clause-elements : goal.has_floats-uses_floats-requires-clause-elements
+has_floats-uses_floats-requires-clause-elements c = c.requires.judged.rules 12
+
+pub has_floats-uses_floats-requires-clause-segments : goal.has_floats-uses_floats-requires-clause-segments
+has_floats-uses_floats-requires-clause-segments c = c.requires.judged.rules 13
+
+-- What the holders know.
+
+pub invariant_of-result-clause-judged : goal.invariant_of-result-clause-judged
+invariant_of-result-clause-judged c = ∣ c.requires.judged ∣₁
+
+pub invariant_of-result-clause-small : goal.invariant_of-result-clause-small
+invariant_of-result-clause-small c = ∣ c.requires.small ∣₁
+
+-- rule 10 is kept
+pub invariant_of-result-clause-distinct : goal.invariant_of-result-clause-distinct
+invariant_of-result-clause-distinct c = c.requires.judged.rules 10
+
+pub invariant_of-result-clause-each : goal.invariant_of-result-clause-each
+invariant_of-result-clause-each c =
+    ∣ subst (λ (es : List Export). IsPermutation (range_with_len 0 (length es)) c.in_ok-by_name.by_name.items) c.deref.ensures.value c.in_ok-by_name.ensures.each ∣₁
+
+pub invariant_of-result-clause-ascending : goal.invariant_of-result-clause-ascending
+invariant_of-result-clause-ascending c = subst (λ (es : List Export). AreAscending es c.in_ok-by_name.by_name.items) c.deref.ensures.value c.in_ok-by_name.ensures.ascending
+
+pub invariant_of-result-clause-numbered : goal.invariant_of-result-clause-numbered
+invariant_of-result-clause-numbered c =
+    ∣ c.in_ok-type_ids.ensures ∣₁
+
+pub invariant_of-result-clause-shaped : goal.invariant_of-result-clause-shaped
+invariant_of-result-clause-shaped c =
+    shaped_same _ c.args.«module».types c.deref-2.result.now c.in_ok-type_ids.type_ids.items c.deref-3.result.now c.args.«module».functions.items c.deref-4.result.now c.args.bodies.items
+    c.deref-2.ensures.value c.deref-3.ensures.value c.deref-4.ensures.value c.in_ok-shapes.ensures
+
+pub invariant_of-result-clause-looked : goal.invariant_of-result-clause-looked
+invariant_of-result-clause-looked c =
+    looked_same c.has_floats-uses_floats.result (module_shape c.args.«module») c.deref-5.result.now c.args.bodies.items c.deref-5.ensures.value c.has_floats-uses_floats.ensures

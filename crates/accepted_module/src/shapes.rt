@@ -1,0 +1,57 @@
+//! What the entry of a function needs to know of it.
+ghost use Rattle.std.specs.Prelude.{◌≡◌, ◌<◌, ◌^◌, IfOk, All, length};
+ghost use Rattle.wsyntax.specs.FuncTypes.{func_type_of, IsShort};
+ghost use Rattle.wsyntax.specs.Modules.{body_shape};
+ghost use Rattle.wsyntax.specs.Binary.Sections.{locals_of};
+ghost use Rattle.wsyntax.specs.Binary.Shell.{FewLocals};
+ghost use Rattle.accepted_module.specs.FunctionShapes.{function_shape, function_shapes};
+
+use checked_body::{CheckedBody, FunctionShape};
+use std::alloc::{AllocError, Global};
+use wsyntax::{FuncType, FuncTypes, LocalRun};
+
+fn count_locals(runs: &[LocalRun]) -> u32
+    requires { locals_of runs.now < 2 ^ 32 }
+    ensures { result ≡ locals_of runs.now }
+{
+    runs.iter().map(|run| run.count).sum()
+}
+
+/// What the entry of a function of that type, which has that id, needs to know.
+fn function_shape(of_type: FuncType<'_>, number: u32, body: &CheckedBody) -> FunctionShape
+    requires short { IsShort of_type }
+    requires few { FewLocals (body_shape body.now.body) }
+    ensures { result ≡ function_shape (func_type_of of_type.entry) number body.now }
+{
+    FunctionShape {
+        params: of_type.params.len() as u32,
+        declared: count_locals(body.locals()),
+        results: of_type.results.len() as u32,
+        type_id: number,
+    }
+}
+
+/// Of each function, by the index of its type, and its body what its entry needs to know.
+pub(crate) fn function_shapes(
+    alloc: Global,
+    types: &FuncTypes,
+    numbers: &[u32],
+    functions: &[u32],
+    bodies: &[CheckedBody],
+) -> Result<Vec<FunctionShape>, AllocError>
+    requires typed { All (λ y. y < length types.now) functions.now }
+    requires numbered { length numbers.now ≡ length types.now }
+    requires paired { length functions.now ≡ length bodies.now }
+    requires few { All (λ b. FewLocals (body_shape b.body)) bodies.now }
+    ensures { IfOk result (λ v. v.items ≡ function_shapes types.now numbers.now functions.now bodies.now) }
+{
+    let mut shapes = Vec::new(alloc);
+    for (place, type_index) in functions.iter().enumerate() {
+        let at = *type_index as usize;
+        let Some(of_type) = types.get(at) else {
+            unreachable!()
+        };
+        shapes.push(function_shape(of_type, numbers[at], &bodies[place]))?;
+    }
+    Ok(shapes)
+}

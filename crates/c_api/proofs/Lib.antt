@@ -1,0 +1,11 @@
+pub mod Values
+pub mod LooseForm
+pub mod HandedOn
+pub mod Spelled
+pub mod ExportedTypes
+pub mod Instances
+pub mod InstanceOperations
+pub mod CallsThatGoOn
+pub mod PutBack
+pub mod Judgings
+pub mod Sums

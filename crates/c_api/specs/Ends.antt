@@ -1,0 +1,61 @@
+-- The numbers of how a call ends.
+use Rattle.std.specs.Prelude.{ℕ, List, [], length}
+use Rattle.wnum.specs.declared.trap.NumTrap.TheVariants.{DivideByZero, IntegerOverflow}
+use Rattle.wsyntax.specs.declared.value.Value.{Value}
+use Rattle.wsyntax.specs.declared.value.Trap.{Trap}
+use Rattle.wsyntax.specs.declared.value.Trap.TheVariants.{Unreachable, OutOfBounds, UndefinedElement, UninitializedElement, TypeMismatch, ByOperator}
+use Rattle.wsyntax.specs.declared.outcome.Outcome.{Outcome}
+use Rattle.wsyntax.specs.declared.outcome.Outcome.TheVariants.{Values, Trapped, OutOfFuel, OutOfFrames}
+use Rattle.wsyntax.specs.declared.start_refusal.StartRefusal.{StartRefusal}
+use Rattle.wsyntax.specs.declared.start_refusal.StartRefusal.TheVariants.{HasImports, HasFloats, TableLimit, MemoryLimit, ElementOutside, DataOutside}
+use Rattle.batch_text.specs.declared.line.Line.{Line}
+use Rattle.batch_text.specs.declared.line.Line.TheVariants.{Ran, NoExport, NotAFunction, BadArguments, NotStarted, NoMemory}
+use Rattle.c_api.specs.declared.ending.GateCall.{GateCall}
+
+abbrev pub trap_number : Trap → ℕ
+trap_number Unreachable = 0
+trap_number OutOfBounds = 1
+trap_number UndefinedElement = 2
+trap_number UninitializedElement = 3
+trap_number TypeMismatch = 4
+trap_number (ByOperator DivideByZero) = 5
+trap_number (ByOperator IntegerOverflow) = 6
+
+-- why there is no instance, and the segment that lies outside
+abbrev pub refusal_number : StartRefusal → ℕ
+refusal_number HasImports = 0
+refusal_number HasFloats = 1
+refusal_number TableLimit = 2
+refusal_number MemoryLimit = 3
+refusal_number (ElementOutside k) = 4
+refusal_number (DataOutside k) = 5
+
+abbrev pub segment_of : StartRefusal → ℕ
+segment_of (ElementOutside k) = k
+segment_of (DataOutside k) = k
+segment_of r = 0
+
+-- an end of which only the number is told
+abbrev pub plain : ℕ → GateCall
+plain end = record { end = end; reason = 0; place = 0; fuel = 0; results = 0 }
+
+-- how a call that ran came to its end, at the cost of so much fuel
+abbrev pub outcome_numbers : Outcome → ℕ → GateCall
+outcome_numbers (Values vs) fuel = record { end = 0; reason = 0; place = 0; fuel = fuel; results = length vs.items }
+outcome_numbers (Trapped trap) fuel = record { end = 1; reason = trap_number trap; place = 0; fuel = fuel; results = 0 }
+outcome_numbers OutOfFuel fuel = record { end = 2; reason = 0; place = 0; fuel = fuel; results = 0 }
+outcome_numbers OutOfFrames fuel = record { end = 3; reason = 0; place = 0; fuel = fuel; results = 0 }
+
+-- how a call ended; numbers that do not belong to the end are 0
+abbrev pub end_numbers : Line → GateCall
+end_numbers (Ran o fuel) = outcome_numbers o fuel
+end_numbers NoExport = plain 4
+end_numbers NotAFunction = plain 5
+end_numbers BadArguments = plain 6
+end_numbers (NotStarted r) = record { end = 7; reason = refusal_number r; place = segment_of r; fuel = 0; results = 0 }
+end_numbers NoMemory = plain 8
+
+-- the values that it ended in, if any
+abbrev pub values_of : Line → List Value
+values_of (Ran (Values vs) fuel) = vs.items
+values_of line = []

@@ -1,0 +1,76 @@
+-- The numbers and the text of an explanation.
+use Rattle.std.specs.Prelude.{◌≡◌, ◌⊎◌, ℕ, List, Option, Some, None, option_map}
+use Rattle.wsyntax.specs.Validation.Verdict.{Verdict, IsVerdict}
+use Rattle.wsyntax.specs.Texts.Lines.{verdict_line}
+use Rattle.explain.specs.declared.explanation.Explanation.{Explanation}
+use Rattle.explain.specs.declared.numbers.ExplanationKind.{ExplanationKind}
+use Rattle.explain.specs.declared.numbers.ExplanationKind.TheVariants as kind
+use Rattle.explain.specs.Numbers.{body_told, item_told, kind_told, opcode_told, place_told, section_told}
+use Rattle.explain.specs.Placed.{AreSo}
+use Rattle.explain.specs.Texts.{BeginsWith}
+use Rattle.explain.specs.Told.{verdict_told}
+use Rattle.c_api.specs.declared.explained.GateExplanation.{GateExplanation}
+use Rattle.c_api.specs.Texts.{AreKept, Hands}
+use Rattle.c_api.specs.Verdicts.{numbers_of, status_of}
+
+-- the hundreds are the kind of the verdict
+abbrev pub kind_number : ExplanationKind → ℕ
+kind_number kind.Accepted = 0
+kind_number kind.TooLarge = 100
+kind_number kind.Text = 201
+kind_number kind.Gzip = 202
+kind_number kind.ShortHeader = 203
+kind_number kind.Magic = 204
+kind_number kind.Version = 205
+kind_number kind.Sections = 206
+kind_number kind.Rule = 300
+kind_number kind.BodyMalformed = 400
+kind_number kind.Locals = 401
+kind_number kind.Token = 402
+kind_number kind.Else = 403
+kind_number kind.Left = 404
+kind_number kind.ShortBody = 405
+kind_number kind.TooManyLocals = 500
+kind_number kind.IllTyped = 600
+kind_number kind.Memory = 0
+
+-- a number of 64 bits, and one of 32 bits; what is not told is the greatest
+abbrev pub wide : Option ℕ → ℕ
+wide (Some n) = n
+wide None = 0xFFFFFFFFFFFFFFFF
+
+abbrev pub short : Option ℕ → ℕ
+short (Some n) = n
+short None = 0xFFFFFFFF
+
+-- those of an explanation that tells that verdict
+abbrev pub numbers_with : Explanation → Verdict → GateExplanation
+numbers_with e v = record {
+  verdict = numbers_of v;
+  why = kind_number (kind_told e);
+  section = short (section_told e);
+  opcode = short (opcode_told e);
+  item = wide (item_told e);
+  body_from = wide (option_map (λ s. s.from) (body_told e));
+  body_to = wide (option_map (λ s. s.to) (body_told e));
+  from = wide (option_map (λ s. s.from) (place_told e));
+  to = wide (option_map (λ s. s.to) (place_told e));
+}
+
+-- the bytes have the verdict that the explanation tells, and what it tells beside that is so
+pub record IsExplanation (bytes : List ℕ) (e : Explanation) (v : Verdict) : Type 0 where
+  pub told : verdict_told e ≡ Some v
+  pub judged : IsVerdict bytes v
+  pub so : AreSo bytes e
+
+-- the numbers of an explanation of the bytes are written, and the status is that of its verdict; or memory was refused, and nothing is written
+abbrev pub Explains : List ℕ → GateExplanation → GateExplanation → ℕ → Type 0
+Explains bytes old new status =
+    ((status ≡ 70) × (new ≡ old))
+    ⊎ ((e : Explanation) × (v : Verdict) × IsExplanation bytes e v × (new ≡ numbers_with e v) × (status ≡ status_of v))
+
+-- a text whose first line is that of the verdict is handed out; or memory was refused, and nothing is written
+abbrev pub HandsText : List ℕ → List ℕ → List ℕ → ℕ → ℕ → ℕ → Type 0
+HandsText bytes old new was now answered =
+    ((answered ≡ 70) × AreKept old new was now)
+    ⊎ ((text : List ℕ) × (v : Verdict) × IsVerdict bytes v × BeginsWith (verdict_line v) text × Hands text (status_of v) old new now answered)

@@ -1,0 +1,60 @@
+-- How many bytes the lists of a module take.
+use Rattle.std.specs.Prelude.{ℕ, ◌+◌, ◌*◌, ◌^◌, ◌-◌, min, List, length, Option, Some, None, option_map}
+use Rattle.std.specs.List.{sum_by}
+use Rattle.checked_body.specs.declared.body.CheckedBody.{CheckedBody}
+use Rattle.wsyntax.specs.Types.{FuncType}
+use Rattle.wsyntax.specs.HeldElement.{HeldElement}
+use Rattle.wsyntax.specs.declared.module.Module.{Module}
+use Rattle.accepted_module.specs.declared.module_layout.Layout.{Layout}
+use Rattle.accepted_module.specs.declared.accepted.Accepted.{Accepted}
+
+-- the number, or the greatest of 64 bits where it is greater
+abbrev pub capped : ℕ → ℕ
+capped n = min n (2 ^ 64 - 1)
+
+-- the lists of a body: its runs of locals, its tokens, the targets of branch tables, long branches and cases
+abbrev pub body_bytes : CheckedBody → ℕ
+body_bytes b = 8 * length b.body.runs.items + 16 * length b.body.code.tokens.items + 4 * length b.body.code.targets.items
+    + 16 * length b.table.long.items + 16 * length b.table.cases.items
+
+abbrev pub bodies_bytes : List CheckedBody → ℕ
+bodies_bytes bs = 136 * length bs + sum_by body_bytes bs
+
+-- the value types of a function type, which lie in one list
+abbrev pub type_bytes : FuncType → ℕ
+type_bytes t = 1 * length t.params + 1 * length t.results
+
+abbrev pub types_bytes : List FuncType → ℕ
+types_bytes ts = 12 * length ts + sum_by type_bytes ts
+
+-- the functions of an element segment, which lie in one list
+abbrev pub element_bytes : HeldElement → ℕ
+element_bytes e = 4 * length e.functions
+
+abbrev pub elements_bytes : List HeldElement → ℕ
+elements_bytes es = 32 * length es + sum_by element_bytes es
+
+-- a list that may not be there, whose elements take so many bytes each
+abbrev pub kept_bytes : {X : Type 0} → ℕ → Option (List X) → ℕ
+kept_bytes each None = 0
+kept_bytes each (Some xs) = each * length xs
+
+-- what instances start from: first values of globals, places of segments, and the table and the memory, where they are kept
+abbrev pub layout_bytes : Layout → ℕ
+layout_bytes l = 8 * length l.globals.items + 4 * length l.element_places.items + 4 * length l.data_places.items
+    + kept_bytes 8 (option_map (λ v. v.items) l.table) + kept_bytes 1 (option_map (λ v. v.items) l.memory)
+
+-- 2.5 the module's imports, functions, tables, memories and globals
+abbrev pub space_bytes : Module → ℕ
+space_bytes m = 48 * length m.imports.items + 4 * length m.functions.items + 12 * length m.tables.items
+    + 12 * length m.memories.items + 32 * length m.globals.items
+
+-- 2.5 its exports, with the place of each in the order of names, the places of its bodies, and its segments
+abbrev pub named_bytes : Module → ℕ
+named_bytes m = 24 * length m.exports.items + 8 * length m.exports.items + 16 * length m.bodies.items + 48 * length m.«data».items + elements_bytes m.elements
+
+-- all of these, with the shape of each function, and the id of each type; the context has the types too, and the type of each function
+abbrev pub module_bytes : Accepted → ℕ
+module_bytes a = types_bytes a.«module».types + types_bytes a.«module».types + 4 * length a.context.context.functions
+    + space_bytes a.«module» + named_bytes a.«module» + bodies_bytes a.bodies.items
+    + 16 * length a.shapes.items + 4 * length a.type_ids.items + layout_bytes a.layout

@@ -1,0 +1,143 @@
+//! How a call ended, as numbers: `gate_call` of gate.h.
+
+ghost use Rattle.std.specs.Prelude.{◌≡◌};
+ghost use Rattle.batch_text.specs.declared.line.Line.TheVariants.{NotStarted};
+ghost use Rattle.c_api.specs.Ends.{trap_number, refusal_number, segment_of, outcome_numbers, end_numbers};
+
+use batch_text::{Line, Outcome, StartRefusal};
+use wnum::NumTrap;
+use wsyntax::Trap;
+
+/// How a call ended.
+#[repr(C)]
+#[derive(Clone, Copy)]
+pub struct GateCall {
+    /// 0 values, 1 trap, 2 out of fuel, 3 out of frames, 4 no such export, 5 an export that is no function, 6 arguments of other
+    /// types, 7 not started, 8 out of memory.
+    pub end: u32,
+    /// Of a trap and of a call that was not started, else 0.
+    pub reason: u32,
+    /// The number of the segment that lies outside, else 0.
+    pub place: u32,
+    /// What the call cost, the start function included; 0 where nothing ran.
+    pub fuel: u32,
+    /// How many values there are.
+    pub results: u64,
+}
+
+const _: () = prove!(size_of::<GateCall>() == 24 && align_of::<GateCall>() == 8);
+
+/// The number of a trap, as `gate_trap` of gate.h has it.
+fn number_of_trap(trap: Trap) -> u32
+    ensures { result ≡ trap_number trap }
+{
+    match trap {
+        Trap::Unreachable => 0,
+        Trap::OutOfBounds => 1,
+        Trap::UndefinedElement => 2,
+        Trap::UninitializedElement => 3,
+        Trap::TypeMismatch => 4,
+        Trap::ByOperator(NumTrap::DivideByZero) => 5,
+        Trap::ByOperator(NumTrap::IntegerOverflow) => 6,
+    }
+}
+
+/// The number of a refusal, as `gate_not_started` of gate.h has it, and the segment that lies outside, else 0.
+fn numbers_of_refusal(refusal: StartRefusal) -> (u32, u32)
+    ensures reason { result.0 ≡ refusal_number refusal }
+    ensures place { result.1 ≡ segment_of refusal }
+{
+    match refusal {
+        StartRefusal::HasImports => (0, 0),
+        StartRefusal::HasFloats => (1, 0),
+        StartRefusal::TableLimit => (2, 0),
+        StartRefusal::MemoryLimit => (3, 0),
+        StartRefusal::ElementOutside(segment) => (4, segment),
+        StartRefusal::DataOutside(segment) => (5, segment),
+    }
+}
+
+impl GateCall {
+    ghost use Rattle.c_api.specs.Beginnings.{begun_numbers};
+
+    /// An end of which only the number is told.
+    fn plain(end: u32) -> GateCall
+        ensures end { result.end ≡ end }
+        ensures reason { result.reason ≡ 0 }
+        ensures place { result.place ≡ 0 }
+        ensures fuel { result.fuel ≡ 0 }
+        ensures results { result.results ≡ 0 }
+    {
+        GateCall {
+            end,
+            reason: 0,
+            place: 0,
+            fuel: 0,
+            results: 0,
+        }
+    }
+
+    /// The end of a call that ran.
+    fn ran(end: u32, reason: u32, fuel: u32, results: u64) -> GateCall
+        ensures end { result.end ≡ end }
+        ensures reason { result.reason ≡ reason }
+        ensures place { result.place ≡ 0 }
+        ensures fuel { result.fuel ≡ fuel }
+        ensures results { result.results ≡ results }
+    {
+        GateCall {
+            end,
+            reason,
+            place: 0,
+            fuel,
+            results,
+        }
+    }
+
+    /// A start function that ended well, or that there is none.
+    pub(crate) fn begun(fuel: u32) -> GateCall
+        ensures { result ≡ begun_numbers fuel }
+    {
+        GateCall::ran(0, 0, fuel, 0)
+    }
+
+    /// The end of a call that ran and came to this.
+    fn of_outcome(outcome: &Outcome, fuel: u32) -> GateCall
+        ensures { result ≡ outcome_numbers outcome.now fuel }
+    {
+        match outcome {
+            Outcome::Values(values) => GateCall::ran(0, 0, fuel, values.len() as u64),
+            Outcome::Trapped(trap) => GateCall::ran(1, number_of_trap(*trap), fuel, 0),
+            Outcome::OutOfFuel => GateCall::ran(2, 0, fuel, 0),
+            Outcome::OutOfFrames => GateCall::ran(3, 0, fuel, 0),
+        }
+    }
+
+    /// The end of a call for which no instance was made.
+    fn not_started(refusal: StartRefusal) -> GateCall
+        ensures { result ≡ end_numbers (NotStarted refusal) }
+    {
+        let (reason, place) = numbers_of_refusal(refusal);
+        GateCall {
+            end: 7,
+            reason,
+            place,
+            fuel: 0,
+            results: 0,
+        }
+    }
+
+    /// How a call ended.
+    pub(crate) fn of(line: &Line) -> GateCall
+        ensures { result ≡ end_numbers line.now }
+    {
+        match line {
+            Line::Ran { outcome, fuel } => GateCall::of_outcome(outcome, *fuel),
+            Line::NoExport => GateCall::plain(4),
+            Line::NotAFunction => GateCall::plain(5),
+            Line::BadArguments => GateCall::plain(6),
+            Line::NotStarted(refusal) => GateCall::not_started(*refusal),
+            Line::NoMemory => GateCall::plain(8),
+        }
+    }
+}

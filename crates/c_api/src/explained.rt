@@ -1,0 +1,194 @@
+//! An explanation as numbers: `gate_explanation` of gate.h.
+
+ghost use Rattle.std.specs.Prelude.{◌≡◌, IfSome, option_map};
+ghost use Rattle.explain.specs.Numbers.{body_told, item_told, kind_told, opcode_told, place_told, section_told};
+ghost use Rattle.explain.specs.Told.{verdict_told};
+ghost use Rattle.c_api.specs.Explained.{kind_number, numbers_with, short, wide};
+ghost use Rattle.c_api.specs.Verdicts.{numbers_of, status_of};
+
+use crate::judged::GateVerdict;
+use crate::status::{MODULE_REFUSED, OK};
+use explain::{Explanation, ExplanationKind, Span};
+
+/// An explanation. Of what is not told the number is the greatest of its width.
+#[repr(C)]
+#[derive(Clone, Copy)]
+pub struct GateExplanation {
+    pub verdict: GateVerdict,
+    /// A kind, whose hundreds are the kind of the verdict.
+    pub why: u32,
+    /// The id of the section in which the rest lies.
+    pub section: u32,
+    /// The first byte of the token that is refused, or with which no token begins.
+    pub opcode: u32,
+    /// The place of the refused item in its section, from 0; none of a body.
+    pub item: u64,
+    /// The bytes of the refused body.
+    pub body_from: u64,
+    pub body_to: u64,
+    /// The bytes of the refused token; the same offset twice where reading stopped.
+    pub from: u64,
+    pub to: u64,
+}
+
+const _: () = prove!(size_of::<GateExplanation>() == 80 && align_of::<GateExplanation>() == 8);
+
+/// The number of a kind, as `gate_why` of gate.h has it.
+fn number_of_kind(kind: ExplanationKind) -> u32
+    ensures { result ≡ kind_number kind }
+{
+    match kind {
+        ExplanationKind::Accepted | ExplanationKind::Memory => 0,
+        ExplanationKind::TooLarge => 100,
+        ExplanationKind::Text => 201,
+        ExplanationKind::Gzip => 202,
+        ExplanationKind::ShortHeader => 203,
+        ExplanationKind::Magic => 204,
+        ExplanationKind::Version => 205,
+        ExplanationKind::Sections => 206,
+        ExplanationKind::Rule => 300,
+        ExplanationKind::BodyMalformed => 400,
+        ExplanationKind::Locals => 401,
+        ExplanationKind::Token => 402,
+        ExplanationKind::Else => 403,
+        ExplanationKind::Left => 404,
+        ExplanationKind::ShortBody => 405,
+        ExplanationKind::TooManyLocals => 500,
+        ExplanationKind::IllTyped => 600,
+    }
+}
+
+/// A number of 64 bits.
+fn wide_number(told: Option<usize>) -> u64
+    ensures { result ≡ wide told }
+{
+    match told {
+        Some(number) => number as u64,
+        None => u64::MAX,
+    }
+}
+
+/// A number of 32 bits.
+fn short_number(told: Option<u8>) -> u32
+    ensures { result ≡ short told }
+{
+    match told {
+        Some(number) => u32::from(number),
+        None => u32::MAX,
+    }
+}
+
+/// The numbers of the verdict; `None` where memory was refused.
+fn verdict_of(found: &Explanation<'_>) -> Option<GateVerdict>
+    ensures { result ≡ option_map numbers_of (verdict_told found.now) }
+{
+    match found.judged() {
+        Ok(()) => Some(GateVerdict::accepted()),
+        Err(refusal) => GateVerdict::of_refusal(refusal),
+    }
+}
+
+/// The status that goes with the verdict.
+pub(crate) fn status_with(found: &Explanation<'_>) -> u32
+    ensures { IfSome (verdict_told found.now) (λ v. result ≡ status_of v) }
+{
+    match found.judged() {
+        Ok(()) => OK,
+        Err(_) => MODULE_REFUSED,
+    }
+}
+
+/// The number of what is said.
+fn why(found: &Explanation<'_>) -> u32
+    ensures { result ≡ kind_number (kind_told found.now) }
+{
+    number_of_kind(found.kind())
+}
+
+/// The number of the section.
+fn section(found: &Explanation<'_>) -> u32
+    ensures { result ≡ short (section_told found.now) }
+{
+    short_number(found.section())
+}
+
+/// The number of the first byte of the token.
+fn opcode(found: &Explanation<'_>) -> u32
+    ensures { result ≡ short (opcode_told found.now) }
+{
+    short_number(found.opcode())
+}
+
+/// The number of the item.
+fn item(found: &Explanation<'_>) -> u64
+    ensures { result ≡ wide (item_told found.now) }
+{
+    wide_number(found.item())
+}
+
+/// The offset of the first byte of a span.
+fn first_of(span: Option<Span>) -> u64
+    ensures { result ≡ wide (option_map (λ s. s.from) span) }
+{
+    match span {
+        Some(span) => span.from as u64,
+        None => u64::MAX,
+    }
+}
+
+/// The offset after the last byte of a span.
+fn last_of(span: Option<Span>) -> u64
+    ensures { result ≡ wide (option_map (λ s. s.to) span) }
+{
+    match span {
+        Some(span) => span.to as u64,
+        None => u64::MAX,
+    }
+}
+
+/// The first byte of the body.
+fn body_from(found: &Explanation<'_>) -> u64
+    ensures { result ≡ wide (option_map (λ s. s.from) (body_told found.now)) }
+{
+    first_of(found.body())
+}
+
+/// The end of the body.
+fn body_to(found: &Explanation<'_>) -> u64
+    ensures { result ≡ wide (option_map (λ s. s.to) (body_told found.now)) }
+{
+    last_of(found.body())
+}
+
+/// The first byte of what is refused.
+fn from(found: &Explanation<'_>) -> u64
+    ensures { result ≡ wide (option_map (λ s. s.from) (place_told found.now)) }
+{
+    first_of(found.place())
+}
+
+/// The end of what is refused.
+fn to(found: &Explanation<'_>) -> u64
+    ensures { result ≡ wide (option_map (λ s. s.to) (place_told found.now)) }
+{
+    last_of(found.place())
+}
+
+impl GateExplanation {
+    /// The numbers of an explanation; `None` where memory was refused.
+    pub(crate) fn of(found: &Explanation<'_>) -> Option<GateExplanation>
+        ensures { result ≡ option_map (numbers_with found.now) (verdict_told found.now) }
+    {
+        Some(GateExplanation {
+            verdict: verdict_of(found)?,
+            why: why(found),
+            section: section(found),
+            opcode: opcode(found),
+            item: item(found),
+            body_from: body_from(found),
+            body_to: body_to(found),
+            from: from(found),
+            to: to(found),
+        })
+    }
+}

@@ -1,0 +1,37 @@
+//! Answers to C.
+
+ghost use Rattle.std.specs.Prelude.{◌≡◌, ◌⊎◌, string_bytes};
+ghost use Rattle.c_api.specs.Handed.{HandsOrKeeps};
+ghost use Rattle.c_api.specs.Handles.{IsAnswered};
+ghost use Rattle.c_api.specs.Runs.{LeavesAll};
+
+use crate::kept::Kept;
+use crate::report::ReportSlot;
+use crate::sending::sendable;
+use crate::status::NO_MEMORY;
+use batch::Answer;
+use std::alloc::Global;
+
+/// Writes an answer, where there is room for it, and else keeps it, and writes its length.
+pub(crate) fn hand_out(
+    alloc: Global,
+    answer: Answer,
+    out: &mut [u8],
+    length: &mut usize,
+    kept: &mut ReportSlot,
+) -> u32
+    requires { ∥ IsAnswered (string_bytes answer.text) answer.status ∥₁ }
+    ensures { ((result ≡ 70) × LeavesAll out.old out.new length.old length.new kept.old kept.new)
+        ⊎ HandsOrKeeps (string_bytes answer.text) answer.status out.old out.new length.new kept.old kept.new result }
+{
+    let answer = Kept { answer };
+    if answer.fits(out) {
+        return answer.read(out, length);
+    }
+    let Ok(report) = Box::new(alloc, sendable(answer)) else {
+        return NO_MEMORY;
+    };
+    let status = report.read(out, length);
+    *kept = ReportSlot::of(report);
+    status
+}

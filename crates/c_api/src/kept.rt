@@ -1,0 +1,36 @@
+//! What stands behind a `gate_report`.
+
+ghost use Rattle.std.specs.Prelude.{string_bytes};
+ghost use Rattle.c_api.specs.Handles.{IsAnswered};
+
+use crate::status::status_number;
+use crate::text::hand_text;
+use batch::Answer;
+
+/// An answer.
+#[derive(Drop)]
+pub struct Kept {
+    pub(crate) answer: Answer,
+    pub(crate) ghost answered: { ∥ IsAnswered (string_bytes answer.text) answer.status ∥₁ },
+}
+
+impl Kept {
+    ghost use Rattle.std.specs.Prelude.{◌≡◌, nat_le, length};
+    ghost use Rattle.c_api.specs.Statuses.{number_of};
+    ghost use Rattle.c_api.specs.Texts.{Hands};
+
+    /// Whether a buffer has room for the text.
+    pub(crate) fn fits(&self, out: &[u8]) -> bool
+        ensures { result ≡ nat_le (length (string_bytes self.now.answer.text)) (length out.now) }
+    {
+        self.answer.text.len() <= out.len()
+    }
+
+    /// Writes the text, where there is room for it, and its length; the status of the answer, or that the buffer is short.
+    pub(crate) fn read(&self, out: &mut [u8], length: &mut usize) -> u32
+        ensures { Hands (string_bytes self.now.answer.text) (number_of self.now.answer.status) out.old out.new length.new result }
+    {
+        let status = status_number(self.answer.status);
+        hand_text(self.answer.text.as_bytes(), status, out, length)
+    }
+}

@@ -1,0 +1,57 @@
+//! The library for C: each export calls a function of the crates below and hands its answer out as plain numbers. It starts no
+//! thread and waits for none. Its names and structs are those of gate.h.
+//!
+//! Proved: each export writes the numbers or the text of the definition with its status, or answers 4, 64 or 70 and writes
+//! nothing; a call on a handle leaves it alive and the same. What C owes, `gate.h` says, and nothing checks.
+#![tactic(auto)]
+
+mod beginning;
+mod build;
+mod calling;
+mod calling_on;
+mod counted;
+mod ending;
+mod explained;
+mod explaining;
+mod exported;
+mod exports;
+mod handing;
+mod held;
+mod instance;
+mod instance_exports;
+mod judged;
+mod judging;
+mod judging_exports;
+mod kept;
+mod live;
+mod loose;
+mod module;
+mod operating;
+mod pending;
+mod queries;
+mod report;
+mod sending;
+mod settings;
+mod size;
+mod starting;
+mod status;
+mod steps;
+mod text;
+mod value;
+
+pub use counted::ModuleCount;
+pub use ending::GateCall;
+pub use explained::GateExplanation;
+pub use exported::GateExport;
+pub use held::Held;
+pub use instance::{GateInstance, InstanceSlot, InstanceStatus};
+pub use judged::GateVerdict;
+pub use judging::{GateJudging, JudgingEnd, JudgingSlot, JudgingStatus};
+pub use kept::Kept;
+pub use live::Live;
+pub use module::{GateModule, ModuleSlot, ModuleStatus};
+pub use pending::Pending;
+pub use report::{GateReport, ReportSlot, ReportStatus};
+pub use settings::GateSettings;
+pub use steps::Steps;
+pub use value::GateValue;

@@ -1,0 +1,102 @@
+-- The lines of a check of many files.
+use Rattle.std.specs.Prelude.{◌≡◌, ◌⊎◌, ℕ, Bool, ◌&&◌, not, ◌==◌, List, [], ◌∷◌, ◌++◌, Option, Result, IsNone, IsSomeAnd, codes, flat_map, map, nat_le, if◌then◌else◌}
+use Rattle.wsyntax.specs.Binary.Shell.{module_limit}
+use Rattle.wsyntax.specs.Texts.Lines.{verdict_line}
+use Rattle.wsyntax.specs.Validation.Verdict.{Verdict, Accepted as accepted}
+use Rattle.verdict.specs.declared.refusal.Refusal.{Refusal}
+use Rattle.verdicts.specs.Verdicts.{AreVerdicts}
+use Rattle.batch.specs.Report.{given_verdict}
+use Rattle.explain.specs.Texts.{hex_pair}
+use Rattle.gate.specs.Checks.{Judges}
+use Rattle.gate.specs.Reads.{IsRead}
+use Rattle.gate.specs.Sources.{reason_text}
+use Rattle.gate.specs.declared.outcome.Outcome.{Outcome}
+use Rattle.gate.specs.declared.outcome.Outcome.TheVariants.{Accepted, Refused, Unread}
+use Rattle.gate.specs.declared.source.Reason.{Reason}
+use Rattle.gate.specs.declared.taking.Taken.{Taken}
+use Rattle.gate.specs.declared.taking.Taken.TheVariants as taken
+
+-- a byte that stands for itself: no control character and no backslash
+abbrev pub is_shown : ℕ → Bool
+is_shown b = nat_le 0x20 b && (not (b == 0x7F) && not (b == 0x5C))
+
+-- any other as two digits after a backslash
+abbrev pub shown_byte : ℕ → List ℕ
+shown_byte b = if is_shown b then b ∷ [] else 0x5C ∷ hex_pair b
+
+abbrev pub shown_name : List ℕ → List ℕ
+shown_name name = flat_map shown_byte name
+
+-- what comes of a module with this verdict
+abbrev pub outcome_of : Verdict → Outcome
+outcome_of accepted = Accepted
+outcome_of _ = Refused
+
+-- the one with the greater status
+abbrev pub worse : Outcome → Outcome → Outcome
+worse Unread p = Unread
+worse p Unread = Unread
+worse Refused p = Refused
+worse p Refused = Refused
+worse Accepted Accepted = Accepted
+
+-- a line: the name, a tab, and an end with its newline
+abbrev pub file_line : List ℕ → List ℕ → List ℕ
+file_line name end = shown_name name ++ (9 ∷ end)
+
+-- the end of the line of a file that cannot be read
+abbrev pub unread_end : Reason → List ℕ
+unread_end reason = codes "cannot read: " ++ (reason_text reason ++ (10 ∷ []))
+
+-- the line of a file of this name that holds this, and what comes of it
+abbrev pub IsFileLine : Option (List ℕ) → List ℕ → List ℕ → Outcome → Type 0
+IsFileLine held name line outcome =
+    ((v : Verdict) × Judges held v × (line ≡ file_line name (verdict_line v)) × (outcome ≡ outcome_of v))
+    ⊎ ((reason : Reason) × IsNone held × (line ≡ file_line name (unread_end reason)) × (outcome ≡ Unread))
+
+-- the lines of files of these names, in their order, and what comes of all
+abbrev pub AreFileLines : (List ℕ → Option (List ℕ)) → List (List ℕ) → List ℕ → Outcome → Type 0
+AreFileLines holds [] text outcome = (text ≡ []) × (outcome ≡ Accepted)
+AreFileLines holds (name ∷ names) text outcome =
+    (line : List ℕ) × (rest : List ℕ) × (p : Outcome) × (q : Outcome)
+    × IsFileLine (holds name) name line p × AreFileLines holds names rest q × (text ≡ line ++ rest) × (outcome ≡ worse p q)
+
+-- By what was read and judged.
+
+-- what was read of a path that holds this
+abbrev pub IsTaken : Option (List ℕ) → Taken → Type 0
+IsTaken held (taken.Bytes bytes) = IsRead module_limit held bytes.items
+IsTaken held (taken.Unread reason) = IsNone held
+
+-- the same of many
+abbrev pub AreTaken : (List ℕ → Option (List ℕ)) → List (List ℕ) → List Taken → Type 0
+AreTaken holds [] [] = Unit {0}
+AreTaken holds [] (t ∷ ts) = ⊥
+AreTaken holds (n ∷ ns) [] = ⊥
+AreTaken holds (n ∷ ns) (t ∷ ts) = IsTaken (holds n) t × AreTaken holds ns ts
+
+-- the bytes that are judged: none of a file that cannot be read
+abbrev pub taken_bytes : Taken → List ℕ
+taken_bytes (taken.Bytes bytes) = bytes.items
+taken_bytes (taken.Unread reason) = []
+
+-- the end of the line of what was read and so judged
+abbrev pub IsTakenEnd : Taken → Result (Unit {0}) Refusal → List ℕ → Outcome → Type 0
+IsTakenEnd (taken.Bytes bytes) judged end outcome = IsSomeAnd (given_verdict judged) (λ v. (end ≡ verdict_line v) × (outcome ≡ outcome_of v))
+IsTakenEnd (taken.Unread reason) judged end outcome = (end ≡ unread_end reason) × (outcome ≡ Unread)
+
+-- the whole line
+abbrev pub IsTakenLine : List ℕ → Taken → Result (Unit {0}) Refusal → List ℕ → Outcome → Type 0
+IsTakenLine name t judged line outcome = (end : List ℕ) × IsTakenEnd t judged end outcome × (line ≡ file_line name end)
+
+-- the same of many
+abbrev pub AreTakenLines : List (List ℕ) → List Taken → List (Result (Unit {0}) Refusal) → List ℕ → Outcome → Type 0
+AreTakenLines [] [] [] text outcome = (text ≡ []) × (outcome ≡ Accepted)
+AreTakenLines (n ∷ ns) (t ∷ ts) (j ∷ js) text outcome =
+    (line : List ℕ) × (rest : List ℕ) × (p : Outcome) × (q : Outcome)
+    × IsTakenLine n t j line p × AreTakenLines ns ts js rest q × (text ≡ line ++ rest) × (outcome ≡ worse p q)
+AreTakenLines _ _ _ text outcome = ⊥
+
+-- the same by some verdicts on what was read
+abbrev pub AreJudgedLines : List (List ℕ) → List Taken → List ℕ → Outcome → Type 0
+AreJudgedLines names taken text outcome = (judged : List (Result (Unit {0}) Refusal)) × AreVerdicts (map taken_bytes taken) judged × AreTakenLines names taken judged text outcome

@@ -1,0 +1,62 @@
+//! How far the program is, for whoever waits.
+use std::io;
+use std::io::Write;
+
+/// So many lines stand between two reports, or more, where more are written at once.
+const LINES: u64 = 1_000;
+
+/// How many lines were written, and how many there were at the last report.
+#[derive(Clone, Copy)]
+struct Lines {
+    written: u64,
+    told: u64,
+}
+
+impl Lines {
+    /// Counts the lines that end in these bytes, and reports where there are enough. A report that fails changes nothing.
+    fn count<E: Write>(&mut self, bytes: &[u8], err: &mut E) {
+        let more = bytes.iter().filter(|byte| **byte == b'\n').count() as u64;
+        self.written = self.written.saturating_add(more);
+        if self.written.saturating_sub(self.told) >= LINES {
+            self.told = self.written;
+            let _ = writeln!(err, "gate: {} lines", self.written);
+        }
+    }
+}
+
+/// Hands on what is written to `out`, and reports to `err` how many lines that was.
+#[derive(Drop)]
+pub struct Progress<O, E> {
+    out: O,
+    err: E,
+    lines: Lines,
+}
+
+impl<O: Write, E: Write> Progress<O, E> {
+    ghost use Rattle.std.specs.Prelude.{◌≡◌};
+
+    /// Nothing is written yet.
+    pub fn new(out: O, err: E) -> Self
+        ensures { O.contents result.out ≡ O.contents out }
+    {
+        let lines = Lines {
+            written: 0,
+            told: 0,
+        };
+        Progress { out, err, lines }
+    }
+}
+
+impl<O: Write, E: Write> Write for Progress<O, E> {
+    ghost contents = { λ p. O.contents p.out };
+
+    fn write(&mut self, buf: &[u8]) -> io::Result<usize> {
+        let taken = self.out.write(buf)?;
+        self.lines.count(&buf[..taken], &mut self.err);
+        Ok(taken)
+    }
+
+    fn flush(&mut self) -> io::Result<()> {
+        self.out.flush()
+    }
+}

@@ -1,6 +1,0 @@
-use Rattle.std.proofs.Common.{◌≡◌, take}
-use Rattle.gate_c.specs.Values.{overlay}
-use Rattle.gate_c.proofs.calling.put_values.Given as goal
-
-abbrev pub invariant-loop-place : goal.invariant-loop-place
-invariant-loop-place l = l.results ≡ overlay (take l.place l.values) l.initial.results

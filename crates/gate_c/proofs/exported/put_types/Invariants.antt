@@ -1,6 +1,0 @@
-use Rattle.std.proofs.Common.{◌≡◌, ◌++◌, map, take, drop}
-use Rattle.gate_c.specs.Exported.{type_byte}
-use Rattle.gate_c.proofs.exported.put_types.Given as goal
-
-abbrev pub invariant-loop-place : goal.invariant-loop-place
-invariant-loop-place l = l.out ≡ map type_byte (take l.place l.types) ++ drop l.place l.initial.out

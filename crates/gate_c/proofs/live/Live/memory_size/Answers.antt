@@ -1,5 +1,0 @@
-use Rattle.gate_c.proofs.Instances.{is_instance}
-use Rattle.gate_c.proofs.live.Live.memory_size.Goals as goal
-
-pub attached-instance-requires : goal.attached-instance-requires
-attached-instance-requires c = is_instance c.args.self.accepted.value c.args.self.state c.in-Some.state c.args.self.held c.in-Some.is

@@ -1,5 +1,0 @@
-use Rattle.texts.proofs.Decimals.{IsReadTo}
-use Rattle.texts.proofs.number.read_decimal.Given as goal
-
-abbrev pub invariant-loop-digit : goal.invariant-loop-digit
-invariant-loop-digit l = IsReadTo l.digits l.digit-index l.number

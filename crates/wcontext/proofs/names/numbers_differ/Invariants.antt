@@ -1,6 +1,0 @@
-use Rattle.std.proofs.Common.{◌≢◌}
-use Rattle.std.specs.List.{AllAdjacentBelow}
-use Rattle.wcontext.proofs.names.numbers_differ.Given as goal
-
-abbrev pub invariant-loop-i : goal.invariant-loop-i
-invariant-loop-i l = AllAdjacentBelow (λ a b. a ≢ b) l.numbers l.i

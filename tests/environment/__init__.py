@@ -1,0 +1,1 @@
+"""The parts of hostile_environment.py: `gate` has what they share."""

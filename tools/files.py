@@ -1,0 +1,17 @@
+"""The repository's folder, and files as text or bytes."""
+import os
+
+ROOT = os.path.dirname(os.path.dirname(os.path.realpath(__file__)))
+
+
+def read(path):
+    """The text of a file; a relative path is one of the repository."""
+    with open(os.path.join(ROOT, path), encoding='utf-8') as file:
+        return file.read()
+
+
+def write(path, contents):
+    """Writes text or bytes into a file; a relative path is one of the repository."""
+    is_text = isinstance(contents, str)
+    with open(os.path.join(ROOT, path), 'w' if is_text else 'wb', encoding='utf-8' if is_text else None) as file:
+        file.write(contents)
