@@ -13,6 +13,7 @@ mod branch;
 mod entry;
 mod floats;
 mod function_shape;
+mod packed_body;
 mod table;
 
 pub use body::CheckedBody;
@@ -20,4 +21,5 @@ pub use branch::Branch;
 pub use entry::entry_at;
 pub use floats::{is_float, runs_have_floats, token_has_floats};
 pub use function_shape::FunctionShape;
+pub use packed_body::PackedBody;
 pub use table::SideTable;

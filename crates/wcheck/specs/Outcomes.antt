@@ -1,11 +1,12 @@
 -- What the pass over a body comes to, in the code.
 use Rattle.std.specs.Prelude.{◌≡◌, ◌<◌, ◌^◌, ℕ, Bool, length}
-use Rattle.wsyntax.specs.declared.Body.{Body}
 use Rattle.wsyntax.specs.declared.module.Expression.{Expression}
-use Rattle.wsyntax.specs.Modules.{BodyShape, tokens_of, body_shape}
+use Rattle.wsyntax.specs.Modules.{BodyShape, tokens_of}
 use Rattle.wsyntax.specs.Execution.Start.{body_has_floats}
 use Rattle.wsyntax.specs.Validation.Context.{Stack, Context}
 use Rattle.wsyntax.specs.Validation.ModuleContext.{function_context}
+use Rattle.checked_body.specs.declared.packed_body.PackedBody.{PackedBody}
+use Rattle.checked_body.specs.Packing.{packed_shape}
 use Rattle.wcheck.specs.declared.body.BodyPass.{BodyPass}
 use Rattle.wcheck.specs.declared.body.BodyPass.TheVariants as outcome
 use Rattle.side_table.specs.Pass.{Building, Through, Refused, pass_all}
@@ -24,8 +25,8 @@ ReportsFloats b (outcome.Passes built floats) = floats ≡ body_has_floats b
 ReportsFloats b (outcome.Refused k) = Unit {0}
 
 -- the body of function f passes, this was written down of it, each token can hold its entry, and it is known whether it has floats
-pub record HasPassed (C : Context) (f : ℕ) (b : Body) (built : Building) (floats : Bool) : Type 0 where
-  pub passes : pass_all (function_context C f b.runs.items) (result_of C f) (tokens_of b.code) ≡ Through built.notes
-  pub suit : AllSuit b.code.tokens.items built.notes.entries
-  pub few : length b.code.tokens.items < 2 ^ 31
-  pub noted : floats ≡ body_has_floats (body_shape b)
+pub record HasPassed (C : Context) (f : ℕ) (b : PackedBody) (built : Building) (floats : Bool) : Type 0 where
+  pub passes : pass_all (function_context C f b.runs.items) (result_of C f) (packed_shape b).code ≡ Through built.notes
+  pub suit : AllSuit b.code.tokens built.notes.entries
+  pub few : length b.code.tokens < 2 ^ 31
+  pub noted : floats ≡ body_has_floats (packed_shape b)

@@ -2,21 +2,23 @@ ghost use Rattle.std.specs.Prelude.{◌≡◌, ◌<◌, ◌^◌, length, IfOk, I
 ghost use Rattle.wsyntax.specs.BranchTables.{FollowAll};
 ghost use Rattle.wsyntax.specs.Modules.{body_shape};
 ghost use Rattle.side_table.specs.Written.{AllSuit, IsWritten};
-ghost use Rattle.checked_body.specs.Bodies.{IsTypedAs, FitsAs};
-ghost use Rattle.wcheck.specs.Kept.{KeepsBody};
+ghost use Rattle.checked_body.specs.declared.packed_body.PackedBody.{PackedBody as Packed};
+ghost use Rattle.checked_body.specs.Packing.{packed_shape, IsPackedFrom};
+ghost use Rattle.checked_body.specs.Bodies.{shape_of, IsTypedAs, FitsAs};
+ghost use Rattle.wcheck.specs.Kept.{KeepsBody, KeepsUnpacked};
 ghost use Rattle.wcheck.specs.Outcomes.{HasPassed};
 ghost use Rattle.wcheck.specs.Refusals.{RefusedFor};
 
 use crate::body::{BodyPass, pass_body};
 use crate::checker::Checker;
-use checked_body::{CheckedBody, SideTable};
+use checked_body::{CheckedBody, PackedBody, SideTable};
 use side_table::{
     TableBuilder, pass_is_algorithm, passed_bounded, passed_fits, passed_is_code, written_fills,
 };
 use soundness::validation::{accepted_is_typed, refused_at_first_fault};
 use std::alloc::{AllocError, Global};
 use thiserror::Error;
-use wsyntax::{Body, Expression};
+use wsyntax::Body;
 
 /// Why a body is refused.
 #[derive(Clone, Copy, Debug, PartialEq, Eq, Error)]
@@ -32,28 +34,33 @@ pub enum CheckFault {
 /// A body whose tokens hold where its branches go on, and the rest of its side table.
 #[derive(Drop)]
 struct WrittenBody {
-    body: Body,
+    body: PackedBody,
     table: SideTable,
 }
 
 /// Writes into the tokens of a body where they go on, as the pass over them wrote it down.
-fn written(alloc: Global, body: Body, builder: TableBuilder) -> Result<WrittenBody, AllocError>
-    requires suit { AllSuit body.code.tokens.items builder.notes.entries }
-    requires few { length body.code.tokens.items < 2 ^ 31 }
+fn written(
+    alloc: Global,
+    body: PackedBody,
+    builder: TableBuilder,
+) -> Result<WrittenBody, AllocError>
+    requires suit { AllSuit body.code.tokens builder.notes.entries }
+    requires few { length body.code.tokens < 2 ^ 31 }
     ensures unchecked { IfOk result (λ w. KeepsBody body w.body) }
-    ensures written { IfOk result (λ w. IsWritten w.body.code.tokens.items builder.notes w.table) }
+    ensures written { IfOk result (λ w. IsWritten w.body.code.tokens builder.notes w.table) }
 {
-    let Body {
+    let PackedBody {
         runs,
-        code: Expression {
-            mut tokens,
+        mut code,
+        targets,
+    } = body;
+    let table = builder.write_into(alloc, &mut code)?;
+    Ok(WrittenBody {
+        body: PackedBody {
+            runs,
+            code,
             targets,
         },
-    } = body;
-    let table = builder.write_into(alloc, &mut tokens)?;
-    let code = Expression { tokens, targets };
-    Ok(WrittenBody {
-        body: Body { runs, code },
         table,
     })
 }
@@ -64,15 +71,15 @@ pub fn keep_body(
     alloc: Global,
     checker: &Checker<'_>,
     func: u32,
-    body: Body,
+    body: PackedBody,
     builder: TableBuilder,
     has_floats: bool,
 ) -> Result<CheckedBody, AllocError>
     requires func { func < length checker.now.outside.functions }
     requires passed { HasPassed checker.now.outside func body builder has_floats }
-    ensures kept { IfOk result (λ c. body_shape c.body ≡ body_shape body) }
+    ensures kept { IfOk result (λ c. shape_of c ≡ packed_shape body) }
     ensures unchecked { IfOk result (λ c. KeepsBody body c.body) }
-    ensures typed { IfOk result (λ c. IsTypedAs checker.now.outside func c.body) }
+    ensures typed { IfOk result (λ c. IsTypedAs checker.now.outside func (shape_of c)) }
     ensures fits { IfOk result (λ c. FitsAs checker.now.outside func c) }
 {
     accepted_is_typed();
@@ -85,6 +92,27 @@ pub fn keep_body(
         Ok(WrittenBody { body, table }) => Ok(CheckedBody::new(body, table, has_floats)),
         Err(fault) => Err(fault),
     }
+}
+
+/// Packs the tokens of a body, and keeps it as `keep_body` does.
+fn packed_and_kept(
+    alloc: Global,
+    checker: &Checker<'_>,
+    func: u32,
+    body: Body,
+    builder: TableBuilder,
+    has_floats: bool,
+) -> Result<CheckedBody, AllocError>
+    requires func { func < length checker.now.outside.functions }
+    requires passed { (packed : Packed) → IsPackedFrom body packed → HasPassed checker.now.outside func packed builder has_floats }
+    requires few { length body.code.tokens.items < 2 ^ 31 }
+    ensures kept { IfOk result (λ c. shape_of c ≡ body_shape body) }
+    ensures unchecked { IfOk result (λ c. KeepsUnpacked body c.body) }
+    ensures typed { IfOk result (λ c. IsTypedAs checker.now.outside func (shape_of c)) }
+    ensures fits { IfOk result (λ c. FitsAs checker.now.outside func c) }
+{
+    let packed = PackedBody::of(alloc, body)?;
+    keep_body(alloc, checker, func, packed, builder, has_floats)
 }
 
 /// Checks the body of the function of that index, imported ones counted: it is taken exactly where it is typed, and
@@ -108,9 +136,9 @@ pub fn check_body(
     requires func { func < length checker.old.outside.functions }
     requires few { length body.code.tokens.items < 2 ^ 31 }
     requires follow { FollowAll 0 body.code.tokens.items (length body.code.targets.items) }
-    ensures kept { IfOk result (λ c. body_shape c.body ≡ body_shape body) }
-    ensures unchecked { IfOk result (λ c. KeepsBody body c.body) }
-    ensures typed { IfOk result (λ c. IsTypedAs checker.old.outside func c.body) }
+    ensures kept { IfOk result (λ c. shape_of c ≡ body_shape body) }
+    ensures unchecked { IfOk result (λ c. KeepsUnpacked body c.body) }
+    ensures typed { IfOk result (λ c. IsTypedAs checker.old.outside func (shape_of c)) }
     ensures fits { IfOk result (λ c. FitsAs checker.old.outside func c) }
     ensures refused { IfErr result (λ fault. RefusedFor checker.old.outside func body fault) }
     ensures outside { checker.new.outside ≡ checker.old.outside }
@@ -123,7 +151,7 @@ pub fn check_body(
                 builder,
                 has_floats,
             },
-        ) => match keep_body(alloc, checker, func, body, builder, has_floats) {
+        ) => match packed_and_kept(alloc, checker, func, body, builder, has_floats) {
             Ok(checked) => Ok(checked),
             Err(_) => Err(CheckFault::Memory),
         },
