@@ -2,11 +2,12 @@
 use Rattle.std.proofs.Common.{◌≡◌, ℕ, ◌<◌, Bool, List, length, sym, ap, subst, ◌∙◌, arith}
 use Rattle.std.specs.Prelude.{All}
 use Rattle.wsyntax.specs.Types.{FuncType}
-use Rattle.wsyntax.specs.Modules.{ModuleShape, body_shape}
+use Rattle.wsyntax.specs.Modules.{ModuleShape}
 use Rattle.wsyntax.specs.Execution.Start.{has_floats}
 use Rattle.wsyntax.specs.Validation.ModuleContext.{IndexedContext}
 use Rattle.checked_body.specs.declared.function_shape.FunctionShape.{FunctionShape}
 use Rattle.checked_body.specs.declared.body.CheckedBody.{CheckedBody}
+use Rattle.checked_body.specs.Bodies.{shape_of}
 use Rattle.accepted_module.specs.TypeIds.{AreTypeIds}
 use Rattle.accepted_module.specs.FunctionShapes.{function_shapes}
 use Rattle.wsyntax.specs.Binary.Shell.{FewLocals}
@@ -34,6 +35,6 @@ numbered_same types numbers numbers' n h = omega (arith, h.count, ap length n)
 pub paired_same : (functions : List ℕ) (lent all : List CheckedBody) (m : ModuleShape) (x : IndexedContext) → functions ≡ m.functions → lent ≡ all → IsJudged m x all → length functions ≡ length lent
 paired_same functions lent all m x f is judged = omega (arith, judged.paired, judged.bodies.count, ap length f, ap length is)
 
-pub few_same : (lent all : List CheckedBody) (m : ModuleShape) (x : IndexedContext) → lent ≡ all → IsJudged m x all → All (λ b. FewLocals (body_shape b.body)) lent
+pub few_same : (lent all : List CheckedBody) (m : ModuleShape) (x : IndexedContext) → lent ≡ all → IsJudged m x all → All (λ b. FewLocals (shape_of b)) lent
 few_same lent all m x is judged =
-    subst (λ (bs : List CheckedBody). All (λ b. FewLocals (body_shape b.body)) bs) (sym is) (all_few _ _ _ _ all judged.bodies)
+    subst (λ (bs : List CheckedBody). All (λ b. FewLocals (shape_of b)) bs) (sym is) (all_few _ _ _ _ all judged.bodies)

@@ -2,24 +2,24 @@
 -- No rule is broken, the context is the module's, and each function has its checked body, typed, with a side table that fits.
 use Rattle.std.specs.Prelude.{◌≡◌, ℕ, ◌+◌, List, Some, length, slice_get, map}
 use Rattle.wsyntax.specs.Instructions.{Code}
-use Rattle.wsyntax.specs.Modules.{ModuleShape, BodyShape, body_shape}
+use Rattle.wsyntax.specs.Modules.{ModuleShape, BodyShape}
 use Rattle.wsyntax.specs.Binary.Shell.{SpellsBody, FewLocals}
 use Rattle.wsyntax.specs.Validation.Context.{Context}
 use Rattle.wsyntax.specs.Validation.ModuleContext.{module_context, imported_functions, IndexedContext, indexed_context}
 use Rattle.wsyntax.specs.Validation.Rules.{NoneBroken}
 use Rattle.checked_body.specs.declared.body.CheckedBody.{CheckedBody}
-use Rattle.checked_body.specs.Bodies.{IsTypedAs, FitsAs}
+use Rattle.checked_body.specs.Bodies.{IsTypedAs, FitsAs, shape_of}
 use Rattle.checked_body.specs.Promise.{IsCodeOf}
 
 -- One body.
 
 -- 3.4.1 the checked body is that of function f: the bytes spell it, it declares few locals, its tokens are those of a tree, it is typed as the body of f, and its side table fits
 pub record IsCheckedFrom (C : Context) (f : ℕ) (bytes : List ℕ) (checked : CheckedBody) : Type 0 where
-  pub spelled : SpellsBody bytes (body_shape checked.body)
-  pub few : FewLocals (body_shape checked.body)
+  pub spelled : SpellsBody bytes (shape_of checked)
+  pub few : FewLocals (shape_of checked)
   pub code : Code
-  pub tree : IsCodeOf code checked.body
-  pub typed : IsTypedAs C f checked.body
+  pub tree : IsCodeOf code (shape_of checked)
+  pub typed : IsTypedAs C f (shape_of checked)
   pub fits : FitsAs C f checked
 
 -- it is that of the bytes at that place, after `imported` imported functions
@@ -36,7 +36,7 @@ pub record AreChecked (C : Context) (imported : ℕ) (bodies : List (List ℕ)) 
 
 -- 2.5.3 what they hold
 abbrev pub shapes_of : List CheckedBody → List BodyShape
-shapes_of all = map (λ c. body_shape c.body) all
+shapes_of all = map (λ c. shape_of c) all
 
 -- The module.
 

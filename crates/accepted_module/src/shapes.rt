@@ -1,9 +1,9 @@
 //! What the entry of a function needs to know of it.
 ghost use Rattle.std.specs.Prelude.{◌≡◌, ◌<◌, ◌^◌, IfOk, All, length};
 ghost use Rattle.wsyntax.specs.FuncTypes.{func_type_of, IsShort};
-ghost use Rattle.wsyntax.specs.Modules.{body_shape};
 ghost use Rattle.wsyntax.specs.Binary.Sections.{locals_of};
 ghost use Rattle.wsyntax.specs.Binary.Shell.{FewLocals};
+ghost use Rattle.checked_body.specs.Bodies.{shape_of};
 ghost use Rattle.accepted_module.specs.FunctionShapes.{function_shape, function_shapes};
 
 use checked_body::{CheckedBody, FunctionShape};
@@ -20,7 +20,7 @@ fn count_locals(runs: &[LocalRun]) -> u32
 /// What the entry of a function of that type, which has that id, needs to know.
 fn function_shape(of_type: FuncType<'_>, number: u32, body: &CheckedBody) -> FunctionShape
     requires short { IsShort of_type }
-    requires few { FewLocals (body_shape body.now.body) }
+    requires few { FewLocals (shape_of body.now) }
     ensures { result ≡ function_shape (func_type_of of_type.entry) number body.now }
 {
     FunctionShape {
@@ -42,7 +42,7 @@ pub(crate) fn function_shapes(
     requires typed { All (λ y. y < length types.now) functions.now }
     requires numbered { length numbers.now ≡ length types.now }
     requires paired { length functions.now ≡ length bodies.now }
-    requires few { All (λ b. FewLocals (body_shape b.body)) bodies.now }
+    requires few { All (λ b. FewLocals (shape_of b)) bodies.now }
     ensures { IfOk result (λ v. v.items ≡ function_shapes types.now numbers.now functions.now bodies.now) }
 {
     let mut shapes = Vec::new(alloc);

@@ -3,13 +3,14 @@ use Rattle.std.proofs.Common.{◌≡◌, ℕ, suc, ◌^◌, ◌<◌, false, List
 use Rattle.std.specs.Prelude.{slice_get, map, IfSome}
 use Rattle.std.proofs.lemmas.List.{length-map}
 use Rattle.std.proofs.lemmas.Option.{same_Some}
-use Rattle.wsyntax.specs.Modules.{ModuleShape, BodyShape, module_shape, body_shape}
+use Rattle.wsyntax.specs.Modules.{ModuleShape, BodyShape, module_shape}
 use Rattle.wsyntax.specs.Binary.Shell.{SpellsBody, SpellsBodies, Spells}
 use Rattle.wsyntax.specs.Validation.Verdict.{IsVerdict, Accepted, TooLarge, Malformed, RuleBroken, BodyRefused}
 use Rattle.wsyntax.specs.Texts.Calls.{CallsText, TooLong, BadLine, Good, IsCalls}
 use Rattle.wsyntax.specs.Texts.Lines.{verdict_line}
 use Rattle.wsyntax.specs.Texts.Report.{CallEnd, report_text}
 use Rattle.wsyntax.specs.Texts.Answer.{Limits, IsAnswer, AnswerOn, calls_line}
+use Rattle.checked_body.specs.Bodies.{shape_of}
 use Rattle.batch_text.specs.Calls.{ReadsCalls, calls_of}
 use Rattle.batch_text.specs.Ends.{end_of, ends_of}
 use Rattle.batch_text.specs.Parts.{AreParts, parts_text}
@@ -52,7 +53,7 @@ spell_bodies shape (b ∷ bs) (x ∷ xs) count each =
 pub spelled : (bytes : List ℕ) (a : AcceptedModule) → IsAcceptedFrom bytes a → Spells bytes (module_shape a.«module») (shapes_of a.bodies.items)
 spelled bytes a h = (
   h.shell,
-  spell_bodies (λ c. body_shape c.body) (module_shape a.«module»).bodies a.bodies.items h.bodies.count
+  spell_bodies (λ c. shape_of c) (module_shape a.«module»).bodies a.bodies.items h.bodies.count
       (λ k checked e. let (s, at, from) = h.bodies.each k checked e in (s, at, from.spelled)),
 )
 

@@ -2,8 +2,9 @@
 use Rattle.std.proofs.Common.{◌≡◌, ℕ, suc, List, [], ◌∷◌, Some, length, refl, sym, subst, arith}
 use Rattle.std.specs.Prelude.{slice_get, map}
 use Rattle.std.proofs.lemmas.Option.{same_Some}
-use Rattle.wsyntax.specs.Modules.{BodyShape, module_shape, body_shape}
+use Rattle.wsyntax.specs.Modules.{BodyShape, module_shape}
 use Rattle.wsyntax.specs.Binary.Shell.{SpellsBody, SpellsBodies, Spells}
+use Rattle.checked_body.specs.Bodies.{shape_of}
 use Rattle.accepted_module.specs.Kept.{IsAcceptedFrom}
 use Rattle.accepted_module.specs.Judgement.{shapes_of}
 use Rattle.accepted_module.specs.declared.accepted.Accepted.{Accepted}
@@ -24,6 +25,6 @@ spell_bodies shape (b ∷ bs) (x ∷ xs) count each =
 pub spelled : (bytes : List ℕ) (a : Accepted) → IsAcceptedFrom bytes a → Spells bytes (module_shape a.«module») (shapes_of a.bodies.items)
 spelled bytes a h = (
   h.shell,
-  spell_bodies (λ c. body_shape c.body) (module_shape a.«module»).bodies a.bodies.items h.bodies.count
+  spell_bodies (λ c. shape_of c) (module_shape a.«module»).bodies a.bodies.items h.bodies.count
       (λ k checked e. let (s, at, from) = h.bodies.each k checked e in (s, at, from.spelled)),
 )

@@ -12,9 +12,9 @@ use Rattle.accepted_module.specs.declared.accepted.Accepted.{Accepted}
 abbrev pub capped : ℕ → ℕ
 capped n = min n (2 ^ 64 - 1)
 
--- the lists of a body: its runs of locals, its tokens, the targets of branch tables, long branches and cases
+-- the lists of a body: its runs of locals, its tokens, those of them that lie in the pool, the targets of branch tables, long branches and cases
 abbrev pub body_bytes : CheckedBody → ℕ
-body_bytes b = 8 * length b.body.runs.items + 16 * length b.body.code.tokens.items + 4 * length b.body.code.targets.items
+body_bytes b = 8 * length b.body.runs.items + 8 * length b.body.code.tokens + 16 * length b.body.code.pool + 4 * length b.body.targets.items
     + 16 * length b.table.long.items + 16 * length b.table.cases.items
 
 abbrev pub bodies_bytes : List CheckedBody → ℕ

@@ -7,6 +7,7 @@ ghost use Rattle.c_api.specs.Sizes.{layout_bytes, kept_bytes, space_bytes, named
 
 use accepted_module::Layout;
 use checked_body::{Branch, CheckedBody, FunctionShape};
+use packed_code::Packed;
 use std::mem::size_of;
 use verdict::Accepted;
 use wsyntax::{
@@ -17,6 +18,8 @@ use wsyntax::{
 const _: () = prove!(size_of::<CheckedBody>() == 136);
 
 const _: () = prove!(size_of::<LocalRun>() == 8);
+
+const _: () = prove!(size_of::<Packed>() == 8);
 
 const _: () = prove!(size_of::<Token>() == 16);
 
@@ -52,7 +55,8 @@ fn with_body(total: u64, body: &CheckedBody) -> u64
     ensures { result ≡ capped (total + body_bytes body.now) }
 {
     let total = with_list(total, body.locals().len(), 8);
-    let total = with_list(total, body.tokens().len(), 16);
+    let total = with_list(total, body.code().len(), 8);
+    let total = with_list(total, body.code().pool_len(), 16);
     let total = with_list(total, body.targets().len(), 4);
     let total = with_list(total, body.long().len(), 16);
     with_list(total, body.cases().len(), 16)

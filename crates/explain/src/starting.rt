@@ -1,9 +1,10 @@
 //! Why no instance of an accepted module starts (4.5.4), and where what hinders it stands.
 ghost use Rattle.std.specs.Prelude.{◌≡◌, [], IfSome, option_map, position};
 ghost use Rattle.wsyntax.specs.FuncTypes.{func_type_of};
-ghost use Rattle.wsyntax.specs.Modules.{body_shape, global_shape, module_shape, seen};
+ghost use Rattle.wsyntax.specs.Modules.{global_shape, module_shape, seen};
 ghost use Rattle.wsyntax.specs.Execution.Start.{any, has_floats, is_float, run_has_floats, start_refusal};
 ghost use Rattle.wsyntax.specs.Execution.Start.{token_has_floats, type_has_floats};
+ghost use Rattle.checked_body.specs.Bodies.{shape_of};
 ghost use Rattle.accepted_module.specs.Floats.{global_has_floats};
 ghost use Rattle.accepted_module.specs.Judgement.{shapes_of};
 ghost use Rattle.accepted_module.specs.Layouts.{IsLayoutOf};
@@ -98,7 +99,7 @@ fn float_token(tokens: &[Token]) -> Option<usize>
 
 /// Where floats stand first in the body of that function.
 fn float_in_body(func: usize, body: &CheckedBody) -> FloatPlace
-    ensures { result ≡ float_in func (body_shape body.now.body) }
+    ensures { result ≡ float_in func (shape_of body.now) }
 {
     match float_run(body.locals()) {
         Some(run) => FloatPlace::Local { func, run },

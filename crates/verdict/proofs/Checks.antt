@@ -11,7 +11,7 @@ use Rattle.wsyntax.specs.Validation.Laws.{TypedIsAccepted, RefusedAtFirstFault}
 use Rattle.wsyntax.specs.Validation.ModuleContext.{function_context}
 use Rattle.wsyntax.specs.Validation.Verdict.{result_of}
 use Rattle.checked_body.specs.declared.body.CheckedBody.{CheckedBody}
-use Rattle.checked_body.specs.Bodies.{IsTypedAs, FitsAs}
+use Rattle.checked_body.specs.Bodies.{IsTypedAs, FitsAs, shape_of}
 use Rattle.wcheck.specs.Refusals.{IsFaultyAt}
 use Rattle.verdict.specs.declared.refusal.BodyRefusal.TheVariants.{IllTyped}
 use Rattle.verdict.specs.Judged.{body_refusal_of}
@@ -33,7 +33,7 @@ faulty_refusal agrees law C f bytes b at s few fault =
     refusal_typing agrees C f bytes (body_shape b) (Refused at) s few (ap (alg D r) (sym t.1) ∙ (law D r t.0 at).1 (fault t.0 t.1))
 
 -- what is decoded and checked has a tree, too
-pub checked_from : (C : Context) (f : ℕ) (bytes : List ℕ) (c : CheckedBody) → SpellsBody bytes (body_shape c.body) → FewLocals (body_shape c.body) → IsTypedAs C f c.body → FitsAs C f c → IsCheckedFrom C f bytes c
+pub checked_from : (C : Context) (f : ℕ) (bytes : List ℕ) (c : CheckedBody) → SpellsBody bytes (shape_of c) → FewLocals (shape_of c) → IsTypedAs C f (shape_of c) → FitsAs C f c → IsCheckedFrom C f bytes c
 checked_from C f bytes c s few typed fits =
-    let t = tree_of bytes (body_shape c.body) s in
+    let t = tree_of bytes (shape_of c) s in
     record { spelled = s; few = few; code = t.0; tree = t.1; typed = typed; fits = fits }

@@ -3,27 +3,28 @@ use Rattle.std.proofs.Common.{◌≡◌, ℕ, List, Option, Some, None, refl, sy
 use Rattle.std.specs.Prelude.{slice_get, option_map}
 use Rattle.std.proofs.lemmas.List.{length-map}
 use Rattle.std.proofs.lemmas.Option.{slice_get-map}
-use Rattle.wsyntax.specs.Modules.{ModuleShape, BodyShape, body_shape}
+use Rattle.wsyntax.specs.Modules.{ModuleShape, BodyShape}
 use Rattle.wsyntax.specs.Validation.ModuleContext.{IndexedContext, module_context}
 use Rattle.wsyntax.specs.Validation.Verdict.{function_at}
 use Rattle.checked_body.specs.declared.body.CheckedBody.{CheckedBody}
+use Rattle.checked_body.specs.Bodies.{shape_of}
 use Rattle.accepted_module.specs.Judgement.{IsJudged, IsCheckedFrom, shapes_of}
 use Rattle.soundness.specs.Instances.{Judged, TypedAt}
 
-typed_from : (m : ModuleShape) (place : ℕ) (bytes : List ℕ) (c : CheckedBody) → IsCheckedFrom (module_context m) (function_at m place) bytes c → TypedAt m place (body_shape c.body)
+typed_from : (m : ModuleShape) (place : ℕ) (bytes : List ℕ) (c : CheckedBody) → IsCheckedFrom (module_context m) (function_at m place) bytes c → TypedAt m place (shape_of c)
 typed_from m place bytes c h = record { code = h.code; tree = h.tree; typed = h.typed h.code h.tree }
 
 typed_at : (m : ModuleShape) (x : IndexedContext) (all : List CheckedBody) (place : ℕ) (b : BodyShape) → IsJudged m x all → (o : Option CheckedBody) → slice_get all place ≡ o
-    → option_map (λ (c : CheckedBody). body_shape c.body) o ≡ Some b → TypedAt m place b
+    → option_map (λ (c : CheckedBody). shape_of c) o ≡ Some b → TypedAt m place b
 typed_at m x all place b j None is e = absurd cc
 typed_at m x all place b j (Some c) is e =
     let h = j.bodies.each place c is in
-    let same : body_shape c.body ≡ b = cc in
+    let same : shape_of c ≡ b = cc in
     subst (TypedAt m place) same (typed_from m place h.0 c h.2)
 
 pub judged_of : (m : ModuleShape) (x : IndexedContext) (all : List CheckedBody) → IsJudged m x all → Judged m (shapes_of all)
 judged_of m x all j = record {
   unbroken = j.rules;
-  count = j.paired ∙ sym j.bodies.count ∙ sym (length-map all (λ (c : CheckedBody). body_shape c.body));
-  bodies_typed = λ place b is. typed_at m x all place b j (slice_get all place) refl (sym (slice_get-map (λ (c : CheckedBody). body_shape c.body) all place) ∙ is);
+  count = j.paired ∙ sym j.bodies.count ∙ sym (length-map all (λ (c : CheckedBody). shape_of c));
+  bodies_typed = λ place b is. typed_at m x all place b j (slice_get all place) refl (sym (slice_get-map (λ (c : CheckedBody). shape_of c) all place) ∙ is);
 }
