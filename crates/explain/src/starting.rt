@@ -12,7 +12,8 @@ ghost use Rattle.explain.specs.Starting.{IsNamed, first_float, first_in, float_i
 
 use accepted_module::{Accepted, Layout, memory_pages, table_size};
 use checked_body::{CheckedBody, is_float, token_has_floats};
-use wsyntax::{FuncType, FuncTypes, Global, Import, LocalRun, Module, TABLE_LIMIT, Token, ValType};
+use packed_code::PackedCode;
+use wsyntax::{FuncType, FuncTypes, Global, Import, LocalRun, Module, TABLE_LIMIT, ValType};
 
 /// Where f32 or f64 stands first in a module without imports, in which the index of a function is the place of its body.
 #[derive(Clone, Copy)]
@@ -91,10 +92,15 @@ fn float_run(runs: &[LocalRun]) -> Option<usize>
 }
 
 /// The number of the first token that has floats.
-fn float_token(tokens: &[Token]) -> Option<usize>
-    ensures { result ≡ position (λ t. token_has_floats (seen [] t)) tokens.now }
+fn float_token(code: &PackedCode) -> Option<usize>
+    ensures { result ≡ position (λ t. token_has_floats (seen [] t)) code.now.tokens }
 {
-    tokens.iter().position(|token| token_has_floats(*token))
+    for number in 0..code.len() {
+        if token_has_floats(code.token(number)) {
+            return Some(number);
+        }
+    }
+    None
 }
 
 /// Where floats stand first in the body of that function.
@@ -105,7 +111,7 @@ fn float_in_body(func: usize, body: &CheckedBody) -> FloatPlace
         Some(run) => FloatPlace::Local { func, run },
         None => FloatPlace::Token {
             func,
-            number: float_token(body.tokens()).unwrap_or(0),
+            number: float_token(body.code()).unwrap_or(0),
         },
     }
 }

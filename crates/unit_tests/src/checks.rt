@@ -169,12 +169,12 @@ fn table_of(
     let body = body_of(alloc, tokens).ok()?;
     let mut checker = Checker::new(alloc, &context);
     let checked = check_body(alloc, &mut checker, 0, body).ok()?;
-    let tokens = checked.tokens();
-    if place >= tokens.len() {
+    let code = checked.code();
+    if place >= code.len() {
         return None;
     }
-    let entry = entry_at(tokens, checked.long(), place);
-    Some((entry, tokens.len(), checked.height()))
+    let entry = entry_at(code.all_packed(), code, checked.long(), place);
+    Some((entry, code.len(), checked.height()))
 }
 
 /// A branch back to a loop, and the entries of the side table.

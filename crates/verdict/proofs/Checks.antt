@@ -1,7 +1,7 @@
 -- The refusal of a body that is checked, and what it is, by what the check promises.
 use Rattle.std.proofs.Common.{◌≡◌, ℕ, List, Some, None, sym, ap, ◌∙◌}
 use Rattle.wsyntax.specs.declared.Body.{Body}
-use Rattle.wsyntax.specs.Modules.{body_shape}
+use Rattle.wsyntax.specs.Modules.{BodyShape, body_shape}
 use Rattle.wsyntax.specs.Binary.Production.{Agrees}
 use Rattle.wsyntax.specs.Binary.Sections.{body}
 use Rattle.wsyntax.specs.Binary.Shell.{SpellsBody, FewLocals}
@@ -18,12 +18,12 @@ use Rattle.verdict.specs.Judged.{body_refusal_of}
 use Rattle.accepted_module.specs.Judgement.{IsCheckedFrom}
 use Rattle.verdict.proofs.Bodies.{tree_of, refusal_typing}
 
-pub typed_refusal : Agrees body → TypedIsAccepted → (C : Context) (f : ℕ) (bytes : List ℕ) (b : Body) → SpellsBody bytes (body_shape b) → FewLocals (body_shape b) → IsTypedAs C f b → body_refusal_of C f bytes ≡ None
+pub typed_refusal : Agrees body → TypedIsAccepted → (C : Context) (f : ℕ) (bytes : List ℕ) (b : BodyShape) → SpellsBody bytes b → FewLocals b → IsTypedAs C f b → body_refusal_of C f bytes ≡ None
 typed_refusal agrees law C f bytes b s few typed =
-    let D = function_context C f b.runs.items in
+    let D = function_context C f b.runs in
     let r = result_of C f in
-    let t = tree_of bytes (body_shape b) s in
-    refusal_typing agrees C f bytes (body_shape b) Accepted s few (ap (alg D r) (sym t.1) ∙ law D r t.0 (typed t.0 t.1))
+    let t = tree_of bytes b s in
+    refusal_typing agrees C f bytes b Accepted s few (ap (alg D r) (sym t.1) ∙ law D r t.0 (typed t.0 t.1))
 
 pub faulty_refusal : Agrees body → RefusedAtFirstFault → (C : Context) (f : ℕ) (bytes : List ℕ) (b : Body) (at : ℕ) → SpellsBody bytes (body_shape b) → FewLocals (body_shape b) → IsFaultyAt C f b at → body_refusal_of C f bytes ≡ Some (IllTyped at)
 faulty_refusal agrees law C f bytes b at s few fault =

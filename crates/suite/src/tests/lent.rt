@@ -1,6 +1,7 @@
 //! What an accepted module lends: its parts, its context and its checked bodies.
 use batch::{Plan, Quiet};
 use checked_body::Branch;
+use packed_code::PackedCode;
 use std::alloc::Global;
 use std::process::Abort;
 use std::sync::Wait;
@@ -79,6 +80,15 @@ fn the_context_knows_types<R: Abort>(rt: &R, accepted: &Accepted<'_>) -> Result<
     Ok(())
 }
 
+/// The token of that place, where there is one.
+fn token_at(code: &PackedCode, place: usize) -> Option<Token> {
+    if place < code.len() {
+        Some(code.token(place))
+    } else {
+        None
+    }
+}
+
 fn lends_locals_and_tokens<R: Abort>(rt: &R, accepted: &Accepted<'_>) -> Result<(), Fail> {
     let body = accepted.body(1).ok_or("no body")?;
     let run = LocalRun {
@@ -86,7 +96,7 @@ fn lends_locals_and_tokens<R: Abort>(rt: &R, accepted: &Accepted<'_>) -> Result<
         content: ValType::I64,
     };
     assert_eq!(rt; body.locals(), [run].as_slice());
-    assert_eq!(rt; (body.tokens().len(), body.long().len()), (10, 0));
+    assert_eq!(rt; (body.code().len(), body.long().len()), (10, 0));
     Ok(())
 }
 
@@ -102,7 +112,7 @@ fn lends_the_place_of_a_branch<R: Abort>(rt: &R, accepted: &Accepted<'_>) -> Res
         index: 0,
         destination,
     };
-    assert_eq!(rt; body.tokens().get(4), Some(&Token::BrIf(label)));
+    assert_eq!(rt; token_at(body.code(), 4), Some(Token::BrIf(label)));
     assert!(rt; body.targets().is_empty() && body.cases().is_empty());
     assert_eq!(rt; body.height(), 3);
     Ok(())
@@ -119,7 +129,7 @@ fn to(target: u32) -> Branch {
 fn lends_a_branch_table<R: Abort>(rt: &R, accepted: &Accepted<'_>) -> Result<(), Fail> {
     let body = accepted.body(2).ok_or("no body")?;
     let table = Token::BrTable { count: 2, first: 0 };
-    assert_eq!(rt; body.tokens().get(3), Some(&table));
+    assert_eq!(rt; token_at(body.code(), 3), Some(table));
     assert_eq!(rt; body.targets(), [0, 1, 2].as_slice());
     assert_eq!(rt; body.height(), 1);
     Ok(())

@@ -1,6 +1,7 @@
 use Rattle.std.proofs.Common.{Err, ap, sym, subst, arith}
 use Rattle.std.proofs.lemmas.List.{length-map}
 use Rattle.wsyntax.specs.Modules.{BodyShape, body_shape, seen}
+use Rattle.checked_body.specs.Bodies.{shape_of}
 use Rattle.wsyntax.specs.Binary.Shell.{SpellsBody, FewLocals}
 use Rattle.verdict.proofs.Bodies.{refusal_malformed, refusal_too_many}
 use Rattle.verdict.proofs.Checks.{typed_refusal, faulty_refusal, checked_from}
@@ -27,7 +28,7 @@ returns-in-Ok-check_body-clause-verdict c =
     let same = sym c.in-Ok-check_body.ensures.kept in
     let spelled = subst (λ (b : BodyShape). SpellsBody c.args.bytes.now b) same c.in-Ok.ensures.found.0 in
     let few = subst (λ (b : BodyShape). FewLocals b) same c.in-Ok.ensures.found.1 in (
-      typed_refusal c.grammar_is_read.ensures.body c.typed_is_accepted.ensures c.args.checker.now.outside c.args.func c.args.bytes.now c.in-Ok-check_body.checked.body spelled few c.in-Ok-check_body.ensures.typed,
+      typed_refusal c.grammar_is_read.ensures.body c.typed_is_accepted.ensures c.args.checker.now.outside c.args.func c.args.bytes.now (shape_of c.in-Ok-check_body.checked) spelled few c.in-Ok-check_body.ensures.typed,
       checked_from c.args.checker.now.outside c.args.func c.args.bytes.now c.in-Ok-check_body.checked spelled few c.in-Ok-check_body.ensures.typed c.in-Ok-check_body.ensures.fits,
     )
 
