@@ -22,7 +22,7 @@ import re
 import sys
 import tempfile
 import time
-from concurrent.futures import ThreadPoolExecutor
+from concurrent.futures import ThreadPoolExecutor, as_completed
 from dataclasses import dataclass
 
 from tools.arguments import parser
@@ -231,10 +231,11 @@ def further(name):
 
 
 def try_all(kit, edits, names_count):
-    """Tries these edits, a list a crate, several crates side by side; answers how many were not refused."""
+    """Tries these edits, a list a crate, several crates side by side, and prints of each what it came to; answers how many were not
+    refused."""
     failed = 0
     with ThreadPoolExecutor(checks_at_once()) as pool:
-        for tried in [pool.submit(try_crate, kit, crate, edits[crate], names_count) for crate in edits]:
+        for tried in as_completed([pool.submit(try_crate, kit, crate, edits[crate], names_count) for crate in edits]):
             lines, bad = tried.result()
             print(*lines, sep='\n', flush=True)
             failed += bad
