@@ -18,7 +18,7 @@ body_bytes b = 8 * length b.body.runs.items + 8 * length b.body.code.tokens + 16
     + 16 * length b.table.long.items + 16 * length b.table.cases.items
 
 abbrev pub bodies_bytes : List CheckedBody → ℕ
-bodies_bytes bs = 144 * length bs + sum_by body_bytes bs
+bodies_bytes bs = 152 * length bs + sum_by body_bytes bs
 
 -- the value types of a function type, which lie in one list
 abbrev pub type_bytes : FuncType → ℕ

@@ -15,7 +15,7 @@ use wsyntax::{
     ValType,
 };
 
-const _: () = prove!(size_of::<CheckedBody>() == 144);
+const _: () = prove!(size_of::<CheckedBody>() == 152);
 
 const _: () = prove!(size_of::<LocalRun>() == 8);
 
@@ -66,7 +66,7 @@ fn with_body(total: u64, body: &CheckedBody) -> u64
 fn with_bodies(total: u64, bodies: &[CheckedBody]) -> u64
     ensures { result ≡ capped (total + bodies_bytes bodies.now) }
 {
-    let mut sum = with_list(total, bodies.len(), 144);
+    let mut sum = with_list(total, bodies.len(), 152);
     for body in bodies {
         sum = with_body(sum, body);
     }
