@@ -1,6 +1,6 @@
 use Rattle.std.proofs.Common.{ap, subst, sym, ◌∙◌}
-use Rattle.wsyntax.specs.Modules.{body_shape}
 use Rattle.wsyntax.specs.Execution.Start.{body_has_floats}
+use Rattle.checked_body.specs.Packing.{packed_shape}
 use Rattle.wcheck.specs.Kept.{KeepsBody}
 use Rattle.wcheck.proofs.Unchecked.{shape_same}
 use Rattle.wcheck.proofs.Verdicts.{PassLaws, written_of, passed_typed, passed_fits, checked_of}
@@ -17,7 +17,7 @@ new-requires c =
     ∣ (C, c.args.func, checked_of laws C c.args.func w.body c.args.builder.notes w.table c.args.has_floats c.requires.func passed (c.requires.passed.noted ∙ ap body_has_floats (sym same))) ∣₁
 
 pub returns-in-Ok-clause-kept : goal.returns-in-Ok-clause-kept
-returns-in-Ok-clause-kept c = ap body_shape c.new.ensures.body ∙ shape_same c.args.body c.in-Ok.field-0.body c.in-Ok.ensures.unchecked
+returns-in-Ok-clause-kept c = ap packed_shape c.new.ensures.body ∙ shape_same c.args.body c.in-Ok.field-0.body c.in-Ok.ensures.unchecked
 
 pub returns-in-Ok-clause-unchecked : goal.returns-in-Ok-clause-unchecked
 returns-in-Ok-clause-unchecked c = subst (λ b. KeepsBody c.args.body b) (sym c.new.ensures.body) c.in-Ok.ensures.unchecked
