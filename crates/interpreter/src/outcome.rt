@@ -48,7 +48,12 @@ fn give(given: &mut [Value], types: &[ValType], slots: &[u64])
 
 /// The outcome of a run that stopped for `stop`. Its results have the types `types` and lie on top, the lowest first. They go
 /// into `given`, so that no memory is taken.
-pub(crate) fn outcome(stop: Stop, mut given: Vec<Value>, types: &[ValType], slots: &[u64]) -> Outcome
+pub(crate) fn outcome(
+    stop: Stop,
+    mut given: Vec<Value>,
+    types: &[ValType],
+    slots: &[u64],
+) -> Outcome
     requires room { length given.items ≡ length types.now }
     requires ended { IsEnd stop slots.now types.now }
     ensures { IsItsEnd stop slots.now types.now result }
