@@ -20,3 +20,4 @@ pub mod InSteps
 pub mod Noted
 pub mod FrontTokens
 pub mod KeptPass
+pub mod KeptAt
