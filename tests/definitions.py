@@ -27,7 +27,7 @@ TABLES = {
         'Types': 'FuncType',
         'Instructions': 'NumOp Access Op Code follow Token flat_body',
         'Table': 'num_op opcodes opcode_of float_type',
-        'Modules': 'ModuleShape module_shape seen'}),
+        'Modules': 'ModuleShape module_shape decoded_as'}),
     'binary': (SPECS + 'Binary/', {
         'Production': 'Production byte given ◌>>=◌ either times inside',
         'Values': 'u32 s32 s64 s33 vector blob name',

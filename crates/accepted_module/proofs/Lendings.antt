@@ -5,10 +5,10 @@ use Rattle.wsyntax.specs.Types.{FuncType}
 use Rattle.wsyntax.specs.Modules.{ModuleShape, body_shape}
 use Rattle.wsyntax.specs.Execution.Start.{has_floats}
 use Rattle.wsyntax.specs.Validation.ModuleContext.{IndexedContext}
-use Rattle.checked_body.specs.declared.function_shape.FunctionShape.{FunctionShape}
+use Rattle.checked_body.specs.declared.frame_layout.FrameLayout.{FrameLayout}
 use Rattle.checked_body.specs.declared.body.CheckedBody.{CheckedBody}
 use Rattle.accepted_module.specs.TypeIds.{AreTypeIds}
-use Rattle.accepted_module.specs.FunctionShapes.{function_shapes}
+use Rattle.accepted_module.specs.FrameLayouts.{frame_layouts}
 use Rattle.wsyntax.specs.Binary.Shell.{FewLocals}
 use Rattle.accepted_module.specs.Judgement.{IsJudged, shapes_of}
 use Rattle.accepted_module.proofs.CheckedBodies.{all_few}
@@ -16,12 +16,12 @@ use Rattle.accepted_module.proofs.CheckedBodies.{all_few}
 pub looked_same : (t : Bool) (m : ModuleShape) (lent all : List CheckedBody) → lent ≡ all → t ≡ has_floats m (shapes_of lent) → t ≡ has_floats m (shapes_of all)
 looked_same t m lent all is h = h ∙ ap (λ (bs : List CheckedBody). has_floats m (shapes_of bs)) is
 
-pub shaped_same : (shapes : List FunctionShape) (types : List FuncType) (numbers numbers' functions functions' : List ℕ) (lent all : List CheckedBody) → numbers ≡ numbers' → functions ≡ functions' → lent ≡ all → shapes ≡ function_shapes types numbers functions lent → shapes ≡ function_shapes types numbers' functions' all
+pub shaped_same : (shapes : List FrameLayout) (types : List FuncType) (numbers numbers' functions functions' : List ℕ) (lent all : List CheckedBody) → numbers ≡ numbers' → functions ≡ functions' → lent ≡ all → shapes ≡ frame_layouts types numbers functions lent → shapes ≡ frame_layouts types numbers' functions' all
 shaped_same shapes types numbers numbers' functions functions' lent all n f is h =
     h
-    ∙ ap (λ (ns : List ℕ). function_shapes types ns functions lent) n
-    ∙ ap (λ (fs : List ℕ). function_shapes types numbers' fs lent) f
-    ∙ ap (function_shapes types numbers' functions') is
+    ∙ ap (λ (ns : List ℕ). frame_layouts types ns functions lent) n
+    ∙ ap (λ (fs : List ℕ). frame_layouts types numbers' fs lent) f
+    ∙ ap (frame_layouts types numbers' functions') is
 
 -- What is asked of lists that are lent.
 

@@ -7,7 +7,7 @@ pub mod ExportNumbers
 pub mod PlainStarts
 pub mod Mentions
 pub mod Floating
-pub mod FunctionShapes
+pub mod FrameLayouts
 pub mod CheckedBodies
 pub mod Lendings
 pub mod Lists

@@ -1,11 +1,11 @@
 pub mod Segments
 pub mod Sizes
 pub mod Images
-pub mod Layouts
+pub mod InitialStates
 pub mod Floats
 pub mod Judgement
 pub mod Kept
 pub mod Exports
 pub mod TypeIds
-pub mod FunctionShapes
+pub mod FrameLayouts
 pub mod Small

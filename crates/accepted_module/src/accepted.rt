@@ -8,14 +8,14 @@ ghost use Rattle.accepted_module.specs.Exports.{AreAscending};
 ghost use Rattle.wsyntax.specs.Execution.Start.{has_floats};
 ghost use Rattle.accepted_module.specs.TypeIds.{AreTypeIds};
 ghost use Rattle.accepted_module.specs.Judgement.{IsJudged, shapes_of};
-ghost use Rattle.accepted_module.specs.FunctionShapes.{function_shapes};
+ghost use Rattle.accepted_module.specs.FrameLayouts.{frame_layouts};
 ghost use Rattle.accepted_module.specs.Small.{IsSmall};
-ghost use Rattle.accepted_module.specs.Layouts.{IsLayoutOf};
+ghost use Rattle.accepted_module.specs.InitialStates.{IsLayoutOf};
 ghost use Rattle.soundness.specs.Instances.{SegmentsAreBytes};
 
 use crate::exports::number_of;
-use crate::module_layout::Layout;
-use checked_body::{CheckedBody, FunctionShape};
+use crate::initial_state::InitialState;
+use checked_body::{CheckedBody, FrameLayout};
 use soundness::instances::start_is_plain;
 use wcontext::Context;
 use wsyntax::{ExportKind, Module};
@@ -28,19 +28,19 @@ pub struct Accepted<'a> {
     pub(crate) context: Context,
     pub(crate) bodies: Vec<CheckedBody>,
     /// Of each body what the entry of its function needs to know.
-    pub(crate) shapes: Vec<FunctionShape>,
+    pub(crate) shapes: Vec<FrameLayout>,
     /// The number of each export, in the order of their names.
     pub(crate) by_name: Vec<usize>,
     pub(crate) uses_floats: bool,
     /// Of each type its id: equal types have equal ids.
     pub(crate) type_ids: Vec<u32>,
     /// What its instances start from.
-    pub(crate) layout: Layout,
+    pub(crate) layout: InitialState,
     pub(crate) ghost judged: { ∥ IsJudged (module_shape «module») context bodies.items ∥₁ },
     pub(crate) ghost looked: { uses_floats ≡ has_floats (module_shape «module») (shapes_of bodies.items) },
     pub(crate) ghost numbered: { ∥ AreTypeIds (module_shape «module»).types type_ids.items ∥₁ },
     pub(crate) ghost shaped: { shapes.items
-        ≡ function_shapes (module_shape «module»).types type_ids.items (module_shape «module»).functions bodies.items },
+        ≡ frame_layouts (module_shape «module»).types type_ids.items (module_shape «module»).functions bodies.items },
     pub(crate) ghost laid: { IsLayoutOf (module_shape «module») layout } by { Prim.hlevel props },
     pub(crate) ghost filled: { SegmentsAreBytes (module_shape «module») },
     pub(crate) ghost small: { ∥ IsSmall (module_shape «module») bodies.items ∥₁ },
@@ -75,7 +75,7 @@ impl<'a> Accepted<'a> {
     /// the type.
     pub fn functions_have_shapes(&self)
         ensures { self.now.shapes.items
-            ≡ function_shapes (module_shape self.now.module).types self.now.type_ids.items
+            ≡ frame_layouts (module_shape self.now.module).types self.now.type_ids.items
             (module_shape self.now.module).functions self.now.bodies.items }
     {}
 
@@ -144,7 +144,7 @@ impl<'a> Accepted<'a> {
 
     /// Of each of these bodies what the entry of its function needs to know.
     #[inline]
-    pub fn function_shapes(&self) -> &[FunctionShape]
+    pub fn frame_layouts(&self) -> &[FrameLayout]
         ensures { result.now ≡ self.now.shapes.items }
     {
         &self.shapes
@@ -160,7 +160,7 @@ impl<'a> Accepted<'a> {
 
     /// What its instances start from, computed once.
     #[inline]
-    pub fn layout(&self) -> &Layout
+    pub fn layout(&self) -> &InitialState
         ensures { result.now ≡ self.now.layout }
     {
         &self.layout

@@ -4,7 +4,7 @@
 //!
 //! Proved: no rule is broken, the context is the module's, and each function has its checked body (`accepted_holds`). The
 //! start function takes nothing and gives nothing (`start_is_plain`). `export` gives kind and index of the export of a
-//! name; `body`, `type_id`, `function_type_id`, `has_floats`, `declared_locals` and `function_shapes` say what their
+//! name; `body`, `type_id`, `function_type_id`, `has_floats`, `declared_locals` and `frame_layouts` say what their
 //! names say, exactly. The layout is the definition's.
 #![tactic(auto)]
 
@@ -14,8 +14,8 @@ mod exports;
 mod floats;
 mod globals;
 mod images;
+mod initial_state;
 mod making;
-mod module_layout;
 mod places;
 mod segments;
 mod shapes;
@@ -24,5 +24,5 @@ mod tuning;
 mod type_ids;
 
 pub use accepted::Accepted;
-pub use module_layout::Layout;
+pub use initial_state::InitialState;
 pub use sizes::{memory_pages, table_size};

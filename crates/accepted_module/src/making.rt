@@ -7,8 +7,8 @@ ghost use Rattle.soundness.specs.Instances.{SegmentsAreBytes};
 use crate::accepted::Accepted;
 use crate::exports::numbers_by_name;
 use crate::floats::has_floats;
-use crate::module_layout::Layout;
-use crate::shapes::function_shapes;
+use crate::initial_state::InitialState;
+use crate::shapes::frame_layouts;
 use crate::type_ids::type_ids;
 use checked_body::CheckedBody;
 use std::alloc::{AllocError, Global};
@@ -30,8 +30,8 @@ impl<'a> Accepted<'a> {
     {
         let by_name = numbers_by_name(alloc, &module.exports)?;
         let type_ids = type_ids(alloc, &module.types)?;
-        let shapes = function_shapes(alloc, &module.types, &type_ids, &module.functions, &bodies)?;
-        let layout = Layout::of(alloc, &module)?;
+        let shapes = frame_layouts(alloc, &module.types, &type_ids, &module.functions, &bodies)?;
+        let layout = InitialState::of(alloc, &module)?;
         let uses_floats = has_floats(&module, &bodies);
         Ok(Accepted {
             module,

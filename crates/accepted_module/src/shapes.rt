@@ -4,9 +4,9 @@ ghost use Rattle.wsyntax.specs.FuncTypes.{func_type_of, IsShort};
 ghost use Rattle.wsyntax.specs.Modules.{body_shape};
 ghost use Rattle.wsyntax.specs.Binary.Sections.{locals_of};
 ghost use Rattle.wsyntax.specs.Binary.Shell.{FewLocals};
-ghost use Rattle.accepted_module.specs.FunctionShapes.{function_shape, function_shapes};
+ghost use Rattle.accepted_module.specs.FrameLayouts.{frame_layout, frame_layouts};
 
-use checked_body::{CheckedBody, FunctionShape};
+use checked_body::{CheckedBody, FrameLayout};
 use std::alloc::{AllocError, Global};
 use wsyntax::{FuncType, FuncTypes, LocalRun};
 
@@ -18,12 +18,12 @@ fn count_locals(runs: &[LocalRun]) -> u32
 }
 
 /// What the entry of a function of that type, which has that id, needs to know.
-fn function_shape(of_type: FuncType<'_>, number: u32, body: &CheckedBody) -> FunctionShape
+fn frame_layout(of_type: FuncType<'_>, number: u32, body: &CheckedBody) -> FrameLayout
     requires short { IsShort of_type }
     requires few { FewLocals (body_shape body.now.body) }
-    ensures { result ≡ function_shape (func_type_of of_type.entry) number body.now }
+    ensures { result ≡ frame_layout (func_type_of of_type.entry) number body.now }
 {
-    FunctionShape {
+    FrameLayout {
         params: of_type.params.len() as u32,
         declared: count_locals(body.locals()),
         results: of_type.results.len() as u32,
@@ -32,18 +32,18 @@ fn function_shape(of_type: FuncType<'_>, number: u32, body: &CheckedBody) -> Fun
 }
 
 /// Of each function, by the index of its type, and its body what its entry needs to know.
-pub(crate) fn function_shapes(
+pub(crate) fn frame_layouts(
     alloc: Global,
     types: &FuncTypes,
     numbers: &[u32],
     functions: &[u32],
     bodies: &[CheckedBody],
-) -> Result<Vec<FunctionShape>, AllocError>
+) -> Result<Vec<FrameLayout>, AllocError>
     requires typed { All (λ y. y < length types.now) functions.now }
     requires numbered { length numbers.now ≡ length types.now }
     requires paired { length functions.now ≡ length bodies.now }
     requires few { All (λ b. FewLocals (body_shape b.body)) bodies.now }
-    ensures { IfOk result (λ v. v.items ≡ function_shapes types.now numbers.now functions.now bodies.now) }
+    ensures { IfOk result (λ v. v.items ≡ frame_layouts types.now numbers.now functions.now bodies.now) }
 {
     let mut shapes = Vec::new(alloc);
     for (place, type_index) in functions.iter().enumerate() {
@@ -51,7 +51,7 @@ pub(crate) fn function_shapes(
         let Some(of_type) = types.get(at) else {
             unreachable!()
         };
-        shapes.push(function_shape(of_type, numbers[at], &bodies[place]))?;
+        shapes.push(frame_layout(of_type, numbers[at], &bodies[place]))?;
     }
     Ok(shapes)
 }

@@ -11,7 +11,7 @@ use Rattle.wsyntax.specs.declared.types.GlobalType.{GlobalType}
 use Rattle.wsyntax.specs.declared.value.Value.{Value}
 use Rattle.soundness.specs.Slots.{SlotStore, all_tagged}
 use Rattle.interpreter.specs.Seen.{seen}
-use Rattle.interpreter.specs.declared.store.StoreParts.{StoreParts}
+use Rattle.interpreter.specs.declared.store.InstanceState.{InstanceState}
 use Rattle.accepted_module.specs.declared.accepted.Accepted.{Accepted}
 use Rattle.batch_text.specs.declared.line.Line.{Line}
 use Rattle.wstore.specs.Bytes.{StorePuts, put_at}
@@ -59,7 +59,7 @@ failed_then old new d e was is same = failed_is new e is ∙ ap (λ (b : Bool). 
 parts_put : (i j : Instance) (d e : Detached) (at : ℕ) (bytes : List ℕ) (done : Bool) → d.parts ≡ i.parts → e.parts ≡ j.parts
     → StorePuts (seen i.parts) at bytes done (seen j.parts) → StorePuts (seen d.parts) at bytes done (seen e.parts)
 parts_put i j d e at bytes done p q h =
-    subst (λ (x : StoreParts). StorePuts (seen x) at bytes done (seen e.parts)) (sym p) (subst (λ (y : StoreParts). StorePuts (seen i.parts) at bytes done (seen y)) (sym q) h)
+    subst (λ (x : InstanceState). StorePuts (seen x) at bytes done (seen e.parts)) (sym p) (subst (λ (y : InstanceState). StorePuts (seen i.parts) at bytes done (seen y)) (sym q) h)
 
 -- bytes that are written
 pub puts : (old new : Live) (i j : Instance) (d e : Detached) (at : ℕ) (bytes : List ℕ) → old.state ≡ Some d → new.state ≡ Some e → KeepsModule old new

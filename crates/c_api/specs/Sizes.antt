@@ -5,7 +5,7 @@ use Rattle.checked_body.specs.declared.body.CheckedBody.{CheckedBody}
 use Rattle.wsyntax.specs.Types.{FuncType}
 use Rattle.wsyntax.specs.HeldElement.{HeldElement}
 use Rattle.wsyntax.specs.declared.module.Module.{Module}
-use Rattle.accepted_module.specs.declared.module_layout.Layout.{Layout}
+use Rattle.accepted_module.specs.declared.initial_state.InitialState.{InitialState}
 use Rattle.accepted_module.specs.declared.accepted.Accepted.{Accepted}
 
 -- the number, or the greatest of 64 bits where it is greater
@@ -40,7 +40,7 @@ kept_bytes each None = 0
 kept_bytes each (Some xs) = each * length xs
 
 -- what instances start from: first values of globals, places of segments, and the table and the memory, where they are kept
-abbrev pub layout_bytes : Layout → ℕ
+abbrev pub layout_bytes : InitialState → ℕ
 layout_bytes l = 8 * length l.globals.items + 4 * length l.element_places.items + 4 * length l.data_places.items
     + kept_bytes 8 (option_map (λ v. v.items) l.table) + kept_bytes 1 (option_map (λ v. v.items) l.memory)
 

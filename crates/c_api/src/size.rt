@@ -5,8 +5,8 @@ ghost use Rattle.std.specs.List.{sum_by};
 ghost use Rattle.c_api.specs.Sizes.{capped, body_bytes, bodies_bytes, type_bytes, types_bytes, element_bytes, elements_bytes};
 ghost use Rattle.c_api.specs.Sizes.{layout_bytes, kept_bytes, space_bytes, named_bytes, module_bytes};
 
-use accepted_module::Layout;
-use checked_body::{Branch, CheckedBody, FunctionShape};
+use accepted_module::InitialState;
+use checked_body::{Branch, CheckedBody, FrameLayout};
 use std::mem::size_of;
 use verdict::Accepted;
 use wsyntax::{
@@ -22,7 +22,7 @@ const _: () = prove!(size_of::<Token>() == 16);
 
 const _: () = prove!(size_of::<Branch>() == 16);
 
-const _: () = prove!(size_of::<FunctionShape>() == 16);
+const _: () = prove!(size_of::<FrameLayout>() == 16);
 
 const _: () = prove!(size_of::<ValType>() == 1);
 
@@ -119,7 +119,7 @@ fn with_memory(total: u64, memory: Option<&[u8]>) -> u64
 }
 
 /// These bytes and those of what instances start from.
-fn with_layout(total: u64, layout: &Layout) -> u64
+fn with_layout(total: u64, layout: &InitialState) -> u64
     ensures { result ≡ capped (total + layout_bytes layout.now) }
 {
     let total = with_list(total, layout.globals().len(), 8);
@@ -162,7 +162,7 @@ pub(crate) fn module_size(accepted: &Accepted<'_>) -> u64
     let total = with_spaces(total, module);
     let total = with_named(total, module);
     let total = with_bodies(total, accepted.bodies());
-    let total = with_list(total, accepted.function_shapes().len(), 16);
+    let total = with_list(total, accepted.frame_layouts().len(), 16);
     let total = with_list(total, accepted.type_ids().len(), 4);
     with_layout(total, accepted.layout())
 }

@@ -1,7 +1,7 @@
 //! Where floats stand in a body: a module that mentions f32 or f64 is not run.
 ghost use Rattle.std.specs.Prelude.{◌≡◌, List, ℕ};
 ghost use Rattle.wsyntax.specs.Table.{num_op};
-ghost use Rattle.wsyntax.specs.Modules.{seen};
+ghost use Rattle.wsyntax.specs.Modules.{decoded_as};
 ghost use Rattle.wsyntax.specs.Execution.Start.{any, is_float, is_float_operator, block_has_floats, token_has_floats, run_has_floats};
 
 use wsyntax::{BlockType, LocalRun, Operator, Token, ValType};
@@ -38,7 +38,7 @@ fn block_has_floats(block: BlockType) -> bool
 /// Whether the token is an instruction or has a block type of a float type.
 #[inline(always)]
 pub fn token_has_floats(token: Token) -> bool
-    ensures { (targets : List ℕ) → result ≡ token_has_floats (seen targets token) }
+    ensures { (targets : List ℕ) → result ≡ token_has_floats (decoded_as targets token) }
 {
     match token {
         Token::Block(block) | Token::Loop(block) | Token::If { block, .. } => {

@@ -12,12 +12,12 @@ mod body;
 mod branch;
 mod entry;
 mod floats;
-mod function_shape;
+mod frame_layout;
 mod table;
 
 pub use body::CheckedBody;
 pub use branch::Branch;
 pub use entry::entry_at;
 pub use floats::{is_float, runs_have_floats, token_has_floats};
-pub use function_shape::FunctionShape;
+pub use frame_layout::FrameLayout;
 pub use table::SideTable;

@@ -3,7 +3,7 @@ use Rattle.std.proofs.Common.{◌≡◌, ℕ, ◌+◌, ◌≤◌, List, [], ◌�
 use Rattle.std.specs.Prelude.{IfSome}
 use Rattle.wsyntax.specs.declared.instructions.Token.{Token as Held}
 use Rattle.wsyntax.specs.Instructions.{Token}
-use Rattle.wsyntax.specs.Modules.{seen}
+use Rattle.wsyntax.specs.Modules.{decoded_as}
 use Rattle.wsyntax.specs.Binary.Nesting.{token_at}
 use Rattle.wdecode.specs.Gives.{rest_of}
 use Rattle.explain.specs.declared.stops.Halt.{Halt}
@@ -18,9 +18,9 @@ pub one_after : (t : Token) (bytes after : List ℕ) → ◌≡◌ {A = Option (
 one_after t bytes after e = ap (λ (x : Option (Token × List ℕ)). rest_of x) e
 
 -- a token is seen by its own labels
-pub token_read : (bytes after targets : List ℕ) (t : Held) → ((more : List ℕ) → ◌≡◌ {A = Option (Token × List ℕ)} (token_at bytes) (Some (seen (targets ++ more) t, after)))
-    → ◌≡◌ {A = Option (Token × List ℕ)} (token_at bytes) (Some (seen targets t, after))
-token_read bytes after targets t h = subst (λ (ts : List ℕ). ◌≡◌ {A = Option (Token × List ℕ)} (token_at bytes) (Some (seen ts t, after))) (append-nil targets) (h [])
+pub token_read : (bytes after targets : List ℕ) (t : Held) → ((more : List ℕ) → ◌≡◌ {A = Option (Token × List ℕ)} (token_at bytes) (Some (decoded_as (targets ++ more) t, after)))
+    → ◌≡◌ {A = Option (Token × List ℕ)} (token_at bytes) (Some (decoded_as targets t, after))
+token_read bytes after targets t h = subst (λ (ts : List ℕ). ◌≡◌ {A = Option (Token × List ℕ)} (token_at bytes) (Some (decoded_as ts t, after))) (append-nil targets) (h [])
 
 -- the first of bytes, and the others
 pub first_of : (bytes : List ℕ) → 1 ≤ length bytes → (tail : List ℕ) × (bytes ≡ get_or bytes 0 0 ∷ tail)

@@ -10,7 +10,7 @@ use Rattle.wsyntax.specs.Validation.Algorithm.{Frame}
 use Rattle.wsyntax.specs.declared.instructions.Load.{Load}
 use Rattle.wsyntax.specs.declared.instructions.Store.{Store}
 use Rattle.wsyntax.specs.Table.{load_access, store_access}
-use Rattle.wsyntax.specs.Modules.{seen}
+use Rattle.wsyntax.specs.Modules.{decoded_as}
 use Rattle.wsyntax.specs.declared.instructions.Token.{Token as Flat}
 use Rattle.wsyntax.specs.declared.instructions.Token.TheVariants as flat
 use Rattle.wcheck.specs.Inspected.{SharesSpaces}
@@ -104,30 +104,30 @@ misfit_some C t fs takes finds n r e k le h =
 pub index_some : (C : Context) (fs : List Frame) (t : Token) (space : Space) (x : ℕ) (r : Option Cause) → IfSome r (λ c. (u : Token) → Names u space x → IsCause C u fs c) → Names t space x → IfSome r (IsCause C t fs)
 index_some C fs t space x r h n = some_more (λ c. (u : Token) → Names u space x → IsCause C u fs c) (IsCause C t fs) r (λ y p. p t n) h
 
-pub lack_some : (D C : Context) (fs : List Frame) (targets : List ℕ) (t : Flat) (r : Option Cause) → IfSome r (λ c. (us : List ℕ) (E : Context) (gs : List Frame) → SharesSpaces D E → IsCause E (seen us t) gs c) → SharesSpaces D C
-    → IfSome r (IsCause C (seen targets t) fs)
+pub lack_some : (D C : Context) (fs : List Frame) (targets : List ℕ) (t : Flat) (r : Option Cause) → IfSome r (λ c. (us : List ℕ) (E : Context) (gs : List Frame) → SharesSpaces D E → IsCause E (decoded_as us t) gs c) → SharesSpaces D C
+    → IfSome r (IsCause C (decoded_as targets t) fs)
 lack_some D C fs targets t r h n =
-    some_more (λ c. (us : List ℕ) (E : Context) (gs : List Frame) → SharesSpaces D E → IsCause E (seen us t) gs c) (IsCause C (seen targets t) fs) r (λ y p. p targets C fs n) h
+    some_more (λ c. (us : List ℕ) (E : Context) (gs : List Frame) → SharesSpaces D E → IsCause E (decoded_as us t) gs c) (IsCause C (decoded_as targets t) fs) r (λ y p. p targets C fs n) h
 
-pub aligned_some : (C : Context) (fs : List Frame) (targets : List ℕ) (t : Flat) (r : Option Cause) → IfSome r (λ c. (us : List ℕ) (E : Context) (gs : List Frame) → IsCause E (seen us t) gs c) → IfSome r (IsCause C (seen targets t) fs)
+pub aligned_some : (C : Context) (fs : List Frame) (targets : List ℕ) (t : Flat) (r : Option Cause) → IfSome r (λ c. (us : List ℕ) (E : Context) (gs : List Frame) → IsCause E (decoded_as us t) gs c) → IfSome r (IsCause C (decoded_as targets t) fs)
 aligned_some C fs targets t r h =
-    some_more (λ c. (us : List ℕ) (E : Context) (gs : List Frame) → IsCause E (seen us t) gs c) (IsCause C (seen targets t) fs) r (λ y p. p targets C fs) h
+    some_more (λ c. (us : List ℕ) (E : Context) (gs : List Frame) → IsCause E (decoded_as us t) gs c) (IsCause C (decoded_as targets t) fs) r (λ y p. p targets C fs) h
 
-pub loads : (t : Flat) (l : Load) (a o : ℕ) (targets : List ℕ) → t ≡ flat.Load l a o → UsesMemory (seen targets t)
-loads t l a o targets e = subst (λ z. UsesMemory (seen targets z)) (sym e) (inl (load_access l a o, inl refl))
+pub loads : (t : Flat) (l : Load) (a o : ℕ) (targets : List ℕ) → t ≡ flat.Load l a o → UsesMemory (decoded_as targets t)
+loads t l a o targets e = subst (λ z. UsesMemory (decoded_as targets z)) (sym e) (inl (load_access l a o, inl refl))
 
-pub stores : (t : Flat) (l : Store) (a o : ℕ) (targets : List ℕ) → t ≡ flat.Store l a o → UsesMemory (seen targets t)
-stores t l a o targets e = subst (λ z. UsesMemory (seen targets z)) (sym e) (inl (store_access l a o, inr refl))
+pub stores : (t : Flat) (l : Store) (a o : ℕ) (targets : List ℕ) → t ≡ flat.Store l a o → UsesMemory (decoded_as targets t)
+stores t l a o targets e = subst (λ z. UsesMemory (decoded_as targets z)) (sym e) (inl (store_access l a o, inr refl))
 
-pub load_aligned : (t : Flat) (l : Load) (a o n : ℕ) (targets : List ℕ) → t ≡ flat.Load l a o → ((x y : ℕ) → (load_access l x y).width ≡ 2 ^ n) → ((x y : ℕ) → (load_access l x y).align ≡ x) → IsAlignedTo (seen targets t) a n
-load_aligned t l a o n targets e w al = subst (λ z. IsAlignedTo (seen targets z) a n) (sym e) (load_access l a o, inl refl, al a o, w a o)
+pub load_aligned : (t : Flat) (l : Load) (a o n : ℕ) (targets : List ℕ) → t ≡ flat.Load l a o → ((x y : ℕ) → (load_access l x y).width ≡ 2 ^ n) → ((x y : ℕ) → (load_access l x y).align ≡ x) → IsAlignedTo (decoded_as targets t) a n
+load_aligned t l a o n targets e w al = subst (λ z. IsAlignedTo (decoded_as targets z) a n) (sym e) (load_access l a o, inl refl, al a o, w a o)
 
-pub store_aligned : (t : Flat) (l : Store) (a o n : ℕ) (targets : List ℕ) → t ≡ flat.Store l a o → ((x y : ℕ) → (store_access l x y).width ≡ 2 ^ n) → ((x y : ℕ) → (store_access l x y).align ≡ x) → IsAlignedTo (seen targets t) a n
-store_aligned t l a o n targets e w al = subst (λ z. IsAlignedTo (seen targets z) a n) (sym e) (store_access l a o, inr refl, al a o, w a o)
+pub store_aligned : (t : Flat) (l : Store) (a o n : ℕ) (targets : List ℕ) → t ≡ flat.Store l a o → ((x y : ℕ) → (store_access l x y).width ≡ 2 ^ n) → ((x y : ℕ) → (store_access l x y).align ≡ x) → IsAlignedTo (decoded_as targets t) a n
+store_aligned t l a o n targets e w al = subst (λ z. IsAlignedTo (decoded_as targets z) a n) (sym e) (store_access l a o, inr refl, al a o, w a o)
 
 -- a branch table as its token has it
-pub table_seen : (t : Flat) (targets ls : List ℕ) (first count d : ℕ) → t ≡ flat.BrTable count first → ls ≡ slice_range targets first (first + count) → d ≡ slice_index_or targets (first + count) 0 → Do (BrTable ls d) ≡ seen targets t
-table_seen t targets ls first count d e l k = ap (λ z. Do (BrTable z d)) l ∙ ap (λ z. Do (BrTable (slice_range targets first (first + count)) z)) k ∙ ap (seen targets) (sym e)
+pub table_seen : (t : Flat) (targets ls : List ℕ) (first count d : ℕ) → t ≡ flat.BrTable count first → ls ≡ slice_range targets first (first + count) → d ≡ slice_index_or targets (first + count) 0 → Do (BrTable ls d) ≡ decoded_as targets t
+table_seen t targets ls first count d e l k = ap (λ z. Do (BrTable z d)) l ∙ ap (λ z. Do (BrTable (slice_range targets first (first + count)) z)) k ∙ ap (decoded_as targets) (sym e)
 
 -- a label of a branch table
 pub label_named : (ls : List ℕ) (d k l : ℕ) → k < length ls → l ≡ get_or ls k 0 → Names (Do (BrTable ls d)) Labels l

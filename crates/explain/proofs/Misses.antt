@@ -12,7 +12,7 @@ use Rattle.wsyntax.specs.Types.{FuncType, same_type, same_types}
 use Rattle.wsyntax.specs.declared.instructions.BlockType.TheVariants.{Index}
 use Rattle.wsyntax.specs.Instructions.{Op, Access, Token, Do, OpenBlock, OpenLoop, OpenIf, Else, End, Br, BrIf, BrTable, Call, CallIndirect, Select, LocalGet, LocalSet, LocalTee, GlobalGet, GlobalSet, MemoryLoad, MemoryStore, MemorySize, MemoryGrow}
 use Rattle.wsyntax.specs.Validation.Context.{Stack, Context, enter, leave, block_sig}
-use Rattle.wsyntax.specs.Validation.Algorithm.{Rule, Takes, Ends, Drops, Selects, rule, Operands, fits, take_any, take_one, take_all, put, fresh, join, apply, is_used_up, ends_with, takes, all_take, Frame, on, when, context_in, may_lack_else, pass_on, step}
+use Rattle.wsyntax.specs.Validation.Algorithm.{Rule, Takes, Ends, Drops, Selects, rule, Operands, fits, pop_any, pop_one, pop_all, push_list, fresh, join, apply, is_used_up, ends_with, takes, all_take, Frame, on, when, context_in, may_lack_else, pass_on, step}
 use Rattle.wcheck.specs.declared.checker.inspect.OpenFrame.{OpenFrame}
 use Rattle.wcheck.specs.Inspected.{IsInnermost, labels_of}
 use Rattle.explain.specs.declared.explanation.Signature.{Signature}
@@ -59,25 +59,25 @@ wrong_fits x t w u e h n = ap (λ z. fits z t) h ∙ ap (same_type u) e ∙ n
 
 -- one is of another type
 wrong_taken : (ts : Stack) (place : ℕ) (w u : ValType) (known : List (Option ValType)) (d : Bool) → slice_get (map Some ts) place ≡ Some (Some w) → slice_get known place ≡ Some (Some u) → same_type u w ≡ false
-    → take_all ts (these known d) ≡ None
+    → pop_all ts (these known d) ≡ None
 wrong_taken [] place w u known d e h n = absurd cc
 wrong_taken (t ∷ ts) place w u [] d e h n = absurd cc
 wrong_taken (t ∷ ts) zero w u (x ∷ xs) d e h n =
     let et : t ≡ w = cc in let ex : x ≡ Some u = cc in
-    ap (λ b. on (when b (Some (these xs d))) (take_all ts)) (wrong_fits x t w u et ex n)
-wrong_taken (t ∷ ts) (suc k) w u (x ∷ xs) d e h n = on_when (fits x t) (these xs d) (take_all ts) (wrong_taken ts k w u xs d e h n)
+    ap (λ b. on (when b (Some (these xs d))) (pop_all ts)) (wrong_fits x t w u et ex n)
+wrong_taken (t ∷ ts) (suc k) w u (x ∷ xs) d e h n = on_when (fits x t) (these xs d) (pop_all ts) (wrong_taken ts k w u xs d e h n)
 
 -- one is missing
-missing_taken : (ts : Stack) (place : ℕ) (w : Option ValType) (known : List (Option ValType)) → slice_get (map Some ts) place ≡ Some w → length known ≡ place → take_all ts (these known false) ≡ None
+missing_taken : (ts : Stack) (place : ℕ) (w : Option ValType) (known : List (Option ValType)) → slice_get (map Some ts) place ≡ Some w → length known ≡ place → pop_all ts (these known false) ≡ None
 missing_taken [] place w known e h = absurd cc
 missing_taken (t ∷ ts) place w [] e h = refl
 missing_taken (t ∷ ts) zero w (x ∷ xs) e h = absurd (omega (arith, h))
-missing_taken (t ∷ ts) (suc k) w (x ∷ xs) e h = on_when (fits x t) (these xs false) (take_all ts) (missing_taken ts k w xs e (omega (arith, h)))
+missing_taken (t ∷ ts) (suc k) w (x ∷ xs) e h = on_when (fits x t) (these xs false) (pop_all ts) (missing_taken ts k w xs e (omega (arith, h)))
 
 -- what a token takes cannot be taken of these operands
 record Refuses (ps : List (Option ValType)) (o : Operands) : Type 0 where
-  lists : (ts : Stack) → map Some ts ≡ ps → take_all ts o ≡ None
-  drops : None ∷ [] ≡ ps → take_any o ≡ None
+  lists : (ts : Stack) → map Some ts ≡ ps → pop_all ts o ≡ None
+  drops : None ∷ [] ≡ ps → pop_any o ≡ None
   selects : Some I32 ∷ None ∷ None ∷ [] ≡ ps → apply Selects o ≡ None
 
 abbrev selected : List (Option ValType)
@@ -87,13 +87,13 @@ none_wrong : (place : ℕ) (w : ValType) → slice_get (None ∷ []) place ≡ S
 none_wrong zero w e = cc
 none_wrong (suc k) w e = cc
 
-one_none : (x : Option Operands) → on x (take_all []) ≡ None → x ≡ None
+one_none : (x : Option Operands) → on x (pop_all []) ≡ None → x ≡ None
 one_none None e = refl
 one_none (Some o) e = absurd cc
 
 wrong_select : (place : ℕ) (w u : ValType) (known : List (Option ValType)) (d : Bool) → slice_get selected place ≡ Some (Some w) → slice_get known place ≡ Some (Some u) → same_type u w ≡ false → apply Selects (these known d) ≡ None
 wrong_select zero w u known d e h n =
-    on_none (take_one I32 (these known d)) _ (one_none (take_one I32 (these known d)) (wrong_taken (I32 ∷ []) zero w u known d e h n))
+    on_none (pop_one I32 (these known d)) _ (one_none (pop_one I32 (these known d)) (wrong_taken (I32 ∷ []) zero w u known d e h n))
 wrong_select (suc zero) w u known d e h n = absurd cc
 wrong_select (suc (suc zero)) w u known d e h n = absurd cc
 wrong_select (suc (suc (suc k))) w u known d e h n = absurd cc
@@ -104,7 +104,7 @@ missing_select place w (x ∷ []) e h = on_when (fits x I32) (these [] false) _ 
 missing_select place w (x ∷ y ∷ []) e h = on_when (fits x I32) (these (y ∷ []) false) _ refl
 missing_select place w (x ∷ y ∷ z ∷ r) e h = let q : slice_get selected (length (x ∷ y ∷ z ∷ r)) ≡ Some w = ap (slice_get selected) h ∙ e in absurd cc
 
-missing_drop : (place : ℕ) (w : Option ValType) (known : List (Option ValType)) → slice_get (None ∷ []) place ≡ Some w → length known ≡ place → take_any (these known false) ≡ None
+missing_drop : (place : ℕ) (w : Option ValType) (known : List (Option ValType)) → slice_get (None ∷ []) place ≡ Some w → length known ≡ place → pop_any (these known false) ≡ None
 missing_drop place w [] e h = refl
 missing_drop place w (x ∷ xs) e h = let q : slice_get (None ∷ []) (length (x ∷ xs)) ≡ Some w = ap (slice_get (None ∷ [])) h ∙ e in absurd cc
 
@@ -128,23 +128,23 @@ missing_refuses ps place w o e h d =
 rule_refused : (x : Option Rule) (ps : List (Option ValType)) (o : Operands) (k : Operands → Option (List Frame)) → option_map asked x ≡ Some ps → Refuses ps o → on x (λ r. on (apply r o) k) ≡ None
 rule_refused None ps o k e r = absurd cc
 rule_refused (Some (Takes p q)) ps o k e r =
-    let h : map Some p ≡ ps = cc in on_none (apply (Takes p q) o) k (on_none (take_all p o) (λ o1. Some (put q o1)) (r.lists p h))
+    let h : map Some p ≡ ps = cc in on_none (apply (Takes p q) o) k (on_none (pop_all p o) (λ o1. Some (push_list q o1)) (r.lists p h))
 rule_refused (Some (Ends p)) ps o k e r =
-    let h : map Some p ≡ ps = cc in on_none (apply (Ends p) o) k (on_none (take_all p o) (λ o1. Some (these [] true)) (r.lists p h))
+    let h : map Some p ≡ ps = cc in on_none (apply (Ends p) o) k (on_none (pop_all p o) (λ o1. Some (these [] true)) (r.lists p h))
 rule_refused (Some Drops) ps o k e r =
-    let h : None ∷ [] ≡ ps = cc in on_none (apply Drops o) k (on_none (take_any o) (λ x. Some x.1) (r.drops h))
+    let h : None ∷ [] ≡ ps = cc in on_none (apply Drops o) k (on_none (pop_any o) (λ x. Some x.1) (r.drops h))
 rule_refused (Some Selects) ps o k e r = let h : selected ≡ ps = cc in on_none (apply Selects o) k (r.selects h)
 
 block_refused : (x : Option FuncType) (ps : List (Option ValType)) (o : Operands) (k : FuncType → Operands → Option (List Frame)) → option_map (λ s. map Some (enter s)) x ≡ Some ps → Refuses ps o
-    → on x (λ s. on (take_all (enter s) o) (k s)) ≡ None
+    → on x (λ s. on (pop_all (enter s) o) (k s)) ≡ None
 block_refused None ps o k e r = absurd cc
-block_refused (Some s) ps o k e r = let h : map Some (enter s) ≡ ps = cc in on_none (take_all (enter s) o) (k s) (r.lists (enter s) h)
+block_refused (Some s) ps o k e r = let h : map Some (enter s) ≡ ps = cc in on_none (pop_all (enter s) o) (k s) (r.lists (enter s) h)
 
 if_refused : (x : Option FuncType) (ps : List (Option ValType)) (o : Operands) (k : FuncType → Operands → Option (List Frame)) → option_map (λ s. Some I32 ∷ map Some (enter s)) x ≡ Some ps → Refuses ps o
-    → on x (λ s. on (take_one I32 o) (λ o1. on (take_all (enter s) o1) (k s))) ≡ None
+    → on x (λ s. on (pop_one I32 o) (λ o1. on (pop_all (enter s) o1) (k s))) ≡ None
 if_refused None ps o k e r = absurd cc
 if_refused (Some s) ps o k e r =
-    let h : map Some (I32 ∷ enter s) ≡ ps = cc in on_on (take_one I32 o) (take_all (enter s)) (k s) (r.lists (I32 ∷ enter s) h)
+    let h : map Some (I32 ∷ enter s) ≡ ps = cc in on_on (pop_one I32 o) (pop_all (enter s)) (k s) (r.lists (I32 ∷ enter s) h)
 
 -- the frames once one is opened
 abbrev within : Bool → Stack → Frame → List Frame → FuncType → Operands → Option (List Frame)
@@ -161,11 +161,11 @@ step_refused C End f fs ps e r = let h : map Some f.gives ≡ ps = cc in when_fa
 
 -- ---- the end of a block
 
-used_when : (b : Bool) (ts : Stack) (o : Operands) → is_used_up (take_all ts o) ≡ false → is_used_up (on (when b (Some o)) (take_all ts)) ≡ false
+used_when : (b : Bool) (ts : Stack) (o : Operands) → is_used_up (pop_all ts o) ≡ false → is_used_up (on (when b (Some o)) (pop_all ts)) ≡ false
 used_when true ts o e = e
 used_when false ts o e = refl
 
-some_left : (ts : Stack) (known : List (Option ValType)) (d : Bool) → length ts < length known → is_used_up (take_all ts (these known d)) ≡ false
+some_left : (ts : Stack) (known : List (Option ValType)) (d : Bool) → length ts < length known → is_used_up (pop_all ts (these known d)) ≡ false
 some_left [] [] d lt = absurd (omega (arith, lt))
 some_left [] (x ∷ xs) d lt = refl
 some_left (t ∷ ts) [] d lt = absurd (omega (arith, lt))
@@ -336,12 +336,12 @@ lacks_else : (C : Context) (f : Frame) (fs : List Frame) → may_lack_else f ≡
 lacks_else C f fs e = when_when (ends_with f.gives f.operands) (may_lack_else f) (Some (pass_on f.gives fs)) e
 
 -- an empty else gives what the if takes only where both are the same
-ends_more : (t u : ValType) (r s : Stack) (v : Bool) → (is_used_up (take_all r (these (map Some s) false)) ≡ true → s ≡ r) → same_type u t ≡ v → is_used_up (on (when v (Some (these (map Some s) false))) (take_all r)) ≡ true
+ends_more : (t u : ValType) (r s : Stack) (v : Bool) → (is_used_up (pop_all r (these (map Some s) false)) ≡ true → s ≡ r) → same_type u t ≡ v → is_used_up (on (when v (Some (these (map Some s) false))) (pop_all r)) ≡ true
     → (u ∷ s) ≡ (t ∷ r)
 ends_more t u r s true more q h = let a = same_type-true u t q in let b = more h in cc
 ends_more t u r s false more q h = absurd cc
 
-ends_same : (r s : Stack) → is_used_up (take_all r (these (map Some s) false)) ≡ true → s ≡ r
+ends_same : (r s : Stack) → is_used_up (pop_all r (these (map Some s) false)) ≡ true → s ≡ r
 ends_same [] [] e = refl
 ends_same [] (u ∷ s) e = absurd cc
 ends_same (t ∷ r) [] e = absurd cc
@@ -355,7 +355,7 @@ ends_not : (r s : Stack) → (s ≡ r → ⊥) → ends_with r (fresh s) ≡ fal
 ends_not r s ne = go (ends_with r (fresh s)) refl
   where
     go : (v : Bool) → ends_with r (fresh s) ≡ v → v ≡ false
-    go true e = absurd (ne (ends_same r s (ap (λ z. is_used_up (take_all r (these z false))) (sym (no_nil (map Some s))) ∙ e)))
+    go true e = absurd (ne (ends_same r s (ap (λ z. is_used_up (pop_all r (these z false))) (sym (no_nil (map Some s))) ∙ e)))
     go false e = refl
 
 may_else : (b x : Bool) → b ≡ true → x ≡ false → elim b [ true ↦ x | false ↦ true ] ≡ false

@@ -8,11 +8,11 @@ use Rattle.wsyntax.specs.Instructions.{Token, Do, OpenBlock, OpenLoop, OpenIf, E
 use Rattle.wsyntax.specs.declared.instructions.BlockType.{BlockType}
 use Rattle.wsyntax.specs.declared.module.LocalRun.{LocalRun}
 use Rattle.wsyntax.specs.declared.instructions.Token.{Token as Held}
-use Rattle.wsyntax.specs.Modules.{seen}
+use Rattle.wsyntax.specs.Modules.{decoded_as}
 use Rattle.std.specs.Bool.{IsTrue}
 use Rattle.wsyntax.specs.Binary.Nesting.{token_at}
 use Rattle.wsyntax.specs.Validation.Context.{Context, enter, block_sig}
-use Rattle.wsyntax.specs.Validation.Algorithm.{Operands, Frame, Rule, on, when, run, step, context_in, take_any}
+use Rattle.wsyntax.specs.Validation.Algorithm.{Operands, Frame, Rule, on, when, run, step, context_in, pop_any}
 use Rattle.wcheck.specs.Checking.{Checking, begun, with_frames}
 use Rattle.wcheck.specs.Inspected.{IsInnermost, TakesOperand}
 use Rattle.wcheck.specs.declared.checker.inspect.OpenFrame.{OpenFrame}
@@ -53,8 +53,8 @@ pass_more old now new code bytes after n left p s = record {
 }
 
 -- the check took the token, whose labels these are
-pub stepped : (C : Context) (t : Held) (us ts : List ℕ) (fs gs : List Frame) (ok : Bool) → step C (seen us t) fs ≡ when ok (Some gs) → us ≡ ts → ok ≡ true → step C (seen ts t) fs ≡ Some gs
-stepped C t us ts fs gs ok e l k = ap (λ z. step C (seen z t) fs) (sym l) ∙ e ∙ ap (λ b. when b (Some gs)) k
+pub stepped : (C : Context) (t : Held) (us ts : List ℕ) (fs gs : List Frame) (ok : Bool) → step C (decoded_as us t) fs ≡ when ok (Some gs) → us ≡ ts → ok ≡ true → step C (decoded_as ts t) fs ≡ Some gs
+stepped C t us ts fs gs ok e l k = ap (λ z. step C (decoded_as z t) fs) (sym l) ∙ e ∙ ap (λ b. when b (Some gs)) k
 
 -- the body has not ended
 pub not_ended : (b : Bool) (fs : List Frame) → (fs ≡ [] → IsTrue b) → b ≡ false → fs ≡ [] → ⊥
@@ -104,7 +104,7 @@ top_types f fs gs x (Some y) e = let F : Option (Option ValType × List Frame) �
 pub taken_types : (fs gs : List Frame) (r : Option (Option ValType)) → TakesOperand fs gs r → map frame_type gs ≡ map frame_type fs
 taken_types fs gs None e = ap (map frame_type) e.1
 taken_types [] gs (Some x) e = absurd cc
-taken_types (f ∷ fs) gs (Some x) e = top_types f fs gs x (take_any f.operands) e
+taken_types (f ∷ fs) gs (Some x) e = top_types f fs gs x (pop_any f.operands) e
 
 -- ---- the blocks
 

@@ -2,7 +2,7 @@
 use Rattle.std.specs.Prelude.{◌≡◌, ◌≢◌, ◌⊎◌, ℕ, zero, suc, ◌+◌, ◌-◌, List, [], ◌∷◌, length, Option, Some, None}
 use Rattle.wsyntax.specs.declared.module.LocalRun.{LocalRun}
 use Rattle.wsyntax.specs.Instructions.{Token}
-use Rattle.wsyntax.specs.Modules.{seen}
+use Rattle.wsyntax.specs.Modules.{decoded_as}
 use Rattle.wsyntax.specs.Binary.Nesting.{token_at}
 use Rattle.wsyntax.specs.Binary.Sections.{locals}
 use Rattle.wdecode.specs.Gives.{rest_of}
@@ -34,7 +34,7 @@ pub record IsTokenAt (body : List ℕ) (start number : ℕ) (f : FoundToken) : T
   pub after : List ℕ
   pub left : IsLeft body number before
   pub opcode : (tail : List ℕ) × (before ≡ f.opcode ∷ tail)
-  pub token : token_at before ≡ Some (seen f.targets.items f.token, after)
+  pub token : token_at before ≡ Some (decoded_as f.targets.items f.token, after)
   pub from : f.span.from ≡ start + (length body - length before)
   pub to : f.span.to ≡ start + (length body - length after)
 

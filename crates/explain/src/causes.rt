@@ -2,7 +2,7 @@
 ghost use Rattle.std.specs.Prelude.{◌≡◌, ◌≢◌, ◌≤◌, ◌<◌, ◌+◌, ◌∷◌, [], ℕ, List, cond, Some, None, true, false};
 ghost use Rattle.std.specs.Prelude.{IfOk, IfSome, MatchOption, length, map, reverse, slice_get, slice_range, slice_index_or};
 ghost use Rattle.wsyntax.specs.Instructions.{Token as AnyToken, Do, BrTable, Select, Else, End};
-ghost use Rattle.wsyntax.specs.Modules.{seen};
+ghost use Rattle.wsyntax.specs.Modules.{decoded_as};
 ghost use Rattle.wsyntax.specs.Validation.Context.{Context as AnyContext};
 ghost use Rattle.wsyntax.specs.Validation.Algorithm.{Frame};
 ghost use Rattle.wcheck.specs.Inspected.{IsInnermost, SharesSpaces};
@@ -108,8 +108,8 @@ fn refusal_by(
     finds: &[Option<ValType>],
 ) -> Result<Option<Cause>, AllocError>
     ensures { (C : AnyContext) (fs : List Frame) (targets : List ℕ) (n : ℕ) → MatchOption frame.entry (fs ≡ []) (IsInnermost fs)
-        → Some (reverse takes.now) ≡ pops C (seen targets token) fs → reverse finds.now ≡ topmost n fs → length takes.now ≤ n
-        → IfOk result (λ r. IfSome r (IsCause C (seen targets token) fs)) }
+        → Some (reverse takes.now) ≡ pops C (decoded_as targets token) fs → reverse finds.now ≡ topmost n fs → length takes.now ≤ n
+        → IfOk result (λ r. IfSome r (IsCause C (decoded_as targets token) fs)) }
 {
     let cause = misfit(takes, finds);
     if cause.is_some() {
@@ -131,10 +131,10 @@ pub(crate) fn operand_cause(
     takes: &[Option<ValType>],
 ) -> Result<(Operands, Option<Cause>), AllocError>
     ensures found { (targets : List ℕ) → IfOk result (λ r. reverse r.0.items
-        ≡ topmost (told_of (seen targets token) (length takes.now) (known_in checker.old.frames)) checker.old.frames) }
+        ≡ topmost (told_of (decoded_as targets token) (length takes.now) (known_in checker.old.frames)) checker.old.frames) }
     ensures types { map frame_type checker.new.frames ≡ map frame_type checker.old.frames }
-    ensures cause { (targets : List ℕ) → Some (reverse takes.now) ≡ pops checker.old.inside (seen targets token) checker.old.frames
-        → IfOk result (λ r. IfSome r.1 (IsCause checker.old.inside (seen targets token) checker.old.frames)) }
+    ensures cause { (targets : List ℕ) → Some (reverse takes.now) ≡ pops checker.old.inside (decoded_as targets token) checker.old.frames
+        → IfOk result (λ r. IfSome r.1 (IsCause checker.old.inside (decoded_as targets token) checker.old.frames)) }
 {
     let frame = checker.innermost();
     let known = match frame {
@@ -250,7 +250,7 @@ fn table_cause(
 
 /// The index that a token names, where that is one.
 fn named(token: Token) -> Option<(Space, u32)>
-    ensures { IfSome result (λ n. (targets : List ℕ) → Names (seen targets token) n.0 n.1) }
+    ensures { IfSome result (λ n. (targets : List ℕ) → Names (decoded_as targets token) n.0 n.1) }
 {
     match token {
         Token::Block(BlockType::Index(index))
@@ -273,7 +273,7 @@ fn named(token: Token) -> Option<(Space, u32)>
 
 /// Whether a token uses the memory.
 fn uses_memory(token: Token) -> bool
-    ensures { result ≡ true → (targets : List ℕ) → UsesMemory (seen targets token) }
+    ensures { result ≡ true → (targets : List ℕ) → UsesMemory (decoded_as targets token) }
 {
     match token {
         Token::Load { .. } => true,
@@ -286,7 +286,7 @@ fn uses_memory(token: Token) -> bool
 
 /// The alignment of a load or a store, and the largest that it may have, as exponents of 2.
 fn alignment_of(token: Token) -> Option<(u32, u32)>
-    ensures { IfSome result (λ a. (targets : List ℕ) → IsAlignedTo (seen targets token) a.0 a.1) }
+    ensures { IfSome result (λ a. (targets : List ℕ) → IsAlignedTo (decoded_as targets token) a.0 a.1) }
 {
     match token {
         Token::Load {
@@ -305,7 +305,7 @@ fn alignment_of(token: Token) -> Option<(u32, u32)>
 
 /// That a load or a store is aligned to more than its width.
 fn misaligned(token: Token) -> Option<Cause>
-    ensures { IfSome result (λ c. (targets : List ℕ) (C : AnyContext) (fs : List Frame) → IsCause C (seen targets token) fs c) }
+    ensures { IfSome result (λ c. (targets : List ℕ) (C : AnyContext) (fs : List Frame) → IsCause C (decoded_as targets token) fs c) }
 {
     let Some((align, largest)) = alignment_of(token) else {
         return None;
@@ -319,7 +319,7 @@ fn misaligned(token: Token) -> Option<Cause>
 /// What a token needs of the module, and does not have.
 fn lack(context: &Context, token: Token) -> Option<Cause>
     ensures { IfSome result (λ c. (targets : List ℕ) (C : AnyContext) (fs : List Frame) → SharesSpaces context.now.context C
-        → IsCause C (seen targets token) fs c) }
+        → IsCause C (decoded_as targets token) fs c) }
 {
     if uses_memory(token) && !context.has_memory() {
         return Some(Cause::NoMemory);
@@ -341,7 +341,7 @@ pub(crate) fn name_cause(
     token: Token,
     targets: &[u32],
 ) -> Result<Option<Cause>, AllocError>
-    ensures { IfOk result (λ r. IfSome r (IsCause checker.now.inside (seen targets.now token) checker.now.frames)) }
+    ensures { IfOk result (λ r. IfSome r (IsCause checker.now.inside (decoded_as targets.now token) checker.now.frames)) }
 {
     if let Token::BrTable { count, first } = token {
         let default = table_default(targets, first, count);

@@ -15,7 +15,7 @@ use crate::rules::broken_item;
 use crate::shell::places::place_of;
 use std::alloc::{AllocError, Global};
 use verdict::{BodyRefusal, Refusal, examine_alone};
-use wcontext::{ModuleFault, check_early};
+use wcontext::{ModuleFault, check_rules_before_code};
 use wdecode::{DecodeFault, ModuleHead, decode_front};
 
 /// A refused body of which no more is known than its verdict.
@@ -45,7 +45,7 @@ fn body_of<'a>(
     ensures refusal { IfOk result (Tells func refusal) }
     ensures so { IfOk result (IsSoIn bytes.now (module_shape front.now.module)) }
 {
-    let context = match check_early(alloc, &front.module) {
+    let context = match check_rules_before_code(alloc, &front.module) {
         Ok((context, _counts)) => context,
         Err(ModuleFault::Rule(_)) => return Ok(bare_body(func, refusal)),
         Err(ModuleFault::Memory) => return Err(AllocError),

@@ -1,6 +1,6 @@
 //! What a token takes from the operands, and what it finds there (7.3).
 ghost use Rattle.std.specs.Prelude.{◌≡◌, ℕ, List, Some, IfOk, map, reverse, option_map};
-ghost use Rattle.wsyntax.specs.Modules.{seen};
+ghost use Rattle.wsyntax.specs.Modules.{decoded_as};
 ghost use Rattle.wsyntax.specs.Validation.Context.{block_sig, enter};
 ghost use Rattle.wcheck.specs.OperandRules.{indexed, rule_of};
 ghost use Rattle.explain.specs.Typed.{asked, frame_type, pops, told_of, topmost};
@@ -78,7 +78,7 @@ pub(crate) fn takes_of(
     targets: &[u32],
 ) -> Result<Option<Operands>, AllocError>
     ensures { IfOk result (λ o. option_map (λ x. reverse x.items) o
-        ≡ pops checker.now.inside (seen targets.now token) checker.now.frames) }
+        ≡ pops checker.now.inside (decoded_as targets.now token) checker.now.frames) }
 {
     let Some(frame) = checker.innermost() else {
         return Ok(None);
@@ -103,7 +103,7 @@ pub(crate) fn takes_of(
 
 /// How many operands are told, of a token that takes so many.
 pub(crate) fn count_told(token: Token, takes: usize, known: usize) -> usize
-    ensures { (targets : List ℕ) → result ≡ told_of (seen targets token) takes known }
+    ensures { (targets : List ℕ) → result ≡ told_of (decoded_as targets token) takes known }
 {
     match token {
         Token::Else { .. } | Token::End => takes.max(known.min(takes.saturating_add(LEFT_OVER))),
@@ -118,7 +118,7 @@ fn taken(alloc: Global, checker: &mut Checker<'_>, count: usize) -> Result<Opera
 {
     let mut operands = Vec::new(alloc);
     for at in 0..count {
-        let Some(operand) = checker.take_operand() else {
+        let Some(operand) = checker.pop_operand() else {
             return Ok(operands);
         };
         operands.push(operand)?;

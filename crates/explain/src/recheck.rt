@@ -1,7 +1,7 @@
 //! The body of an ill-typed token, checked anew up to it, once: where the token stands, what it takes and finds, in which blocks it
 //! stands, and why it is refused.
 ghost use Rattle.std.specs.Prelude.{◌≡◌, ℕ, List, [], true, false, IfOk, IfSome, Some, map, take};
-ghost use Rattle.wsyntax.specs.Modules.{seen};
+ghost use Rattle.wsyntax.specs.Modules.{decoded_as};
 ghost use Rattle.wsyntax.specs.Validation.Algorithm.{step, when};
 ghost use Rattle.wcheck.specs.Checking.{with_frames};
 ghost use Rattle.explain.specs.Places.{IsTokenAt, left_after};
@@ -37,19 +37,19 @@ pub(crate) struct Told {
 #[inline(always)]
 fn pass_known(checker: &mut Checker<'_>, token: Token) -> bool
     ensures step { result ≡ true → (targets : List ℕ) →
-        step checker.old.inside (seen targets token) checker.old.frames ≡ Some checker.new.frames }
+        step checker.old.inside (decoded_as targets token) checker.old.frames ≡ Some checker.new.frames }
     ensures same { result ≡ true → checker.new ≡ with_frames checker.old checker.new.frames }
     ensures others { result ≡ false → checker.new ≡ checker.old }
 {
-    if checker.finish() {
+    if checker.is_finished() {
         return false;
     }
     // PERF: each arm has a kind of token of its own, so that the compiler tells the token apart once.
     match token {
-        Token::LocalGet(x) => checker.step_known(Token::LocalGet(x)),
-        Token::LocalSet(x) => checker.step_known(Token::LocalSet(x)),
-        Token::I32Const(value) => checker.step_known(Token::I32Const(value)),
-        Token::Numeric(operator) => checker.step_known(Token::Numeric(operator)),
+        Token::LocalGet(x) => checker.try_fast_step(Token::LocalGet(x)),
+        Token::LocalSet(x) => checker.try_fast_step(Token::LocalSet(x)),
+        Token::I32Const(value) => checker.try_fast_step(Token::I32Const(value)),
+        Token::Numeric(operator) => checker.try_fast_step(Token::Numeric(operator)),
         _ => false,
     }
 }
@@ -57,7 +57,7 @@ fn pass_known(checker: &mut Checker<'_>, token: Token) -> bool
 /// Goes on by a token. `false`: no typed body begins with the tokens so far.
 #[inline(always)]
 fn step_token(checker: &mut Checker<'_>, token: Token, targets: &[u32]) -> Result<bool, AllocError>
-    ensures step { IfOk result (λ ok. step checker.old.inside (seen targets.now token) checker.old.frames
+    ensures step { IfOk result (λ ok. step checker.old.inside (decoded_as targets.now token) checker.old.frames
         ≡ when ok (Some checker.new.frames)) }
     ensures same { IfOk result (λ _. checker.new ≡ with_frames checker.old checker.new.frames) }
 {
@@ -140,7 +140,7 @@ fn blocks_within(
             return Ok(blocks);
         };
         checker.leave();
-        if checker.finish() {
+        if checker.is_finished() {
             return Ok(blocks);
         }
         blocks.push(OpenBlock {
@@ -201,8 +201,8 @@ fn told_of_token(
     token: Token,
     targets: &[u32],
 ) -> Result<(Typing, Option<Cause>), AllocError>
-    ensures typing { IfOk result (λ r. IsTypingIn checker.old.inside (seen targets.now token) checker.old.frames r.0) }
-    ensures cause { IfOk result (λ r. IfSome r.1 (IsCause checker.old.inside (seen targets.now token) checker.old.frames)) }
+    ensures typing { IfOk result (λ r. IsTypingIn checker.old.inside (decoded_as targets.now token) checker.old.frames r.0) }
+    ensures cause { IfOk result (λ r. IfSome r.1 (IsCause checker.old.inside (decoded_as targets.now token) checker.old.frames)) }
 {
     let known = known_in(checker);
     match takes_of(alloc, checker, token, targets)? {

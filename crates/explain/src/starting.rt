@@ -1,15 +1,15 @@
 //! Why no instance of an accepted module starts (4.5.4), and where what hinders it stands.
 ghost use Rattle.std.specs.Prelude.{◌≡◌, [], IfSome, option_map, position};
 ghost use Rattle.wsyntax.specs.FuncTypes.{func_type_of};
-ghost use Rattle.wsyntax.specs.Modules.{body_shape, global_shape, module_shape, seen};
+ghost use Rattle.wsyntax.specs.Modules.{body_shape, global_shape, module_shape, decoded_as};
 ghost use Rattle.wsyntax.specs.Execution.Start.{any, has_floats, is_float, run_has_floats, start_refusal};
 ghost use Rattle.wsyntax.specs.Execution.Start.{token_has_floats, type_has_floats};
 ghost use Rattle.accepted_module.specs.Floats.{global_has_floats};
 ghost use Rattle.accepted_module.specs.Judgement.{shapes_of};
-ghost use Rattle.accepted_module.specs.Layouts.{IsLayoutOf};
+ghost use Rattle.accepted_module.specs.InitialStates.{IsLayoutOf};
 ghost use Rattle.explain.specs.Starting.{IsNamed, first_float, first_in, float_in, refusal_named};
 
-use accepted_module::{Accepted, Layout, memory_pages, table_size};
+use accepted_module::{Accepted, InitialState, memory_pages, table_size};
 use checked_body::{CheckedBody, is_float, token_has_floats};
 use wsyntax::{FuncType, FuncTypes, Global, Import, LocalRun, Module, TABLE_LIMIT, Token, ValType};
 
@@ -91,7 +91,7 @@ fn float_run(runs: &[LocalRun]) -> Option<usize>
 
 /// The number of the first token that has floats.
 fn float_token(tokens: &[Token]) -> Option<usize>
-    ensures { result ≡ position (λ t. token_has_floats (seen [] t)) tokens.now }
+    ensures { result ≡ position (λ t. token_has_floats (decoded_as [] t)) tokens.now }
 {
     tokens.iter().position(|token| token_has_floats(*token))
 }
@@ -137,7 +137,7 @@ fn float_place(module: &Module<'_>, bodies: &[CheckedBody]) -> Option<FloatPlace
 /// Why no instance starts of a valid module with these bodies. `uses_floats` says whether it mentions floats.
 fn reason_of<'a>(
     module: &Module<'a>,
-    layout: &Layout,
+    layout: &InitialState,
     bodies: &[CheckedBody],
     uses_floats: bool,
     pages: u32,
@@ -159,7 +159,7 @@ fn reason_of<'a>(
     if memory_pages(module) > pages {
         return Some(NotStarting::MemoryLimit(memory_pages(module)));
     }
-    if let Some(segment) = layout.element_outside() {
+    if let Some(segment) = layout.first_out_of_bounds_elem() {
         return Some(NotStarting::ElementOutside(segment));
     }
     if let Some(segment) = layout.data_outside() {

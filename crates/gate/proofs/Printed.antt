@@ -21,7 +21,7 @@ use Rattle.gate.specs.Endings.{answer_status}
 use Rattle.gate.specs.Prints.{AsksFor, AnswersRequest, PrintsAnswer, PrintsCallsExplained, PrintsCallsRefusal, PrintsGood, PrintsRefusal, PrintsStream}
 use Rattle.gate.specs.Runs.{RunsOn}
 use Rattle.gate.specs.Streams.{ReadsAccepted, StreamsOn}
-use Rattle.gate.specs.declared.outcome.Outcome.TheVariants as outcome
+use Rattle.gate.specs.declared.file_outcome.FileOutcome.TheVariants as file_outcome
 use Rattle.gate.proofs.PrintedAll.{good_outcome, listed_all, named_all, no_listed_calls, no_named_calls, refused_outcome}
 
 only_good : (s : Status) → answer_status s ≡ 0 → s ≡ Good
@@ -117,9 +117,9 @@ good words (Check path plan) holds lists asked asked' old new s named (v, judged
       written = subst (λ (x : Verdict). Appends old new (verdict_line x)) same written;
     })
 good words (CheckAll names folders plan) holds lists asked asked' old new s (are, says, said) done order e =
-    inr (inr (inr (inr (inr (inr (inl (named_all words (map (λ n. n.now) names.items) folders holds lists asked asked' old new outcome.Accepted s are says done (good_outcome s (only_good s e)))))))))
+    inr (inr (inr (inr (inr (inr (inl (named_all words (map (λ n. n.now) names.items) folders holds lists asked asked' old new file_outcome.Accepted s are says done (good_outcome s (only_good s e)))))))))
 good words (CheckListed is_null folders plan) holds lists asked asked' old new s (list, says_n, says_f, said) done order e =
-    inr (inr (inr (inr (inr (inr (inl (listed_all words is_null folders holds lists asked asked' old new outcome.Accepted s list says_n says_f done (good_outcome s (only_good s e)))))))))
+    inr (inr (inr (inr (inr (inr (inl (listed_all words is_null folders holds lists asked asked' old new file_outcome.Accepted s list says_n says_f done (good_outcome s (only_good s e)))))))))
 good words (Explain path) holds lists asked asked' old new s named (v, text, explained, is, written) order e =
     let same : v ≡ Accepted = only_accepted v (sym is ∙ only_good s e) in
     inr (inr (inl record {
@@ -152,9 +152,9 @@ pub refusal : (words : List (List ℕ)) (request : Request) (holds : List ℕ �
 refusal words (Check path plan) holds lists asked asked' old new s named (v, judged, is, written) order e =
     inl (v, sym is ∙ only_refused s e, inl record { path = path.now; named = named.0; only = order; judged = judged; written = written })
 refusal words (CheckAll names folders plan) holds lists asked asked' old new s (are, says, said) done order e =
-    inr (inr (inr (inl (named_all words (map (λ n. n.now) names.items) folders holds lists asked asked' old new outcome.Refused s are says done (refused_outcome s (only_refused s e))))))
+    inr (inr (inr (inl (named_all words (map (λ n. n.now) names.items) folders holds lists asked asked' old new file_outcome.Refused s are says done (refused_outcome s (only_refused s e))))))
 refusal words (CheckListed is_null folders plan) holds lists asked asked' old new s (list, says_n, says_f, said) done order e =
-    inr (inr (inr (inl (listed_all words is_null folders holds lists asked asked' old new outcome.Refused s list says_n says_f done (refused_outcome s (only_refused s e))))))
+    inr (inr (inr (inl (listed_all words is_null folders holds lists asked asked' old new file_outcome.Refused s list says_n says_f done (refused_outcome s (only_refused s e))))))
 refusal words (Explain path) holds lists asked asked' old new s named (v, text, explained, is, written) order e =
     inl (v, sym is ∙ only_refused s e, inr (inl record { path = path.now; named = named; only = order; text = text; explained = explained; written = written }))
 refusal words (ExplainCalls path calls) holds lists asked asked' old new s named (text, explained, written) order e =

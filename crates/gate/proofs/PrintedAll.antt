@@ -25,8 +25,8 @@ use Rattle.gate.specs.Streams.{IsStreamedOn, ReadsAccepted, StreamsOn}
 use Rattle.gate.specs.Sources.{ReadsPaths}
 use Rattle.gate.specs.declared.fault.ProgramFault.{ProgramFault}
 use Rattle.gate.specs.declared.fault.ProgramFault.TheVariants as fault
-use Rattle.gate.specs.declared.outcome.Outcome.{Outcome}
-use Rattle.gate.specs.declared.outcome.Outcome.TheVariants.{Accepted, Refused, Unread}
+use Rattle.gate.specs.declared.file_outcome.FileOutcome.{FileOutcome}
+use Rattle.gate.specs.declared.file_outcome.FileOutcome.TheVariants.{Accepted, Refused, Unread}
 
 abbrev failed : ProgramFault → Result Status ProgramFault
 failed f = Err f
@@ -36,17 +36,17 @@ same_fault f g e = cc
 
 -- what came of all files, by the status
 
-pub good_outcome : (s : Status) → s ≡ Good → (p : Outcome) → Ok s ≡ outcome_result p → p ≡ Accepted
+pub good_outcome : (s : Status) → s ≡ Good → (p : FileOutcome) → Ok s ≡ outcome_result p → p ≡ Accepted
 good_outcome s e Accepted same = refl
 good_outcome s e Refused same = absurd cc
 good_outcome s e Unread same = absurd cc
 
-pub refused_outcome : (s : Status) → s ≡ ModuleRefused → (p : Outcome) → Ok s ≡ outcome_result p → p ≡ Refused
+pub refused_outcome : (s : Status) → s ≡ ModuleRefused → (p : FileOutcome) → Ok s ≡ outcome_result p → p ≡ Refused
 refused_outcome s e Accepted same = absurd cc
 refused_outcome s e Refused same = refl
 refused_outcome s e Unread same = absurd cc
 
-no_outcome : (s : Status) → s ≡ CallsRefused → (p : Outcome) → Ok s ≡ outcome_result p → ⊥
+no_outcome : (s : Status) → s ≡ CallsRefused → (p : FileOutcome) → Ok s ≡ outcome_result p → ⊥
 no_outcome s e Accepted same = absurd cc
 no_outcome s e Refused same = absurd cc
 no_outcome s e Unread same = absurd cc
@@ -54,37 +54,37 @@ no_outcome s e Unread same = absurd cc
 -- with a status all lines are written
 
 files_printed : (holds : List ℕ → Option (List ℕ)) (files : List (List ℕ)) (asked asked' : Option (List (List ℕ))) (old new : Option (List ℕ)) (s : Status) → ChecksFiles holds files asked asked' old new (Ok s)
-    → (p : Outcome) × (Ok s ≡ outcome_result p) × PrintsFiles holds files asked asked' old new p
+    → (p : FileOutcome) × (Ok s ≡ outcome_result p) × PrintsFiles holds files asked asked' old new p
 files_printed holds files asked asked' old new s (inl printed) = printed
 files_printed holds files asked asked' old new s (inr (f, e, begun)) = absurd cc
 
 names_printed : (StandFor : List (List ℕ) → Type 0) (holds : List ℕ → Option (List ℕ)) (asked asked' : Option (List (List ℕ))) (old new : Option (List ℕ)) (s : Status) → ChecksNames StandFor holds asked asked' old new (Ok s)
-    → (files : List (List ℕ)) × (p : Outcome) × StandFor files × (Ok s ≡ outcome_result p) × PrintsFiles holds files asked asked' old new p
+    → (files : List (List ℕ)) × (p : FileOutcome) × StandFor files × (Ok s ≡ outcome_result p) × PrintsFiles holds files asked asked' old new p
 names_printed StandFor holds asked asked' old new s (inl (files, stand, done)) =
     let (p, is, printed) = files_printed holds files asked asked' old new s done in
     (files, p, stand, is, printed)
 names_printed StandFor holds asked asked' old new s (inr (e, order, kept)) = absurd cc
 
-pub named_all : (words : List (List ℕ)) (names : List (List ℕ)) (folders : Bool) (holds : List ℕ → Option (List ℕ)) (lists : List ℕ → Option (List (List ℕ))) (asked asked' : Option (List (List ℕ))) (old new : Option (List ℕ)) (o : Outcome) (s : Status)
-    → names ≡ file_names words → folders ≡ says_folders words → ChecksNames (IsSpread folders lists names) holds asked asked' old new (Ok s) → ((p : Outcome) → Ok s ≡ outcome_result p → p ≡ o) → PrintsAll words holds lists asked asked' old new o
+pub named_all : (words : List (List ℕ)) (names : List (List ℕ)) (folders : Bool) (holds : List ℕ → Option (List ℕ)) (lists : List ℕ → Option (List (List ℕ))) (asked asked' : Option (List (List ℕ))) (old new : Option (List ℕ)) (o : FileOutcome) (s : Status)
+    → names ≡ file_names words → folders ≡ says_folders words → ChecksNames (IsSpread folders lists names) holds asked asked' old new (Ok s) → ((p : FileOutcome) → Ok s ≡ outcome_result p → p ≡ o) → PrintsAll words holds lists asked asked' old new o
 named_all words names folders holds lists asked asked' old new o s are says done only =
     let (files, p, stand, is, printed) = names_printed (IsSpread folders lists names) holds asked asked' old new s done in
     record {
       mid = asked;
       files = files;
       named = inl (refl, subst (λ (b : Bool). IsSpread b lists (file_names words) files) says (subst (λ (ns : List (List ℕ)). IsSpread folders lists ns files) are stand));
-      printed = subst (λ (x : Outcome). PrintsFiles holds files asked asked' old new x) (only p is) printed;
+      printed = subst (λ (x : FileOutcome). PrintsFiles holds files asked asked' old new x) (only p is) printed;
     }
 
-pub listed_all : (words : List (List ℕ)) (is_null folders : Bool) (holds : List ℕ → Option (List ℕ)) (lists : List ℕ → Option (List (List ℕ))) (asked asked' : Option (List (List ℕ))) (old new : Option (List ℕ)) (o : Outcome) (s : Status)
-    → file_names words ≡ codes "-" ∷ [] → is_null ≡ says_null words → folders ≡ says_folders words → ChecksListed is_null folders holds lists asked asked' old new (Ok s) → ((p : Outcome) → Ok s ≡ outcome_result p → p ≡ o) → PrintsAll words holds lists asked asked' old new o
+pub listed_all : (words : List (List ℕ)) (is_null folders : Bool) (holds : List ℕ → Option (List ℕ)) (lists : List ℕ → Option (List (List ℕ))) (asked asked' : Option (List (List ℕ))) (old new : Option (List ℕ)) (o : FileOutcome) (s : Status)
+    → file_names words ≡ codes "-" ∷ [] → is_null ≡ says_null words → folders ≡ says_folders words → ChecksListed is_null folders holds lists asked asked' old new (Ok s) → ((p : FileOutcome) → Ok s ≡ outcome_result p → p ≡ o) → PrintsAll words holds lists asked asked' old new o
 listed_all words is_null folders holds lists asked asked' old new o s list says_n says_f (mid, order, inl (bytes, read, done)) only =
     let (files, p, stand, is, printed) = names_printed (IsSpread folders lists (listed_names (name_end is_null) [] bytes)) holds mid asked' old new s done in
     record {
       mid = mid;
       files = files;
       named = inr (list, order, (bytes, read, subst (λ (b : Bool). IsSpread (says_folders words) lists (listed_names (name_end b) [] bytes) files) says_n (subst (λ (b : Bool). IsSpread b lists (listed_names (name_end is_null) [] bytes) files) says_f stand)));
-      printed = subst (λ (x : Outcome). PrintsFiles holds files mid asked' old new x) (only p is) printed;
+      printed = subst (λ (x : FileOutcome). PrintsFiles holds files mid asked' old new x) (only p is) printed;
     }
 listed_all words is_null folders holds lists asked asked' old new o s list says_n says_f (mid, order, inr (f, e, want, same, kept)) only = absurd cc
 
@@ -112,7 +112,7 @@ not_by f fault.Names holds files asked asked' old new e same begun = begun
 not_by f fault.Write holds files asked asked' old new e same begun = absurd (omega (arith, e, ap fault_status same))
 not_by f fault.Memory holds files asked asked' old new e same begun = absurd (omega (arith, e, ap fault_status same))
 
-not_result : (f : ProgramFault) (p : Outcome) → fault_status f ≡ 64 → failed f ≡ outcome_result p → ⊥
+not_result : (f : ProgramFault) (p : FileOutcome) → fault_status f ≡ 64 → failed f ≡ outcome_result p → ⊥
 not_result f Accepted e same = absurd cc
 not_result f Refused e same = absurd cc
 not_result f Unread e same = absurd (omega (arith, e, ap fault_status (same_fault f fault.SomeUnread same)))
@@ -162,7 +162,7 @@ usage_keeps (Text text) holds lists asked asked' old new f done e = by_words (λ
 memory_begins : (f : ProgramFault) (holds : List ℕ → Option (List ℕ)) (files : List (List ℕ)) (asked asked' : Option (List (List ℕ))) (old new : Option (List ℕ)) → BeginsBy holds files asked asked' old new f → fault_status f ≡ 70 → BeginsFiles holds files asked asked' (Appends old new)
 memory_begins f holds files asked asked' old new begun e = by_memory (BeginsBy holds files asked asked' old new) (BeginsFiles holds files asked asked' (Appends old new)) (λ b. b) f begun e
 
-no_memory_result : (f : ProgramFault) (p : Outcome) → fault_status f ≡ 70 → failed f ≡ outcome_result p → ⊥
+no_memory_result : (f : ProgramFault) (p : FileOutcome) → fault_status f ≡ 70 → failed f ≡ outcome_result p → ⊥
 no_memory_result f Accepted e same = absurd cc
 no_memory_result f Refused e same = absurd cc
 no_memory_result f Unread e same = absurd (omega (arith, e, ap fault_status (same_fault f fault.SomeUnread same)))

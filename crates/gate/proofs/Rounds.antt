@@ -3,7 +3,7 @@ use Rattle.std.proofs.Common.{◌≡◌, ◌⊎◌, ℕ, ◌+◌, ◌-◌, ◌<�
 use Rattle.std.specs.Prelude.{IfErr, IfSome, IsSomeAnd, Vec}
 use Rattle.std.specs.declared.alloc.Global.{Global}
 use Rattle.std.proofs.lemmas.Bool.{eq-eqb, ne_eqb}
-use Rattle.std.proofs.lemmas.List.{drop-append-le, drop_all, get_or-map, length-drop, length-map, length-take, length_push, map_push, drop-map, take-append-drop, take-map, take_all, take_more}
+use Rattle.std.proofs.lemmas.List.{drop-append-le, drop_all, get_or-map, length-drop, length-map, length-take, length_push, map_push, drop-map, take-append-drop, take-map, pop_all, take_more}
 use Rattle.std.proofs.KnownBytes.{Appends-kept, Appends-nil, Appends-trans}
 use Rattle.std.proofs.Math.Seq.{take-add, take-append-add}
 use Rattle.std.proofs.lemmas.Slice.{between_is}
@@ -22,24 +22,24 @@ use Rattle.gate.specs.NameLists.{IsSpread, listed_names}
 use Rattle.gate.specs.Sources.{ReadsPaths}
 use Rattle.gate.specs.declared.fault.ProgramFault.{ProgramFault}
 use Rattle.gate.specs.declared.fault.ProgramFault.TheVariants as fault
-use Rattle.gate.specs.declared.outcome.Outcome.{Outcome}
-use Rattle.gate.specs.declared.outcome.Outcome.TheVariants.{Accepted, Refused, Unread}
+use Rattle.gate.specs.declared.file_outcome.FileOutcome.{FileOutcome}
+use Rattle.gate.specs.declared.file_outcome.FileOutcome.TheVariants.{Accepted, Refused, Unread}
 use Rattle.gate.specs.declared.taking.Taken.{Taken}
 use Rattle.gate.specs.declared.taking.Taken.TheVariants as taken
 
 -- what comes of many files
 
-worse_none : (p : Outcome) → worse Accepted p ≡ p
+worse_none : (p : FileOutcome) → worse Accepted p ≡ p
 worse_none Accepted = refl
 worse_none Refused = refl
 worse_none Unread = refl
 
-worse_last : (p : Outcome) → worse p Accepted ≡ p
+worse_last : (p : FileOutcome) → worse p Accepted ≡ p
 worse_last Accepted = refl
 worse_last Refused = refl
 worse_last Unread = refl
 
-worse_assoc : (p q r : Outcome) → worse (worse p q) r ≡ worse p (worse q r)
+worse_assoc : (p q r : FileOutcome) → worse (worse p q) r ≡ worse p (worse q r)
 worse_assoc Unread q r = refl
 worse_assoc Accepted q r = ap (λ x. worse x r) (worse_none q) ∙ sym (worse_none (worse q r))
 worse_assoc Refused Accepted Accepted = refl
@@ -54,12 +54,12 @@ worse_assoc Refused Unread Unread = refl
 
 -- the line of a file is that of what was read and judged
 
-verdict_known : (bytes end : List ℕ) (o : Outcome) (v : Option Verdict) → IfSome v (IsVerdict bytes) → IsSomeAnd v (λ w. (end ≡ verdict_line w) × (o ≡ outcome_of w))
+verdict_known : (bytes end : List ℕ) (o : FileOutcome) (v : Option Verdict) → IfSome v (IsVerdict bytes) → IsSomeAnd v (λ w. (end ≡ verdict_line w) × (o ≡ outcome_of w))
     → (w : Verdict) × IsVerdict bytes w × (end ≡ verdict_line w) × (o ≡ outcome_of w)
 verdict_known bytes end o None known told = absurd told
 verdict_known bytes end o (Some v) known told = (v, known, told.0, told.1)
 
-line_known : (held : Option (List ℕ)) (name : List ℕ) (t : Taken) (j : Result (Unit {0}) Refusal) (line : List ℕ) (o : Outcome) → IsTaken held t → IsJudged (taken_bytes t) j → IsTakenLine name t j line o → IsFileLine held name line o
+line_known : (held : Option (List ℕ)) (name : List ℕ) (t : Taken) (j : Result (Unit {0}) Refusal) (line : List ℕ) (o : FileOutcome) → IsTaken held t → IsJudged (taken_bytes t) j → IsTakenLine name t j line o → IsFileLine held name line o
 line_known held name (taken.Bytes bytes) (Ok u) line o read judged (end, told, is) =
     let (v, verdict, e, out) = verdict_known bytes.items end o (Some accepted) judged told in
     inl (v, record { bytes = bytes.items; read = read; verdict = verdict }, is ∙ ap (file_line name) e, out)
@@ -68,7 +68,7 @@ line_known held name (taken.Bytes bytes) (Err r) line o read judged (end, told, 
     inl (v, record { bytes = bytes.items; read = read; verdict = verdict }, is ∙ ap (file_line name) e, out)
 line_known held name (taken.Unread reason) j line o none judged (end, (e, out), is) = inr (reason, none, is ∙ ap (file_line name) e, out)
 
-pub lines_known : (holds : List ℕ → Option (List ℕ)) (ns : List (List ℕ)) (ts : List Taken) (js : List (Result (Unit {0}) Refusal)) (text : List ℕ) (o : Outcome)
+pub lines_known : (holds : List ℕ → Option (List ℕ)) (ns : List (List ℕ)) (ts : List Taken) (js : List (Result (Unit {0}) Refusal)) (text : List ℕ) (o : FileOutcome)
     → AreTaken holds ns ts → AreVerdicts (map taken_bytes ts) js → AreTakenLines ns ts js text o → AreFileLines holds ns text o
 lines_known holds [] [] [] text o read judged lines = lines
 lines_known holds [] [] (j ∷ js) text o read judged lines = absurd lines
@@ -92,26 +92,26 @@ one_taken holds [] (u ∷ ts) n t h is = absurd h
 one_taken holds (m ∷ ns) [] n t h is = absurd h
 one_taken holds (m ∷ ns) (u ∷ ts) n t h is = (h.0, one_taken holds ns ts n t h.1 is)
 
-pub one_line : (ns : List (List ℕ)) (ts : List Taken) (js : List (Result (Unit {0}) Refusal)) (text : List ℕ) (p : Outcome) (n : List ℕ) (t : Taken) (j : Result (Unit {0}) Refusal) (line : List ℕ) (q : Outcome)
+pub one_line : (ns : List (List ℕ)) (ts : List Taken) (js : List (Result (Unit {0}) Refusal)) (text : List ℕ) (p : FileOutcome) (n : List ℕ) (t : Taken) (j : Result (Unit {0}) Refusal) (line : List ℕ) (q : FileOutcome)
     → AreTakenLines ns ts js text p → IsTakenLine n t j line q → AreTakenLines (ns ++ (n ∷ [])) (ts ++ (t ∷ [])) (js ++ (j ∷ [])) (text ++ line) (worse p q)
 one_line [] [] [] text p n t j line q lines is =
-    (line, [], q, Accepted, is, (refl, refl), ap (λ (x : List ℕ). x ++ line) lines.0 ∙ sym (append-nil line), ap (λ (x : Outcome). worse x q) lines.1 ∙ worse_none q ∙ sym (worse_last q))
+    (line, [], q, Accepted, is, (refl, refl), ap (λ (x : List ℕ). x ++ line) lines.0 ∙ sym (append-nil line), ap (λ (x : FileOutcome). worse x q) lines.1 ∙ worse_none q ∙ sym (worse_last q))
 one_line [] [] (k ∷ js) text p n t j line q lines is = absurd lines
 one_line [] (u ∷ ts) js text p n t j line q lines is = absurd lines
 one_line (m ∷ ns) [] js text p n t j line q lines is = absurd lines
 one_line (m ∷ ns) (u ∷ ts) [] text p n t j line q lines is = absurd lines
 one_line (m ∷ ns) (u ∷ ts) (k ∷ js) text p n t j line q (first, rest, a, b, here, more, e, out) is =
-    (first, rest ++ line, a, worse b q, here, one_line ns ts js rest b n t j line q more is, ap (λ (x : List ℕ). x ++ line) e ∙ append_assoc first rest line, ap (λ (x : Outcome). worse x q) out ∙ worse_assoc a b q)
+    (first, rest ++ line, a, worse b q, here, one_line ns ts js rest b n t j line q more is, ap (λ (x : List ℕ). x ++ line) e ∙ append_assoc first rest line, ap (λ (x : FileOutcome). worse x q) out ∙ worse_assoc a b q)
 
 -- rounds one after another
 
-lines_joined : (holds : List ℕ → Option (List ℕ)) (xs ys : List (List ℕ)) (a b : List ℕ) (p q : Outcome) → AreFileLines holds xs a p → AreFileLines holds ys b q → AreFileLines holds (xs ++ ys) (a ++ b) (worse p q)
+lines_joined : (holds : List ℕ → Option (List ℕ)) (xs ys : List (List ℕ)) (a b : List ℕ) (p q : FileOutcome) → AreFileLines holds xs a p → AreFileLines holds ys b q → AreFileLines holds (xs ++ ys) (a ++ b) (worse p q)
 lines_joined holds [] ys a b p q (none, out) more =
-    subst (λ (x : Outcome). AreFileLines holds ys (a ++ b) x) (sym (ap (λ (x : Outcome). worse x q) out ∙ worse_none q)) (subst (λ (x : List ℕ). AreFileLines holds ys x q) (sym (ap (λ (x : List ℕ). x ++ b) none)) more)
+    subst (λ (x : FileOutcome). AreFileLines holds ys (a ++ b) x) (sym (ap (λ (x : FileOutcome). worse x q) out ∙ worse_none q)) (subst (λ (x : List ℕ). AreFileLines holds ys x q) (sym (ap (λ (x : List ℕ). x ++ b) none)) more)
 lines_joined holds (x ∷ xs) ys a b p q (line, rest, o, r, here, there, e, out) more =
-    (line, rest ++ b, o, worse r q, here, lines_joined holds xs ys rest b r q there more, ap (λ (x : List ℕ). x ++ b) e ∙ append_assoc line rest b, ap (λ (x : Outcome). worse x q) out ∙ worse_assoc o r q)
+    (line, rest ++ b, o, worse r q, here, lines_joined holds xs ys rest b r q there more, ap (λ (x : List ℕ). x ++ b) e ∙ append_assoc line rest b, ap (λ (x : FileOutcome). worse x q) out ∙ worse_assoc o r q)
 
-lines_same : (holds later : List ℕ → Option (List ℕ)) (xs : List (List ℕ)) (a : List ℕ) (p : Outcome) → ((other : List ℕ) → later other ≡ holds other) → AreFileLines later xs a p → AreFileLines holds xs a p
+lines_same : (holds later : List ℕ → Option (List ℕ)) (xs : List (List ℕ)) (a : List ℕ) (p : FileOutcome) → ((other : List ℕ) → later other ≡ holds other) → AreFileLines later xs a p → AreFileLines holds xs a p
 lines_same holds later [] a p same lines = lines
 lines_same holds later (x ∷ xs) a p same (line, rest, o, r, here, there, e, out) =
     (line, rest, o, r, subst (λ (held : Option (List ℕ)). IsFileLine held x line o) (same x) here, lines_same holds later xs rest r same there, e, out)
@@ -129,7 +129,7 @@ no_paths (Some before) = ap Some (sym (append-nil before))
 nothing_printed : (holds : List ℕ → Option (List ℕ)) (a b : Option (List (List ℕ))) (out : Option (List ℕ)) → ReadsPaths a b [] → PrintsFiles holds [] a b out out Accepted
 nothing_printed holds a b out order = record { text = []; lines = (refl, refl); in_order = order; written = Appends-nil out }
 
-pub printed_joined : (holds later : List ℕ → Option (List ℕ)) (xs ys : List (List ℕ)) (a b c : Option (List (List ℕ))) (old mid new : Option (List ℕ)) (p q : Outcome) → ((other : List ℕ) → later other ≡ holds other)
+pub printed_joined : (holds later : List ℕ → Option (List ℕ)) (xs ys : List (List ℕ)) (a b c : Option (List (List ℕ))) (old mid new : Option (List ℕ)) (p q : FileOutcome) → ((other : List ℕ) → later other ≡ holds other)
     → PrintsFiles holds xs a b old mid p → PrintsFiles later ys b c mid new q → PrintsFiles holds (xs ++ ys) a c old new (worse p q)
 printed_joined holds later xs ys a b c old mid new p q same first more = record {
   text = first.text ++ more.text;
@@ -138,7 +138,7 @@ printed_joined holds later xs ys a b c old mid new p q same first more = record 
   written = Appends-trans old mid new first.text more.text first.written more.written;
 }
 
-begins_joined : (holds later : List ℕ → Option (List ℕ)) (xs ys : List (List ℕ)) (a b c : Option (List (List ℕ))) (old mid : Option (List ℕ)) (p : Outcome) (Later Now : List ℕ → Type 0) → ((other : List ℕ) → later other ≡ holds other)
+begins_joined : (holds later : List ℕ → Option (List ℕ)) (xs ys : List (List ℕ)) (a b c : Option (List (List ℕ))) (old mid : Option (List ℕ)) (p : FileOutcome) (Later Now : List ℕ → Type 0) → ((other : List ℕ) → later other ≡ holds other)
     → (first : PrintsFiles holds xs a b old mid p) → ((text : List ℕ) → Later text → Now (first.text ++ text)) → BeginsFiles later ys b c Later → BeginsFiles holds (xs ++ ys) a c Now
 begins_joined holds later xs ys a b c old mid p Later Now same first both more =
     let front : take (length xs + more.count) (xs ++ ys) ≡ xs ++ take more.count ys = take-append-add xs ys more.count in
@@ -146,9 +146,9 @@ begins_joined holds later xs ys a b c old mid p Later Now same first both more =
     record {
       count = length xs + more.count;
       asked_count = length xs + more.asked_count;
-      outcome = worse p more.outcome;
+      file_outcome = worse p more.file_outcome;
       text = first.text ++ more.text;
-      lines = subst (λ (l : List (List ℕ)). AreFileLines holds l (first.text ++ more.text) (worse p more.outcome)) (sym front) (lines_joined holds xs (take more.count ys) first.text more.text p more.outcome first.lines (lines_same holds later (take more.count ys) more.text more.outcome same more.lines));
+      lines = subst (λ (l : List (List ℕ)). AreFileLines holds l (first.text ++ more.text) (worse p more.file_outcome)) (sym front) (lines_joined holds xs (take more.count ys) first.text more.text p more.file_outcome first.lines (lines_same holds later (take more.count ys) more.text more.file_outcome same more.lines));
       in_order = subst (λ (l : List (List ℕ)). ReadsPaths a c l) (sym front_asked) (paths_joined a b c xs (take more.asked_count ys) first.in_order more.in_order);
       written = both more.text more.written;
     }
@@ -156,7 +156,7 @@ begins_joined holds later xs ys a b c old mid p Later Now same first both more =
 front_joined : (old mid new : Option (List ℕ)) (a b : List ℕ) → Appends old mid a → AppendsFront mid new b → AppendsFront old new (a ++ b)
 front_joined old mid new a b first (front, rest, e, written) = (a ++ front, rest, ap (λ (x : List ℕ). a ++ x) e ∙ sym (append_assoc a front rest), Appends-trans old mid new a front first written)
 
-pub begun_joined : (holds later : List ℕ → Option (List ℕ)) (xs ys : List (List ℕ)) (a b c : Option (List (List ℕ))) (old mid new : Option (List ℕ)) (p : Outcome) (f : ProgramFault) → ((other : List ℕ) → later other ≡ holds other)
+pub begun_joined : (holds later : List ℕ → Option (List ℕ)) (xs ys : List (List ℕ)) (a b c : Option (List (List ℕ))) (old mid new : Option (List ℕ)) (p : FileOutcome) (f : ProgramFault) → ((other : List ℕ) → later other ≡ holds other)
     → PrintsFiles holds xs a b old mid p → BeginsBy later ys b c mid new f → BeginsBy holds (xs ++ ys) a c old new f
 begun_joined holds later xs ys a b c old mid new p fault.Write same first more =
     begins_joined holds later xs ys a b c old mid p (AppendsFront mid new) (AppendsFront old new) same first (λ text written. front_joined old mid new first.text text first.written written) more
@@ -184,7 +184,7 @@ taken_next holds later names i d ts t below same h is =
     subst (λ (l : List (List ℕ)). AreTaken holds l (ts ++ (t ∷ []))) (next_name names i d below)
     (one_taken holds (take i (map (λ (n : Bor (List ℕ)). n.now) names)) ts (get_or names i d).now t h (subst (λ (held : Option (List ℕ)). IsTaken held t) (same (get_or names i d).now) is))
 
-pub line_next : (names : List (Bor (List ℕ))) (taken : List Taken) (judged : List (Result (Unit {0}) Refusal)) (i : ℕ) (d : Bor (List ℕ)) (t : Taken) (j : Result (Unit {0}) Refusal) (text line new : List ℕ) (p q out : Outcome)
+pub line_next : (names : List (Bor (List ℕ))) (taken : List Taken) (judged : List (Result (Unit {0}) Refusal)) (i : ℕ) (d : Bor (List ℕ)) (t : Taken) (j : Result (Unit {0}) Refusal) (text line new : List ℕ) (p q out : FileOutcome)
     → length names ≡ length taken → length judged ≡ length taken → i < length taken → AreTakenLines (take i (map (λ n. n.now) names)) (take i taken) (take i judged) text p
     → t ≡ get_or taken i t → IsTakenLine (get_or names i d).now t (get_or judged i j) line q → new ≡ text ++ line → out ≡ worse p q
     → AreTakenLines (take (i + 1) (map (λ n. n.now) names)) (take (i + 1) taken) (take (i + 1) judged) new out
@@ -195,20 +195,20 @@ line_next names taken judged i d t j text line new p q out names_len judged_len 
     rw (e, o, take_more taken i t below, take_more judged i j found, ← next_name names i d named) more
 
 -- the end of a line
-some_both : (line : List ℕ) (o : Outcome) (g : Option Verdict) → IsSomeAnd g (λ v. line ≡ verdict_line v) → ((v : Verdict) → g ≡ Some v → o ≡ outcome_of v) → IsSomeAnd g (λ v. (line ≡ verdict_line v) × (o ≡ outcome_of v))
+some_both : (line : List ℕ) (o : FileOutcome) (g : Option Verdict) → IsSomeAnd g (λ v. line ≡ verdict_line v) → ((v : Verdict) → g ≡ Some v → o ≡ outcome_of v) → IsSomeAnd g (λ v. (line ≡ verdict_line v) × (o ≡ outcome_of v))
 some_both line o None told is = absurd told
 some_both line o (Some v) told is = (told, is v refl)
 
-pub end_known : (t : Taken) (bytes : Vec ℕ Global) (judged : Result (Unit {0}) Refusal) (line slice : List ℕ) (o : Outcome) → t ≡ taken.Bytes bytes → slice ≡ line → IsSomeAnd (given_verdict judged) (λ v. line ≡ verdict_line v)
+pub end_known : (t : Taken) (bytes : Vec ℕ Global) (judged : Result (Unit {0}) Refusal) (line slice : List ℕ) (o : FileOutcome) → t ≡ taken.Bytes bytes → slice ≡ line → IsSomeAnd (given_verdict judged) (λ v. line ≡ verdict_line v)
     → ((v : Verdict) → given_verdict judged ≡ Some v → o ≡ outcome_of v) → IsTakenEnd t judged slice o
 end_known t bytes judged line slice o e same told is = subst (λ (x : List ℕ). IsTakenEnd t judged x o) (sym same) (subst (λ (x : Taken). IsTakenEnd x judged line o) (sym e) (some_both line o (given_verdict judged) told is))
 
 -- where nothing is written yet
 pub none_begun : (holds : List ℕ → Option (List ℕ)) (files : List (List ℕ)) (asked asked' : Option (List (List ℕ))) (out : Option (List ℕ)) (k : ℕ) → ReadsPaths asked asked' (take k files) → BeginsFiles holds files asked asked' (Appends out out)
-none_begun holds files asked asked' out k order = record { count = 0; asked_count = k; outcome = Accepted; text = []; lines = (refl, refl); in_order = order; written = Appends-nil out }
+none_begun holds files asked asked' out k order = record { count = 0; asked_count = k; file_outcome = Accepted; text = []; lines = (refl, refl); in_order = order; written = Appends-nil out }
 
 -- the lines of a round by what was read of it
-pub round_lines : (holds : List ℕ → Option (List ℕ)) (names : List (List ℕ)) (ts : List Taken) (text : List ℕ) (o : Outcome) → AreTaken holds names ts → AreJudgedLines names ts text o → AreFileLines holds names text o
+pub round_lines : (holds : List ℕ → Option (List ℕ)) (names : List (List ℕ)) (ts : List Taken) (text : List ℕ) (o : FileOutcome) → AreTaken holds names ts → AreJudgedLines names ts text o → AreFileLines holds names text o
 round_lines holds names ts text o read (judged, verdicts, lines) = lines_known holds names ts judged text o read verdicts lines
 
 pub any_err : {T E P : Type 0} (r : Result T E) → P → IfErr r (λ _. P)
@@ -257,7 +257,7 @@ judged_length ts js h = verdicts_length (map taken_bytes ts) js h ∙ length-map
 
 -- a round, by its steps
 
-files_known : (holds : List ℕ → Option (List ℕ)) (names : List (Bor (List ℕ))) (ts slice : List Taken) (text : List ℕ) (o : Outcome) (count : ℕ) → count ≡ length ts → slice ≡ ts → AreTaken holds (take (length ts) (map (λ n. n.now) names)) ts
+files_known : (holds : List ℕ → Option (List ℕ)) (names : List (Bor (List ℕ))) (ts slice : List Taken) (text : List ℕ) (o : FileOutcome) (count : ℕ) → count ≡ length ts → slice ≡ ts → AreTaken holds (take (length ts) (map (λ n. n.now) names)) ts
     → AreJudgedLines (map (λ n. n.now) (take count names)) slice text o → AreFileLines holds (take (length ts) (map (λ n. n.now) names)) text o
 files_known holds names ts slice text o count e same read judged =
     round_lines holds (take (length ts) (map (λ (n : Bor (List ℕ)). n.now) names)) ts text o read
@@ -265,7 +265,7 @@ files_known holds names ts slice text o count e same read judged =
     (subst (λ (s : List Taken). AreJudgedLines (map (λ (n : Bor (List ℕ)). n.now) (take (length ts) names)) s text o) same
     (subst (λ (k : ℕ). AreJudgedLines (map (λ (n : Bor (List ℕ)). n.now) (take k names)) slice text o) e judged)))
 
-pub round_printed : (holds : List ℕ → Option (List ℕ)) (names : List (Bor (List ℕ))) (ts slice : List Taken) (text shown : List ℕ) (o : Outcome) (a b : Option (List (List ℕ))) (old new : Option (List ℕ)) (count : ℕ) → count ≡ length ts → slice ≡ ts → shown ≡ text
+pub round_printed : (holds : List ℕ → Option (List ℕ)) (names : List (Bor (List ℕ))) (ts slice : List Taken) (text shown : List ℕ) (o : FileOutcome) (a b : Option (List (List ℕ))) (old new : Option (List ℕ)) (count : ℕ) → count ≡ length ts → slice ≡ ts → shown ≡ text
     → AreTaken holds (take (length ts) (map (λ n. n.now) names)) ts → AreJudgedLines (map (λ n. n.now) (take count names)) slice text o → ReadsPaths a b (take (length ts) (map (λ n. n.now) names)) → Appends old new shown
     → PrintsFiles holds (take count (map (λ n. n.now) names)) a b old new o
 round_printed holds names ts slice text shown o a b old new count e same is read judged order written =
@@ -276,13 +276,13 @@ round_printed holds names ts slice text shown o a b old new count e same is read
       written = subst (Appends old new) is written;
     }
 
-pub round_begun : (holds : List ℕ → Option (List ℕ)) (names : List (Bor (List ℕ))) (ts slice : List Taken) (text shown : List ℕ) (o : Outcome) (a b : Option (List (List ℕ))) (old new : Option (List ℕ)) (count : ℕ) → count ≡ length ts → slice ≡ ts → shown ≡ text
+pub round_begun : (holds : List ℕ → Option (List ℕ)) (names : List (Bor (List ℕ))) (ts slice : List Taken) (text shown : List ℕ) (o : FileOutcome) (a b : Option (List (List ℕ))) (old new : Option (List ℕ)) (count : ℕ) → count ≡ length ts → slice ≡ ts → shown ≡ text
     → AreTaken holds (take (length ts) (map (λ n. n.now) names)) ts → AreJudgedLines (map (λ n. n.now) (take count names)) slice text o → ReadsPaths a b (take (length ts) (map (λ n. n.now) names)) → AppendsFront old new shown
     → BeginsFiles holds (map (λ n. n.now) names) a b (AppendsFront old new)
 round_begun holds names ts slice text shown o a b old new count e same is read judged order written = record {
   count = length ts;
   asked_count = length ts;
-  outcome = o;
+  file_outcome = o;
   text = text;
   lines = files_known holds names ts slice text o count e same read judged;
   in_order = order;
@@ -291,23 +291,23 @@ round_begun holds names ts slice text shown o a b old new count e same is read j
 
 -- rounds, by those so far and the next one
 
-pub rounds_begun : (holds later : List ℕ → Option (List ℕ)) (names : List (Bor (List ℕ))) (d : ℕ) (rest : List (Bor (List ℕ))) (a b c : Option (List (List ℕ))) (old mid new : Option (List ℕ)) (p : Outcome) (f : ProgramFault) → rest ≡ drop d names → ((other : List ℕ) → later other ≡ holds other)
+pub rounds_begun : (holds later : List ℕ → Option (List ℕ)) (names : List (Bor (List ℕ))) (d : ℕ) (rest : List (Bor (List ℕ))) (a b c : Option (List (List ℕ))) (old mid new : Option (List ℕ)) (p : FileOutcome) (f : ProgramFault) → rest ≡ drop d names → ((other : List ℕ) → later other ≡ holds other)
     → PrintsFiles holds (take d (map (λ n. n.now) names)) a b old mid p → BeginsBy later (map (λ n. n.now) rest) b c mid new f → BeginsBy holds (map (λ n. n.now) names) a c old new f
 rounds_begun holds later names d rest a b c old mid new p f is same first more =
     let ns = map (λ (n : Bor (List ℕ)). n.now) names in
     subst (λ (l : List (List ℕ)). BeginsBy holds l a c old new f) (take-append-drop d ns)
     (begun_joined holds later (take d ns) (drop d ns) a b c old mid new p f same first (subst (λ (l : List (List ℕ)). BeginsBy later l b c mid new f) (ap (map (λ (n : Bor (List ℕ)). n.now)) is ∙ sym (drop-map (λ (n : Bor (List ℕ)). n.now) d names)) more))
 
-pub rounds_printed : (holds later : List ℕ → Option (List ℕ)) (names : List (Bor (List ℕ))) (d k : ℕ) (rest : List (Bor (List ℕ))) (a b c : Option (List (List ℕ))) (old mid new : Option (List ℕ)) (p q out : Outcome) → rest ≡ drop d names → ((other : List ℕ) → later other ≡ holds other)
+pub rounds_printed : (holds later : List ℕ → Option (List ℕ)) (names : List (Bor (List ℕ))) (d k : ℕ) (rest : List (Bor (List ℕ))) (a b c : Option (List (List ℕ))) (old mid new : Option (List ℕ)) (p q out : FileOutcome) → rest ≡ drop d names → ((other : List ℕ) → later other ≡ holds other)
     → PrintsFiles holds (take d (map (λ n. n.now) names)) a b old mid p → PrintsFiles later (take k (map (λ n. n.now) rest)) b c mid new q → out ≡ worse p q → PrintsFiles holds (take (d + k) (map (λ n. n.now) names)) a c old new out
 rounds_printed holds later names d k rest a b c old mid new p q out is same first more e =
     let ns = map (λ (n : Bor (List ℕ)). n.now) names in
     let next : PrintsFiles later (take k (drop d ns)) b c mid new q = subst (λ (l : List (List ℕ)). PrintsFiles later (take k l) b c mid new q) (ap (map (λ (n : Bor (List ℕ)). n.now)) is ∙ sym (drop-map (λ (n : Bor (List ℕ)). n.now) d names)) more in
-    subst (λ (x : Outcome). PrintsFiles holds (take (d + k) ns) a c old new x) (sym e)
+    subst (λ (x : FileOutcome). PrintsFiles holds (take (d + k) ns) a c old new x) (sym e)
     (subst (λ (l : List (List ℕ)). PrintsFiles holds l a c old new (worse p q)) (sym (take-add d k ns)) (printed_joined holds later (take d ns) (take k (drop d ns)) a b c old mid new p q same first next))
 
 -- all files, with the flush
-pub files_end : (holds : List ℕ → Option (List ℕ)) (files : List (List ℕ)) (a b : Option (List (List ℕ))) (old mid new : Option (List ℕ)) (o : Outcome) (r : Result Status ProgramFault)
+pub files_end : (holds : List ℕ → Option (List ℕ)) (files : List (List ℕ)) (a b : Option (List (List ℕ))) (old mid new : Option (List ℕ)) (o : FileOutcome) (r : Result Status ProgramFault)
     → PrintsFiles holds files a b old mid o → Keeps mid new → (r ≡ outcome_result o) ⊎ (r ≡ Err fault.Write) → ChecksFiles holds files a b old new r
 files_end holds files a b old mid new o r printed kept (inl e) = inl (
   o,
@@ -320,14 +320,14 @@ files_end holds files a b old mid new o r printed kept (inl e) = inl (
   },
 )
 files_end holds files a b old mid new o r printed kept (inr e) =
-    let whole : take (length files) files ≡ files = take_all (length files) files (omega arith) in
+    let whole : take (length files) files ≡ files = pop_all (length files) files (omega arith) in
     inr (
       fault.Write,
       e,
       record {
         count = length files;
         asked_count = length files;
-        outcome = o;
+        file_outcome = o;
         text = printed.text;
         lines = subst (λ (l : List (List ℕ)). AreFileLines holds l printed.text o) (sym whole) printed.lines;
         in_order = subst (ReadsPaths a b) (sym whole) printed.in_order;
@@ -342,7 +342,7 @@ pub names_alone : (folders : Bool) (lists : List ℕ → Option (List (List ℕ)
 names_alone folders lists names holds a b old new r e done = inl (names, subst (λ (x : Bool). IsSpread x lists names names) (sym e) refl, done)
 
 files_later : (holds later : List ℕ → Option (List ℕ)) (files : List (List ℕ)) (a b c : Option (List (List ℕ))) (old new : Option (List ℕ)) (r : Result Status ProgramFault) → ((other : List ℕ) → later other ≡ holds other) → ReadsPaths a b [] → ChecksFiles later files b c old new r → ChecksFiles holds files a c old new r
-files_later holds later files a b c old new r same order (inl (o, e, printed)) = inl (o, e, subst (λ (x : Outcome). PrintsFiles holds files a c old new x) (worse_none o) (printed_joined holds later [] files a b c old old new Accepted o same (nothing_printed holds a b old order) printed))
+files_later holds later files a b c old new r same order (inl (o, e, printed)) = inl (o, e, subst (λ (x : FileOutcome). PrintsFiles holds files a c old new x) (worse_none o) (printed_joined holds later [] files a b c old old new Accepted o same (nothing_printed holds a b old order) printed))
 files_later holds later files a b c old new r same order (inr (f, e, begun)) = inr (f, e, begun_joined holds later [] files a b c old old new Accepted f same (nothing_printed holds a b old order) begun)
 
 pub names_spread : (folders : Bool) (lists : List ℕ → Option (List (List ℕ))) (names files texts : List (List ℕ)) (holds later : List ℕ → Option (List ℕ)) (a b c : Option (List (List ℕ))) (old new : Option (List ℕ)) (r : Result Status ProgramFault)
@@ -355,7 +355,7 @@ names_spread folders lists names files texts holds later a b c old new r e same 
     )
 
 pub rest_whole : {X : Type 0} (xs : List X) (d : ℕ) → take (length xs - d) (drop d xs) ≡ drop d xs
-rest_whole xs d = take_all (length xs - d) (drop d xs) (omega (arith, length-drop d xs))
+rest_whole xs d = pop_all (length xs - d) (drop d xs) (omega (arith, length-drop d xs))
 
 spread_same : (folders : Bool) (lists later : List ℕ → Option (List (List ℕ))) (names files : List (List ℕ)) → ((other : List ℕ) → later other ≡ lists other) → IsSpread folders later names files → IsSpread folders lists names files
 spread_same false lists later names files same stand = stand

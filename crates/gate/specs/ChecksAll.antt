@@ -10,13 +10,13 @@ use Rattle.gate.specs.Reads.{IsRead, IsWant}
 use Rattle.gate.specs.Sources.{ReadsPaths}
 use Rattle.gate.specs.declared.fault.ProgramFault.{ProgramFault}
 use Rattle.gate.specs.declared.fault.ProgramFault.TheVariants as fault
-use Rattle.gate.specs.declared.outcome.Outcome.{Outcome}
-use Rattle.gate.specs.declared.outcome.Outcome.TheVariants.{Accepted, Refused, Unread}
+use Rattle.gate.specs.declared.file_outcome.FileOutcome.{FileOutcome}
+use Rattle.gate.specs.declared.file_outcome.FileOutcome.TheVariants.{Accepted, Refused, Unread}
 
 -- each of these files is asked for, in their order, and their lines are written; this comes of all
-pub record PrintsFiles (holds : List ℕ → Option (List ℕ)) (files : List (List ℕ)) (asked asked' : Option (List (List ℕ))) (old new : Option (List ℕ)) (outcome : Outcome) : Type 0 where
+pub record PrintsFiles (holds : List ℕ → Option (List ℕ)) (files : List (List ℕ)) (asked asked' : Option (List (List ℕ))) (old new : Option (List ℕ)) (file_outcome : FileOutcome) : Type 0 where
   pub text : List ℕ
-  pub lines : AreFileLines holds files text outcome
+  pub lines : AreFileLines holds files text file_outcome
   pub in_order : ReadsPaths asked asked' files
   pub written : Appends old new text
 
@@ -24,9 +24,9 @@ pub record PrintsFiles (holds : List ℕ → Option (List ℕ)) (files : List (L
 pub record BeginsFiles (holds : List ℕ → Option (List ℕ)) (files : List (List ℕ)) (asked asked' : Option (List (List ℕ))) (Written : List ℕ → Type 0) : Type 0 where
   pub count : ℕ
   pub asked_count : ℕ
-  pub outcome : Outcome
+  pub file_outcome : FileOutcome
   pub text : List ℕ
-  pub lines : AreFileLines holds (take count files) text outcome
+  pub lines : AreFileLines holds (take count files) text file_outcome
   pub in_order : ReadsPaths asked asked' (take asked_count files)
   pub written : Written text
 
@@ -37,7 +37,7 @@ BeginsBy holds files asked asked' old new fault.Memory = BeginsFiles holds files
 BeginsBy holds files asked asked' old new f = ⊥
 
 -- how the program ends where this comes of all files
-abbrev pub outcome_result : Outcome → Result Status ProgramFault
+abbrev pub outcome_result : FileOutcome → Result Status ProgramFault
 outcome_result Accepted = Ok Good
 outcome_result Refused = Ok ModuleRefused
 outcome_result Unread = Err fault.SomeUnread
@@ -45,7 +45,7 @@ outcome_result Unread = Err fault.SomeUnread
 -- these files are checked: all lines are written, and the end is by what comes of all; or not all
 abbrev pub ChecksFiles : (List ℕ → Option (List ℕ)) → List (List ℕ) → Option (List (List ℕ)) → Option (List (List ℕ)) → Option (List ℕ) → Option (List ℕ) → Result Status ProgramFault → Type 0
 ChecksFiles holds files asked asked' old new r =
-    ((outcome : Outcome) × (r ≡ outcome_result outcome) × PrintsFiles holds files asked asked' old new outcome)
+    ((file_outcome : FileOutcome) × (r ≡ outcome_result file_outcome) × PrintsFiles holds files asked asked' old new file_outcome)
     ⊎ ((f : ProgramFault) × (r ≡ Err f) × BeginsBy holds files asked asked' old new f)
 
 -- the files that names stand for are checked; or there is no memory for their names, and nothing is asked for or written

@@ -10,8 +10,8 @@ use Rattle.explain.specs.Texts.{hex_pair}
 use Rattle.gate.specs.Checks.{Judges}
 use Rattle.gate.specs.Reads.{IsRead}
 use Rattle.gate.specs.Sources.{reason_text}
-use Rattle.gate.specs.declared.outcome.Outcome.{Outcome}
-use Rattle.gate.specs.declared.outcome.Outcome.TheVariants.{Accepted, Refused, Unread}
+use Rattle.gate.specs.declared.file_outcome.FileOutcome.{FileOutcome}
+use Rattle.gate.specs.declared.file_outcome.FileOutcome.TheVariants.{Accepted, Refused, Unread}
 use Rattle.gate.specs.declared.source.Reason.{Reason}
 use Rattle.gate.specs.declared.taking.Taken.{Taken}
 use Rattle.gate.specs.declared.taking.Taken.TheVariants as taken
@@ -28,12 +28,12 @@ abbrev pub shown_name : List ℕ → List ℕ
 shown_name name = flat_map shown_byte name
 
 -- what comes of a module with this verdict
-abbrev pub outcome_of : Verdict → Outcome
+abbrev pub outcome_of : Verdict → FileOutcome
 outcome_of accepted = Accepted
 outcome_of _ = Refused
 
 -- the one with the greater status
-abbrev pub worse : Outcome → Outcome → Outcome
+abbrev pub worse : FileOutcome → FileOutcome → FileOutcome
 worse Unread p = Unread
 worse p Unread = Unread
 worse Refused p = Refused
@@ -49,17 +49,17 @@ abbrev pub unread_end : Reason → List ℕ
 unread_end reason = codes "cannot read: " ++ (reason_text reason ++ (10 ∷ []))
 
 -- the line of a file of this name that holds this, and what comes of it
-abbrev pub IsFileLine : Option (List ℕ) → List ℕ → List ℕ → Outcome → Type 0
-IsFileLine held name line outcome =
-    ((v : Verdict) × Judges held v × (line ≡ file_line name (verdict_line v)) × (outcome ≡ outcome_of v))
-    ⊎ ((reason : Reason) × IsNone held × (line ≡ file_line name (unread_end reason)) × (outcome ≡ Unread))
+abbrev pub IsFileLine : Option (List ℕ) → List ℕ → List ℕ → FileOutcome → Type 0
+IsFileLine held name line file_outcome =
+    ((v : Verdict) × Judges held v × (line ≡ file_line name (verdict_line v)) × (file_outcome ≡ outcome_of v))
+    ⊎ ((reason : Reason) × IsNone held × (line ≡ file_line name (unread_end reason)) × (file_outcome ≡ Unread))
 
 -- the lines of files of these names, in their order, and what comes of all
-abbrev pub AreFileLines : (List ℕ → Option (List ℕ)) → List (List ℕ) → List ℕ → Outcome → Type 0
-AreFileLines holds [] text outcome = (text ≡ []) × (outcome ≡ Accepted)
-AreFileLines holds (name ∷ names) text outcome =
-    (line : List ℕ) × (rest : List ℕ) × (p : Outcome) × (q : Outcome)
-    × IsFileLine (holds name) name line p × AreFileLines holds names rest q × (text ≡ line ++ rest) × (outcome ≡ worse p q)
+abbrev pub AreFileLines : (List ℕ → Option (List ℕ)) → List (List ℕ) → List ℕ → FileOutcome → Type 0
+AreFileLines holds [] text file_outcome = (text ≡ []) × (file_outcome ≡ Accepted)
+AreFileLines holds (name ∷ names) text file_outcome =
+    (line : List ℕ) × (rest : List ℕ) × (p : FileOutcome) × (q : FileOutcome)
+    × IsFileLine (holds name) name line p × AreFileLines holds names rest q × (text ≡ line ++ rest) × (file_outcome ≡ worse p q)
 
 -- By what was read and judged.
 
@@ -81,22 +81,22 @@ taken_bytes (taken.Bytes bytes) = bytes.items
 taken_bytes (taken.Unread reason) = []
 
 -- the end of the line of what was read and so judged
-abbrev pub IsTakenEnd : Taken → Result (Unit {0}) Refusal → List ℕ → Outcome → Type 0
-IsTakenEnd (taken.Bytes bytes) judged end outcome = IsSomeAnd (given_verdict judged) (λ v. (end ≡ verdict_line v) × (outcome ≡ outcome_of v))
-IsTakenEnd (taken.Unread reason) judged end outcome = (end ≡ unread_end reason) × (outcome ≡ Unread)
+abbrev pub IsTakenEnd : Taken → Result (Unit {0}) Refusal → List ℕ → FileOutcome → Type 0
+IsTakenEnd (taken.Bytes bytes) judged end file_outcome = IsSomeAnd (given_verdict judged) (λ v. (end ≡ verdict_line v) × (file_outcome ≡ outcome_of v))
+IsTakenEnd (taken.Unread reason) judged end file_outcome = (end ≡ unread_end reason) × (file_outcome ≡ Unread)
 
 -- the whole line
-abbrev pub IsTakenLine : List ℕ → Taken → Result (Unit {0}) Refusal → List ℕ → Outcome → Type 0
-IsTakenLine name t judged line outcome = (end : List ℕ) × IsTakenEnd t judged end outcome × (line ≡ file_line name end)
+abbrev pub IsTakenLine : List ℕ → Taken → Result (Unit {0}) Refusal → List ℕ → FileOutcome → Type 0
+IsTakenLine name t judged line file_outcome = (end : List ℕ) × IsTakenEnd t judged end file_outcome × (line ≡ file_line name end)
 
 -- the same of many
-abbrev pub AreTakenLines : List (List ℕ) → List Taken → List (Result (Unit {0}) Refusal) → List ℕ → Outcome → Type 0
-AreTakenLines [] [] [] text outcome = (text ≡ []) × (outcome ≡ Accepted)
-AreTakenLines (n ∷ ns) (t ∷ ts) (j ∷ js) text outcome =
-    (line : List ℕ) × (rest : List ℕ) × (p : Outcome) × (q : Outcome)
-    × IsTakenLine n t j line p × AreTakenLines ns ts js rest q × (text ≡ line ++ rest) × (outcome ≡ worse p q)
-AreTakenLines _ _ _ text outcome = ⊥
+abbrev pub AreTakenLines : List (List ℕ) → List Taken → List (Result (Unit {0}) Refusal) → List ℕ → FileOutcome → Type 0
+AreTakenLines [] [] [] text file_outcome = (text ≡ []) × (file_outcome ≡ Accepted)
+AreTakenLines (n ∷ ns) (t ∷ ts) (j ∷ js) text file_outcome =
+    (line : List ℕ) × (rest : List ℕ) × (p : FileOutcome) × (q : FileOutcome)
+    × IsTakenLine n t j line p × AreTakenLines ns ts js rest q × (text ≡ line ++ rest) × (file_outcome ≡ worse p q)
+AreTakenLines _ _ _ text file_outcome = ⊥
 
 -- the same by some verdicts on what was read
-abbrev pub AreJudgedLines : List (List ℕ) → List Taken → List ℕ → Outcome → Type 0
-AreJudgedLines names taken text outcome = (judged : List (Result (Unit {0}) Refusal)) × AreVerdicts (map taken_bytes taken) judged × AreTakenLines names taken judged text outcome
+abbrev pub AreJudgedLines : List (List ℕ) → List Taken → List ℕ → FileOutcome → Type 0
+AreJudgedLines names taken text file_outcome = (judged : List (Result (Unit {0}) Refusal)) × AreVerdicts (map taken_bytes taken) judged × AreTakenLines names taken judged text file_outcome

@@ -27,8 +27,8 @@ use Rattle.gate.specs.Runs.{RunsOn, AnswersRead}
 use Rattle.gate.specs.Streams.{IsStreamedOn, ReadsAccepted, StreamsOn}
 use Rattle.gate.specs.declared.fault.ProgramFault.{ProgramFault}
 use Rattle.gate.specs.declared.fault.ProgramFault.TheVariants as fault
-use Rattle.gate.specs.declared.outcome.Outcome.{Outcome}
-use Rattle.gate.specs.declared.outcome.Outcome.TheVariants as outcome
+use Rattle.gate.specs.declared.file_outcome.FileOutcome.{FileOutcome}
+use Rattle.gate.specs.declared.file_outcome.FileOutcome.TheVariants as file_outcome
 
 -- a text is written, with that status, or a beginning of it where a write failed
 abbrev pub Shows : List ℕ → Status → Option (List ℕ) → Option (List ℕ) → Result Status ProgramFault → Type 0
@@ -154,7 +154,7 @@ AreNamed words holds lists asked mid files =
     × ((bytes : List ℕ) × IsRead list_limit (holds input_path) bytes × IsSpread (says_folders words) lists (listed_names (name_end (says_null words)) [] bytes) files))
 
 -- the lines of all files that the words name are written, in the order of the names, and this comes of all
-pub record PrintsAll (words : List (List ℕ)) (holds : List ℕ → Option (List ℕ)) (lists : List ℕ → Option (List (List ℕ))) (asked asked' : Option (List (List ℕ))) (old new : Option (List ℕ)) (all : Outcome) : Type 0 where
+pub record PrintsAll (words : List (List ℕ)) (holds : List ℕ → Option (List ℕ)) (lists : List ℕ → Option (List (List ℕ))) (asked asked' : Option (List (List ℕ))) (old new : Option (List ℕ)) (all : FileOutcome) : Type 0 where
   pub mid : Option (List (List ℕ))
   pub files : List (List ℕ)
   pub named : AreNamed words holds lists asked mid files
@@ -171,13 +171,13 @@ pub record PrintsFirst (words : List (List ℕ)) (holds : List ℕ → Option (L
 abbrev pub PrintsGood : List (List ℕ) → (List ℕ → Option (List ℕ)) → (List ℕ → Option (List (List ℕ))) → Option (List (List ℕ)) → Option (List (List ℕ)) → Option (List ℕ) → Option (List ℕ) → Type 0
 PrintsGood words holds lists asked asked' old new =
     (AsksHelp words ⊎ AsksVersion words) ⊎ (PrintsVerdict words holds asked asked' old new Accepted ⊎ (PrintsExplained words holds asked asked' old new Accepted ⊎ (PrintsAnswer words holds asked asked' old new Good
-    ⊎ (PrintsList words holds asked asked' old new Accepted ⊎ (PrintsCallsExplained words holds asked asked' old new Good ⊎ (PrintsAll words holds lists asked asked' old new outcome.Accepted ⊎ PrintsStream words holds asked asked' old new Good))))))
+    ⊎ (PrintsList words holds asked asked' old new Accepted ⊎ (PrintsCallsExplained words holds asked asked' old new Good ⊎ (PrintsAll words holds lists asked asked' old new file_outcome.Accepted ⊎ PrintsStream words holds asked asked' old new Good))))))
 
 -- status 2: the module is refused, of a check or a list, explained or not, with calls or without, or of a run or a stream, or one of many modules
 abbrev pub PrintsRefusal : List (List ℕ) → (List ℕ → Option (List ℕ)) → (List ℕ → Option (List (List ℕ))) → Option (List (List ℕ)) → Option (List (List ℕ)) → Option (List ℕ) → Option (List ℕ) → Type 0
 PrintsRefusal words holds lists asked asked' old new =
     ((v : Verdict) × (status_of v ≡ ModuleRefused) × (PrintsVerdict words holds asked asked' old new v ⊎ (PrintsExplained words holds asked asked' old new v ⊎ PrintsList words holds asked asked' old new v)))
-    ⊎ (PrintsAnswer words holds asked asked' old new ModuleRefused ⊎ (PrintsCallsExplained words holds asked asked' old new ModuleRefused ⊎ (PrintsAll words holds lists asked asked' old new outcome.Refused ⊎ PrintsStream words holds asked asked' old new ModuleRefused)))
+    ⊎ (PrintsAnswer words holds asked asked' old new ModuleRefused ⊎ (PrintsCallsExplained words holds asked asked' old new ModuleRefused ⊎ (PrintsAll words holds lists asked asked' old new file_outcome.Refused ⊎ PrintsStream words holds asked asked' old new ModuleRefused)))
 
 -- status 3: the calls are refused, of a run, or explained, or of a stream
 abbrev pub PrintsCallsRefusal : List (List ℕ) → (List ℕ → Option (List ℕ)) → Option (List (List ℕ)) → Option (List (List ℕ)) → Option (List ℕ) → Option (List ℕ) → Type 0

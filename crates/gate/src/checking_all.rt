@@ -8,8 +8,8 @@ ghost use Rattle.gate.specs.ChecksAll.{BeginsBy, ChecksFiles, ChecksListed, Chec
 
 use crate::fault::ProgramFault;
 use crate::file_lines::{Lines, lines_of};
+use crate::file_outcome::FileOutcome;
 use crate::name_list::{listed_names, name_end};
-use crate::outcome::Outcome;
 use crate::reading::read_told;
 use crate::source::Source;
 use crate::spreading::{spread, texts_of};
@@ -29,7 +29,7 @@ const LIST_LIMIT: usize = 0x7FFF_FFFF_FFFF_FFF0;
 #[derive(Clone, Copy)]
 struct Round {
     count: usize,
-    outcome: Outcome,
+    file_outcome: FileOutcome,
 }
 
 /// The verdict on each of what was read.
@@ -59,7 +59,7 @@ fn judged_lines<R: Threads + Wait + Sync>(
 ) -> Result<Lines, AllocError>
     requires names { length names.now ≡ length taken.now }
     requires few { length taken.now ≤ 4096 }
-    ensures { IfOk result (λ lines. AreJudgedLines (map (λ n. n.now) names.now) taken.now lines.text.items lines.outcome) }
+    ensures { IfOk result (λ lines. AreJudgedLines (map (λ n. n.now) names.now) taken.now lines.text.items lines.file_outcome) }
 {
     let judged = judge_taken(rt, alloc, taken, plan)?;
     lines_of(alloc, names, taken, judged.as_slice())
@@ -76,7 +76,7 @@ fn check_round<'a, R: Threads + Wait + Sync, S: Source, O: Write>(
 ) -> Result<Round, ProgramFault<'a>>
     ensures printed { IfOk result (λ r. PrintsFiles (S.holds source.old) (take r.count (map (λ n. n.now) names.now))
         (S.asked source.old) (S.asked source.new)
-        (O.contents out.old) (O.contents out.new) r.outcome) }
+        (O.contents out.old) (O.contents out.new) r.file_outcome) }
     ensures begun { IfErr result (BeginsBy (S.holds source.old) (map (λ n. n.now) names.now)
         (S.asked source.old) (S.asked source.new) (O.contents out.old) (O.contents out.new)) }
     ensures within { IfOk result (λ r. r.count ≤ length names.now) }
@@ -95,7 +95,7 @@ fn check_round<'a, R: Threads + Wait + Sync, S: Source, O: Write>(
     match write_text(out, lines.text.as_slice()) {
         Ok(()) => Ok(Round {
             count,
-            outcome: lines.outcome,
+            file_outcome: lines.file_outcome,
         }),
         Err(_) => Err(ProgramFault::Write),
     }
@@ -109,43 +109,43 @@ fn check_rounds<'a, R: Threads + Wait + Sync, S: Source, O: Write>(
     plan: Plan,
     source: &mut S,
     out: &mut O,
-) -> Result<Outcome, ProgramFault<'a>>
+) -> Result<FileOutcome, ProgramFault<'a>>
     ensures printed { IfOk result (PrintsFiles (S.holds source.old) (map (λ n. n.now) names.now)
         (S.asked source.old) (S.asked source.new) (O.contents out.old) (O.contents out.new)) }
     ensures begun { IfErr result (BeginsBy (S.holds source.old) (map (λ n. n.now) names.now)
         (S.asked source.old) (S.asked source.new) (O.contents out.old) (O.contents out.new)) }
 {
     let mut done = 0;
-    let mut outcome = Outcome::Accepted;
+    let mut file_outcome = FileOutcome::Accepted;
     while done < names.len() {
         let round = match check_round(rt, alloc, &names[done..], plan, source, out) {
             Ok(round) => round,
             Err(fault) => return Err(fault),
         };
         done += round.count;
-        outcome = outcome.or(round.outcome);
+        file_outcome = file_outcome.or(round.file_outcome);
     }
-    Ok(outcome)
+    Ok(file_outcome)
 }
 
 /// How the program ends where this comes of all files.
-fn result_of<'a>(outcome: Outcome) -> Result<Status, ProgramFault<'a>>
-    ensures { result ≡ outcome_result outcome }
+fn result_of<'a>(file_outcome: FileOutcome) -> Result<Status, ProgramFault<'a>>
+    ensures { result ≡ outcome_result file_outcome }
 {
-    match outcome {
-        Outcome::Accepted => Ok(Status::Good),
-        Outcome::Refused => Ok(Status::ModuleRefused),
-        Outcome::Unread => Err(ProgramFault::SomeUnread),
+    match file_outcome {
+        FileOutcome::Accepted => Ok(Status::Good),
+        FileOutcome::Refused => Ok(Status::ModuleRefused),
+        FileOutcome::Unread => Err(ProgramFault::SomeUnread),
     }
 }
 
 /// Flushes what was written of all files.
-fn end_all<'a, O: Write>(outcome: Outcome, out: &mut O) -> Result<Status, ProgramFault<'a>>
-    ensures ends { (result ≡ outcome_result outcome) ⊎ (result ≡ Err ProgramFault.Write) }
+fn end_all<'a, O: Write>(file_outcome: FileOutcome, out: &mut O) -> Result<Status, ProgramFault<'a>>
+    ensures ends { (result ≡ outcome_result file_outcome) ⊎ (result ≡ Err ProgramFault.Write) }
     ensures kept { Keeps (O.contents out.old) (O.contents out.new) }
 {
     match out.flush() {
-        Ok(()) => result_of(outcome),
+        Ok(()) => result_of(file_outcome),
         Err(_) => Err(ProgramFault::Write),
     }
 }
@@ -163,7 +163,7 @@ fn check_files<'a, R: Threads + Wait + Sync, S: Source, O: Write>(
         (S.asked source.old) (S.asked source.new) (O.contents out.old) (O.contents out.new) result }
 {
     match check_rounds(rt, alloc, files, plan, source, out) {
-        Ok(outcome) => end_all(outcome, out),
+        Ok(file_outcome) => end_all(file_outcome, out),
         Err(fault) => Err(fault),
     }
 }

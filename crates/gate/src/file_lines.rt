@@ -3,7 +3,7 @@ ghost use Rattle.std.specs.Prelude.{◌≡◌, ◌++◌, ◌<◌, List, ℕ, IfO
 ghost use Rattle.explain.specs.Texts.{hex_digit as digit_meant};
 ghost use Rattle.gate.specs.FileLines.{AreTakenLines, IsTakenEnd, IsTakenLine, is_shown as shown_meant, shown_byte, shown_name};
 
-use crate::outcome::Outcome;
+use crate::file_outcome::FileOutcome;
 use crate::taking::Taken;
 use batch::verdict_line;
 use std::alloc::{AllocError, Global};
@@ -58,20 +58,20 @@ fn push_end(
     alloc: Global,
     taken: &Taken,
     judged: Result<(), Refusal>,
-) -> Result<Outcome, AllocError>
-    ensures { IfOk result (λ outcome. (rest : List ℕ) × IsTakenEnd taken.now judged rest outcome
+) -> Result<FileOutcome, AllocError>
+    ensures { IfOk result (λ file_outcome. (rest : List ℕ) × IsTakenEnd taken.now judged rest file_outcome
         × (text.new.items ≡ text.old.items ++ rest)) }
 {
     match taken {
         Taken::Bytes(_) => {
             text.extend_from_slice(verdict_line(alloc, judged)?.as_bytes())?;
-            Ok(Outcome::of(&judged))
+            Ok(FileOutcome::of(&judged))
         }
         Taken::Unread(reason) => {
             text.extend_from_slice(b"cannot read: ")?;
             text.extend_from_slice(reason.text().as_bytes())?;
             text.push(b'\n')?;
-            Ok(Outcome::Unread)
+            Ok(FileOutcome::Unread)
         }
     }
 }
@@ -83,8 +83,8 @@ fn push_line(
     name: &str,
     taken: &Taken,
     judged: Result<(), Refusal>,
-) -> Result<Outcome, AllocError>
-    ensures { IfOk result (λ outcome. (line : List ℕ) × IsTakenLine name.now taken.now judged line outcome
+) -> Result<FileOutcome, AllocError>
+    ensures { IfOk result (λ file_outcome. (line : List ℕ) × IsTakenLine name.now taken.now judged line file_outcome
         × (text.new.items ≡ text.old.items ++ line)) }
 {
     push_name(text, name.as_bytes())?;
@@ -96,7 +96,7 @@ fn push_line(
 #[derive(Drop)]
 pub struct Lines {
     pub text: Vec<u8>,
-    pub outcome: Outcome,
+    pub file_outcome: FileOutcome,
 }
 
 /// The lines of these files, of which this was read and so judged.
@@ -108,13 +108,13 @@ pub fn lines_of(
 ) -> Result<Lines, AllocError>
     requires names { length names.now ≡ length taken.now }
     requires judged { length judged.now ≡ length taken.now }
-    ensures { IfOk result (λ lines. AreTakenLines (map (λ n. n.now) names.now) taken.now judged.now lines.text.items lines.outcome) }
+    ensures { IfOk result (λ lines. AreTakenLines (map (λ n. n.now) names.now) taken.now judged.now lines.text.items lines.file_outcome) }
 {
     let mut text = Vec::new(alloc);
-    let mut outcome = Outcome::Accepted;
+    let mut file_outcome = FileOutcome::Accepted;
     for i in 0..taken.len() {
         let one = push_line(&mut text, alloc, names[i], &taken[i], judged[i])?;
-        outcome = outcome.or(one);
+        file_outcome = file_outcome.or(one);
     }
-    Ok(Lines { text, outcome })
+    Ok(Lines { text, file_outcome })
 }

@@ -14,7 +14,7 @@ use wsyntax::Token::{
     Block, Br, BrIf, Drop, End, I32Const, I64Const, LocalGet, LocalSet, Loop, Unreachable,
 };
 use wsyntax::ValType::{F32, I32, I64};
-use wsyntax::{BlockType, Body, Destination, Expression, Label, LocalRun, Module, Token};
+use wsyntax::{BlockType, Body, BranchTarget, Expression, Label, LocalRun, Module, Token};
 
 /// A module with the types `[] -> []` and `[i32] -> [i32]`, and one function, of the first.
 fn one_function(alloc: Global) -> Result<Module<'static>, AllocError> {
@@ -51,7 +51,7 @@ fn refused_by(
             return Ok(Some(at));
         }
     }
-    if checker.finish() {
+    if checker.is_finished() {
         Ok(None)
     } else {
         Ok(Some(tokens.len()))
@@ -98,7 +98,7 @@ const LONG_ZERO: Token = I64Const(0);
 const I32_BLOCK: Token = Block(BlockType::Value(I32));
 
 /// Where a branch goes on in a body that is not checked.
-const NOWHERE: Destination = Destination::Short {
+const NOWHERE: BranchTarget = BranchTarget::Short {
     arity: 0,
     height: 0,
     target: 0,

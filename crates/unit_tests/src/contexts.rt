@@ -108,8 +108,8 @@ fn fault_in_parts(alloc: Global, module: &Module<'_>) -> Option<ModuleFault> {
     let Ok(mut names) = NameRoom::with_capacity(alloc, 0) else {
         return Some(ModuleFault::Memory);
     };
-    match check_early(alloc, module) {
-        Ok((_, counts)) => check_late(&mut names, module, &counts).err(),
+    match check_rules_before_code(alloc, module) {
+        Ok((_, counts)) => check_rules_after_code(&mut names, module, &counts).err(),
         Err(fault) => Some(fault),
     }
 }
@@ -141,9 +141,9 @@ fn segment_of<'a>(index: u32) -> Data<'a> {
 #[test]
 fn takes_segments_of_its_memory(rt: HostRuntime) -> Result<(), Fail> {
     let mut module = one_import(rt.alloc())?;
-    let (_, none) = check_early(rt.alloc(), &module)?;
+    let (_, none) = check_rules_before_code(rt.alloc(), &module)?;
     module.memories.push(Limits { min: 1, max: None })?;
-    let (_, one) = check_early(rt.alloc(), &module)?;
+    let (_, one) = check_rules_before_code(rt.alloc(), &module)?;
     assert!(rt; !none.takes_segment(&segment_of(0)));
     assert!(rt; one.takes_segment(&segment_of(0)) && !one.takes_segment(&segment_of(1)));
     Ok(())

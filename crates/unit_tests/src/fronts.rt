@@ -1,7 +1,7 @@
 //! The tree of ends says what comparing says.
 use std::alloc::{AllocError, Global};
 use std::test::Fail;
-use wcontext::{Context, TypeList, TypePrefix, check_early};
+use wcontext::{Context, TypeList, TypePrefix, check_rules_before_code};
 use wsyntax::ValType::{self, I32, I64};
 use wsyntax::{FuncTypes, Module};
 
@@ -109,7 +109,7 @@ fn fronts_of_long_lists_are_ends_where_comparing_says_so(rt: HostRuntime) -> Res
         let mut module = Module::empty(rt.alloc());
         module.types = long_lists(rt.alloc())?;
         module.bodies.push(body)?;
-        let (context, _) = check_early(rt.alloc(), &module)?;
+        let (context, _) = check_rules_before_code(rt.alloc(), &module)?;
         let differing = differing(&context, &types);
         assert!(rt;
             differing.is_none(),

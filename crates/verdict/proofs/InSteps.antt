@@ -249,11 +249,11 @@ pub standing_refused : (bytes : List ℕ) (m : Module) (x : IndexedContext) (p :
     → j ≡ x.imported → p.refused ≡ Some r → r.place ≤ gap → y ≡ Body (j + r.place) r.refusal → IsSomeAnd (verdict_of y) (IsVerdict p.bytes)
 standing_refused bytes m x p count gap j r y keeps is sound g first some within e =
     let s = module_shape m in
-    let noted = sound s (subst (λ (b : List ℕ). Shell b s) is keeps.known.whole.shell) in
-    let refused : refusal_in s r.place ≡ Some r.refusal = subst (λ (o : Option RefusedBody). IfSome o (λ q. refusal_in s q.place ≡ Some q.refusal)) some noted.1 in
+    let recorded = sound s (subst (λ (b : List ℕ). Shell b s) is keeps.known.whole.shell) in
+    let refused : refusal_in s r.place ≡ Some r.refusal = subst (λ (o : Option RefusedBody). IfSome o (λ q. refusal_in s q.place ≡ Some q.refusal)) some recorded.1 in
     subst (λ (z : Refusal). IsSomeAnd (verdict_of z) (IsVerdict p.bytes)) (sym e)
     (subst (λ (b : List ℕ). IsSomeAnd (verdict_of (Body (j + r.place) r.refusal)) (IsVerdict b)) is
-    (refused_where_first bytes m x p.passed count gap j r keeps noted.0 g first refused within))
+    (refused_where_first bytes m x p.passed count gap j r keeps recorded.0 g first refused within))
 
 pub standing_open : OneShell → (bytes : List ℕ) (m : Module) (x : IndexedContext) (p : Progress) (count gap j : ℕ) → KeepsRules bytes m x → bytes ≡ p.bytes → HasBodies p.bytes count → IsFirstGap p.passed count gap
     → j ≡ x.imported → gap < count → IfSome p.refused (λ r. gap < r.place) → (n : ModuleShape) → Shell p.bytes n → (place : ℕ) × IsFirstOpen n p place × (j + gap ≡ function_at n place)
@@ -264,8 +264,8 @@ pub standing_accepted : OneShell → (bytes : List ℕ) (m : Module) (x : Indexe
     → count ≤ gap → IsVerdict p.bytes accepted_verdict × HasAll p
 standing_accepted one bytes m x p count gap keeps is sound counted g over =
     let s = module_shape m in
-    let noted = sound s (subst (λ (b : List ℕ). Shell b s) is keeps.known.whole.shell) in
+    let recorded = sound s (subst (λ (b : List ℕ). Shell b s) is keeps.known.whole.shell) in
     let all : AllPassed s p.passed = has_all s p.passed count gap (count_there bytes p.bytes m x count keeps is counted) g over in (
-      subst (λ (b : List ℕ). IsVerdict b accepted_verdict) is (accepted_where_all bytes m x p.passed keeps noted.0 all),
+      subst (λ (b : List ℕ). IsVerdict b accepted_verdict) is (accepted_where_all bytes m x p.passed keeps recorded.0 all),
       λ n shell. everywhere one (λ (k : ModuleShape). AllPassed k p.passed) bytes m x keeps all n (subst (λ (b : List ℕ). Shell b n) (sym is) shell),
     )

@@ -17,6 +17,6 @@ pub mod CheckedBodies
 pub mod KeptGroups
 pub mod SlotSteps
 pub mod InSteps
-pub mod Noted
+pub mod Recorded
 pub mod FrontTokens
 pub mod KeptPass

@@ -5,13 +5,13 @@ use Rattle.wnum.specs.Reading.{◌>>=◌}
 use Rattle.wsyntax.specs.Instructions.{Token, Do, Drop, Select, Return, Unreachable, Nop, OpenBlock, OpenLoop, OpenIf, Else, End}
 use Rattle.wsyntax.specs.Types.{FuncType}
 use Rattle.wsyntax.specs.declared.ValType.TheVariants.{I32}
-use Rattle.wsyntax.specs.Modules.{seen}
+use Rattle.wsyntax.specs.Modules.{decoded_as}
 use Rattle.wsyntax.specs.declared.instructions.Token.{Token as Held}
 use Rattle.wsyntax.specs.Table.{opcode_of}
 use Rattle.wsyntax.specs.Binary.Instructions.{plain_instruction}
 use Rattle.wsyntax.specs.Binary.Nesting.{token_at, nest, and_then, tokens_at, expression}
 use Rattle.wsyntax.specs.Validation.Context.{Stack, Context, enter, leave, block_sig}
-use Rattle.wsyntax.specs.Validation.Algorithm.{Accepted, Operands, Frame, on, when, rule, apply, take_all, take_one, open_frame, ends_with, may_lack_else, pass_on, context_in, put, fresh, step, start, alg_from}
+use Rattle.wsyntax.specs.Validation.Algorithm.{Accepted, Operands, Frame, on, when, rule, apply, pop_all, pop_one, open_frame, ends_with, may_lack_else, pass_on, context_in, push_list, fresh, step, start, alg_from}
 use Rattle.wcheck.specs.Checking.{Checking, with_frames}
 use Rattle.wdecode.specs.Gives.{ReadsPlain, ReadsBracket}
 use Rattle.verdict.specs.Judged.{typing_refusal}
@@ -73,7 +73,7 @@ opens b f fs gs g o is h e =
 -- a frame more
 opened : (b : Bool) (label : Stack) (s : FuncType) (f : Frame) (fs gs : List Frame) (o : Operands) → Grounded (f ∷ fs) → open_frame b label s f fs o ≡ Some gs → Follows (Some (Some (b ∷ flags (f ∷ fs)))) gs
 opened b label s f fs gs o h e =
-    let a = on_some (take_all (enter s) o) (λ o1. Some (record { is_then = b; label = label; starts = enter s; gives = leave s; operands = fresh (enter s) } ∷ record f { operands = o1 } ∷ fs)) gs e in
+    let a = on_some (pop_all (enter s) o) (λ o1. Some (record { is_then = b; label = label; starts = enter s; gives = leave s; operands = fresh (enter s) } ∷ record f { operands = o1 } ∷ fs)) gs e in
     opens b f fs gs record { is_then = b; label = label; starts = enter s; gives = leave s; operands = fresh (enter s) } a.0 refl h (some_is _ _ a.1)
 
 -- an else
@@ -95,7 +95,7 @@ closes f [] gs h e =
 closes f (g ∷ hs) gs h e =
     let w = when_some (ends_with f.gives f.operands) _ gs e in
     let v = when_some (may_lack_else f) _ gs w.1 in
-    stays g hs gs (put f.gives g.operands) h (some_is _ _ v.1)
+    stays g hs gs (push_list f.gives g.operands) h (some_is _ _ v.1)
 
 pub follows : (C : Context) (t : Token) (f : Frame) (fs gs : List Frame) → Grounded (f ∷ fs) → step C t (f ∷ fs) ≡ Some gs → Follows (nest (flags (f ∷ fs)) t) gs
 follows C (Do i) f fs gs h e =
@@ -109,8 +109,8 @@ follows C (OpenLoop t) f fs gs h e =
     let a = on_some (block_sig C.types t) (λ s. open_frame false (enter s) s f fs f.operands) gs e in
     opened false (enter a.0) a.0 f fs gs f.operands h a.1
 follows C (OpenIf t) f fs gs h e =
-    let a = on_some (block_sig C.types t) (λ s. on (take_one I32 f.operands) (open_frame true (leave s) s f fs)) gs e in
-    let b = on_some (take_one I32 f.operands) (open_frame true (leave a.0) a.0 f fs) gs a.1 in
+    let a = on_some (block_sig C.types t) (λ s. on (pop_one I32 f.operands) (open_frame true (leave s) s f fs)) gs e in
+    let b = on_some (pop_one I32 f.operands) (open_frame true (leave a.0) a.0 f fs) gs a.1 in
     opened true (leave a.0) a.0 f fs gs b.0 h b.1
 follows C Else f fs gs h e = parts f.is_then f fs gs refl h e
 follows C End f fs gs h e = closes f fs gs h e
@@ -191,17 +191,17 @@ pub front : (bytes : List ℕ) (b : ℕ) → 1 ≤ length bytes → get_or bytes
 front bytes b some is = ap (λ (x : ℕ). x ∷ take (length bytes - 1) (drop 1 bytes)) (sym is) ∙ in_front bytes some
 
 -- a frequent instruction that is read and looked at
-pub looked : {E : Type 0} (old new : Checking) (bytes : List ℕ) (after : Bor (List ℕ)) (lent : List ℕ) (b : ℕ) (token : Held) (r : Result Bool E) (given : FirstToken) → 1 ≤ length bytes → get_or bytes 0 0 ≡ b → ReadsPlain (b ∷ take (length bytes - 1) (drop 1 bytes)) token after.now → IfOk r (λ ok. step old.inside (seen lent token) old.frames ≡ when ok (Some new.frames)) → IfOk r (λ _. new ≡ with_frames old new.frames) → given ≡ first_token r after → Passes bytes old new given
+pub looked : {E : Type 0} (old new : Checking) (bytes : List ℕ) (after : Bor (List ℕ)) (lent : List ℕ) (b : ℕ) (token : Held) (r : Result Bool E) (given : FirstToken) → 1 ≤ length bytes → get_or bytes 0 0 ≡ b → ReadsPlain (b ∷ take (length bytes - 1) (drop 1 bytes)) token after.now → IfOk r (λ ok. step old.inside (decoded_as lent token) old.frames ≡ when ok (Some new.frames)) → IfOk r (λ _. new ≡ with_frames old new.frames) → given ≡ first_token r after → Passes bytes old new given
 looked old new bytes after lent b token r given some is read step_is same e =
     let front_read : ReadsPlain bytes token after.now = subst (λ (x : List ℕ). ReadsPlain x token after.now) (front bytes b some is) read in
     let i = front_read.2 lent in
     rw e (told old new bytes after (Do i.0) r i.2 front_read.0 (subst (λ (t : Token). IfOk r (λ ok. step old.inside t old.frames ≡ when ok (Some new.frames))) i.1 step_is) same)
 
 -- the beginning of a block that is read and looked at
-pub looked_open : {E : Type 0} (old new : Checking) (bytes : List ℕ) (after : Bor (List ℕ)) (lent : List ℕ) (b : ℕ) (token : Held) (r : Result Bool E) (given : FirstToken) → 1 ≤ length bytes → get_or bytes 0 0 ≡ b → ReadsBracket (b ∷ take (length bytes - 1) (drop 1 bytes)) token after.now → IfOk r (λ ok. step old.inside (seen lent token) old.frames ≡ when ok (Some new.frames)) → IfOk r (λ _. new ≡ with_frames old new.frames) → given ≡ first_token r after → Passes bytes old new given
+pub looked_open : {E : Type 0} (old new : Checking) (bytes : List ℕ) (after : Bor (List ℕ)) (lent : List ℕ) (b : ℕ) (token : Held) (r : Result Bool E) (given : FirstToken) → 1 ≤ length bytes → get_or bytes 0 0 ≡ b → ReadsBracket (b ∷ take (length bytes - 1) (drop 1 bytes)) token after.now → IfOk r (λ ok. step old.inside (decoded_as lent token) old.frames ≡ when ok (Some new.frames)) → IfOk r (λ _. new ≡ with_frames old new.frames) → given ≡ first_token r after → Passes bytes old new given
 looked_open old new bytes after lent b token r given some is read step_is same e =
     let front_read : ReadsBracket bytes token after.now = subst (λ (x : List ℕ). ReadsBracket x token after.now) (front bytes b some is) read in
-    rw e (told old new bytes after (seen lent token) r (front_read.1 lent) front_read.0 step_is same)
+    rw e (told old new bytes after (decoded_as lent token) r (front_read.1 lent) front_read.0 step_is same)
 
 -- a token of one byte that is looked at
 pub looked_one : {E : Type 0} (old new : Checking) (bytes : List ℕ) (after : Bor (List ℕ)) (b : ℕ) (t : Token) (r : Result Bool E) (given : FirstToken) → 1 ≤ length bytes → get_or bytes 0 0 ≡ b → after.now ≡ take (length bytes - 1) (drop 1 bytes) → ((rest : List ℕ) → token_at (b ∷ rest) ≡ Some (t, rest)) → IfOk r (λ ok. step old.inside t old.frames ≡ when ok (Some new.frames)) → IfOk r (λ _. new ≡ with_frames old new.frames) → given ≡ first_token r after → Passes bytes old new given
@@ -210,18 +210,18 @@ looked_one old new bytes after b t r given some is rest_is read step_is same e =
     rw e (told old new bytes after t r (ap token_at (sym whole) ∙ read after.now) (omega (arith, ap length whole)) step_is same)
 
 -- a token, whichever it is, that is read and looked at
-pub looked_any : {E : Type 0} (old new : Checking) (bytes : List ℕ) (after : Bor (List ℕ)) (lent labels : List ℕ) (token : Held) (r : Result Bool E) (given : FirstToken) → token_at bytes ≡ Some (seen (labels ++ []) token, after.now) → lent ≡ labels → length after.now < length bytes → IfOk r (λ ok. step old.inside (seen lent token) old.frames ≡ when ok (Some new.frames)) → IfOk r (λ _. new ≡ with_frames old new.frames) → given ≡ first_token r after → Passes bytes old new given
+pub looked_any : {E : Type 0} (old new : Checking) (bytes : List ℕ) (after : Bor (List ℕ)) (lent labels : List ℕ) (token : Held) (r : Result Bool E) (given : FirstToken) → token_at bytes ≡ Some (decoded_as (labels ++ []) token, after.now) → lent ≡ labels → length after.now < length bytes → IfOk r (λ ok. step old.inside (decoded_as lent token) old.frames ≡ when ok (Some new.frames)) → IfOk r (λ _. new ≡ with_frames old new.frames) → given ≡ first_token r after → Passes bytes old new given
 looked_any old new bytes after lent labels token r given read is lt step_is same e =
-    let look : seen (labels ++ []) token ≡ seen lent token = ap (λ (x : List ℕ). seen x token) (append-nil labels ∙ sym is) in
-    rw e (told old new bytes after (seen lent token) r (read ∙ ap (λ (x : Token). Some (x, after.now)) look) lt step_is same)
+    let look : decoded_as (labels ++ []) token ≡ decoded_as lent token = ap (λ (x : List ℕ). decoded_as x token) (append-nil labels ∙ sym is) in
+    rw e (told old new bytes after (decoded_as lent token) r (read ∙ ap (λ (x : Token). Some (x, after.now)) look) lt step_is same)
 
 -- what is read and taken after a byte
-pub looked_behind : (old new : Checking) (bytes after : List ℕ) (token : Held) → ReadsPlain bytes token after → step old.inside (seen [] token) old.frames ≡ Some new.frames → new ≡ with_frames old new.frames → Takes bytes old new after
+pub looked_behind : (old new : Checking) (bytes after : List ℕ) (token : Held) → ReadsPlain bytes token after → step old.inside (decoded_as [] token) old.frames ≡ Some new.frames → new ≡ with_frames old new.frames → Takes bytes old new after
 looked_behind old new bytes after token read step_is same =
     let i = read.2 [] in (Do i.0, i.2, read.0, ap (λ (t : Token). step old.inside t old.frames) (sym i.1) ∙ step_is, same)
 
 -- a frequent instruction that is read and taken
-pub looked_known : (old new : Checking) (bytes after : List ℕ) (b : ℕ) (token : Held) → 1 ≤ length bytes → get_or bytes 0 0 ≡ b → ReadsPlain (b ∷ take (length bytes - 1) (drop 1 bytes)) token after → step old.inside (seen [] token) old.frames ≡ Some new.frames → new ≡ with_frames old new.frames → Takes bytes old new after
+pub looked_known : (old new : Checking) (bytes after : List ℕ) (b : ℕ) (token : Held) → 1 ≤ length bytes → get_or bytes 0 0 ≡ b → ReadsPlain (b ∷ take (length bytes - 1) (drop 1 bytes)) token after → step old.inside (decoded_as [] token) old.frames ≡ Some new.frames → new ≡ with_frames old new.frames → Takes bytes old new after
 looked_known old new bytes after b token some is read step_is same =
     looked_behind old new bytes after token (subst (λ (x : List ℕ). ReadsPlain x token after) (front bytes b some is) read) step_is same
 

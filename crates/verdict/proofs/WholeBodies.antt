@@ -3,7 +3,7 @@ use Rattle.std.proofs.Common.{◌≡◌, ℕ, suc, ◌+◌, ◌-◌, ◌<◌, �
 use Rattle.std.proofs.lemmas.Bool.{eqb-true, ltb-true, ltb-false, leb-true, le-leb}
 use Rattle.std.proofs.lemmas.List.{append-nil, nil_from_length}
 use Rattle.wnum.specs.Reading.{◌>>=◌}
-use Rattle.wsyntax.specs.Modules.{seen}
+use Rattle.wsyntax.specs.Modules.{decoded_as}
 use Rattle.wsyntax.specs.declared.instructions.Token.{Token as Held}
 use Rattle.wsyntax.specs.Instructions.{Token}
 use Rattle.wsyntax.specs.declared.module.LocalRun.{LocalRun}
@@ -206,9 +206,9 @@ unclosed x y known now bytes rest k fuel s e so C fs h =
     sym o.2 ∙ ap (λ (n : ℕ). refusal_read C now o.0 k (tokens_at n s rest)) e
 
 -- the token that is read, seen by what was lent
-pub read_lent : (rest after labels lent : List ℕ) (token : Held) → token_at rest ≡ Some (seen (labels ++ []) token, after) → lent ≡ labels → token_at rest ≡ Some (seen lent token, after)
+pub read_lent : (rest after labels lent : List ℕ) (token : Held) → token_at rest ≡ Some (decoded_as (labels ++ []) token, after) → lent ≡ labels → token_at rest ≡ Some (decoded_as lent token, after)
 read_lent rest after labels lent token read is =
-    read ∙ ap (λ (x : List ℕ). Some (seen x token, after)) (append-nil labels ∙ sym is)
+    read ∙ ap (λ (x : List ℕ). Some (decoded_as x token, after)) (append-nil labels ∙ sym is)
 
 -- ---- the body
 

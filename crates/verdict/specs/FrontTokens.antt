@@ -3,7 +3,7 @@ use Rattle.std.specs.Prelude.{◌≡◌, ◌<◌, ℕ, Bool, true, false, List, 
 use Rattle.std.specs.Borrow.{Bor}
 use Rattle.wcheck.specs.Checking.{Checking, with_frames}
 use Rattle.wsyntax.specs.declared.instructions.Token.{Token as Held}
-use Rattle.wsyntax.specs.Modules.{seen}
+use Rattle.wsyntax.specs.Modules.{decoded_as}
 use Rattle.wsyntax.specs.Binary.Nesting.{token_at}
 use Rattle.wsyntax.specs.Validation.Algorithm.{step}
 use Rattle.verdict.specs.declared.front_token.FrontToken.{FrontToken}
@@ -11,12 +11,12 @@ use Rattle.verdict.specs.declared.front_token.FrontToken.TheVariants.{Taken, Ref
 
 -- this token is at the front, whatever labels there are, and these are the bytes after it
 abbrev pub ReadsAlone : List ℕ → Held → List ℕ → Type 0
-ReadsAlone bytes h rest = (length rest < length bytes) × ((targets : List ℕ) → token_at bytes ≡ Some (seen targets h, rest))
+ReadsAlone bytes h rest = (length rest < length bytes) × ((targets : List ℕ) → token_at bytes ≡ Some (decoded_as targets h, rest))
 
 -- it is taken
 abbrev pub TakesFront : List ℕ → Checking → Checking → Held → List ℕ → Type 0
 TakesFront bytes old new h rest =
-    ReadsAlone bytes h rest × (step old.inside (seen [] h) old.frames ≡ Some new.frames) × (new ≡ with_frames old new.frames)
+    ReadsAlone bytes h rest × (step old.inside (decoded_as [] h) old.frames ≡ Some new.frames) × (new ≡ with_frames old new.frames)
 
 -- what became of the token at the front: where it is another, nothing was done
 abbrev pub PassesFront : List ℕ → Checking → Checking → FrontToken → Type 0

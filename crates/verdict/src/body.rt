@@ -1,6 +1,6 @@
 ghost use Rattle.std.specs.Prelude.{◌≡◌, ◌+◌, ◌<◌, Some, None, IfOk, MatchResult, length};
 ghost use Rattle.pieces.specs.Faults.{AllowsFault};
-ghost use Rattle.wsyntax.specs.Modules.{seen};
+ghost use Rattle.wsyntax.specs.Modules.{decoded_as};
 ghost use Rattle.verdict.specs.Judged.{body_refusal_of};
 ghost use Rattle.verdict.specs.WholeBodies.{AtEnd, GivesRefusal, GoesOn, Judges};
 
@@ -34,7 +34,7 @@ fn look(
     left: usize,
 ) -> Result<Known, AllocError>
     ensures outside { checker.new.outside ≡ checker.old.outside }
-    ensures goes_on { IfOk result (λ now. GoesOn checker.old known at left (seen targets.now token) checker.new now) }
+    ensures goes_on { IfOk result (λ now. GoesOn checker.old known at left (decoded_as targets.now token) checker.new now) }
 {
     let refused = Known::Refusal(BodyRefusal::IllTyped { at });
     match known {
@@ -57,7 +57,7 @@ fn at_end(checker: &Checker<'_>, known: Known, count: usize) -> Option<BodyRefus
 {
     match known {
         Known::Refusal(refusal) => Some(refusal),
-        Known::Nothing if checker.finish() => None,
+        Known::Nothing if checker.is_finished() => None,
         _ => Some(BodyRefusal::IllTyped { at: count }),
     }
 }

@@ -61,7 +61,7 @@ macro_rules! step_known_read {
         match $read {
             None => FrontToken::Other,
             Some((token, after)) => {
-                if $checker.step_known(token) {
+                if $checker.try_fast_step(token) {
                     FrontToken::Taken(token, after)
                 } else {
                     FrontToken::Other

@@ -9,7 +9,7 @@ ghost use Rattle.verdict.specs.Refusals.{verdict_of};
 use crate::refusal::Refusal;
 use soundness::validation::{accepted_is_typed, refused_at_first_fault};
 use std::alloc::Global;
-use wcontext::{Context, ModuleFault, SpaceSizes, check_early};
+use wcontext::{Context, ModuleFault, SpaceSizes, check_rules_before_code};
 use wdecode::{Fault, ModuleHead, decode_front, grammar_is_read, shells_are_determined};
 
 /// The head of a module that keeps the early rules.
@@ -51,7 +51,7 @@ impl<'a> Head<'a> {
         refused_at_first_fault();
         shells_are_determined();
         let front = decode_front(alloc, bytes)?;
-        let (context, counts) = match check_early(alloc, &front.module) {
+        let (context, counts) = match check_rules_before_code(alloc, &front.module) {
             Ok(both) => both,
             Err(fault) => return Err(refused_early(alloc, front, fault)),
         };

@@ -134,7 +134,7 @@ macro_rules! step_known_read {
         match $read {
             None => FirstToken::Other,
             Some((token, after)) => {
-                if $checker.step_known(token) {
+                if $checker.try_fast_step(token) {
                     FirstToken::Taken(after)
                 } else {
                     FirstToken::Other
@@ -257,7 +257,7 @@ fn tokens_pass<'a>(
     ensures sound { TokensPass checker.old.inside checker.old.frames tokens.now result }
 {
     let mut rest = tokens;
-    'each: while !checker.finish() {
+    'each: while !checker.is_finished() {
         match frequent_passes(checker, rest) {
             FirstToken::Taken(after) => {
                 rest = after;

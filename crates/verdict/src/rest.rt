@@ -9,7 +9,7 @@ use crate::head::Head;
 use crate::part_fault::{PartFault, RestFault};
 use pieces::JobFault;
 use std::alloc::Global;
-use wcontext::{ModuleFault, NameRoom, SEGMENTS_RULE, SpaceSizes, check_late};
+use wcontext::{ModuleFault, NameRoom, SEGMENTS_RULE, SpaceSizes, check_rules_after_code};
 use wdecode::{Fault, SegmentRule};
 use wsyntax::Data;
 
@@ -52,7 +52,7 @@ pub(crate) fn judge_rest<'a>(
         Err(Fault::Malformed) => return Err(refused(RestFault::Malformed)),
         Err(Fault::Memory) => return Err(JobFault::Memory),
     };
-    match check_late(names, &head.front.module, counts) {
+    match check_rules_after_code(names, &head.front.module, counts) {
         Err(ModuleFault::Rule(rule)) => Err(refused(RestFault::Rule(rule))),
         Err(ModuleFault::Memory) => Err(JobFault::Memory),
         Ok(()) if segments => Ok(()),

@@ -10,13 +10,13 @@ use native.Mathlib.Decide.{dec_le}
 use Rattle.wsyntax.specs.declared.ValType.{ValType}
 use Rattle.wsyntax.specs.Types.{FuncType}
 use Rattle.wsyntax.specs.Validation.Algorithm as alg
-use Rattle.wsyntax.specs.Validation.Algorithm.{Operands, Takes, Drops, when, on, apply, take_one, put}
+use Rattle.wsyntax.specs.Validation.Algorithm.{Operands, Takes, Drops, when, on, apply, pop_one, push_list}
 use Rattle.wcheck.specs.Heights.{Stacked, above_of, stacked, all_of, without, over}
 use Rattle.wcheck.specs.declared.entry.StackEntry.{StackEntry}
 use Rattle.wcheck.specs.Runs.{types_in, IsCounted, last_types, types_before}
 use Rattle.wcheck.proofs.Behind.{map-reverse}
 use Rattle.wcheck.proofs.Stretched.{none, least}
-use Rattle.wcheck.proofs.Taking.{same_as_itself, taken_whole, taken_front}
+use Rattle.wcheck.proofs.Taking.{same_as_itself, taken_whole, taken_prefix}
 
 -- ---- lists
 
@@ -99,7 +99,7 @@ module _ (xs new : List (Option ValType)) (types : List FuncType) (b : ℕ) (d :
     swapped =
         ap (λ z. apply (Takes (reverse ts) (reverse us)) z.above) (sym w)
         ∙ ap (λ z. apply (Takes (reverse ts) (reverse us)) record { known = z; is_dead = d }) (above_more xs rest (map Some ts) b ex le ∙ ap (λ z. z ++ reverse (drop b rest)) (sym (map-reverse Some ts)))
-        ∙ ap (λ o. on o (λ p. Some (put (reverse us) p))) (taken_whole (reverse ts) (reverse (drop b rest)) d)
+        ∙ ap (λ o. on o (λ p. Some (push_list (reverse us) p))) (taken_whole (reverse ts) (reverse (drop b rest)) d)
         ∙ ap (λ z. Some record { known = z; is_dead = d }) (ap (λ z. z ++ reverse (drop b rest)) (map-reverse Some us) ∙ sym (above_more new rest (map Some us) b en le))
 
   -- x is off
@@ -116,9 +116,9 @@ module _ (xs new : List (Option ValType)) (types : List FuncType) (b : ℕ) (d :
     pub dropped : apply Drops s.above ≡ Some (above_of new b d)
     dropped = ap (apply Drops) top
 
-    pub one_taken : (t : ValType) → x ≡ Some t → take_one t s.above ≡ Some (above_of new b d)
+    pub one_taken : (t : ValType) → x ≡ Some t → pop_one t s.above ≡ Some (above_of new b d)
     one_taken t k =
-        ap (take_one t) (top ∙ ap (λ z. record { known = z ∷ reverse (drop b new); is_dead = d }) k) ∙ ap (λ c. when c (Some (above_of new b d))) (same_as_itself t)
+        ap (pop_one t) (top ∙ ap (λ z. record { known = z ∷ reverse (drop b new); is_dead = d }) k) ∙ ap (λ c. when c (Some (above_of new b d))) (same_as_itself t)
 
   -- these are on top of what was
   module _ (more : List (Option ValType)) (e : new ≡ xs ++ more) (le : b ≤ length xs) where
@@ -190,22 +190,22 @@ top_types s rest ts e le =
     sym (take-append-drop (length ts) s.above.known) ∙ ap (λ z. z ++ drop (length ts) s.above.known) (on_top s rest ts e le)
 
 -- the last of us are taken
-pub types_taken : (s : Stacked) (last : List (Option ValType)) (us : List ValType) (n k : ℕ) (o : Operands) → all_of s ≡ last ++ map Some (last_types n us) → n ≤ length us → n ≤ length s.above.known → k ≡ n → o ≡ without k s.above → alg.take_all (reverse us) s.above ≡ alg.take_all (reverse (types_before n us)) o
+pub types_taken : (s : Stacked) (last : List (Option ValType)) (us : List ValType) (n k : ℕ) (o : Operands) → all_of s ≡ last ++ map Some (last_types n us) → n ≤ length us → n ≤ length s.above.known → k ≡ n → o ≡ without k s.above → alg.pop_all (reverse us) s.above ≡ alg.pop_all (reverse (types_before n us)) o
 types_taken s last us n k o e lu lk ek eo =
     let size : length (last_types n us) ≡ n = omega (arith, lu, length-drop (length us - n) us) in
     let fits : length (last_types n us) ≤ length s.above.known = omega (arith, size, lk) in
     let on_top = top_types s last (last_types n us) e fits in
-    ap (λ z. alg.take_all (reverse z) s.above) (sym (take-append-drop (length us - n) us))
-    ∙ ap (λ z. alg.take_all z s.above) (reverse-append (types_before n us) (last_types n us))
-    ∙ ap (λ z. alg.take_all (reverse (last_types n us) ++ reverse (types_before n us)) record { known = z; is_dead = s.above.is_dead }) on_top
-    ∙ taken_front (reverse (last_types n us)) (reverse (types_before n us)) (drop (length (last_types n us)) s.above.known) s.above.is_dead
-    ∙ ap (λ z. alg.take_all (reverse (types_before n us)) record { known = drop z s.above.known; is_dead = s.above.is_dead }) (size ∙ sym ek)
-    ∙ ap (alg.take_all (reverse (types_before n us))) (sym eo)
+    ap (λ z. alg.pop_all (reverse z) s.above) (sym (take-append-drop (length us - n) us))
+    ∙ ap (λ z. alg.pop_all z s.above) (reverse-append (types_before n us) (last_types n us))
+    ∙ ap (λ z. alg.pop_all (reverse (last_types n us) ++ reverse (types_before n us)) record { known = z; is_dead = s.above.is_dead }) on_top
+    ∙ taken_prefix (reverse (last_types n us)) (reverse (types_before n us)) (drop (length (last_types n us)) s.above.known) s.above.is_dead
+    ∙ ap (λ z. alg.pop_all (reverse (types_before n us)) record { known = drop z s.above.known; is_dead = s.above.is_dead }) (size ∙ sym ek)
+    ∙ ap (alg.pop_all (reverse (types_before n us))) (sym eo)
 
 -- all of ts are taken
-pub all_taken : (s : Stacked) (rest : List (Option ValType)) (ts : List ValType) (k : ℕ) (o : Operands) → all_of s ≡ rest ++ map Some ts → length ts ≤ length s.above.known → k ≡ length ts → o ≡ without k s.above → alg.take_all (reverse ts) s.above ≡ Some o
+pub all_taken : (s : Stacked) (rest : List (Option ValType)) (ts : List ValType) (k : ℕ) (o : Operands) → all_of s ≡ rest ++ map Some ts → length ts ≤ length s.above.known → k ≡ length ts → o ≡ without k s.above → alg.pop_all (reverse ts) s.above ≡ Some o
 all_taken s rest ts k o e le ek eo =
-    ap (λ z. alg.take_all (reverse ts) record { known = z; is_dead = s.above.is_dead }) (top_types s rest ts e le)
+    ap (λ z. alg.pop_all (reverse ts) record { known = z; is_dead = s.above.is_dead }) (top_types s rest ts e le)
     ∙ taken_whole (reverse ts) (drop (length ts) s.above.known) s.above.is_dead
     ∙ ap (λ z. Some record { known = drop z s.above.known; is_dead = s.above.is_dead }) (sym ek)
     ∙ ap Some (sym eo)

@@ -1,13 +1,13 @@
 -- Operands on top whose types are known, each in a place of its own.
 use Rattle.std.proofs.Common.{◌≡◌, ℕ, suc, false, ◌-◌, ◌+◌, ◌<◌, ◌≤◌, List, [], ◌∷◌, ◌++◌, map, length, take, get_or, Option, Some, refl, sym, ap, subst, ◌∙◌, arith, length-take}
 use Rattle.std.specs.Prelude.{set}
-use Rattle.std.proofs.lemmas.List.{append_assoc, append-nil, map-append, take_more, take_all}
+use Rattle.std.proofs.lemmas.List.{append_assoc, append-nil, map-append, take_more, pop_all}
 use Rattle.wsyntax.specs.declared.ValType.{ValType}
 use Rattle.wcheck.specs.declared.entry.StackEntry.{StackEntry}
 use Rattle.wcheck.specs.Heights.{type_of}
 use Rattle.wcheck.specs.Runs.{is_several, types_in, IsCounted}
-use Rattle.wcheck.proofs.Lasts.{front, last_two, set_last, split_at_last}
-use Rattle.wcheck.proofs.Stretched.{single, counted_front, counted_single}
+use Rattle.wcheck.proofs.Lasts.{prefix, last_two, set_last, split_at_last}
+use Rattle.wcheck.proofs.Stretched.{single, counted_prefix, counted_single}
 use Rattle.wcheck.proofs.Topmost.{known_single}
 
 -- the places xs with the runs rs stand for v, and x is the topmost place, of the type t
@@ -24,7 +24,7 @@ module _ (xs : List StackEntry) (rs : List (List ValType)) (v : List (Option Val
 
   pub one_off_counted : (m : ℕ) → IsCounted xs rs m → IsCounted (take (n - 1) xs) rs m
   one_off_counted m h =
-      counted_front (take (n - 1) xs) rs x (type_of x) m (single (take (n - 1) xs) rs x (known_single x t k)) (subst (λ z. IsCounted z rs m) split h)
+      counted_prefix (take (n - 1) xs) rs x (type_of x) m (single (take (n - 1) xs) rs x (known_single x t k)) (subst (λ z. IsCounted z rs m) split h)
 
   -- the place y of the type u is written over it
   module _ (y : StackEntry) (u : ValType) (q : type_of y ≡ Some u) where
@@ -52,9 +52,9 @@ module _ (xs : List StackEntry) (rs : List (List ValType)) (v : List (Option Val
 
   pub lone_off_counted : (m : ℕ) → IsCounted xs rs m → IsCounted (take (n - 1) xs) rs m
   lone_off_counted m h =
-      counted_front (take (n - 1) xs) rs x (type_of x) m (single (take (n - 1) xs) rs x k) (subst (λ z. IsCounted z rs m) parted h)
+      counted_prefix (take (n - 1) xs) rs x (type_of x) m (single (take (n - 1) xs) rs x k) (subst (λ z. IsCounted z rs m) parted h)
 
-set_end : {A : Type 0} (front_part : List A) (x z : A) → set (front_part ++ x ∷ []) (length front_part) z ≡ front_part ++ z ∷ []
+set_end : {A : Type 0} (prefix_part : List A) (x z : A) → set (prefix_part ++ x ∷ []) (length prefix_part) z ≡ prefix_part ++ z ∷ []
 set_end [] x z = refl
 set_end (a ∷ rest) x z = ap (λ l. a ∷ l) (set_end rest x z)
 
@@ -82,8 +82,8 @@ module _ (xs : List StackEntry) (rs : List (List ValType)) (v : List (Option Val
 
   pub two_off_counted : (m : ℕ) → IsCounted xs rs m → IsCounted (take (n - 2) xs) rs m
   two_off_counted m h =
-      let without = counted_front (take (n - 2) xs ++ x ∷ []) rs y (type_of y) m (single (take (n - 2) xs ++ x ∷ []) rs y (known_single y u ky)) (subst (λ z. IsCounted z rs m) split_two h) in
-      counted_front (take (n - 2) xs) rs x (type_of x) m (single (take (n - 2) xs) rs x (known_single x t kx)) without
+      let without = counted_prefix (take (n - 2) xs ++ x ∷ []) rs y (type_of y) m (single (take (n - 2) xs ++ x ∷ []) rs y (known_single y u ky)) (subst (λ z. IsCounted z rs m) split_two h) in
+      counted_prefix (take (n - 2) xs) rs x (type_of x) m (single (take (n - 2) xs) rs x (known_single x t kx)) without
 
   -- the place z of the type s is written in their place
   module _ (ys : List StackEntry) (z : StackEntry) (s : ValType) (off : ys ≡ take (n - 1) xs) (q : type_of z ≡ Some s) where
@@ -91,7 +91,7 @@ module _ (xs : List StackEntry) (rs : List (List ValType)) (v : List (Option Val
     in_place =
         let long : length (take (n - 2) xs) ≡ n - 2 = omega (arith, length-take (n - 2) xs, c) in
         let rest : ys ≡ take (n - 2) xs ++ x ∷ [] =
-        off ∙ ap (λ i. take (i - 1) xs) c ∙ sym (front xs (take (n - 2) xs ++ x ∷ []) (y ∷ []) split_two) in
+        off ∙ ap (λ i. take (i - 1) xs) c ∙ sym (prefix xs (take (n - 2) xs ++ x ∷ []) (y ∷ []) split_two) in
         ap (λ l. set l (n - 2) z) rest
         ∙ ap (λ i. set (take (n - 2) xs ++ x ∷ []) i z) (sym long)
         ∙ set_end (take (n - 2) xs) x z
@@ -129,6 +129,6 @@ known_none xs rs ts s =
 -- all of the types ts
 pub known_all : (xs : List StackEntry) (rs : List (List ValType)) (ts : List ValType) (i : ℕ) → length ts ≤ length xs → i ≡ length ts → types_in (take (length xs - length ts + i) xs) rs ≡ types_in (take (length xs - length ts) xs) rs ++ map Some (take i ts) → types_in xs rs ≡ types_in (take (length xs - length ts) xs) rs ++ map Some ts
 known_all xs rs ts i le e h =
-    ap (λ z. types_in z rs) (sym (take_all (length xs - length ts + i) xs (omega (arith, le, e))))
+    ap (λ z. types_in z rs) (sym (pop_all (length xs - length ts + i) xs (omega (arith, le, e))))
     ∙ h
-    ∙ ap (λ z. types_in (take (length xs - length ts) xs) rs ++ map Some z) (take_all i ts (omega (arith, e)))
+    ∙ ap (λ z. types_in (take (length xs - length ts) xs) rs ++ map Some z) (pop_all i ts (omega (arith, e)))

@@ -4,8 +4,8 @@ use Rattle.std.specs.Prelude.{set}
 use Rattle.std.proofs.lemmas.Option.{slice_get-get_or, get_or_from_slice_get}
 use Rattle.std.proofs.Math.Seq.{take-append_seam}
 
-pub front : {A : Type 0} (l a b : List A) → l ≡ a ++ b → a ≡ take (length l - length b) l
-front l a b e =
+pub prefix : {A : Type 0} (l a b : List A) → l ≡ a ++ b → a ≡ take (length l - length b) l
+prefix l a b e =
     let k : length l - length b ≡ length a = omega (arith, ap length e, length-append a b) in
     sym (ap (λ n. take n l) k ∙ ap (take (length a)) e ∙ take-append_seam a b)
 

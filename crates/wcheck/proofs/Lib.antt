@@ -22,5 +22,5 @@ pub mod Above
 pub mod Taking
 pub mod Written
 pub mod Suiting
-pub mod Unchecked
+pub mod Unresolved
 pub mod Labels

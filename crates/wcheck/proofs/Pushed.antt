@@ -6,7 +6,7 @@ use Rattle.std.proofs.Math.Seq.{take-length}
 use Rattle.wsyntax.specs.declared.ValType.{ValType}
 use Rattle.wsyntax.specs.Types.{FuncType}
 use Rattle.wcontext.specs.declared.lists.TypeList.{TypeList}
-use Rattle.wcontext.specs.Lists.{list_of, front_of}
+use Rattle.wcontext.specs.Lists.{list_of, prefix_of}
 use Rattle.wcheck.specs.declared.entry.StackEntry.{StackEntry}
 use Rattle.wcontext.specs.declared.lists.TypePrefix.{TypePrefix}
 use Rattle.wcheck.specs.declared.entry.StackEntry.TheVariants.{Run}
@@ -26,29 +26,29 @@ pub ok_items : {T E X : Type 0} (r : Result T E) (failed : Bool) (zs a b : X) �
 ok_items (Ok t) failed zs a b h f q = q
 ok_items (Err t) failed zs a b h f q = absurd cc
 
--- as many of the front of a list as there are
-pub whole_list : (types : List FuncType) (list : TypeList) (left : ℕ) → left ≡ length (list_of types list) → front_of types record { list = list; count = left } ≡ list_of types list
+-- as many of the prefix of a list as there are
+pub whole_list : (types : List FuncType) (list : TypeList) (left : ℕ) → left ≡ length (list_of types list) → prefix_of types record { list = list; count = left } ≡ list_of types list
 whole_list types list left e = take-all_at (list_of types list) left e
   where
     take-all_at : (xs : List ValType) (n : ℕ) → n ≡ length xs → take n xs ≡ xs
     take-all_at xs n h = ap (λ k. take k xs) h ∙ take-length xs
 
 -- the run stands for the types r
-module _ (types : List FuncType) (xs ys : List StackEntry) (rs qs : List TypePrefix) (run : TypePrefix) (r : List ValType) (k : front_of types run ≡ r) (e : ys ≡ xs ++ Run ∷ []) (f : qs ≡ rs ++ run ∷ []) where
-  runs_are : map (front_of types) qs ≡ map (front_of types) rs ++ r ∷ []
+module _ (types : List FuncType) (xs ys : List StackEntry) (rs qs : List TypePrefix) (run : TypePrefix) (r : List ValType) (k : prefix_of types run ≡ r) (e : ys ≡ xs ++ Run ∷ []) (f : qs ≡ rs ++ run ∷ []) where
+  runs_are : map (prefix_of types) qs ≡ map (prefix_of types) rs ++ r ∷ []
   runs_are =
-      ap (map (front_of types)) f
-      ∙ map-append (front_of types) rs (run ∷ [])
-      ∙ ap (λ z. map (front_of types) rs ++ z ∷ []) k
+      ap (map (prefix_of types)) f
+      ∙ map-append (prefix_of types) rs (run ∷ [])
+      ∙ ap (λ z. map (prefix_of types) rs ++ z ∷ []) k
 
-  pub run_pushed : (v : List (Option ValType)) → types_in xs (map (front_of types) rs) ≡ v → 0 < length r → types_in ys (map (front_of types) qs) ≡ v ++ map Some r
+  pub run_pushed : (v : List (Option ValType)) → types_in xs (map (prefix_of types) rs) ≡ v → 0 < length r → types_in ys (map (prefix_of types) qs) ≡ v ++ map Some r
   run_pushed v w lt =
-      ap (λ z. types_in z (map (front_of types) qs)) e
+      ap (λ z. types_in z (map (prefix_of types) qs)) e
       ∙ ap (types_in (xs ++ Run ∷ [])) runs_are
-      ∙ several xs (map (front_of types) rs) r
+      ∙ several xs (map (prefix_of types) rs) r
       ∙ ap (λ z. z ++ of_run r) w
       ∙ ap (λ z. v ++ z) (whole_run r lt)
 
-  pub run_pushed_counted : (m more : ℕ) → more ≡ m + (length r - 1) → more ≤ 2 ^ 63 → IsCounted xs (map (front_of types) rs) m → IsCounted ys (map (front_of types) qs) more
+  pub run_pushed_counted : (m more : ℕ) → more ≡ m + (length r - 1) → more ≤ 2 ^ 63 → IsCounted xs (map (prefix_of types) rs) m → IsCounted ys (map (prefix_of types) qs) more
   run_pushed_counted m more h le c =
-      subst (λ z. IsCounted z (map (front_of types) qs) more) (sym e) (subst (λ z. IsCounted (xs ++ Run ∷ []) z more) (sym runs_are) (counted_run xs (map (front_of types) rs) r m more c h le))
+      subst (λ z. IsCounted z (map (prefix_of types) qs) more) (sym e) (subst (λ z. IsCounted (xs ++ Run ∷ []) z more) (sym runs_are) (counted_run xs (map (prefix_of types) rs) r m more c h le))

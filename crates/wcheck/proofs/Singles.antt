@@ -7,11 +7,11 @@ use Rattle.wsyntax.specs.Types.{FuncType}
 use Rattle.wcheck.specs.declared.entry.StackEntry.{StackEntry}
 use Rattle.wcontext.specs.declared.lists.TypePrefix.{TypePrefix}
 use Rattle.wcheck.specs.Heights.{type_of}
-use Rattle.wcontext.specs.Lists.{front_of}
+use Rattle.wcontext.specs.Lists.{prefix_of}
 use Rattle.wcheck.specs.Runs.{types_in, IsCounted}
 use Rattle.wcheck.proofs.Stretched.{singles}
 
-pub no_runs : (types : List FuncType) (rs : List TypePrefix) (b : Bool) → b ≡ (length rs == 0) → b ≡ true → map (front_of types) rs ≡ []
+pub no_runs : (types : List FuncType) (rs : List TypePrefix) (b : Bool) → b ≡ (length rs == 0) → b ≡ true → map (prefix_of types) rs ≡ []
 no_runs types [] b e t = refl
 no_runs types (r ∷ rs) b e t = absurd (let h : (length (r ∷ rs) == 0) ≡ true = sym e ∙ t in grind (arith, h))
 

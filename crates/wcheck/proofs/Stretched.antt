@@ -110,8 +110,8 @@ counted_run xs rs r m more c e le = record {
 }
 
 -- without the last place
-pub counted_front : (xs : List StackEntry) (rs : List (List ValType)) (x : StackEntry) (y : Option ValType) (m : ℕ) → types_in (xs ++ x ∷ []) rs ≡ types_in xs rs ++ y ∷ [] → IsCounted (xs ++ x ∷ []) rs m → IsCounted xs rs m
-counted_front xs rs x y m e c = record {
+pub counted_prefix : (xs : List StackEntry) (rs : List (List ValType)) (x : StackEntry) (y : Option ValType) (m : ℕ) → types_in (xs ++ x ∷ []) rs ≡ types_in xs rs ++ y ∷ [] → IsCounted (xs ++ x ∷ []) rs m → IsCounted xs rs m
+counted_prefix xs rs x y m e c = record {
   count = omega (arith, c.count, ap length e, length-append (types_in xs rs) (y ∷ []), length-append xs (x ∷ []));
   small = c.small;
 }

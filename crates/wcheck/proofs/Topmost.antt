@@ -6,7 +6,7 @@ use Rattle.std.specs.Prelude.{option_map, IfSome}
 use Rattle.std.proofs.lemmas.Option.{slice_get-get_or, slice_get-map}
 use Rattle.wsyntax.specs.declared.ValType.{ValType}
 use Rattle.wsyntax.specs.Types.{FuncType}
-use Rattle.wcontext.specs.Lists.{front_of}
+use Rattle.wcontext.specs.Lists.{prefix_of}
 use Rattle.wcontext.specs.declared.lists.TypePrefix.{TypePrefix}
 use Rattle.wcheck.specs.declared.entry.StackEntry.{StackEntry}
 use Rattle.wcheck.specs.declared.entry.StackEntry.TheVariants.{I32, I64, F32, F64, Unknown, Run}
@@ -65,15 +65,15 @@ last_of_run_on_top xs rs v x r w e q some =
     (types_in (take (length xs - 1) xs) (take (length rs - 1) rs), split_run xs rs x v (length xs - 1) w (is_there xs x (sym e)) r q ∙ ap (λ z. types_in (take (length xs - 1) xs) (take (length rs - 1) rs) ++ z) (whole_run r some))
 
 -- the last operands, where this run is on top
-pub last_of_front : (types u : List FuncType) (xs : List StackEntry) (rs : List TypePrefix) (v : List (Option ValType)) (x : StackEntry) (run : TypePrefix) → types_in xs (map (front_of types) rs) ≡ v → Some x ≡ slice_get xs (length xs - 1) → is_several x ≡ true → Some run ≡ slice_get rs (length rs - 1) → types ≡ u → 0 < length (front_of u run) → (rest : List (Option ValType)) × (v ≡ rest ++ map Some (front_of u run))
-last_of_front types u xs rs v x run w e several q same some =
-    let size : length (map (front_of types) rs) - 1 ≡ length rs - 1 = ap (λ k. k - 1) (length-map rs (front_of types)) in
-    let top : run_at Run (map (front_of types) rs) ≡ Some (front_of u run) =
-    ap (slice_get (map (front_of types) rs)) size
-    ∙ slice_get-map (front_of types) rs (length rs - 1)
-    ∙ ap (option_map (front_of types)) (sym q)
-    ∙ ap (λ z. Some (front_of z run)) same in
-    last_of_run_on_top xs (map (front_of types) rs) v Run (front_of u run) w (ap Some (sym (a_several x several)) ∙ e) top some
+pub last_of_prefix : (types u : List FuncType) (xs : List StackEntry) (rs : List TypePrefix) (v : List (Option ValType)) (x : StackEntry) (run : TypePrefix) → types_in xs (map (prefix_of types) rs) ≡ v → Some x ≡ slice_get xs (length xs - 1) → is_several x ≡ true → Some run ≡ slice_get rs (length rs - 1) → types ≡ u → 0 < length (prefix_of u run) → (rest : List (Option ValType)) × (v ≡ rest ++ map Some (prefix_of u run))
+last_of_prefix types u xs rs v x run w e several q same some =
+    let size : length (map (prefix_of types) rs) - 1 ≡ length rs - 1 = ap (λ k. k - 1) (length-map rs (prefix_of types)) in
+    let top : run_at Run (map (prefix_of types) rs) ≡ Some (prefix_of u run) =
+    ap (slice_get (map (prefix_of types) rs)) size
+    ∙ slice_get-map (prefix_of types) rs (length rs - 1)
+    ∙ ap (option_map (prefix_of types)) (sym q)
+    ∙ ap (λ z. Some (prefix_of z run)) same in
+    last_of_run_on_top xs (map (prefix_of types) rs) v Run (prefix_of u run) w (ap Some (sym (a_several x several)) ∙ e) top some
 
 -- the last none of some types
 pub ends_in_none : (v : List (Option ValType)) (us : List ValType) → (rest : List (Option ValType)) × (v ≡ rest ++ map Some (last_types 0 us))

@@ -2,7 +2,7 @@
 use Rattle.std.specs.Prelude.{◌≡◌, List, [], ◌∷◌, Option, Some, None, length, map, reverse}
 use Rattle.wsyntax.specs.declared.ValType.{ValType}
 use Rattle.wsyntax.specs.Validation.Context.{Stack, Context}
-use Rattle.wsyntax.specs.Validation.Algorithm.{Frame, on, take_any}
+use Rattle.wsyntax.specs.Validation.Algorithm.{Frame, on, pop_any}
 use Rattle.wcheck.specs.declared.checker.inspect.OpenFrame.{OpenFrame}
 
 -- the first frame is this one, its operands apart
@@ -20,7 +20,7 @@ pub record IsInnermost (fs : List Frame) (g : OpenFrame) : Type 0 where
 -- 7.3 pop_val: the topmost operand of the first frame, and the frames without it
 abbrev pub take_top : List Frame → Option (Option ValType × List Frame)
 take_top [] = None
-take_top (f ∷ fs) = on (take_any f.operands) (λ x. Some (x.0, record f { operands = x.1 } ∷ fs))
+take_top (f ∷ fs) = on (pop_any f.operands) (λ x. Some (x.0, record f { operands = x.1 } ∷ fs))
 
 -- an operand is taken from the first frame, or there is none
 abbrev pub TakesOperand : List Frame → List Frame → Option (Option ValType) → Type 0

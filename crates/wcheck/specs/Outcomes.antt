@@ -28,4 +28,4 @@ pub record HasPassed (C : Context) (f : ℕ) (b : Body) (built : Building) (floa
   pub passes : pass_all (function_context C f b.runs.items) (result_of C f) (tokens_of b.code) ≡ Through built.notes
   pub suit : AllSuit b.code.tokens.items built.notes.entries
   pub few : length b.code.tokens.items < 2 ^ 31
-  pub noted : floats ≡ body_has_floats (body_shape b)
+  pub recorded : floats ≡ body_has_floats (body_shape b)

@@ -3,7 +3,7 @@ use Rattle.std.specs.Prelude.{◌≡◌, ℕ, ◌+◌, ◌-◌, ◌^◌, ◌≤�
 use Rattle.wsyntax.specs.declared.ValType.{ValType}
 use Rattle.wsyntax.specs.Types.{FuncType}
 use Rattle.wcontext.specs.declared.lists.TypePrefix.{TypePrefix}
-use Rattle.wcontext.specs.Lists.{front_of}
+use Rattle.wcontext.specs.Lists.{prefix_of}
 use Rattle.wcheck.specs.declared.entry.StackEntry.{StackEntry}
 use Rattle.wcheck.specs.declared.entry.StackEntry.TheVariants.{I32, I64, F32, F64, Unknown, Run}
 use Rattle.wcheck.specs.Heights.{type_of}
@@ -53,16 +53,16 @@ stretched (Unknown ∷ xs) rs = type_of Unknown ∷ stretched xs rs
 unfoldable pub types_in : List StackEntry → List (List ValType) → List (Option ValType)
 types_in xs rs = reverse (stretched (reverse xs) (reverse rs))
 
--- there are `extra` more operands than entries
-pub record IsCounted (xs : List StackEntry) (rs : List (List ValType)) (extra : ℕ) : Type 0 where
-  pub count : length (types_in xs rs) ≡ length xs + extra
-  pub small : extra ≤ 2 ^ 63
+-- there are `run_surplus` more operands than entries
+pub record IsCounted (xs : List StackEntry) (rs : List (List ValType)) (run_surplus : ℕ) : Type 0 where
+  pub count : length (types_in xs rs) ≡ length xs + run_surplus
+  pub small : run_surplus ≤ 2 ^ 63
 
 -- the operands of these entries with these runs, where these are the function types
 abbrev pub items_of : List FuncType → List StackEntry → List TypePrefix → List (Option ValType)
-items_of types xs runs = types_in xs (map (front_of types) runs)
+items_of types xs runs = types_in xs (map (prefix_of types) runs)
 
 -- they are counted, and the innermost frame begins among them
 abbrev pub IsStanding : List FuncType → List StackEntry → List TypePrefix → ℕ → ℕ → Type 0
-IsStanding types xs runs extra base =
-    IsCounted xs (map (front_of types) runs) extra × (base ≤ length (items_of types xs runs))
+IsStanding types xs runs run_surplus base =
+    IsCounted xs (map (prefix_of types) runs) run_surplus × (base ≤ length (items_of types xs runs))

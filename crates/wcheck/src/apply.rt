@@ -29,13 +29,13 @@ fn selects(operands: &mut OperandStack) -> Result<bool, AllocError>
     ensures below { operands.new.below ≡ operands.old.below }
     ensures types { operands.new.types ≡ operands.old.types }
 {
-    if !operands.take_one(ValType::I32) {
+    if !operands.pop_one(ValType::I32) {
         return Ok(false);
     }
-    let Some(x) = operands.take_any() else {
+    let Some(x) = operands.pop_any() else {
         return Ok(false);
     };
-    let Some(y) = operands.take_any() else {
+    let Some(y) = operands.pop_any() else {
         return Ok(false);
     };
     let Some(z) = joined(x, y) else {
@@ -58,13 +58,13 @@ fn apply_signature(
     ensures below { operands.new.below ≡ operands.old.below }
     ensures types { operands.new.types ≡ operands.old.types }
 {
-    if has_index && !operands.take_one(ValType::I32) {
+    if has_index && !operands.pop_one(ValType::I32) {
         return Ok(false);
     }
-    if !operands.take_all(takes) {
+    if !operands.pop_all(takes) {
         return Ok(false);
     }
-    operands.put(gives)?;
+    operands.push_list(gives)?;
     Ok(true)
 }
 
@@ -76,10 +76,10 @@ fn ends(operands: &mut OperandStack, has_index: bool, takes: TypeList) -> bool
     ensures below { operands.new.below ≡ operands.old.below }
     ensures types { operands.new.types ≡ operands.old.types }
 {
-    if has_index && !operands.take_one(ValType::I32) {
+    if has_index && !operands.pop_one(ValType::I32) {
         return false;
     }
-    if !operands.take_all(takes) {
+    if !operands.pop_all(takes) {
         return false;
     }
     operands.make_unreachable();
@@ -100,22 +100,22 @@ pub(crate) fn apply_rule(operands: &mut OperandStack, rule: OperandRule) -> Resu
             operands.push(Some(t))?;
             Ok(true)
         }
-        OperandRule::Pop(t) => Ok(operands.take_one(t)),
+        OperandRule::Pop(t) => Ok(operands.pop_one(t)),
         OperandRule::Unary(t, u) => operands.apply_unary(t, u),
         OperandRule::Binary(t, u) => operands.apply_binary(t, u),
-        OperandRule::Stores(t) => Ok(operands.take_two(t, ValType::I32)),
+        OperandRule::Stores(t) => Ok(operands.pop_two(t, ValType::I32)),
         OperandRule::Signature {
             has_index: true,
             takes: TypeList::Nothing,
             gives: TypeList::Nothing,
-        } => Ok(operands.take_known(ValType::I32) || operands.take_one(ValType::I32)),
+        } => Ok(operands.pop_known(ValType::I32) || operands.pop_one(ValType::I32)),
         OperandRule::Signature {
             has_index,
             takes,
             gives,
         } => apply_signature(operands, has_index, takes, gives),
         OperandRule::Ends { has_index, takes } => Ok(ends(operands, has_index, takes)),
-        OperandRule::Drops => Ok(operands.drop_known() || operands.take_any().is_some()),
+        OperandRule::Drops => Ok(operands.drop_known() || operands.pop_any().is_some()),
         OperandRule::Selects => selects(operands),
     }
 }
@@ -130,11 +130,11 @@ pub(crate) fn apply_known(operands: &mut OperandStack, rule: OperandRule) -> boo
     ensures types { operands.new.types ≡ operands.old.types }
 {
     match rule {
-        OperandRule::Push(t) => operands.put_known(t),
-        OperandRule::Pop(t) => operands.take_known(t),
+        OperandRule::Push(t) => operands.push_known(t),
+        OperandRule::Pop(t) => operands.pop_known(t),
         OperandRule::Unary(t, u) => operands.apply_unary_known(t, u),
         OperandRule::Binary(t, u) => operands.apply_binary_known(t, u),
-        OperandRule::Stores(t) => operands.take_two_known(t, ValType::I32),
+        OperandRule::Stores(t) => operands.pop_two_known(t, ValType::I32),
         OperandRule::Drops => operands.drop_known(),
         OperandRule::Nothing
         | OperandRule::Signature { .. }

@@ -40,7 +40,7 @@ struct WrittenBody {
 fn written(alloc: Global, body: Body, builder: TableBuilder) -> Result<WrittenBody, AllocError>
     requires suit { AllSuit body.code.tokens.items builder.notes.entries }
     requires few { length body.code.tokens.items < 2 ^ 31 }
-    ensures unchecked { IfOk result (λ w. KeepsBody body w.body) }
+    ensures unresolved { IfOk result (λ w. KeepsBody body w.body) }
     ensures written { IfOk result (λ w. IsWritten w.body.code.tokens.items builder.notes w.table) }
 {
     let Body {
@@ -71,7 +71,7 @@ pub fn keep_body(
     requires func { func < length checker.now.outside.functions }
     requires passed { HasPassed checker.now.outside func body builder has_floats }
     ensures kept { IfOk result (λ c. body_shape c.body ≡ body_shape body) }
-    ensures unchecked { IfOk result (λ c. KeepsBody body c.body) }
+    ensures unresolved { IfOk result (λ c. KeepsBody body c.body) }
     ensures typed { IfOk result (λ c. IsTypedAs checker.now.outside func c.body) }
     ensures fits { IfOk result (λ c. FitsAs checker.now.outside func c) }
 {
@@ -109,7 +109,7 @@ pub fn check_body(
     requires few { length body.code.tokens.items < 2 ^ 31 }
     requires follow { FollowAll 0 body.code.tokens.items (length body.code.targets.items) }
     ensures kept { IfOk result (λ c. body_shape c.body ≡ body_shape body) }
-    ensures unchecked { IfOk result (λ c. KeepsBody body c.body) }
+    ensures unresolved { IfOk result (λ c. KeepsBody body c.body) }
     ensures typed { IfOk result (λ c. IsTypedAs checker.old.outside func c.body) }
     ensures fits { IfOk result (λ c. FitsAs checker.old.outside func c) }
     ensures refused { IfErr result (λ fault. RefusedFor checker.old.outside func body fault) }

@@ -1,12 +1,12 @@
 ghost use Rattle.std.specs.Prelude.{◌≡◌, ◌<◌, ◌^◌, ◌↔◌, true, false, [], IsTrue, IfOk, length};
-ghost use Rattle.wsyntax.specs.Modules.{seen};
+ghost use Rattle.wsyntax.specs.Modules.{decoded_as};
 ghost use Rattle.wsyntax.specs.Validation.Algorithm.{when, step};
 ghost use Rattle.wcheck.specs.Checking.{begun, with_frames};
 ghost use Rattle.side_table.specs.Pass.{reachable_height, outer_dead, below_size, label_size, in_if};
 
 mod inspect;
 
-use crate::control::{Control, is_past_expanded, step_control, step_known};
+use crate::control::{Control, is_past_expanded, step_control, try_fast_step};
 use crate::frames::{ControlFrame, is_last_dead, label};
 use crate::locals::Locals;
 use crate::operand_stack::OperandStack;
@@ -103,7 +103,7 @@ impl<'a> Checker<'a> {
     /// body begins with the tokens so far.
     #[inline(always)]
     pub fn step(&mut self, token: Token, targets: &[u32]) -> Result<bool, AllocError>
-        ensures step { IfOk result (λ ok. step self.old.inside (seen targets.now token) self.old.frames
+        ensures step { IfOk result (λ ok. step self.old.inside (decoded_as targets.now token) self.old.frames
             ≡ when ok (Some self.new.frames)) }
         ensures same { IfOk result (λ _. self.new ≡ with_frames self.old self.new.frames) }
         ensures outside { self.new.outside ≡ self.old.outside }
@@ -117,18 +117,18 @@ impl<'a> Checker<'a> {
     /// Looks at the next token in less time than `step`, where the operands that it takes are known to be there.
     /// `false`: nothing was done, which says nothing of the token.
     #[inline(always)]
-    pub fn step_known(&mut self, token: Token) -> bool
+    pub fn try_fast_step(&mut self, token: Token) -> bool
         requires { self.old.frames ≡ [] → ⊥ }
-        ensures step { result ≡ true → step self.old.inside (seen [] token) self.old.frames ≡ Some self.new.frames }
+        ensures step { result ≡ true → step self.old.inside (decoded_as [] token) self.old.frames ≡ Some self.new.frames }
         ensures same { result ≡ true → self.new ≡ with_frames self.old self.new.frames }
         ensures others { result ≡ false → self.new ≡ self.old }
     {
-        step_known(&self.scope, &mut self.control, token)
+        try_fast_step(&self.scope, &mut self.control, token)
     }
 
     /// Whether the body has ended: it is typed where each token so far was taken.
     #[inline]
-    pub fn finish(&self) -> bool
+    pub fn is_finished(&self) -> bool
         ensures { IsTrue result ↔ (self.now.frames ≡ []) }
     {
         !self.control.is_open

@@ -1,6 +1,6 @@
 ghost use Rattle.std.specs.Prelude.{◌≡◌, [], ◌∷◌, ◌++◌, true, false, Some, IfOk, IfErr, reverse};
 ghost use Rattle.wsyntax.specs.Instructions.{Op, Do};
-ghost use Rattle.wsyntax.specs.Modules.{seen};
+ghost use Rattle.wsyntax.specs.Modules.{decoded_as};
 ghost use Rattle.wsyntax.specs.Validation.Algorithm.{when, step};
 ghost use Rattle.wcheck.specs.Views.{scope_context, under_all};
 ghost use Rattle.wcheck.specs.Frames.{innermost_of, outside_of, inner_of, frames_of, IsTight};
@@ -80,12 +80,12 @@ fn open_frame(
     ensures tight { IsTight control.old → IsTight control.new }
     ensures types { control.new.operands.types ≡ control.old.operands.types }
 {
-    if !control.operands.take_all(params) {
+    if !control.operands.pop_all(params) {
         return Ok(false);
     }
     push_outer(&mut control.outer, &control.top, &control.operands)?;
     control.operands.open();
-    control.operands.put(params)?;
+    control.operands.push_list(params)?;
     control.top = ControlFrame {
         is_if: opener.is_if(),
         is_loop: opener.is_loop(),
@@ -96,7 +96,7 @@ fn open_frame(
 }
 
 /// Goes on from the first branch of an if to the second.
-fn other_branch(control: &mut Control) -> Result<bool, AllocError>
+fn switch_to_else(control: &mut Control) -> Result<bool, AllocError>
     ensures frames { IfOk result (λ yes.
         switched (innermost_of control.old) (outside_of control.old) ≡ when yes (Some (inner_of control.new))) }
     ensures open { IfOk result (λ yes. control.new.is_open ≡ control.old.is_open) }
@@ -109,8 +109,8 @@ fn other_branch(control: &mut Control) -> Result<bool, AllocError>
     if !control.operands.ends_with(control.top.end_types) {
         return Ok(false);
     }
-    control.operands.begin_again();
-    control.operands.put(control.top.start_types)?;
+    control.operands.reset_frame();
+    control.operands.push_list(control.top.start_types)?;
     control.top.is_if = false;
     Ok(true)
 }
@@ -124,7 +124,7 @@ fn go_back(control: &mut Control, outer: OuterFrame) -> Result<(), AllocError>
     ensures types { control.new.operands.types ≡ control.old.operands.types }
 {
     control.operands.close(outer.height, outer.unreachable);
-    control.operands.put(control.top.end_types)?;
+    control.operands.push_list(control.top.end_types)?;
     control.top = outer.frame;
     Ok(())
 }
@@ -143,8 +143,8 @@ fn close_frame(control: &mut Control) -> Result<bool, AllocError>
         return Ok(false);
     }
     if control.top.is_if {
-        control.operands.begin_again();
-        control.operands.put(control.top.start_types)?;
+        control.operands.reset_frame();
+        control.operands.push_list(control.top.start_types)?;
         if !control.operands.ends_with(control.top.end_types) {
             return Ok(false);
         }
@@ -159,7 +159,7 @@ fn close_frame(control: &mut Control) -> Result<bool, AllocError>
 /// An instruction without a body.
 #[inline(always)]
 #[tactic(auto, using(crate::proofs::Behind::labels_outside, crate::proofs::Plain::plain, crate::proofs::Plain::unruled))]
-fn act(
+fn step_plain(
     scope: &Scope,
     targets: &[u32],
     control: &mut Control,
@@ -167,8 +167,8 @@ fn act(
 ) -> Result<bool, AllocError>
     requires open { control.old.is_open ≡ true }
     requires types { control.old.operands.types ≡ scope.now.context.now.context.types }
-    ensures frames { IfOk result (λ yes. (i : Op) → seen targets.now token ≡ Do i →
-        step (scope_context scope.now) (seen targets.now token) (frames_of control.old)
+    ensures frames { IfOk result (λ yes. (i : Op) → decoded_as targets.now token ≡ Do i →
+        step (scope_context scope.now) (decoded_as targets.now token) (frames_of control.old)
         ≡ when yes (Some (frames_of control.new))) }
     ensures tight { IsTight control.old → IsTight control.new }
     ensures types { control.new.operands.types ≡ control.old.operands.types }
@@ -197,11 +197,11 @@ pub(crate) fn is_past_expanded(scope: &Scope, token: Token) -> bool {
 /// One token, where the operands that it takes are known to be there. `false`: nothing was done, which says nothing of
 /// the token.
 #[inline(always)]
-pub(crate) fn step_known(scope: &Scope, control: &mut Control, token: Token) -> bool
+pub(crate) fn try_fast_step(scope: &Scope, control: &mut Control, token: Token) -> bool
     requires open { control.old.is_open ≡ true }
     requires types { control.old.operands.types ≡ scope.now.context.now.context.types }
     ensures frames { result ≡ true →
-        step (scope_context scope.now) (seen [] token) (frames_of control.old) ≡ Some (frames_of control.new) }
+        step (scope_context scope.now) (decoded_as [] token) (frames_of control.old) ≡ Some (frames_of control.new) }
     ensures others { result ≡ false → frames_of control.new ≡ frames_of control.old }
     ensures tight { IsTight control.old → IsTight control.new }
     ensures types { control.new.operands.types ≡ control.old.operands.types }
@@ -225,7 +225,7 @@ pub(crate) fn step_control(
 ) -> Result<bool, AllocError>
     requires { control.old.operands.types ≡ scope.now.context.now.context.types }
     ensures frames { IfOk result (λ yes.
-        step (scope_context scope.now) (seen targets.now token) (frames_of control.old)
+        step (scope_context scope.now) (decoded_as targets.now token) (frames_of control.old)
         ≡ when yes (Some (frames_of control.new))) }
     ensures tight { IsTight control.old → IsTight control.new }
     ensures types { control.new.operands.types ≡ control.old.operands.types }
@@ -254,7 +254,7 @@ pub(crate) fn step_control(
         },
         Token::If { block, .. } => match block_signature(scope.context, block) {
             Some(ListPair { params, results }) => {
-                if control.operands.take_one(ValType::I32) {
+                if control.operands.pop_one(ValType::I32) {
                     open_frame(control, Opener::If, params, results)
                 } else {
                     Ok(false)
@@ -262,8 +262,8 @@ pub(crate) fn step_control(
             }
             None => Ok(false),
         },
-        Token::Else { .. } => other_branch(control),
+        Token::Else { .. } => switch_to_else(control),
         Token::End => close_frame(control),
-        _ => act(scope, targets, control, token),
+        _ => step_plain(scope, targets, control, token),
     }
 }

@@ -1,6 +1,6 @@
 ghost use Rattle.std.specs.Prelude.{◌≡◌, ◌≤◌, ◌<◌, ◌-◌, ◌^◌, List, ◌++◌, true, false, Some};
 ghost use Rattle.std.specs.Prelude.{IfSome, MatchOption, length, map, take};
-ghost use Rattle.wcontext.specs.Lists.{front_of};
+ghost use Rattle.wcontext.specs.Lists.{prefix_of};
 ghost use Rattle.wcheck.specs.Heights.{type_of};
 ghost use Rattle.wcheck.specs.Runs.{is_several, run_at, types_in, last_types};
 
@@ -81,13 +81,13 @@ pub(crate) fn is_run(entry: StackEntry) -> bool
     matches!(entry, StackEntry::Run)
 }
 
-/// The types of a front.
+/// The types of a prefix.
 #[inline]
-pub(crate) fn types_of_front(context: &Context, front: TypePrefix) -> &[ValType]
-    ensures types { result.now ≡ front_of context.now.context.types front }
+pub(crate) fn types_of_prefix(context: &Context, prefix: TypePrefix) -> &[ValType]
+    ensures types { result.now ≡ prefix_of context.now.context.types prefix }
     ensures few { length result.now < 2 ^ 32 }
 {
-    first_of(context.list(front.list), front.count as usize)
+    first_of(context.list(prefix.list), prefix.count as usize)
 }
 
 /// The types of the run of the topmost entry; `None` where that is one operand.
@@ -98,13 +98,13 @@ pub(crate) fn top_run<'a>(
     runs: &[TypePrefix],
 ) -> Option<&'a [ValType]>
     ensures found { MatchOption result
-        (run_at entry (map (front_of context.now.context.types) runs.now) ≡ None)
-        (λ r. run_at entry (map (front_of context.now.context.types) runs.now) ≡ Some r.now) }
+        (run_at entry (map (prefix_of context.now.context.types) runs.now) ≡ None)
+        (λ r. run_at entry (map (prefix_of context.now.context.types) runs.now) ≡ Some r.now) }
     ensures few { IfSome result (λ r. length r.now < 2 ^ 32) }
 {
     match entry {
         StackEntry::Run => match runs.last() {
-            Some(run) => Some(types_of_front(context, *run)),
+            Some(run) => Some(types_of_prefix(context, *run)),
             None => None,
         },
         StackEntry::I32
@@ -115,25 +115,25 @@ pub(crate) fn top_run<'a>(
     }
 }
 
-/// The length of the shorter of two fronts, where its types are known to be the last types of the longer one. `None` says
+/// The length of the shorter of two prefixes, where its types are known to be the last types of the longer one. `None` says
 /// nothing.
 #[inline(always)]
 pub(crate) fn shared_end(context: &Context, one: TypePrefix, other: TypePrefix) -> Option<usize>
-    requires whole { one.count ≡ length (front_of context.now.context.types one) }
-    ensures first { IfSome result (λ n. n ≤ length (front_of context.now.context.types one)) }
-    ensures second { IfSome result (λ n. n ≤ length (front_of context.now.context.types other)) }
-    ensures same { IfSome result (λ n. last_types n (front_of context.now.context.types one)
-        ≡ last_types n (front_of context.now.context.types other)) }
+    requires whole { one.count ≡ length (prefix_of context.now.context.types one) }
+    ensures first { IfSome result (λ n. n ≤ length (prefix_of context.now.context.types one)) }
+    ensures second { IfSome result (λ n. n ≤ length (prefix_of context.now.context.types other)) }
+    ensures same { IfSome result (λ n. last_types n (prefix_of context.now.context.types one)
+        ≡ last_types n (prefix_of context.now.context.types other)) }
 {
     let first = one.count as usize;
     if one.count == other.count && one.list.is_at(other.list) {
         return Some(first);
     }
-    let second = types_of_front(context, other).len();
+    let second = types_of_prefix(context, other).len();
     let (short, long) = if first < second {
         (one, other)
     } else {
         (other, one)
     };
-    context.is_end(short, long).then_some(first.min(second))
+    context.is_suffix(short, long).then_some(first.min(second))
 }

@@ -1,6 +1,6 @@
 ghost use Rattle.std.specs.Prelude.{◌≡◌, List, MatchOption, length, reverse, slice_get};
 ghost use Rattle.wsyntax.specs.Types.{FuncType, same_types};
-ghost use Rattle.wcontext.specs.Lists.{list_of, front_of};
+ghost use Rattle.wcontext.specs.Lists.{list_of, prefix_of};
 ghost use Rattle.wsyntax.specs.Validation.Algorithm.{all_take};
 ghost use Rattle.wcheck.specs.Views.{label_of, labels_in, first_dead};
 
@@ -89,7 +89,7 @@ fn are_same(a: &[ValType], b: &[ValType]) -> bool
 /// All of a list.
 #[inline]
 fn whole(context: &Context, list: TypeList) -> TypePrefix
-    ensures types { front_of context.now.context.types result ≡ list_of context.now.context.types list }
+    ensures types { prefix_of context.now.context.types result ≡ list_of context.now.context.types list }
     ensures count { result.count ≡ length (list_of context.now.context.types list) }
 {
     TypePrefix {
@@ -111,7 +111,7 @@ pub(crate) fn are_same_lists(context: &Context, a: TypeList, b: TypeList) -> boo
     if types.len() > COMPARED_TYPES {
         let one = whole(context, a);
         let other = whole(context, b);
-        if one.count == other.count && context.is_end(one, other) {
+        if one.count == other.count && context.is_suffix(one, other) {
             return true;
         }
     }

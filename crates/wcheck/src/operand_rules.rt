@@ -1,8 +1,8 @@
 //! What an instruction does to several operands at once, in the innermost frame (7.3).
 ghost use Rattle.std.specs.Prelude.{◌≡◌, ◌≤◌, ◌<◌, ◌-◌, ◌^◌, [], ◌∷◌, true, false, Some};
 ghost use Rattle.std.specs.Prelude.{IfSome, IfNone, IfOk, reverse, length};
-ghost use Rattle.wcontext.specs.Lists.{list_of, front_of};
-ghost use Rattle.wsyntax.specs.Validation.Algorithm.{Takes, when, apply, take_one, take_all, put, ends_with};
+ghost use Rattle.wcontext.specs.Lists.{list_of, prefix_of};
+ghost use Rattle.wsyntax.specs.Validation.Algorithm.{Takes, when, apply, pop_one, pop_all, push_list, ends_with};
 ghost use Rattle.wcheck.specs.Runs.{types_before};
 
 use crate::operand_stack::OperandStack;
@@ -15,22 +15,22 @@ use wsyntax::ValType;
 impl OperandStack<'_> {
     /// Takes the topmost operand, if it may be of this type.
     #[inline]
-    pub(crate) fn take_one(&mut self, t: ValType) -> bool
-        ensures above { take_one t self.old.above ≡ when result (Some self.new.above) }
+    pub(crate) fn pop_one(&mut self, t: ValType) -> bool
+        ensures above { pop_one t self.old.above ≡ when result (Some self.new.above) }
         ensures below { self.new.below ≡ self.old.below }
         ensures types { self.new.types ≡ self.old.types }
     {
-        self.take_known(t) || self.take_fitting(t)
+        self.pop_known(t) || self.pop_fitting(t)
     }
 
     /// Takes the topmost operand, if it may be of this type, which is seldom another or unknown.
     #[inline(never)]
-    fn take_fitting(&mut self, t: ValType) -> bool
-        ensures above { take_one t self.old.above ≡ when result (Some self.new.above) }
+    fn pop_fitting(&mut self, t: ValType) -> bool
+        ensures above { pop_one t self.old.above ≡ when result (Some self.new.above) }
         ensures below { self.new.below ≡ self.old.below }
         ensures types { self.new.types ≡ self.old.types }
     {
-        match self.take_any() {
+        match self.pop_any() {
             None => false,
             Some(None) => true,
             Some(Some(u)) => is_same(u, t),
@@ -57,7 +57,7 @@ impl OperandStack<'_> {
         ensures below { self.new.below ≡ self.old.below }
         ensures types { self.new.types ≡ self.old.types }
     {
-        if !self.take_fitting(t) {
+        if !self.pop_fitting(t) {
             return Ok(false);
         }
         self.push(Some(u))?;
@@ -84,10 +84,10 @@ impl OperandStack<'_> {
         ensures below { self.new.below ≡ self.old.below }
         ensures types { self.new.types ≡ self.old.types }
     {
-        if !self.take_one(t) {
+        if !self.pop_one(t) {
             return Ok(false);
         }
-        if !self.take_one(t) {
+        if !self.pop_one(t) {
             return Ok(false);
         }
         self.push(Some(u))?;
@@ -96,49 +96,49 @@ impl OperandStack<'_> {
 
     /// Takes an operand of the first type, and below it one of the second.
     #[inline]
-    pub(crate) fn take_two(&mut self, t: ValType, u: ValType) -> bool
+    pub(crate) fn pop_two(&mut self, t: ValType, u: ValType) -> bool
         ensures above { apply (Takes (t ∷ u ∷ []) []) self.old.above ≡ when result (Some self.new.above) }
         ensures below { self.new.below ≡ self.old.below }
         ensures types { self.new.types ≡ self.old.types }
     {
-        self.take_two_known(t, u) || self.take_two_fitting(t, u)
+        self.pop_two_known(t, u) || self.pop_two_fitting(t, u)
     }
 
     #[inline(never)]
-    fn take_two_fitting(&mut self, t: ValType, u: ValType) -> bool
+    fn pop_two_fitting(&mut self, t: ValType, u: ValType) -> bool
         ensures above { apply (Takes (t ∷ u ∷ []) []) self.old.above ≡ when result (Some self.new.above) }
         ensures below { self.new.below ≡ self.old.below }
         ensures types { self.new.types ≡ self.old.types }
     {
-        self.take_one(t) && self.take_one(u)
+        self.pop_one(t) && self.pop_one(u)
     }
 
     /// Takes operands of the types of a list, the last first.
     #[inline]
-    pub(crate) fn take_all(&mut self, list: TypeList) -> bool
-        ensures above { take_all (reverse (list_of self.old.types list)) self.old.above ≡ when result (Some self.new.above) }
+    pub(crate) fn pop_all(&mut self, list: TypeList) -> bool
+        ensures above { pop_all (reverse (list_of self.old.types list)) self.old.above ≡ when result (Some self.new.above) }
         ensures below { self.new.below ≡ self.old.below }
         ensures types { self.new.types ≡ self.old.types }
     {
         match list {
             TypeList::Nothing => true,
-            TypeList::One(t) => self.take_one(t),
-            TypeList::Params(_) | TypeList::Results(_) => self.take_several(list),
+            TypeList::One(t) => self.pop_one(t),
+            TypeList::Params(_) | TypeList::Results(_) => self.pop_list(list),
         }
     }
 
-    /// Takes operands of the last types of a front, as many as it shares with the run on top: none where no run is there.
+    /// Takes operands of the last types of a prefix, as many as it shares with the run on top: none where no run is there.
     /// `None`: nothing was taken, since the run has other types.
-    fn take_run(&mut self, front: TypePrefix) -> Option<usize>
-        requires whole { front.count ≡ length (front_of self.old.types front) }
-        ensures count { IfSome result (λ n. n ≤ length (front_of self.old.types front)) }
-        ensures taken { IfSome result (λ n. take_all (reverse (front_of self.old.types front)) self.old.above
-            ≡ take_all (reverse (types_before n (front_of self.old.types front))) self.new.above) }
+    fn pop_run(&mut self, prefix: TypePrefix) -> Option<usize>
+        requires whole { prefix.count ≡ length (prefix_of self.old.types prefix) }
+        ensures count { IfSome result (λ n. n ≤ length (prefix_of self.old.types prefix)) }
+        ensures taken { IfSome result (λ n. pop_all (reverse (prefix_of self.old.types prefix)) self.old.above
+            ≡ pop_all (reverse (types_before n (prefix_of self.old.types prefix))) self.new.above) }
         ensures others { IfNone result (self.new.above ≡ self.old.above) }
         ensures below { self.new.below ≡ self.old.below }
         ensures types { self.new.types ≡ self.old.types }
     {
-        let count = self.ends_in_run(front)?;
+        let count = self.ends_in_run(prefix)?;
         let height = self.height();
         if height - self.base() < count {
             return None;
@@ -149,8 +149,8 @@ impl OperandStack<'_> {
 
     /// Takes operands of these types at once, where each is known.
     #[inline]
-    fn take_all_known(&mut self, ts: &[ValType]) -> bool
-        ensures taken { result ≡ true → take_all (reverse ts.now) self.old.above ≡ Some self.new.above }
+    fn pop_all_known(&mut self, ts: &[ValType]) -> bool
+        ensures taken { result ≡ true → pop_all (reverse ts.now) self.old.above ≡ Some self.new.above }
         ensures others { result ≡ false → self.new.above ≡ self.old.above }
         ensures below { self.new.below ≡ self.old.below }
         ensures types { self.new.types ≡ self.old.types }
@@ -168,15 +168,15 @@ impl OperandStack<'_> {
 
     /// Takes operands of these types, the last first, one by one.
     #[inline(never)]
-    fn take_each(&mut self, ts: &[ValType]) -> bool
-        ensures above { take_all (reverse ts.now) self.old.above ≡ when result (Some self.new.above) }
+    fn pop_one_by_one(&mut self, ts: &[ValType]) -> bool
+        ensures above { pop_all (reverse ts.now) self.old.above ≡ when result (Some self.new.above) }
         ensures below { self.new.below ≡ self.old.below }
         ensures types { self.new.types ≡ self.old.types }
     {
         let mut i = ts.len();
         while i > 0 {
             i -= 1;
-            if !self.take_one(ts[i]) {
+            if !self.pop_one(ts[i]) {
                 return false;
             }
         }
@@ -185,8 +185,8 @@ impl OperandStack<'_> {
 
     /// Takes operands of the types of a list, the last first.
     #[inline(never)]
-    fn take_several(&mut self, list: TypeList) -> bool
-        ensures above { take_all (reverse (list_of self.old.types list)) self.old.above ≡ when result (Some self.new.above) }
+    fn pop_list(&mut self, list: TypeList) -> bool
+        ensures above { pop_all (reverse (list_of self.old.types list)) self.old.above ≡ when result (Some self.new.above) }
         ensures below { self.new.below ≡ self.old.below }
         ensures types { self.new.types ≡ self.old.types }
     {
@@ -195,19 +195,19 @@ impl OperandStack<'_> {
         }
         let ts = self.types_of(list);
         if ts.len() <= SHORT_LIST {
-            return self.take_all_known(ts) || self.take_each(ts);
+            return self.pop_all_known(ts) || self.pop_one_by_one(ts);
         }
-        self.take_many(list, ts)
+        self.pop_long_list(list, ts)
     }
 
     /// Takes operands of the types of a list, which are these, the last first. Once none is known, no more is read, and what
     /// the list shares with a run is taken at once. The types of a run that does not fit are compared one by one.
     #[inline(never)]
     #[tactic(auto, using(crate::proofs::ListFacts::taken_empty))]
-    fn take_many(&mut self, list: TypeList, ts: &[ValType]) -> bool
+    fn pop_long_list(&mut self, list: TypeList, ts: &[ValType]) -> bool
         requires types { ts.now ≡ list_of self.old.types list }
         requires few { length ts.now < 2 ^ 32 }
-        ensures above { take_all (reverse (list_of self.old.types list)) self.old.above ≡ when result (Some self.new.above) }
+        ensures above { pop_all (reverse (list_of self.old.types list)) self.old.above ≡ when result (Some self.new.above) }
         ensures below { self.new.below ≡ self.old.below }
         ensures types { self.new.types ≡ self.old.types }
     {
@@ -217,52 +217,52 @@ impl OperandStack<'_> {
                 return self.is_unreachable();
             }
             let count = left as u32;
-            let Some(taken) = self.take_run(TypePrefix { list, count }) else {
+            let Some(taken) = self.pop_run(TypePrefix { list, count }) else {
                 break;
             };
             if taken > 0 {
                 left -= taken;
             } else {
                 left -= 1;
-                if !self.take_one(ts[left]) {
+                if !self.pop_one(ts[left]) {
                     return false;
                 }
             }
         }
-        self.take_each(&ts[..left])
+        self.pop_one_by_one(&ts[..left])
     }
 
     /// Puts operands of the types of a list, the last one topmost.
     #[inline(always)]
-    pub(crate) fn put(&mut self, list: TypeList) -> Result<(), AllocError>
-        ensures above { IfOk result (λ _. self.new.above ≡ put (reverse (list_of self.old.types list)) self.old.above) }
+    pub(crate) fn push_list(&mut self, list: TypeList) -> Result<(), AllocError>
+        ensures above { IfOk result (λ _. self.new.above ≡ push_list (reverse (list_of self.old.types list)) self.old.above) }
         ensures below { self.new.below ≡ self.old.below }
         ensures types { self.new.types ≡ self.old.types }
     {
         match list {
             TypeList::Nothing => Ok(()),
-            TypeList::One(_) | TypeList::Params(_) | TypeList::Results(_) => self.put_some(list),
+            TypeList::One(_) | TypeList::Params(_) | TypeList::Results(_) => self.push_some(list),
         }
     }
 
     /// Puts operands of the types of a list that has some.
     #[inline(never)]
-    fn put_some(&mut self, list: TypeList) -> Result<(), AllocError>
-        ensures above { IfOk result (λ _. self.new.above ≡ put (reverse (list_of self.old.types list)) self.old.above) }
+    fn push_some(&mut self, list: TypeList) -> Result<(), AllocError>
+        ensures above { IfOk result (λ _. self.new.above ≡ push_list (reverse (list_of self.old.types list)) self.old.above) }
         ensures below { self.new.below ≡ self.old.below }
         ensures types { self.new.types ≡ self.old.types }
     {
         match list {
             TypeList::Nothing => Ok(()),
             TypeList::One(t) => self.push(Some(t)),
-            TypeList::Params(_) | TypeList::Results(_) => self.put_several(list),
+            TypeList::Params(_) | TypeList::Results(_) => self.push_several(list),
         }
     }
 
     /// Puts operands of the types of a list, a long one as a run.
     #[inline(never)]
-    fn put_several(&mut self, list: TypeList) -> Result<(), AllocError>
-        ensures above { IfOk result (λ _. self.new.above ≡ put (reverse (list_of self.old.types list)) self.old.above) }
+    fn push_several(&mut self, list: TypeList) -> Result<(), AllocError>
+        ensures above { IfOk result (λ _. self.new.above ≡ push_list (reverse (list_of self.old.types list)) self.old.above) }
         ensures below { self.new.below ≡ self.old.below }
         ensures types { self.new.types ≡ self.old.types }
     {
@@ -284,6 +284,6 @@ impl OperandStack<'_> {
         ensures below { self.new.below ≡ self.old.below }
         ensures types { self.new.types ≡ self.old.types }
     {
-        self.take_all(list) && self.is_empty()
+        self.pop_all(list) && self.is_empty()
     }
 }

@@ -1,15 +1,15 @@
 ghost use Rattle.std.specs.Prelude.{◌≡◌, ◌≤◌, ◌<◌, ◌+◌, ◌^◌, List, [], ◌∷◌, ◌++◌, true, false, Option, Some};
 ghost use Rattle.std.specs.Prelude.{IfSome, MatchOption, MatchResult, length, reverse, take, drop};
 ghost use Rattle.wsyntax.specs.declared.ValType.{ValType};
-ghost use Rattle.wsyntax.specs.Validation.Algorithm.{take_any, take_all, put, fresh, is_nil};
-ghost use Rattle.wcontext.specs.Lists.{list_of, front_of};
+ghost use Rattle.wsyntax.specs.Validation.Algorithm.{pop_any, pop_all, push_list, fresh, is_nil};
+ghost use Rattle.wcontext.specs.Lists.{list_of, prefix_of};
 ghost use Rattle.wcheck.specs.Heights.{all_of, topped, without, over, IsShortened, EndsIn};
 ghost use Rattle.wcheck.specs.Runs.{last_types};
 
 mod known;
 
 use crate::entry::{
-    StackEntry, end_in_singles, is_run, packed, shared_end, top_run, types_of_front, unpacked,
+    StackEntry, end_in_singles, is_run, packed, shared_end, top_run, types_of_prefix, unpacked,
 };
 use crate::tuning::OPERAND_RUNS;
 use std::alloc::{AllocError, Global};
@@ -26,7 +26,7 @@ pub(crate) struct OperandStack<'a> {
     /// The run of each entry `Run`: the first types of a list, the last of them topmost.
     runs: Vec<TypePrefix>,
     /// How many more operands there are than entries.
-    extra: usize,
+    run_surplus: usize,
     /// How many operands lie below the innermost frame.
     base: usize,
     unreachable: bool,
@@ -44,7 +44,7 @@ impl<'a> Model for OperandStack<'a> {
         p.base
         p.unreachable };
 
-    ghost invariant = { λ p. IsStanding p.context.now.context.types p.entries.items p.runs.items p.extra p.base };
+    ghost invariant = { λ p. IsStanding p.context.now.context.types p.entries.items p.runs.items p.run_surplus p.base };
 }
 
 /// The most operands in runs that there can be. No body of fewer than 2^31 tokens reaches it, for a token pushes fewer than
@@ -59,7 +59,7 @@ impl<'a> OperandStack<'a> {
             context,
             entries: Vec::new(alloc),
             runs: Vec::new(alloc),
-            extra: 0,
+            run_surplus: 0,
             base: 0,
             unreachable: false,
         }
@@ -80,7 +80,7 @@ impl<'a> OperandStack<'a> {
     {
         self.entries.clear();
         self.runs.clear();
-        self.extra = 0;
+        self.run_surplus = 0;
         self.base = 0;
         self.unreachable = false;
     }
@@ -90,7 +90,7 @@ impl<'a> OperandStack<'a> {
     pub(crate) fn height(&self) -> usize
         ensures { result ≡ length self.now.below + length self.now.above.known }
     {
-        self.entries.len() + self.extra
+        self.entries.len() + self.run_surplus
     }
 
     /// The operands below the innermost frame.
@@ -121,7 +121,7 @@ impl<'a> OperandStack<'a> {
     #[inline]
     #[tactic(auto, using(crate::proofs::ListFacts::taken_dead))]
     pub(crate) fn gives_any(&self) -> bool
-        ensures { result ≡ true → (ts : List ValType) → take_all ts self.now.above ≡ Some self.now.above }
+        ensures { result ≡ true → (ts : List ValType) → pop_all ts self.now.above ≡ Some self.now.above }
     {
         self.unreachable && self.is_empty()
     }
@@ -157,11 +157,11 @@ impl<'a> OperandStack<'a> {
                 let top = self.runs.len() - 1;
                 if by < types.len() {
                     self.runs[top].count = (types.len() - by) as u32;
-                    self.extra -= by;
+                    self.run_surplus -= by;
                 } else {
                     self.entries.truncate(last);
                     self.runs.truncate(top);
-                    self.extra -= types.len().saturating_sub(1);
+                    self.run_surplus -= types.len().saturating_sub(1);
                 }
                 topmost
             }
@@ -215,7 +215,7 @@ impl<'a> OperandStack<'a> {
         requires all { count ≡ length (list_of self.old.types list) }
         requires few { count < 2 ^ 32 }
         ensures above { MatchResult result
-            (λ _. self.new.above ≡ put (reverse (list_of self.old.types list)) self.old.above)
+            (λ _. self.new.above ≡ push_list (reverse (list_of self.old.types list)) self.old.above)
             (λ _. self.new.above ≡ self.old.above) }
         ensures below { self.new.below ≡ self.old.below }
         ensures types { self.new.types ≡ self.old.types }
@@ -224,8 +224,8 @@ impl<'a> OperandStack<'a> {
             list,
             count: count as u32,
         };
-        let extra = self.extra + (count - 1);
-        if extra > MOST {
+        let run_surplus = self.run_surplus + (count - 1);
+        if run_surplus > MOST {
             return Err(AllocError);
         }
         self.entries.push(StackEntry::Run)?;
@@ -233,16 +233,16 @@ impl<'a> OperandStack<'a> {
             self.entries.pop();
             return Err(AllocError);
         }
-        self.extra = extra;
+        self.run_surplus = run_surplus;
         Ok(())
     }
 
     /// Takes the topmost operand of the innermost frame.
     #[inline]
-    pub(crate) fn take_any(&mut self) -> Option<Option<ValType>>
+    pub(crate) fn pop_any(&mut self) -> Option<Option<ValType>>
         ensures above { MatchOption result
-            (take_any self.old.above ≡ None)
-            (λ x. take_any self.old.above ≡ Some (x, self.new.above)) }
+            (pop_any self.old.above ≡ None)
+            (λ x. pop_any self.old.above ≡ Some (x, self.new.above)) }
         ensures below { self.new.below ≡ self.old.below }
         ensures types { self.new.types ≡ self.old.types }
     {
@@ -263,13 +263,13 @@ impl<'a> OperandStack<'a> {
         end_in_singles(&self.entries, ts)
     }
 
-    /// How many operands of the run on top are the last types of a front: all that the shorter of both has, or none where
+    /// How many operands of the run on top are the last types of a prefix: all that the shorter of both has, or none where
     /// no run is on top. `None`: not all of these are.
     #[inline(always)]
-    pub(crate) fn ends_in_run(&self, front: TypePrefix) -> Option<usize>
-        requires whole { front.count ≡ length (front_of self.now.types front) }
-        ensures count { IfSome result (λ n. n ≤ length (front_of self.now.types front)) }
-        ensures last { IfSome result (λ n. EndsIn (last_types n (front_of self.now.types front)) self.now) }
+    pub(crate) fn ends_in_run(&self, prefix: TypePrefix) -> Option<usize>
+        requires whole { prefix.count ≡ length (prefix_of self.now.types prefix) }
+        ensures count { IfSome result (λ n. n ≤ length (prefix_of self.now.types prefix)) }
+        ensures last { IfSome result (λ n. EndsIn (last_types n (prefix_of self.now.types prefix)) self.now) }
     {
         let Some(entry) = self.entries.last() else {
             return Some(0);
@@ -280,7 +280,7 @@ impl<'a> OperandStack<'a> {
         if !is_run(*entry) {
             return Some(0);
         }
-        shared_end(self.context, front, *run)
+        shared_end(self.context, prefix, *run)
     }
 
     /// What follows cannot be reached: no operand is known, and any may be taken.
@@ -307,7 +307,7 @@ impl<'a> OperandStack<'a> {
 
     /// Begins the frame again, with no operands.
     #[inline]
-    pub(crate) fn begin_again(&mut self)
+    pub(crate) fn reset_frame(&mut self)
         ensures above { self.new.above ≡ fresh [] }
         ensures below { self.new.below ≡ self.old.below }
         ensures types { self.new.types ≡ self.old.types }

@@ -3,7 +3,7 @@ ghost use Rattle.std.specs.Prelude.{slice_range, slice_index_or, option_map};
 ghost use Rattle.wsyntax.specs.Types.{FuncType};
 ghost use Rattle.wsyntax.specs.Table.{num_op, load_access, store_access};
 ghost use Rattle.wsyntax.specs.Instructions.{MemoryLoad, MemoryStore};
-ghost use Rattle.wsyntax.specs.Modules.{seen};
+ghost use Rattle.wsyntax.specs.Modules.{decoded_as};
 ghost use Rattle.wsyntax.specs.Validation.Typing.{operands, results};
 ghost use Rattle.wsyntax.specs.Validation.Algorithm.{rule, Takes};
 ghost use Rattle.wcheck.specs.Views.{context_at, token_rule};
@@ -140,7 +140,7 @@ pub(crate) fn rule_of_token(
     token: Token,
 ) -> Option<OperandRule>
     ensures { option_map (rule_of scope.now.context.now.context.types) result
-        ≡ token_rule (context_at scope.now frame outer.now) (seen targets.now token) }
+        ≡ token_rule (context_at scope.now frame outer.now) (decoded_as targets.now token) }
 {
     let context = scope.context;
     match token {

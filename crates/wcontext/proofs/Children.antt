@@ -51,8 +51,8 @@ fork_put old new p t d n children within above below are four links nodes forks 
     let made : (q : ℕ) → q ≡ p → get_or new.forks.items (below_at new.nodes.items q - 2147483648) none ≡ record { children = row } = λ q is.
     let place : length old.forks.items ≡ below_at new.nodes.items q - 2147483648 = omega (arith, there q is, below) in
     rw forks (get_or_at old.forks.items (record { children = row }) [] none (below_at new.nodes.items q - 2147483648) place) in
-    let same_fork : (q : ℕ) → (q ≡ p → ⊥) → below_at old.nodes.items q - 2147483648 < length old.forks.items → get_or new.forks.items (below_at new.nodes.items q - 2147483648) none ≡ get_or old.forks.items (below_at old.nodes.items q - 2147483648) none = λ q other front.
-    ap (λ k. get_or new.forks.items (k - 2147483648) none) (same_below q other) ∙ rw forks (get_or_append_left old.forks.items (record { children = row } ∷ []) none (below_at old.nodes.items q - 2147483648) front) in
+    let same_fork : (q : ℕ) → (q ≡ p → ⊥) → below_at old.nodes.items q - 2147483648 < length old.forks.items → get_or new.forks.items (below_at new.nodes.items q - 2147483648) none ≡ get_or old.forks.items (below_at old.nodes.items q - 2147483648) none = λ q other prefix.
+    ap (λ k. get_or new.forks.items (k - 2147483648) none) (same_below q other) ∙ rw forks (get_or_append_left old.forks.items (record { children = row } ∷ []) none (below_at old.nodes.items q - 2147483648) prefix) in
     record {
       size = ap length nodes ∙ length-set old.nodes.items p n;
       aboves = λ q. rw nodes (above_kept old.nodes.items p n q within above);

@@ -4,7 +4,7 @@ use Rattle.wsyntax.specs.Instructions.{Token as Shown, Do, End as Last, Const, G
 use Rattle.wnum.specs.Arithmetic.{unsigned}
 use Rattle.wsyntax.specs.Table.{little_endian}
 use Rattle.wsyntax.specs.Initials.{has_constant_form, tokens_read}
-use Rattle.wsyntax.specs.Modules.{seen, constant_instruction, initial_tokens}
+use Rattle.wsyntax.specs.Modules.{decoded_as, constant_instruction, initial_tokens}
 use Rattle.wsyntax.specs.declared.module.ConstExpr.{ConstExpr}
 use Rattle.wsyntax.specs.declared.module.ConstExpr.TheVariants as initial
 use Rattle.wsyntax.specs.Validation.Rules.{ConstantOf, one_const, one_get}
@@ -29,7 +29,7 @@ global_is (Some g) t e = ap Some (immutable_is g.content t g.mutable e)
 const_holds : (globals : List GlobalType) (u t : ValType) (n : ℕ) → u ≡ t → ConstantOf globals t (Do (Const u n) ∷ Last ∷ [])
 const_holds globals u t n same = rw same (one_const n)
 
-one_holds : (globals : List GlobalType) (t : ValType) (targets : List ℕ) (i : Token) → constant_type globals i ≡ Some t → ConstantOf globals t (seen targets i ∷ Last ∷ [])
+one_holds : (globals : List GlobalType) (t : ValType) (targets : List ℕ) (i : Token) → constant_type globals i ≡ Some t → ConstantOf globals t (decoded_as targets i ∷ Last ∷ [])
 one_holds globals t targets (I32Const n) e = const_holds globals I32 t (unsigned 32 n) (cc)
 one_holds globals t targets (I64Const n) e = const_holds globals I64 t (unsigned 64 n) (cc)
 one_holds globals t targets (F32Const n) e = const_holds globals F32 t (little_endian n) (cc)
@@ -52,18 +52,18 @@ has_form : (globals : List GlobalType) (t : ValType) (tokens : List Shown) → C
 has_form globals t _ (one_const n) = refl
 has_form globals t _ (one_get x there) = refl
 
-const_of : (globals : List GlobalType) (t : ValType) (n : ℕ) (i : Token) → seen [] i ≡ Do (Const t n) → constant_type globals i ≡ Some t
+const_of : (globals : List GlobalType) (t : ValType) (n : ℕ) (i : Token) → decoded_as [] i ≡ Do (Const t n) → constant_type globals i ≡ Some t
 const_of globals t n (I32Const m) e = cc
 const_of globals t n (I64Const m) e = cc
 const_of globals t n (F32Const m) e = cc
 const_of globals t n (F64Const m) e = cc
 const_of globals t n _ e = cc
 
-get_of : (x : ℕ) (i : Token) → seen [] i ≡ Do (Get x) → i ≡ GlobalGet x
+get_of : (x : ℕ) (i : Token) → decoded_as [] i ≡ Do (Get x) → i ≡ GlobalGet x
 get_of x (GlobalGet y) e = cc
 get_of x _ e = cc
 
-one_known : (globals : List GlobalType) (t : ValType) (i : Token) (tokens : List Shown) → ConstantOf globals t tokens → seen [] i ∷ Last ∷ [] ≡ tokens → constant_type globals i ≡ Some t
+one_known : (globals : List GlobalType) (t : ValType) (i : Token) (tokens : List Shown) → ConstantOf globals t tokens → decoded_as [] i ∷ Last ∷ [] ≡ tokens → constant_type globals i ≡ Some t
 one_known globals t i _ (one_const n) e = const_of globals t n i cc
 one_known globals t i _ (one_get x is) e = rw (get_of x i cc, is) refl
 

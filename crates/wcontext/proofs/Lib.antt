@@ -4,7 +4,7 @@ pub mod Counted
 pub mod Distinct
 pub mod Made
 pub mod Kept
-pub mod EndsOfLists
+pub mod Suffixes
 pub mod Children
 pub mod Links
 pub mod Tries

@@ -2,18 +2,18 @@
 use Rattle.std.proofs.Common.{◌≡◌, ◌≢◌, ℕ, ◌+◌, ◌<◌, ◌≤◌, List, [], ◌∷◌, ◌++◌, length, take, get_or, set, replicate, Bool, refl, sym, ap, subst, ◌∙◌, arith, inl, inr, length-append, length-set}
 use Rattle.std.specs.List.{All, AllWithin, filter}
 use Rattle.std.proofs.lemmas.Bool.{cases_lt, cases_eq}
-use Rattle.std.proofs.lemmas.List.{get_or-set_same, get_or-set_other, append-nil, append_assoc, get_or_past, get_or-replicate, length-replicate, take_more, take_all}
+use Rattle.std.proofs.lemmas.List.{get_or-set_same, get_or-set_other, append-nil, append_assoc, get_or_past, get_or-replicate, length-replicate, take_more, pop_all}
 use Rattle.std.proofs.lemmas.List.Elements.{AllWithin-more_set, AllWithin-upto, AllWithin-none, AllWithin-from_all, All-from_all_within, All-filter, All-weaker}
 use Rattle.wsyntax.specs.declared.ValType.{ValType}
 use Rattle.wcontext.specs.Nodes.{text, AreNodes}
-use Rattle.wcontext.specs.Trie.{AreTexts, AreRead, HasFronts, IsReading, IsInBlock, BeginsBlocks, ReadsType, ReadsSome, ReadsColumn, ReadsBlock, PutsFronts, PutsBlock, IsNew, ReadsTo}
+use Rattle.wcontext.specs.Trie.{AreTexts, AreRead, HasPrefixes, IsReading, IsInBlock, BeginsBlocks, ReadsType, ReadsSome, ReadsColumn, ReadsBlock, PutsPrefixes, PutsBlock, IsNew, ReadsTo}
 use Rattle.wcontext.specs.declared.trie.Reading.{Reading}
 use Rattle.wcontext.specs.declared.nodes.Nodes.{Nodes}
 use Rattle.wcontext.specs.declared.trie.Trie.{Trie}
-use Rattle.wcontext.proofs.Links.{text_front}
+use Rattle.wcontext.proofs.Links.{text_prefix}
 
-pub unread : (n : ℕ) (fronts : List ℕ) (x : ℕ) → fronts ≡ replicate n 0 → get_or fronts x 0 ≡ 0
-unread n fronts x e =
+pub unread : (n : ℕ) (prefixes : List ℕ) (x : ℕ) → prefixes ≡ replicate n 0 → get_or prefixes x 0 ≡ 0
+unread n prefixes x e =
     ap (λ (l : List ℕ). get_or l x 0) e ∙ elim (cases_lt x n) as (λ _. let none : ℕ = 0 in get_or (replicate n none) x none ≡ none) [
       | inl below ↦ get_or-replicate n x 0 0 below
       | inr above ↦ get_or_past (replicate n 0) x 0 (omega (arith, above, length-replicate {A = ℕ} n 0))
@@ -21,22 +21,22 @@ unread n fronts x e =
 
 -- More nodes.
 
-pub read_more : (all texts more : List (List ValType)) (fronts : List ℕ) → AreRead all texts fronts → AreRead all (texts ++ more) fronts
-read_more all texts more fronts read x above =
+pub read_more : (all texts more : List (List ValType)) (prefixes : List ℕ) → AreRead all texts prefixes → AreRead all (texts ++ more) prefixes
+read_more all texts more prefixes read x above =
     let old = read x above in
-    (omega (arith, old.0, length-append texts more), text_front texts more (get_or fronts x 0) old.0 ∙ old.1)
+    (omega (arith, old.0, length-append texts more), text_prefix texts more (get_or prefixes x 0) old.0 ∙ old.1)
 
 pub reading_more : (all texts more : List (List ValType)) (column : ℕ) (r : Reading) → IsReading all texts column r → IsReading all (texts ++ more) column r
 reading_more all texts more column r reading = record {
-  fronts = reading.fronts;
+  prefixes = reading.prefixes;
   within = omega (arith, reading.within, length-append texts more);
-  is = text_front texts more r.node reading.within ∙ reading.is;
+  is = text_prefix texts more r.node reading.within ∙ reading.is;
 }
 
 texts_more : (texts more : List (List ValType)) (wanted : ℕ → List ValType) (nodes : List ℕ) → AreTexts texts wanted nodes → AreTexts (texts ++ more) wanted nodes
 texts_more texts more wanted nodes read x above =
     let old = read x above in
-    (omega (arith, old.0, length-append texts more), text_front texts more (get_or nodes x 0) old.0 ∙ old.1)
+    (omega (arith, old.0, length-append texts more), text_prefix texts more (get_or nodes x 0) old.0 ∙ old.1)
 
 pub in_block_more : (all texts more : List (List ValType)) (base column : ℕ) (r : Reading) → IsInBlock all texts base column r → IsInBlock all (texts ++ more) base column r
 in_block_more all texts more base column r held = record {
@@ -71,28 +71,28 @@ pub type_read : (all texts : List (List ValType)) (list next : Reading) (base i 
     → next.types ≡ list.types → next.start ≡ list.start → next.node ≡ d → next.block ≡ list.block → next.nodes ≡ set list.nodes i d → IsInBlock all (texts ++ more) base (base + i + 1) next
 type_read all texts list next base i d t held inside within is more below child types start node block nodes =
     let at : t ≡ get_or list.types.now (base + i) t = is ∙ held.block i t inside within in
-    let front : text (texts ++ more) d ≡ take (base + i + 1) list.types.now = child ∙ ap (λ z. z ++ t ∷ []) held.reading.is ∙ next_types list.types.now (base + i) t t within at in
-    let there : text all (list.start + (base + i)) ≡ take (base + i + 1) list.types.now = (held.reading.fronts (base + i) within).1 in
+    let prefix : text (texts ++ more) d ≡ take (base + i + 1) list.types.now = child ∙ ap (λ z. z ++ t ∷ []) held.reading.is ∙ next_types list.types.now (base + i) t t within at in
+    let there : text all (list.start + (base + i)) ≡ take (base + i + 1) list.types.now = (held.reading.prefixes (base + i) within).1 in
     let place : list.start + (base + i) ≡ list.start + base + i = omega arith in
     let wanted : ℕ → List ValType = λ j. text all (list.start + base + j) in
-    let put = put_node (texts ++ more) wanted list.nodes i d (texts_more texts more wanted list.nodes held.nodes) (λ _. (below, front ∙ sym there ∙ ap (text all) place)) in
+    let add_list = put_node (texts ++ more) wanted list.nodes i d (texts_more texts more wanted list.nodes held.nodes) (λ _. (below, prefix ∙ sym there ∙ ap (text all) place)) in
     record {
       reading = record {
-        fronts = subst (λ n. HasFronts all next.types.now n) (sym start) (subst (λ s. HasFronts all s.now list.start) (sym types) held.reading.fronts);
+        prefixes = subst (λ n. HasPrefixes all next.types.now n) (sym start) (subst (λ s. HasPrefixes all s.now list.start) (sym types) held.reading.prefixes);
         within = subst (λ n. n < length (texts ++ more)) (sym node) below;
-        is = ap (text (texts ++ more)) node ∙ front ∙ ap (λ s. take (base + i + 1) s.now) (sym types);
+        is = ap (text (texts ++ more)) node ∙ prefix ∙ ap (λ s. take (base + i + 1) s.now) (sym types);
       };
       block = subst (λ s. (j : ℕ) (u : ValType) → j < 16 → base + j < length s.now → get_or next.block j u ≡ get_or s.now (base + j) u) (sym types) (subst (λ b. (j : ℕ) (u : ValType) → j < 16 → base + j < length list.types.now → get_or b j u ≡ get_or list.types.now (base + j) u) (sym block) held.block);
-      nodes = subst (λ n. AreTexts (texts ++ more) (λ j. text all (n + base + j)) next.nodes) (sym start) (subst (AreTexts (texts ++ more) wanted) (sym nodes) put);
+      nodes = subst (λ n. AreTexts (texts ++ more) (λ j. text all (n + base + j)) next.nodes) (sym start) (subst (AreTexts (texts ++ more) wanted) (sym nodes) add_list);
     }
 
 -- a list has no type there
 pub none_there : (all texts : List (List ValType)) (list : Reading) (base i : ℕ) → IsInBlock all texts base (base + i) list → length list.types.now ≤ base + i → IsInBlock all texts base (base + i + 1) list
 none_there all texts list base i held past = record {
   reading = record {
-    fronts = held.reading.fronts;
+    prefixes = held.reading.prefixes;
     within = held.reading.within;
-    is = held.reading.is ∙ take_all (base + i) list.types.now past ∙ sym (take_all (base + i + 1) list.types.now (omega (arith, past)));
+    is = held.reading.is ∙ pop_all (base + i) list.types.now past ∙ sym (pop_all (base + i + 1) list.types.now (omega (arith, past)));
   };
   block = held.block;
   nodes = held.nodes;
@@ -153,10 +153,10 @@ none_of_block n lists base all texts are each =
     let q : G (texts ++ []) = subst G same (are, subst (λ k. All (IsInBlock all texts base k) lists) sum each) in
     ([], q.0, q.1)
 
--- The fronts of a block.
+-- The prefixes of a block.
 
-pub put_front : (old now : List ℕ) (list : Reading) (base place i : ℕ) → PutsFronts old now list base → place ≡ list.start + base + i → PutsFronts old (set now place (get_or list.nodes i 0)) list base
-put_front old now list base place i before at all texts column held read =
+pub put_prefix : (old now : List ℕ) (list : Reading) (base place i : ℕ) → PutsPrefixes old now list base → place ≡ list.start + base + i → PutsPrefixes old (set now place (get_or list.nodes i 0)) list base
+put_prefix old now list base place i before at all texts column held read =
     put_node texts (text all) now place (get_or list.nodes i 0) (before all texts column held read) (λ above.
     let node = held.nodes i above in
     (node.0, node.1 ∙ ap (text all) (sym at)))
@@ -170,17 +170,17 @@ none_read lists trie new all each = (
   new.1 all,
   λ k d within.
       let unread = each k d within in
-      record { fronts = unread.fronts; within = omega (arith, unread.node); is = rw unread.node refl },
+      record { prefixes = unread.prefixes; within = omega (arith, unread.node); is = rw unread.node refl },
 )
 
-pub block_read : (lists left begun rest : List Reading) (old mid new : Trie) (base end : ℕ) → ReadsTo lists old left base → BeginsBlocks left begun base → ReadsBlock old.nodes mid.nodes begun rest base 16 → mid.fronts ≡ old.fronts
-    → PutsBlock mid.fronts.items new.fronts.items rest base → new.nodes ≡ mid.nodes → end ≡ base + 16 → ReadsTo lists new rest end
-block_read lists left begun rest old mid new base end before begins step fronts puts nodes is all each =
+pub block_read : (lists left begun rest : List Reading) (old mid new : Trie) (base end : ℕ) → ReadsTo lists old left base → BeginsBlocks left begun base → ReadsBlock old.nodes mid.nodes begun rest base 16 → mid.prefixes ≡ old.prefixes
+    → PutsBlock mid.prefixes.items new.prefixes.items rest base → new.nodes ≡ mid.nodes → end ≡ base + 16 → ReadsTo lists new rest end
+block_read lists left begun rest old mid new base end before begins step prefixes puts nodes is all each =
     let some = before all each in
     let texts = some.0 in
     let one = step all texts some.1 (begins all texts some.3) in
     let there = texts ++ one.0 in
-    let kept : AreRead all there mid.fronts.items = subst (λ v. AreRead all there v.items) (sym fronts) (read_more all texts one.0 old.fronts.items some.2) in (
+    let kept : AreRead all there mid.prefixes.items = subst (λ v. AreRead all there v.items) (sym prefixes) (read_more all texts one.0 old.prefixes.items some.2) in (
       there,
       subst (AreNodes there) (sym nodes) one.1,
       puts all there (base + 16) one.2 kept,

@@ -5,11 +5,11 @@ use Rattle.std.proofs.lemmas.Bool.Decides.{nat_tests}
 use Rattle.std.proofs.lemmas.List.{get_or-set_same, get_or-set_other, at_drop_more}
 use Rattle.wsyntax.specs.declared.ValType.{ValType}
 use Rattle.wcontext.specs.declared.nodes.Node.{Node}
-use Rattle.wcontext.specs.Lists.{IsEnd}
+use Rattle.wcontext.specs.Lists.{IsSuffix}
 use Rattle.wcontext.specs.Nodes.{text, above_at, below_at, IsLinked}
 use Rattle.wcontext.specs.Walk.{IsWalk, HaveLinksOf, count_at, AreCounted}
 use Rattle.wcontext.proofs.Children.{above_kept, below_there, below_kept}
-use Rattle.wcontext.proofs.Links.{end_itself, end_through}
+use Rattle.wcontext.proofs.Links.{suffix_itself, suffix_through}
 
 -- Counting.
 
@@ -92,10 +92,10 @@ walk_more R s e n u v m i f walk itself through before some within here next use
 
 -- node i, whose link leads to f, is numbered
 pub walk_next : (texts : List (List ValType)) (old nodes new : List Node) (i f : ℕ) (n m : Node) → IsLinked texts old → AreCounted old → length nodes ≡ length old → ((k : ℕ) → i ≤ k → get_or nodes k record { above = 0; below = 0 } ≡ get_or old k record { above = 0; below = 0 })
-    → IsWalk (λ a b. IsEnd (text texts a) (text texts b)) (above_at nodes) (λ a. below_at nodes a + count_at (drop i old) a) (below_at nodes) i
+    → IsWalk (λ a b. IsSuffix (text texts a) (text texts b)) (above_at nodes) (λ a. below_at nodes a + count_at (drop i old) a) (below_at nodes) i
     → 0 < i → i < length nodes → f ≡ above_at nodes i → f < i → n.above ≡ above_at nodes f → n.below ≡ below_at nodes f + below_at nodes i → m.above ≡ below_at nodes f → m.below ≡ below_at nodes f + 1 → new ≡ set (set nodes f n) i m
-    → IsWalk (λ a b. IsEnd (text texts a) (text texts b)) (above_at new) (λ a. below_at new a + count_at (drop (i + 1) old) a) (below_at new) (i + 1)
-walk_next texts old nodes new i f n m linked counted size kept walk some within is low above below start next put =
+    → IsWalk (λ a b. IsSuffix (text texts a) (text texts b)) (above_at new) (λ a. below_at new a + count_at (drop (i + 1) old) a) (below_at new) (i + 1)
+walk_next texts old nodes new i f n m linked counted size kept walk some within is low above below start next add_list =
     let mid = set nodes f n in
     let inside : f < length nodes = omega arith in
     let wide : i < length mid = omega (arith, length-set nodes f n) in
@@ -103,23 +103,23 @@ walk_next texts old nodes new i f n m linked counted size kept walk some within 
     let late : i < length texts = omega (arith, linked.size) in
     let link : above_at old i ≡ f = sym (ap (λ (x : Node). x.above) (kept i (omega arith))) ∙ sym is in
     let whole : below_at old i ≡ below_at nodes i = sym (ap (λ (x : Node). x.below) (kept i (omega arith))) in
-    let start_new : above_at new i ≡ below_at nodes f = rw put (ap (λ (x : Node). x.above) (get_or-set_same mid i m record { above = 0; below = 0 } wide)) ∙ start in
-    let next_new : below_at new i ≡ below_at nodes f + 1 = rw put (below_there mid i m i wide refl) ∙ next in
-    let before : (a : ℕ) → a < i → below_at new a ≡ below_at mid a = λ a early. rw put (below_kept mid i m a (λ same. omega (arith, same, early))) in
+    let start_new : above_at new i ≡ below_at nodes f = rw add_list (ap (λ (x : Node). x.above) (get_or-set_same mid i m record { above = 0; below = 0 } wide)) ∙ start in
+    let next_new : below_at new i ≡ below_at nodes f + 1 = rw add_list (below_there mid i m i wide refl) ∙ next in
+    let before : (a : ℕ) → a < i → below_at new a ≡ below_at mid a = λ a early. rw add_list (below_kept mid i m a (λ same. omega (arith, same, early))) in
     let used : below_at new f ≡ below_at nodes f + below_at nodes i = before f low ∙ below_there nodes f n f inside refl ∙ below in
     let others : (a : ℕ) → a < i → a ≢ f → below_at new a ≡ below_at nodes a = λ a early other. before a early ∙ below_kept nodes f n a other in
     let all : below_at old i ≡ 1 + count_at (drop (i + 1) old) i = counted i there in
     let at_f : count_at (drop i old) f ≡ below_at old i + count_at (drop (i + 1) old) f = (count_more old i f there).0 link in
-    walk_more (λ a b. IsEnd (text texts a) (text texts b)) (above_at nodes) (λ a. below_at nodes a + count_at (drop i old) a) (below_at nodes) (above_at new) (λ a. below_at new a + count_at (drop (i + 1) old) a) (below_at new) i f walk
-    (λ a. end_itself (text texts a))
-    (λ a ends. end_through _ _ _ ends (subst (λ k. IsEnd (text texts k) (text texts i)) link (linked.ends i some late)))
+    walk_more (λ a b. IsSuffix (text texts a) (text texts b)) (above_at nodes) (λ a. below_at nodes a + count_at (drop i old) a) (below_at nodes) (above_at new) (λ a. below_at new a + count_at (drop (i + 1) old) a) (below_at new) i f walk
+    (λ a. suffix_itself (text texts a))
+    (λ a ends. suffix_through _ _ _ ends (subst (λ k. IsSuffix (text texts k) (text texts i)) link (linked.ends i some late)))
     low
     (omega (arith, next_new))
     (omega (arith, next_new, all, whole, at_f))
     start_new
     next_new
     (omega (arith, used, next_new, all, whole))
-    (λ a early. rw put (ap (λ (x : Node). x.above) (get_or-set_other mid i a m record { above = 0; below = 0 } (λ same. omega (arith, same, early)))) ∙ above_kept nodes f n a inside above)
+    (λ a early. rw add_list (ap (λ (x : Node). x.above) (get_or-set_other mid i a m record { above = 0; below = 0 } (λ same. omega (arith, same, early)))) ∙ above_kept nodes f n a inside above)
     (λ a early. elim (cases_eq a f) [
       | inl same ↦ omega (arith, ap (below_at new) same, ap (below_at nodes) same, used, whole, at_f, ap (count_at (drop i old)) same, ap (count_at (drop (i + 1) old)) same)
       | inr other ↦ omega (arith, others a early other, (count_more old i a there).1 (λ e. other (sym e ∙ link)))

@@ -2,7 +2,7 @@
 use Rattle.std.specs.Prelude.{◌<◌, ◌≤◌, [], None, length, map, IfSome}
 use Rattle.std.specs.List.{All}
 use Rattle.wsyntax.specs.Validation.ModuleContext.{IndexedContext, type_at}
-use Rattle.wcontext.specs.EndTree.{IsEndTree}
+use Rattle.wcontext.specs.SuffixTree.{IsSuffixTree}
 use Rattle.wcontext.specs.declared.context.Context.TheInside.{Inside}
 
 -- what callers see
@@ -24,6 +24,6 @@ indexed a = record {
 
 -- the tree is one of the types, each function has a type, the imported ones are among them
 pub record IsHeld (a : Inside) : Type 0 where
-  pub ends : IfSome a.ends (IsEndTree a.types)
+  pub ends : IfSome a.ends (IsSuffixTree a.types)
   pub typed : All (λ y. y < length a.types) a.functions.items
   pub imported : a.imported ≤ length a.functions.items

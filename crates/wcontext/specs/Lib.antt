@@ -7,4 +7,4 @@ pub mod Counted
 pub mod Nodes
 pub mod Trie
 pub mod Walk
-pub mod EndTree
+pub mod SuffixTree

@@ -15,13 +15,13 @@ list_of types (One t) = t ∷ []
 list_of types (Params y) = (type_at types y).params
 list_of types (Results y) = (type_at types y).results
 
--- the first types of a list, as many as the front has
-abbrev pub front_of : List FuncType → TypePrefix → List ValType
-front_of types f = take f.count (list_of types f.list)
+-- the first types of a list, as many as the prefix has
+abbrev pub prefix_of : List FuncType → TypePrefix → List ValType
+prefix_of types f = take f.count (list_of types f.list)
 
--- one list of types is the end of another
-abbrev pub IsEnd : List ValType → List ValType → Type 0
-IsEnd short long = (rest : List ValType) × (long ≡ rest ++ short)
+-- one list of types is a suffix of another
+abbrev pub IsSuffix : List ValType → List ValType → Type 0
+IsSuffix short long = (rest : List ValType) × (long ≡ rest ++ short)
 
 -- the function type of two lists
 abbrev pub pair_type : List FuncType → ListPair → FuncType

@@ -5,7 +5,7 @@ use Rattle.wsyntax.specs.declared.ValType.TheVariants.{I32, I64, F32, F64}
 use Rattle.wcontext.specs.declared.nodes.Node.{Node}
 use Rattle.wcontext.specs.declared.nodes.Fork.{Fork}
 use Rattle.wcontext.specs.declared.nodes.Nodes.{Nodes}
-use Rattle.wcontext.specs.Lists.{IsEnd}
+use Rattle.wcontext.specs.Lists.{IsSuffix}
 
 -- the number of a type, by which forks are ordered
 abbrev pub type_number : ValType → ℕ
@@ -65,11 +65,11 @@ pub record PutsChild (old new : Nodes) (p : ℕ) (t : ValType) (d : ℕ) : Type 
   pub children : AreForksThere old → (q : ℕ) (u : ValType) (e : ℕ) → 0 < e → HasChild new q u e
       → HasChild old q u e ⊎ ((q ≡ p) × (u ≡ t) × (e ≡ d))
 
--- each of `count` nodes leads to an earlier one whose text is an end of its own
+-- each of `count` nodes leads to an earlier one whose text is a suffix of its own
 pub record LeadsUp (texts : List (List ValType)) (count : ℕ) (up : ℕ → ℕ) : Type 0 where
   pub size : count ≡ length texts
   pub below : (q : ℕ) → 0 < q → q < length texts → up q < q
-  pub ends : (q : ℕ) → 0 < q → q < length texts → IsEnd (text texts (up q)) (text texts q)
+  pub ends : (q : ℕ) → 0 < q → q < length texts → IsSuffix (text texts (up q)) (text texts q)
 
 -- what is kept above each node leads up
 abbrev pub IsLinked : List (List ValType) → List Node → Type 0
@@ -95,12 +95,12 @@ GivesLinks n nodes = (texts : List (List ValType)) → AreNodes texts n → IsLi
 
 -- q lies on the way up the links from p
 abbrev pub IsOnTheWay : List (List ValType) → ℕ → ℕ → Type 0
-IsOnTheWay texts p q = (q < length texts) × IsEnd (text texts q) (text texts p)
+IsOnTheWay texts p q = (q < length texts) × IsSuffix (text texts q) (text texts p)
 
--- the text of l is an end of that of p and one type more
-abbrev pub FindsEnd : Nodes → ℕ → ValType → ℕ → Type 0
-FindsEnd n p t l = (texts : List (List ValType)) → AreNodes texts n → p < length texts
-    → (l < length texts) × IsEnd (text texts l) (text texts p ++ t ∷ [])
+-- the text of l is a suffix of that of p and one type more
+abbrev pub FindsSuffix : Nodes → ℕ → ValType → ℕ → Type 0
+FindsSuffix n p t l = (texts : List (List ValType)) → AreNodes texts n → p < length texts
+    → (l < length texts) × IsSuffix (text texts l) (text texts p ++ t ∷ [])
 
 -- d has the text of p and one type more
 abbrev pub IsNodeAfter : Nodes → Nodes → ℕ → ValType → ℕ → Type 0

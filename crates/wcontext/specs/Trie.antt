@@ -1,4 +1,4 @@
--- The fronts of lists, which are read into a trie.
+-- The prefixes of lists, which are read into a trie.
 use Rattle.std.specs.Prelude.{◌≡◌, ℕ, ◌+◌, ◌<◌, List, [], ◌∷◌, ◌++◌, length, take, get_or}
 use Rattle.std.specs.List.{All, AllWithin}
 use Rattle.wsyntax.specs.declared.ValType.{ValType}
@@ -12,17 +12,17 @@ abbrev pub AreTexts : List (List ValType) → (ℕ → List ValType) → List �
 AreTexts texts wanted nodes = (x : ℕ) → 0 < get_or nodes x 0
     → (get_or nodes x 0 < length texts) × (text texts (get_or nodes x 0) ≡ wanted x)
 
--- the fronts that were read have the texts of their places
+-- the prefixes that were read have the texts of their places
 abbrev pub AreRead : List (List ValType) → List (List ValType) → List ℕ → Type 0
-AreRead all texts fronts = AreTexts texts (text all) fronts
+AreRead all texts prefixes = AreTexts texts (text all) prefixes
 
--- the places from start on have the fronts of that list
-abbrev pub HasFronts : List (List ValType) → List ValType → ℕ → Type 0
-HasFronts all types start = (i : ℕ) → i < length types → (start + i < length all) × (text all (start + i) ≡ take (i + 1) types)
+-- the places from start on have the prefixes of that list
+abbrev pub HasPrefixes : List (List ValType) → List ValType → ℕ → Type 0
+HasPrefixes all types start = (i : ℕ) → i < length types → (start + i < length all) × (text all (start + i) ≡ take (i + 1) types)
 
 -- its first `column` types were read
 pub record IsReading (all texts : List (List ValType)) (column : ℕ) (r : Reading) : Type 0 where
-  pub fronts : HasFronts all r.types.now r.start
+  pub prefixes : HasPrefixes all r.types.now r.start
   pub within : r.node < length texts
   pub is : text texts r.node ≡ take column r.types.now
 
@@ -45,9 +45,9 @@ abbrev pub BeginsBlocks : List Reading → List Reading → ℕ → Type 0
 BeginsBlocks lists now base = (all texts : List (List ValType)) → All (IsReading all texts base) lists
     → All (IsInBlock all texts base base) now
 
--- node 0 alone, and no front that was read
+-- node 0 alone, and no prefix that was read
 abbrev pub IsNew : Trie → Type 0
-IsNew new = AreNodes ([] ∷ []) new.nodes × ((all : List (List ValType)) → AreRead all ([] ∷ []) new.fronts.items)
+IsNew new = AreNodes ([] ∷ []) new.nodes × ((all : List (List ValType)) → AreRead all ([] ∷ []) new.prefixes.items)
 
 -- of a list the type at i of its block was read, if it has one there
 abbrev pub ReadsType : Nodes → Nodes → Reading → Reading → ℕ → ℕ → Type 0
@@ -72,28 +72,28 @@ abbrev pub ReadsBlock : Nodes → Nodes → List Reading → List Reading → �
 ReadsBlock old new lists now base i = (all texts : List (List ValType)) → AreNodes texts old → All (IsInBlock all texts base base) lists
     → (more : List (List ValType)) × AreNodes (texts ++ more) new × All (IsInBlock all (texts ++ more) base (base + i)) now
 
--- the nodes of the block that begins at base were put to the fronts
-abbrev pub PutsFronts : List ℕ → List ℕ → Reading → ℕ → Type 0
-PutsFronts old new list base = (all texts : List (List ValType)) (column : ℕ) → IsInBlock all texts base column list
+-- the nodes of the block that begins at base were put to the prefixes
+abbrev pub PutsPrefixes : List ℕ → List ℕ → Reading → ℕ → Type 0
+PutsPrefixes old new list base = (all texts : List (List ValType)) (column : ℕ) → IsInBlock all texts base column list
     → AreRead all texts old → AreRead all texts new
 
--- the nodes of each list's block that begins at base were put to the fronts
+-- the nodes of each list's block that begins at base were put to the prefixes
 abbrev pub PutsBlock : List ℕ → List ℕ → List Reading → ℕ → Type 0
 PutsBlock old new lists base = (all texts : List (List ValType)) (column : ℕ) → All (IsInBlock all texts base column) lists
     → AreRead all texts old → AreRead all texts new
 
 -- none of its types was read
 pub record IsUnread (all : List (List ValType)) (r : Reading) : Type 0 where
-  pub fronts : HasFronts all r.types.now r.start
+  pub prefixes : HasPrefixes all r.types.now r.start
   pub node : r.node ≡ 0
 
 -- `column` types were read of the lists that are left, and all of the others
 abbrev pub ReadsTo : List Reading → Trie → List Reading → ℕ → Type 0
 ReadsTo lists trie left column = (all : List (List ValType)) → All (IsUnread all) lists
-    → (texts : List (List ValType)) × AreNodes texts trie.nodes × AreRead all texts trie.fronts.items
+    → (texts : List (List ValType)) × AreNodes texts trie.nodes × AreRead all texts trie.prefixes.items
     × All (IsReading all texts column) left
 
--- all fronts have nodes
+-- all prefixes have nodes
 abbrev pub AreNodesOf : List Reading → Trie → Type 0
 AreNodesOf lists trie = (all : List (List ValType)) → All (IsUnread all) lists
-    → (texts : List (List ValType)) × AreNodes texts trie.nodes × AreRead all texts trie.fronts.items
+    → (texts : List (List ValType)) × AreNodes texts trie.nodes × AreRead all texts trie.prefixes.items

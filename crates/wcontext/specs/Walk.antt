@@ -2,7 +2,7 @@
 use Rattle.std.specs.Prelude.{◌≡◌, ℕ, ◌+◌, ◌<◌, ◌≤◌, ◌==◌, if◌then◌else◌, List, [], ◌∷◌, length, drop}
 use Rattle.wsyntax.specs.declared.ValType.{ValType}
 use Rattle.wcontext.specs.declared.nodes.Node.{Node}
-use Rattle.wcontext.specs.Lists.{IsEnd}
+use Rattle.wcontext.specs.Lists.{IsSuffix}
 use Rattle.wcontext.specs.Nodes.{text, above_at, below_at, IsLinked}
 
 -- the number of a node, and where those of the nodes below it end
@@ -10,13 +10,13 @@ abbrev pub start_at : List Node → ℕ → ℕ
 start_at = above_at
 
 -- where the numbers of a node that is numbered end
-abbrev pub end_at : List Node → ℕ → ℕ
-end_at = below_at
+abbrev pub suffix_at : List Node → ℕ → ℕ
+suffix_at = below_at
 
--- a text whose number lies within those of another has that as an end
-abbrev pub AreEnds : List (List ValType) → List Node → Type 0
-AreEnds texts ns = (a b : ℕ) → a < length ns → b < length ns
-    → start_at ns a ≤ start_at ns b → start_at ns b < end_at ns a → IsEnd (text texts a) (text texts b)
+-- a text whose number lies within those of another has that as a suffix
+abbrev pub AreSuffixes : List (List ValType) → List Node → Type 0
+AreSuffixes texts ns = (a b : ℕ) → a < length ns → b < length ns
+    → start_at ns a ≤ start_at ns b → start_at ns b < suffix_at ns a → IsSuffix (text texts a) (text texts b)
 
 -- next has the first number of each node that no node below it has yet
 pub record IsWalk (IsBelow : ℕ → ℕ → Type 0) (start end next : ℕ → ℕ) (count : ℕ) : Type 0 where
@@ -50,4 +50,4 @@ pub record IsCountedFrom (nodes : List Node) (i : ℕ) : Type 0 where
 
 -- the new nodes have numbers by the links of the old
 abbrev pub AreNumbersOf : List Node → List Node → Type 0
-AreNumbersOf old new = (texts : List (List ValType)) → IsLinked texts old → AreEnds texts new
+AreNumbersOf old new = (texts : List (List ValType)) → IsLinked texts old → AreSuffixes texts new

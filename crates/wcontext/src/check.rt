@@ -16,7 +16,7 @@ use std::alloc::{AllocError, Global};
 use wsyntax::Module;
 
 /// The number of the first rule that is asked late: the bodies may be checked before.
-const LATE: u32 = 9;
+const FIRST_LATE_RULE: u32 = 9;
 
 /// The number of the last rule, that on data segments (3.4.6), which may be asked of one segment at a time.
 pub const SEGMENTS_RULE: u32 = 13;
@@ -25,7 +25,7 @@ pub const SEGMENTS_RULE: u32 = 13;
 fn keeps_early(module: &Module<'_>, spaces: &Spaces, rule: u32) -> bool
     requires spaces { AreSpacesOf (module_shape «module».now) spaces.now }
     requires least { 1 ≤ rule }
-    requires most { rule < LATE }
+    requires most { rule < FIRST_LATE_RULE }
     ensures { IsTrue result ↔ Keeps (module_shape «module».now) rule }
 {
     match rule {
@@ -48,7 +48,7 @@ fn keeps_late<'a>(
     rule: u32,
 ) -> Result<bool, AllocError>
     requires counts { AreCountsOf (module_shape «module».now) counts.now }
-    requires least { LATE ≤ rule }
+    requires least { FIRST_LATE_RULE ≤ rule }
     requires most { rule < SEGMENTS_RULE }
     ensures { IfOk result (λ b. IsTrue b ↔ Keeps (module_shape «module».now) rule) }
 {
@@ -62,7 +62,10 @@ fn keeps_late<'a>(
 
 /// What bodies are checked under (3.4) and what the late rules look up, of a module that keeps rules 1 to 8; or the
 /// least of these that it breaks.
-pub fn check_early(alloc: Global, module: &Module<'_>) -> Result<(Context, SpaceSizes), ModuleFault>
+pub fn check_rules_before_code(
+    alloc: Global,
+    module: &Module<'_>,
+) -> Result<(Context, SpaceSizes), ModuleFault>
     ensures context { IfOk result (λ x. x.0 ≡ indexed_context (module_shape «module».now)) }
     ensures counts { IfOk result (λ x. AreCountsOf (module_shape «module».now) x.1) }
     ensures valid { OnOk result ((k : ℕ) → k < 9 → Keeps (module_shape «module».now) k) }
@@ -70,7 +73,7 @@ pub fn check_early(alloc: Global, module: &Module<'_>) -> Result<(Context, Space
         (k < 9) × LeastBroken (module_shape «module».now) k) }
 {
     let spaces = Spaces::new(alloc, module)?;
-    for rule in 1..LATE {
+    for rule in 1..FIRST_LATE_RULE {
         if !keeps_early(module, &spaces, rule) {
             return Err(ModuleFault::Rule(rule));
         }
@@ -82,7 +85,7 @@ pub fn check_early(alloc: Global, module: &Module<'_>) -> Result<(Context, Space
 
 /// Whether a module that keeps rules 1 to 8 keeps rules 9 to 12 too, or the least of these that it breaks. What the room
 /// for the names of its exports held is gone.
-pub fn check_late<'a>(
+pub fn check_rules_after_code<'a>(
     names: &mut NameRoom<'a>,
     module: &Module<'a>,
     counts: &SpaceSizes,
@@ -93,7 +96,7 @@ pub fn check_late<'a>(
     ensures broken { IfErr result (λ e. (k : ℕ) → e ≡ ModuleFault.Rule k →
         (k < 13) × LeastBroken (module_shape «module».now) k) }
 {
-    for rule in LATE..SEGMENTS_RULE {
+    for rule in FIRST_LATE_RULE..SEGMENTS_RULE {
         if !keeps_late(names, module, counts, rule)? {
             return Err(ModuleFault::Rule(rule));
         }
@@ -108,9 +111,9 @@ pub fn check_module(alloc: Global, module: &Module<'_>) -> Result<Context, Modul
     ensures valid { OnOk result (NoneBroken (module_shape «module».now)) }
     ensures broken { IfErr result (λ e. (k : ℕ) → e ≡ ModuleFault.Rule k → LeastBroken (module_shape «module».now) k) }
 {
-    let (context, counts) = check_early(alloc, module)?;
+    let (context, counts) = check_rules_before_code(alloc, module)?;
     let mut names = NameRoom::with_capacity(alloc, 0)?;
-    check_late(&mut names, module, &counts)?;
+    check_rules_after_code(&mut names, module, &counts)?;
     if !rules::segments_valid(module, &counts) {
         return Err(ModuleFault::Rule(SEGMENTS_RULE));
     }

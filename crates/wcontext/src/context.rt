@@ -1,6 +1,6 @@
-use crate::end_tree::EndTree;
 use crate::lists::{ListPair, TypeList, no_types, one_type};
 use crate::spaces::Spaces;
+use crate::suffix_tree::SuffixTree;
 use std::alloc::{AllocError, Global};
 use std::marker::Model;
 use wsyntax::{FuncType, FuncTypes, GlobalType, Module, ValType};
@@ -11,8 +11,8 @@ use wsyntax::{FuncType, FuncTypes, GlobalType, Module, ValType};
 #[derive(Debug, Drop)]
 pub struct Context {
     types: FuncTypes,
-    /// The fronts of the long lists; `None` where they are compared instead, or where memory for them was refused.
-    pub(crate) ends: Option<EndTree>,
+    /// The prefixes of the long lists; `None` where they are compared instead, or where memory for them was refused.
+    pub(crate) ends: Option<SuffixTree>,
     functions: Vec<u32>,
     imported: usize,
     globals: Vec<GlobalType>,
@@ -53,7 +53,7 @@ impl Context {
         ensures { IfOk result (λ c. c ≡ indexed_context (module_shape «module».now)) }
     {
         let types = module.types.copy(alloc)?;
-        let ends = EndTree::new(alloc, &types, &module.bodies);
+        let ends = SuffixTree::new(alloc, &types, &module.bodies);
         Ok(Context {
             types,
             ends,

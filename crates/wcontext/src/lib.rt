@@ -1,31 +1,31 @@
 //! The rules that a module keeps (3.4), and the context under which the bodies of its functions are checked (3.1.1).
 //!
-//! Proved: `check_module` gives the context exactly where no rule is broken, else the least broken rule. `check_early`
-//! does so for rules 1 to 8 and `check_late` for rules 9 to 12; `SpaceSizes::takes_segment` is rule 13. Each look-up is
-//! the definition's. `Context::is_end` is right where it says yes; that its no is right is tested.
+//! Proved: `check_module` gives the context exactly where no rule is broken, else the least broken rule. `check_rules_before_code`
+//! does so for rules 1 to 8 and `check_rules_after_code` for rules 9 to 12; `SpaceSizes::takes_segment` is rule 13. Each look-up is
+//! the definition's. `Context::is_suffix` is right where it says yes; that its no is right is tested.
 #![tactic(auto)]
 
 mod check;
 mod constant;
 mod context;
-mod end_tree;
 mod fault;
-mod fronts;
 mod imports;
 mod limits;
 mod lists;
 mod names;
 mod nodes;
+mod prefixes;
 mod rules;
 mod segments;
 mod space_sizes;
 mod spaces;
 mod start;
+mod suffix_tree;
 mod trie;
 mod tuning;
 mod walk;
 
-pub use check::{SEGMENTS_RULE, check_early, check_late, check_module};
+pub use check::{SEGMENTS_RULE, check_module, check_rules_after_code, check_rules_before_code};
 pub use context::Context;
 pub use fault::ModuleFault;
 pub use limits::{are_in_order, are_within_pages};

@@ -1,4 +1,4 @@
-//! Lists of value types, by where a module writes them, and fronts of such lists.
+//! Lists of value types, by where a module writes them, and prefixes of such lists.
 ghost use Rattle.std.specs.Prelude.{◌≡◌, [], ◌∷◌, true};
 
 use wsyntax::ValType;

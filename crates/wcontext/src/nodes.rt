@@ -1,6 +1,6 @@
 //! The nodes of a trie of lists of types, with the links of Aho and Corasick.
 ghost use Rattle.std.specs.Prelude.{◌≡◌, ◌<◌, [], ◌∷◌, IfSome};
-ghost use Rattle.wcontext.specs.Nodes.{type_number, HasChild, AreChildren, PutsChild, FindsEnd};
+ghost use Rattle.wcontext.specs.Nodes.{type_number, HasChild, AreChildren, PutsChild, FindsSuffix};
 ghost use Rattle.wcontext.specs.Nodes.{AreNodes, KeepsTexts, IsNodeAfter, GivesLinks};
 
 use std::alloc::Global;
@@ -34,14 +34,14 @@ struct Fork {
 #[derive(Drop)]
 pub(crate) struct Nodes {
     nodes: Vec<Node>,
-    /// Their links: the node of the longest shorter front that is an end of a node's types.
+    /// Their links: the node of the longest shorter prefix that is a suffix of a node's types.
     // PERF: they lie apart, since a way up reads its first alone.
     links: Vec<u32>,
     /// At most one a list: where it parts from those before it.
     forks: Vec<Fork>,
     /// From here on nodes may get children.
-    growing: u32,
-    /// From here on nodes may get children after the next call of `grow_next`.
+    current_level: u32,
+    /// From here on nodes may get children after the next call of `start_level`.
     next: u32,
 }
 
@@ -82,17 +82,17 @@ impl Nodes {
             nodes,
             links,
             forks,
-            growing: 0,
+            current_level: 0,
             next: 0,
         })
     }
 
     /// Lets the nodes that were made since the last call get children, and those before no more.
-    pub(crate) fn grow_next(&mut self) -> Option<()>
+    pub(crate) fn start_level(&mut self) -> Option<()>
         ensures { IfSome result (λ _. KeepsTexts self.old self.new) }
     {
         let end = u32::try_from(self.nodes.len()).ok()?;
-        self.growing = self.next;
+        self.current_level = self.next;
         self.next = end;
         Some(())
     }
@@ -131,8 +131,8 @@ impl Nodes {
     /// node has a child of that type: in all lists together that is at most two steps a type, and fewer where a node's only
     /// child has the same type as that of the node above.
     #[inline]
-    fn longest_end(&self, node: u32, t: ValType) -> u32
-        ensures { FindsEnd self.now node t result }
+    fn longest_suffix(&self, node: u32, t: ValType) -> u32
+        ensures { FindsSuffix self.now node t result }
     {
         let Some(link) = self.links.get(node as usize) else {
             return 0;
@@ -162,7 +162,7 @@ impl Nodes {
         let link = *self.links.get(node as usize)?;
         let of = self.nodes.get(node as usize)?.below;
         let Node { above, below } = *self.nodes.get(link as usize)?;
-        if above < link && link < node && link < self.growing && by_same_type(of, below) {
+        if above < link && link < node && link < self.current_level && by_same_type(of, below) {
             self.nodes[node as usize].above = above;
         }
         Some(())
@@ -206,7 +206,7 @@ impl Nodes {
     }
 
     /// The node of the types of `node` and then `t`, which is made where there is none. Nodes are made in the order of their
-    /// lengths, so that each shorter end has its node already, and a node that may get children lies on no way up that was
+    /// lengths, so that each shorter suffix has its node already, and a node that may get children lies on no way up that was
     /// passed. `None` where memory is refused, and for a node that gets no more children.
     #[inline]
     pub(crate) fn after(&mut self, node: u32, t: ValType) -> Option<u32>
@@ -216,10 +216,10 @@ impl Nodes {
         if child > 0 {
             return Some(child);
         }
-        if node < self.growing {
+        if node < self.current_level {
             return None;
         }
-        let link = self.longest_end(node, t);
+        let link = self.longest_suffix(node, t);
         let made = u32::try_from(self.nodes.len()).ok()?;
         self.links.push(link).ok()?;
         self.nodes

@@ -1,6 +1,6 @@
-//! The fronts of long lists of types, which are read into a trie.
+//! The prefixes of long lists of types, which are read into a trie.
 ghost use Rattle.std.specs.Prelude.{◌≡◌, ◌+◌, ◌<◌, ◌≤◌, length, replicate, IfSome};
-ghost use Rattle.wcontext.specs.Trie.{BeginsBlock, BeginsBlocks, ReadsType, ReadsColumn, ReadsBlock, PutsFronts, PutsBlock};
+ghost use Rattle.wcontext.specs.Trie.{BeginsBlock, BeginsBlocks, ReadsType, ReadsColumn, ReadsBlock, PutsPrefixes, PutsBlock};
 ghost use Rattle.wcontext.specs.Trie.{IsNew, AreNodesOf};
 
 use crate::nodes::Nodes;
@@ -12,13 +12,13 @@ use wsyntax::ValType;
 #[derive(Clone, Copy)]
 pub(crate) struct Reading<'a> {
     types: &'a [ValType],
-    /// The place of its first front.
+    /// The place of its first prefix.
     start: u32,
-    /// The node of the front that was read last.
+    /// The node of the prefix that was read last.
     node: u32,
     /// The types of the block that is read.
     block: [ValType; WIDTH],
-    /// The nodes of the fronts that end in the block; 0 where none was read.
+    /// The nodes of the prefixes that end in the block; 0 where none was read.
     nodes: [u32; WIDTH],
 }
 
@@ -51,12 +51,12 @@ impl<'a> Reading<'a> {
     }
 }
 
-/// The fronts of lists, and the nodes that stand for them.
+/// The prefixes of lists, and the nodes that stand for them.
 #[derive(Drop)]
 pub(crate) struct Trie {
     pub(crate) nodes: Nodes,
-    /// The nodes of the fronts, by the places of the fronts; 0 where none was read.
-    pub(crate) fronts: Vec<u32>,
+    /// The nodes of the prefixes, by the places of the prefixes; 0 where none was read.
+    pub(crate) prefixes: Vec<u32>,
 }
 
 /// Begins the block of each list that begins at `base`.
@@ -68,22 +68,22 @@ fn begin_block(lists: &mut [Reading<'_>], base: usize)
     }
 }
 
-/// `count` fronts, of which none was read.
-fn unread_fronts(alloc: Global, count: usize) -> Option<Vec<u32>>
-    ensures { IfSome result (λ fronts. fronts.items ≡ replicate count 0) }
+/// `count` prefixes, of which none was read.
+fn unread_prefixes(alloc: Global, count: usize) -> Option<Vec<u32>>
+    ensures { IfSome result (λ prefixes. prefixes.items ≡ replicate count 0) }
 {
-    let mut fronts = Vec::with_capacity(alloc, count).ok()?;
-    fronts.resize(count, 0).ok()?;
-    Some(fronts)
+    let mut prefixes = Vec::with_capacity(alloc, count).ok()?;
+    prefixes.resize(count, 0).ok()?;
+    Some(prefixes)
 }
 
 impl Trie {
-    /// `count` fronts of `lists` lists, of which none was read.
+    /// `count` prefixes of `lists` lists, of which none was read.
     fn new(alloc: Global, count: usize, lists: usize) -> Option<Trie>
         ensures { IfSome result (λ t. IsNew t) }
     {
         Some(Trie {
-            fronts: unread_fronts(alloc, count)?,
+            prefixes: unread_prefixes(alloc, count)?,
             nodes: Nodes::new(alloc, count, lists)?,
         })
     }
@@ -92,7 +92,7 @@ impl Trie {
     #[inline]
     fn read_type(&mut self, list: &mut Reading<'_>, base: usize, i: usize) -> Option<()>
         ensures read { IfSome result (λ _. ReadsType self.old.nodes self.new.nodes list.old list.new base i) }
-        ensures fronts { self.new.fronts ≡ self.old.fronts }
+        ensures prefixes { self.new.prefixes ≡ self.old.prefixes }
     {
         if base.checked_add(i)? >= list.types.len() {
             return Some(());
@@ -107,9 +107,9 @@ impl Trie {
     /// Reads the type at `i` of each list's block.
     fn read_column(&mut self, lists: &mut [Reading<'_>], base: usize, i: usize) -> Option<()>
         ensures read { IfSome result (λ _. ReadsColumn self.old.nodes self.new.nodes lists.old lists.new base i) }
-        ensures fronts { self.new.fronts ≡ self.old.fronts }
+        ensures prefixes { self.new.prefixes ≡ self.old.prefixes }
     {
-        self.nodes.grow_next()?;
+        self.nodes.start_level()?;
         for k in 0..lists.len() {
             self.read_type(&mut lists[k], base, i)?;
         }
@@ -119,7 +119,7 @@ impl Trie {
     /// Reads the blocks of the lists, which begin at `base`.
     fn read_block(&mut self, lists: &mut [Reading<'_>], base: usize) -> Option<()>
         ensures read { IfSome result (λ _. ReadsBlock self.old.nodes self.new.nodes lists.old lists.new base 16) }
-        ensures fronts { self.new.fronts ≡ self.old.fronts }
+        ensures prefixes { self.new.prefixes ≡ self.old.prefixes }
     {
         for i in 0..WIDTH {
             self.read_column(lists, base, i)?;
@@ -127,37 +127,37 @@ impl Trie {
         Some(())
     }
 
-    /// Puts the nodes of a list's block to the list's fronts.
-    fn put_fronts(&mut self, list: &Reading<'_>, base: usize) -> Option<()>
-        ensures fronts { IfSome result (λ _. PutsFronts self.old.fronts.items self.new.fronts.items list.now base) }
+    /// Puts the nodes of a list's block to the list's prefixes.
+    fn put_prefixes(&mut self, list: &Reading<'_>, base: usize) -> Option<()>
+        ensures prefixes { IfSome result (λ _. PutsPrefixes self.old.prefixes.items self.new.prefixes.items list.now base) }
         ensures nodes { self.new.nodes ≡ self.old.nodes }
     {
         let start = (list.start as usize).checked_add(base)?;
         for i in 0..list.types.len().saturating_sub(base).min(WIDTH) {
             let place = start.checked_add(i)?;
-            if place < self.fronts.len() {
-                self.fronts[place] = list.nodes[i];
+            if place < self.prefixes.len() {
+                self.prefixes[place] = list.nodes[i];
             }
         }
         Some(())
     }
 
-    /// Puts the nodes of all blocks to the fronts.
+    /// Puts the nodes of all blocks to the prefixes.
     fn end_block(&mut self, lists: &[Reading<'_>], base: usize) -> Option<()>
-        ensures fronts { IfSome result (λ _. PutsBlock self.old.fronts.items self.new.fronts.items lists.now base) }
+        ensures prefixes { IfSome result (λ _. PutsBlock self.old.prefixes.items self.new.prefixes.items lists.now base) }
         ensures nodes { self.new.nodes ≡ self.old.nodes }
     {
         for k in 0..lists.len() {
-            self.put_fronts(&lists[k], base)?;
+            self.put_prefixes(&lists[k], base)?;
         }
         Some(())
     }
 
-    /// Reads the lists, whose fronts have that many places. `None` where memory is refused.
-    pub(crate) fn read(alloc: Global, mut lists: Vec<Reading<'_>>, fronts: usize) -> Option<Trie>
+    /// Reads the lists, whose prefixes have that many places. `None` where memory is refused.
+    pub(crate) fn read(alloc: Global, mut lists: Vec<Reading<'_>>, prefixes: usize) -> Option<Trie>
         ensures { IfSome result (λ trie. AreNodesOf lists.entry.items trie) }
     {
-        let mut trie = Trie::new(alloc, fronts, lists.len())?;
+        let mut trie = Trie::new(alloc, prefixes, lists.len())?;
         for block in 0..usize::MAX / WIDTH {
             let base = block * WIDTH;
             lists.retain(|list| list.types.len() > base);

@@ -9,7 +9,7 @@ pub(crate) const LONG: usize = 256;
 /// code; doubled, bodies may compare twice as much before it is.
 pub(crate) const COMPARED: usize = 128;
 
-/// How many types of each list are read at once: those of one list and their fronts lie together. Halved, each page is touched
+/// How many types of each list are read at once: those of one list and their prefixes lie together. Halved, each page is touched
 /// twice as often; doubled, the types that are read ahead leave the cache.
 // PERF: each step takes a type of the next list, and the lists lie on pages of their own, which no cache holds together.
 pub(crate) const WIDTH: usize = 16;

@@ -9,7 +9,7 @@ use Rattle.wsyntax.specs.declared.instructions.Token.{Token as Held}
 use Rattle.wsyntax.specs.declared.instructions.Token.TheVariants as held
 use Rattle.wsyntax.specs.Brackets.{lies_within}
 use Rattle.wsyntax.specs.BranchTables.{Follows, FollowAll}
-use Rattle.wsyntax.specs.Modules.{seen}
+use Rattle.wsyntax.specs.Modules.{decoded_as}
 use Rattle.wdecode.proofs.Closed.{both}
 use Rattle.wdecode.specs.BranchTables.{table_targets, targets_of}
 
@@ -17,7 +17,7 @@ use Rattle.wdecode.specs.BranchTables.{table_targets, targets_of}
 pub record AddsNone (t : Held) : Type 0 where
   pub stays : (n : ℕ) → Follows n t n
   pub same : (n m : ℕ) → Follows n t m → m ≡ n
-  pub nothing : (targets : List ℕ) → table_targets (seen targets t) ≡ []
+  pub nothing : (targets : List ℕ) → table_targets (decoded_as targets t) ≡ []
 
 -- a token is a branch table or adds none
 table_or_none : (t : Held) → ((count first : ℕ) × (t ≡ held.BrTable count first)) ⊎ AddsNone t
@@ -69,7 +69,7 @@ follows_next before middle after (u ∷ ts) t h f = (h.0, h.1, follows_next h.0 
 
 -- one branch table is cut out of the targets
 cut : (targets : List ℕ) (count first : ℕ) → first + count < length targets
-    → drop first targets ≡ table_targets (seen targets (held.BrTable count first)) ++ drop (first + count + 1) targets
+    → drop first targets ≡ table_targets (decoded_as targets (held.BrTable count first)) ++ drop (first + count + 1) targets
 cut targets count first lt =
     let width : first + count - first ≡ count = omega arith in
     let part = slice_range targets first (first + count) in
@@ -81,7 +81,7 @@ cut targets count first lt =
 
 -- what is left of the targets is that of the tokens that are left
 left : (targets : List ℕ) (before : ℕ) (ts : List Held) → FollowAll before ts (length targets)
-    → IsTrue (list_all (lies_within (length targets)) ts) → drop before targets ≡ targets_of (map (seen targets) ts)
+    → IsTrue (list_all (lies_within (length targets)) ts) → drop before targets ≡ targets_of (map (decoded_as targets) ts)
 left targets before [] e within = drop_all before targets (omega arith)
 left targets before (t ∷ ts) h within =
     let w = both (lies_within (length targets) t) (list_all (lies_within (length targets)) ts) within in
@@ -94,15 +94,15 @@ left targets before (t ∷ ts) h within =
           let next : x.1 + x.0 + 1 ≡ h.0 = omega (arith, f.0, f.1) in
           ap (λ (n : ℕ). drop n targets) (sym f.0)
           ∙ cut targets x.0 x.1 (ltb-true (x.1 + x.0) (length targets) lies)
-          ∙ ap (λ (n : ℕ). table_targets (seen targets (held.BrTable x.0 x.1)) ++ drop n targets) next
-          ∙ ap (λ (u : Held). table_targets (seen targets u) ++ drop h.0 targets) (sym x.2)
-          ∙ ap (λ (y : List ℕ). table_targets (seen targets t) ++ y) on
+          ∙ ap (λ (n : ℕ). table_targets (decoded_as targets (held.BrTable x.0 x.1)) ++ drop n targets) next
+          ∙ ap (λ (u : Held). table_targets (decoded_as targets u) ++ drop h.0 targets) (sym x.2)
+          ∙ ap (λ (y : List ℕ). table_targets (decoded_as targets t) ++ y) on
       | inr y ↦
           ap (λ (n : ℕ). drop n targets) (sym (y.same before h.0 h.1)) ∙ on
-          ∙ ap (λ (x : List ℕ). x ++ targets_of (map (seen targets) ts)) (sym (y.nothing targets))
+          ∙ ap (λ (x : List ℕ). x ++ targets_of (map (decoded_as targets) ts)) (sym (y.nothing targets))
     ]
 
 -- all targets are those of the tokens
 pub all_targets : (targets : List ℕ) (ts : List Held) → FollowAll 0 ts (length targets)
-    → IsTrue (list_all (lies_within (length targets)) ts) → targets ≡ targets_of (map (seen targets) ts)
+    → IsTrue (list_all (lies_within (length targets)) ts) → targets ≡ targets_of (map (decoded_as targets) ts)
 all_targets targets ts h within = left targets 0 ts h within

@@ -6,7 +6,7 @@ use Rattle.wsyntax.specs.declared.instructions.Token.{Token as Held}
 use Rattle.wsyntax.specs.declared.instructions.Token.TheVariants as held
 use Rattle.wsyntax.specs.Brackets.{Bracket, Opening, Parting, Closing, Inner, bracket, behind, is_last, closes, lies_within}
 use Rattle.wsyntax.specs.Instructions.{Token, Do, OpenBlock, OpenLoop, OpenIf, Else, End}
-use Rattle.wsyntax.specs.Modules.{seen}
+use Rattle.wsyntax.specs.Modules.{decoded_as}
 use Rattle.wsyntax.specs.Binary.Nesting.{nest}
 
 -- what a token of a tree does to the open blocks
@@ -18,7 +18,7 @@ bracket_of (OpenIf t) = Opening true
 bracket_of Else = Parting
 bracket_of End = Closing
 
-pub seen_bracket : (targets : List ℕ) (t : Held) → bracket t ≡ bracket_of (seen targets t)
+pub seen_bracket : (targets : List ℕ) (t : Held) → bracket t ≡ bracket_of (decoded_as targets t)
 seen_bracket targets held.Unreachable = refl
 seen_bracket targets held.Nop = refl
 seen_bracket targets (held.Block t) = refl
@@ -80,17 +80,17 @@ behind_close End (b ∷ s) more last e = absurd cc
 abbrev pub Leaves : List Held → List Bool → Type 0
 Leaves tokens s = (more : List Held) → closes [] (tokens ++ more) ≡ closes s more
 
-pub leaves_next : (targets : List ℕ) (tokens : List Held) (t : Held) (s now : List Bool) → nest s (seen targets t) ≡ Some (Some now) → Leaves tokens s → Leaves (tokens ++ t ∷ []) now
+pub leaves_next : (targets : List ℕ) (tokens : List Held) (t : Held) (s now : List Bool) → nest s (decoded_as targets t) ≡ Some (Some now) → Leaves tokens s → Leaves (tokens ++ t ∷ []) now
 leaves_next targets tokens t s now e so_far more =
     ap (closes []) (append_assoc tokens (t ∷ []) more) ∙ so_far (t ∷ more)
     ∙ ap (λ (b : Bracket). behind b s (λ k. closes k more) (is_last more)) (seen_bracket targets t)
-    ∙ behind_open (seen targets t) s now (λ k. closes k more) (is_last more) e
+    ∙ behind_open (decoded_as targets t) s now (λ k. closes k more) (is_last more) e
 
-pub leaves_none : (targets : List ℕ) (tokens : List Held) (t : Held) (s : List Bool) → nest s (seen targets t) ≡ Some None → Leaves tokens s → closes [] (tokens ++ t ∷ []) ≡ true
+pub leaves_none : (targets : List ℕ) (tokens : List Held) (t : Held) (s : List Bool) → nest s (decoded_as targets t) ≡ Some None → Leaves tokens s → closes [] (tokens ++ t ∷ []) ≡ true
 leaves_none targets tokens t s e so_far =
     so_far (t ∷ [])
     ∙ ap (λ (b : Bracket). behind b s (λ k. closes k []) true) (seen_bracket targets t)
-    ∙ behind_close (seen targets t) s (λ k. closes k []) true e
+    ∙ behind_close (decoded_as targets t) s (λ k. closes k []) true e
 
 -- parts lie in the list of targets, also when it grows
 one_grows : (n m : ℕ) → n ≤ m → (t : Held) → lies_within n t ≡ true → lies_within m t ≡ true

@@ -3,7 +3,7 @@ use Rattle.std.proofs.Common.{◌≡◌, ℕ, Bool, true, false, List, [], ◌�
 use Rattle.wsyntax.specs.declared.instructions.Token.{Token as Held}
 use Rattle.wsyntax.specs.Brackets.{Bracket, behind, is_last, closes}
 use Rattle.wsyntax.specs.Instructions.{Token, Do, OpenBlock, OpenLoop, OpenIf, Else, End, Code, Stop, Plain, Block, Loop, If, IfElse, flat, flat_body}
-use Rattle.wsyntax.specs.Modules.{seen}
+use Rattle.wsyntax.specs.Modules.{decoded_as}
 use Rattle.wdecode.proofs.Closed.{bracket_of, seen_bracket}
 use Rattle.wdecode.proofs.Trees.{block_tokens, else_tokens}
 
@@ -60,15 +60,15 @@ shut_by End [] us more last ih nil e = (Stop, ap (λ (w : List Token). End ∷ w
 shut_by End (true ∷ s) us more last ih nil e = inl (Stop, us, refl, ih s e)
 shut_by End (false ∷ s) us more last ih nil e = (Stop, us, refl, ih s e)
 
-no_more : (targets : List ℕ) (ts : List Held) → is_last ts ≡ true → map (seen targets) ts ≡ []
+no_more : (targets : List ℕ) (ts : List Held) → is_last ts ≡ true → map (decoded_as targets) ts ≡ []
 no_more targets [] e = refl
 no_more targets (t ∷ ts) e = absurd cc
 
-shut : (targets : List ℕ) (ts : List Held) (s : List Bool) → closes s ts ≡ true → Shuts s (map (seen targets) ts)
+shut : (targets : List ℕ) (ts : List Held) (s : List Bool) → closes s ts ≡ true → Shuts s (map (decoded_as targets) ts)
 shut targets [] s e = absurd cc
 shut targets (t ∷ ts) s e =
-    shut_by (seen targets t) s (map (seen targets) ts) (λ now. closes now ts) (is_last ts) (λ now h. shut targets ts now h) (no_more targets ts)
+    shut_by (decoded_as targets t) s (map (decoded_as targets) ts) (λ now. closes now ts) (is_last ts) (λ now h. shut targets ts now h) (no_more targets ts)
     (ap (λ (b : Bracket). behind b s (λ now. closes now ts) (is_last ts)) (sym (seen_bracket targets t)) ∙ e)
 
-pub closed_tree : (targets : List ℕ) (tokens : List Held) → closes [] tokens ≡ true → (code : Code) × (map (seen targets) tokens ≡ flat_body code)
+pub closed_tree : (targets : List ℕ) (tokens : List Held) → closes [] tokens ≡ true → (code : Code) × (map (decoded_as targets) tokens ≡ flat_body code)
 closed_tree targets tokens e = shut targets tokens [] e

@@ -6,7 +6,7 @@ use Rattle.wnum.specs.Reading.{◌>>=◌}
 use Rattle.wsyntax.specs.declared.instructions.Token.{Token as Held}
 use Rattle.wsyntax.specs.Instructions.{Token}
 use Rattle.wsyntax.specs.Initials.{tokens_in}
-use Rattle.wsyntax.specs.Modules.{seen}
+use Rattle.wsyntax.specs.Modules.{decoded_as}
 use Rattle.wsyntax.specs.Binary.Nesting.{token_at, nest, and_then, tokens_at, expression}
 use Rattle.wdecode.specs.declared.fault.Fault.{Fault}
 use Rattle.wdecode.specs.declared.fault.Fault.TheVariants.{Malformed, Memory}
@@ -41,9 +41,9 @@ same_rest t (Some x) = refl
 same_rest t None = refl
 
 -- a token that is given is seen by the targets as they are
-pub given : (bytes old new : List ℕ) (t : Held) (rest : List ℕ) → GivesToken seen old new (t, rest) (token_at bytes)
-    → Begins bytes (seen new t) rest
-given bytes old new t rest g = subst (λ (targets : List ℕ). Begins bytes (seen targets t) rest) (append-nil new) (g.2 [])
+pub given : (bytes old new : List ℕ) (t : Held) (rest : List ℕ) → GivesToken decoded_as old new (t, rest) (token_at bytes)
+    → Begins bytes (decoded_as new t) rest
+given bytes old new t rest g = subst (λ (targets : List ℕ). Begins bytes (decoded_as targets t) rest) (append-nil new) (g.2 [])
 
 -- the first token, and then the others
 pub whole_from : (whole : List ℕ) (t : Token) (rest : List ℕ) → Begins whole t rest

@@ -1,14 +1,14 @@
 -- Sections that are read step by step, up to the data segments and from there on, agree with the grammar of a module.
 use Rattle.std.proofs.Common.{◌≡◌, ℕ, ◌-◌, ◌<◌, Bool, true, false, eqb, eq-eqb, List, [], ◌∷◌, ◌++◌, length, take, drop, Some, None, Result, Err, ◌≢◌, ◌↔◌, refl, sym, ap, subst, ◌∙◌, arith}
 use Rattle.std.specs.Prelude.{IsTrue, All}
-use Rattle.std.proofs.lemmas.List.{take_all}
+use Rattle.std.proofs.lemmas.List.{pop_all}
 use Rattle.std.proofs.lemmas.List.Elements.{All-nil, All-cons, All-head, All-tail, All-push}
 use Rattle.std.proofs.lemmas.Bool.{eqb-true, lt-ltb}
 use Rattle.wsyntax.specs.Modules.{ModuleShape, DataShape}
 use Rattle.wsyntax.specs.Binary.Production.{SpellsAll, whole_at}
 use Rattle.wsyntax.specs.Binary.Values.{blob, vector_at}
 use Rattle.wsyntax.specs.Binary.Sections.{SectionShape, Custom, Types, Imports, Functions, Tables, Memories, Globals, Exports, Start, Elements, Bodies, Segments, contents, section, data_segment}
-use Rattle.wsyntax.specs.Binary.Shell.{section_id, may_follow, last_after, IsOrdered, put, put_all, empty_module, strip, header, Shell}
+use Rattle.wsyntax.specs.Binary.Shell.{section_id, may_follow, last_after, IsOrdered, with_section, put_all, empty_module, strip, header, Shell}
 use Rattle.wdecode.specs.declared.fault.Fault.{Fault}
 use Rattle.wdecode.specs.declared.fault.Fault.TheVariants.{Malformed, Memory}
 use Rattle.wdecode.specs.Gives.{Fails}
@@ -25,7 +25,7 @@ goes_on before [] goes = absurd cc
 goes_on before (b ∷ bytes) goes = omega arith
 
 -- what was so up to one section more
-pub carried : (start : ModuleShape → Type 0) (last now : ℕ) (m n : ModuleShape) (bytes after : List ℕ) (s : SectionShape) → section.read bytes ≡ Some (s, after) → may_follow last s ≡ true → last_after last s ≡ now → n ≡ put m s
+pub carried : (start : ModuleShape → Type 0) (last now : ℕ) (m n : ModuleShape) (bytes after : List ℕ) (s : SectionShape) → section.read bytes ≡ Some (s, after) → may_follow last s ≡ true → last_after last s ≡ now → n ≡ with_section m s
     → ((whole : ModuleShape) → start whole ↔ EndsAs last m bytes whole) → (whole : ModuleShape) → start whole ↔ EndsAs now n after whole
 carried start last now m n bytes after s r ok is made so_far whole =
     let step = one_more last m bytes after s r ok whole in (
@@ -35,7 +35,7 @@ carried start last now m n bytes after s r ok is made so_far whole =
 
 -- Before the data segments.
 
-early_put : (last : ℕ) (m : ModuleShape) (s : SectionShape) → section_id s ≢ 11 → IsBeforeSegments last m → IsBeforeSegments (last_after last s) (put m s)
+early_put : (last : ℕ) (m : ModuleShape) (s : SectionShape) → section_id s ≢ 11 → IsBeforeSegments last m → IsBeforeSegments (last_after last s) (with_section m s)
 early_put last m Custom other e = e
 early_put last m (Types v) other e = (omega arith, e.1)
 early_put last m (Imports v) other e = (omega arith, e.1)
@@ -49,7 +49,7 @@ early_put last m (Elements v) other e = (omega arith, e.1)
 early_put last m (Bodies v) other e = (omega arith, e.1)
 early_put last m (Segments v) other e = absurd (other refl)
 
-pub early_next : (before : Bool) (last now : ℕ) (m n : ModuleShape) (bytes after : List ℕ) (s : SectionShape) → section.read bytes ≡ Some (s, after) → last_after last s ≡ now → n ≡ put m s → stops before bytes ≡ false → before ≡ true → IsBeforeSegments last m → IsBeforeSegments now n
+pub early_next : (before : Bool) (last now : ℕ) (m n : ModuleShape) (bytes after : List ℕ) (s : SectionShape) → section.read bytes ≡ Some (s, after) → last_after last s ≡ now → n ≡ with_section m s → stops before bytes ≡ false → before ≡ true → IsBeforeSegments last m → IsBeforeSegments now n
 early_next before last now m n bytes after s r is made goes_before wanted e =
     let goes : stops true bytes ≡ false = subst (λ (b : Bool). stops b bytes ≡ false) wanted goes_before in
     let first = read_section_id bytes after s r in
@@ -108,12 +108,12 @@ segments_by_id (Segments v) r = (v, refl)
 IsSame : ModuleShape → ModuleShape → Type 0
 IsSame m whole = whole ≡ with_segments m whole.segments
 
-segments_only : (last : ℕ) (m whole : ModuleShape) (s : SectionShape) (ss : List SectionShape) → section_id s ≡ 11 → IsOrdered (last_after last s) ss → put_all (put m s) ss ≡ whole → IsSame m whole
+segments_only : (last : ℕ) (m whole : ModuleShape) (s : SectionShape) (ss : List SectionShape) → section_id s ≡ 11 → IsOrdered (last_after last s) ss → put_all (with_section m s) ss ≡ whole → IsSame m whole
 unfolding IsSame
 segments_only last m whole s ss r ordered is =
     let v = segments_by_id s r in
     let after : IsOrdered 11 ss = subst (λ (t : SectionShape). IsOrdered (last_after last t) ss) v.1 ordered in
-    let made : put_all (with_segments m v.0) ss ≡ whole = ap (λ (t : SectionShape). put_all (put m t) ss) (sym v.1) ∙ is in
+    let made : put_all (with_segments m v.0) ss ≡ whole = ap (λ (t : SectionShape). put_all (with_section m t) ss) (sym v.1) ∙ is in
     subst (IsSame m) (sym (put_customs ss (with_segments m v.0) after) ∙ made) refl
 
 rest_only : (last : ℕ) (m whole : ModuleShape) (bytes : List ℕ) (ss : List SectionShape) → ((id : ℕ) (tail : List ℕ) → bytes ≡ id ∷ tail → id ≡ 11)
@@ -142,7 +142,7 @@ after_id bytes = take (length bytes - 1) (drop 1 bytes)
 pub begin : (bytes : List ℕ) → 0 < length bytes → ((id : ℕ) (tail : List ℕ) → bytes ≡ id ∷ tail → id ≡ 11) → bytes ≡ 11 ∷ after_id bytes
 begin [] some next = absurd (omega arith)
 begin (b ∷ bytes) some next =
-    let all : after_id (b ∷ bytes) ≡ bytes = take_all (length (b ∷ bytes) - 1) bytes (omega arith) in
+    let all : after_id (b ∷ bytes) ≡ bytes = pop_all (length (b ∷ bytes) - 1) bytes (omega arith) in
     ap (λ (n : ℕ). n ∷ bytes) (next b bytes refl) ∙ ap (λ (r : List ℕ). 11 ∷ r) (sym all)
 
 segments_read : (rest contents after : List ℕ) (segments : List DataShape) → blob.read rest ≡ Some (contents, after) → whole_at (vector_at data_segment.read) contents ≡ Some segments → section.read (11 ∷ rest) ≡ Some (Segments segments, after)

@@ -9,7 +9,7 @@ use Rattle.wsyntax.specs.declared.instructions.BlockType.{BlockType}
 use Rattle.wsyntax.specs.declared.opcode.Opcode.{Opcode}
 use Rattle.wsyntax.specs.declared.instructions.Token.{Token as Held}
 use Rattle.wsyntax.specs.declared.instructions.Token.TheVariants as held
-use Rattle.wsyntax.specs.Modules.{seen}
+use Rattle.wsyntax.specs.Modules.{decoded_as}
 use Rattle.wsyntax.specs.Binary.Instructions.{plain_instruction, immediates}
 use Rattle.wsyntax.specs.Binary.Types.{block_type}
 use Rattle.wsyntax.specs.Binary.Nesting.{seen_as, token_at}
@@ -20,7 +20,7 @@ use Rattle.wdecode.proofs.OneToken.{token_reads}
 
 -- what is read after an opcode
 pub reads : (b : ℕ) (o : Opcode) (i : Op) (bytes rest : List ℕ) (t : Held) → opcode_of b ≡ Some o → (immediates o).read bytes ≡ Some (i, rest)
-    → ((targets : ℕ) → IsTrue (lies_within targets t)) → ((targets : List ℕ) → seen targets t ≡ Do i) → ReadsPlain (b ∷ bytes) t rest
+    → ((targets : ℕ) → IsTrue (lies_within targets t)) → ((targets : List ℕ) → decoded_as targets t ≡ Do i) → ReadsPlain (b ∷ bytes) t rest
 unfolding plain_instruction
 reads b o i bytes rest t named read within is =
     let plain : plain_instruction.read (b ∷ bytes) ≡ Some (i, rest) = rw (named, read) refl in

@@ -5,7 +5,7 @@ use Rattle.std.proofs.lemmas.Bool.{eqb-true, lt-ltb, le-ltb, ne_eqb}
 use Rattle.wsyntax.specs.Modules.{ModuleShape}
 use Rattle.wsyntax.specs.Binary.Production.{SpellsAll}
 use Rattle.wsyntax.specs.Binary.Sections.{SectionShape, Custom, Types, Imports, Functions, Tables, Memories, Globals, Exports, Start, Elements, Bodies, Segments, SectionKind, CustomSection, TypeSection, ImportSection, FunctionSection, TableSection, MemorySection, GlobalSection, ExportSection, StartSection, ElementSection, CodeSection, DataSection, kind_of, contents_of, contents, section}
-use Rattle.wsyntax.specs.Binary.Shell.{section_id, may_follow, last_after, IsOrdered, put, put_all, empty_module, strip, header, Shell}
+use Rattle.wsyntax.specs.Binary.Shell.{section_id, may_follow, last_after, IsOrdered, with_section, put_all, empty_module, strip, header, Shell}
 use Rattle.wdecode.specs.declared.fault.Fault.{Fault}
 use Rattle.wdecode.specs.declared.fault.Fault.TheVariants.{Malformed, Memory}
 use Rattle.wdecode.specs.Gives.{Fails}
@@ -111,7 +111,7 @@ not_empty bytes x y s none is sp =
     absurd cc
 
 into : (last : ℕ) (m to : ModuleShape) (bytes after : List ℕ) (s : SectionShape) (ss : List SectionShape) → section.read bytes ≡ Some (s, after)
-    → SpellsAll section.spells bytes ss → IsOrdered last ss → put_all m ss ≡ to → EndsAs (last_after last s) (put m s) after to
+    → SpellsAll section.spells bytes ss → IsOrdered last ss → put_all m ss ≡ to → EndsAs (last_after last s) (with_section m s) after to
 into last m to bytes after s [] r sp ordered is =
     let first = read_section_id bytes after s r in
     let clash : ◌≡◌ {A = List ℕ} [] (section_id s ∷ first.0) = sym sp ∙ first.1 in
@@ -121,17 +121,17 @@ into last m to bytes after s (t ∷ ss) r sp ordered is =
       ss,
       subst (λ (w : List ℕ). SpellsAll section.spells w ss) (sym same.1) sp.4,
       subst (λ (w : SectionShape). IsOrdered (last_after last w) ss) (sym same.0) ordered.1,
-      ap (λ (w : SectionShape). put_all (put m w) ss) same.0 ∙ is,
+      ap (λ (w : SectionShape). put_all (with_section m w) ss) same.0 ∙ is,
     )
 
 pub one_more : (last : ℕ) (m : ModuleShape) (bytes after : List ℕ) (s : SectionShape) → section.read bytes ≡ Some (s, after) → may_follow last s ≡ true
-    → (to : ModuleShape) → EndsAs last m bytes to ↔ EndsAs (last_after last s) (put m s) after to
+    → (to : ModuleShape) → EndsAs last m bytes to ↔ EndsAs (last_after last s) (with_section m s) after to
 one_more last m bytes after s r ok to = (there, back)
   where
-    there : EndsAs last m bytes to → EndsAs (last_after last s) (put m s) after to
+    there : EndsAs last m bytes to → EndsAs (last_after last s) (with_section m s) after to
     there e = into last m to bytes after s e.0 r e.1 e.2 e.3
 
-    back : EndsAs (last_after last s) (put m s) after to → EndsAs last m bytes to
+    back : EndsAs (last_after last s) (with_section m s) after to → EndsAs last m bytes to
     back e = let f = section_agrees.sound bytes s after r in (s ∷ e.0, (f.0, after, f.2, f.1, e.1), (ok, e.2), e.3)
 
 pub unread : (last : ℕ) (bytes : List ℕ) (ss : List SectionShape) → 0 < length bytes → section.read bytes ≡ None → SpellsAll section.spells bytes ss → ⊥

@@ -93,13 +93,13 @@ opens_else s rest front r us h t is b o =
     (else_bytes h o.1 e.1 e.2 ∙ sym (ap (λ (w : List ℕ). w ++ r) is ∙ ap (λ (w : List ℕ). (0x04 ∷ h) ++ w) (o.5 ∙ ap (λ (w : List ℕ). o.1 ++ (0x05 ∷ w)) e.5)))
     (sym (else_tokens (OpenIf t) (flat o.0) (flat e.0) e.3) ∙ ap (λ (w : List Token). OpenIf t ∷ w) (sym (o.6 ∙ ap (λ (w : List Token). flat o.0 ++ (Else ∷ w)) e.6))) whole
 
-abbrev pub put : Token → List Token × List ℕ → Tokens
-put t x = Some (t ∷ x.0, x.1)
+abbrev pub with_section : Token → List Token × List ℕ → Tokens
+with_section t x = Some (t ∷ x.0, x.1)
 
 -- what is read after a token
-after : (read : Tokens) (t : Token) (ts : List Token) (rest : List ℕ) (P : List ℕ → List Token → Type 0) → ((us : List Token) (left : List ℕ) → read ≡ Some (us, left) → P left (t ∷ us)) → (read >>= put t) ≡ Some (ts, rest) → P rest ts
+after : (read : Tokens) (t : Token) (ts : List Token) (rest : List ℕ) (P : List ℕ → List Token → Type 0) → ((us : List Token) (left : List ℕ) → read ≡ Some (us, left) → P left (t ∷ us)) → (read >>= with_section t) ≡ Some (ts, rest) → P rest ts
 after read t ts rest P made e =
-    let f = bind_some read (put t) (ts, rest) e in
+    let f = bind_some read (with_section t) (ts, rest) e in
     let whole : List Token × List ℕ = (t ∷ f.0.0, f.0.1) in
     let want : List Token × List ℕ = (ts, rest) in
     let same : whole ≡ want = cc in

@@ -5,7 +5,7 @@ use Rattle.wsyntax.specs.Brackets.{lies_within}
 use Rattle.wsyntax.specs.Instructions.{Op, Token, Do}
 use Rattle.wsyntax.specs.declared.instructions.Token.{Token as Held}
 use Rattle.wsyntax.specs.declared.opcode.Opcode.{Opcode}
-use Rattle.wsyntax.specs.Modules.{seen}
+use Rattle.wsyntax.specs.Modules.{decoded_as}
 use Rattle.wsyntax.specs.Binary.Instructions.{immediates}
 use Rattle.wsyntax.specs.Binary.Nesting.{seen_as, token_at}
 use Rattle.wdecode.specs.declared.fault.Fault.{Fault}
@@ -33,7 +33,7 @@ Begins bytes t rest = ◌≡◌ {A = Option (Token × List ℕ)} (token_at bytes
 -- The token that is given and the bytes after it are what is read after an opcode, whatever targets there are.
 abbrev pub GivesImmediates : Result (Held × Bor (List ℕ)) Fault → Opcode → List ℕ → Type 0
 GivesImmediates r opcode bytes =
-    (targets : List ℕ) → Gives (λ x. (seen targets x.0, x.1.now)) r (seen_as Do ((immediates opcode).read bytes))
+    (targets : List ℕ) → Gives (λ x. (decoded_as targets x.0, x.1.now)) r (seen_as Do ((immediates opcode).read bytes))
 
 -- A token that is given, seen by the targets and whatever goes after them, is what is read; the targets grew.
 abbrev pub GivesToken : {X : Type 0} → (List ℕ → X → Token) → List ℕ → List ℕ → X × List ℕ
@@ -45,9 +45,9 @@ GivesToken look old new x read = (added : List ℕ) × (new ≡ old ++ added)
 abbrev pub ReadsPlain : List ℕ → Held → List ℕ → Type 0
 ReadsPlain bytes t rest = (length rest < length bytes)
     × ((targets : ℕ) → IsTrue (lies_within targets t))
-    × ((targets : List ℕ) → (i : Op) × (seen targets t ≡ Do i) × (token_at bytes ≡ Some (Do i, rest)))
+    × ((targets : List ℕ) → (i : Op) × (decoded_as targets t ≡ Do i) × (token_at bytes ≡ Some (Do i, rest)))
 
 -- A token is read that opens a block.
 abbrev pub ReadsBracket : List ℕ → Held → List ℕ → Type 0
 ReadsBracket bytes t rest = (length rest < length bytes)
-    × ((targets : List ℕ) → token_at bytes ≡ Some (seen targets t, rest))
+    × ((targets : List ℕ) → token_at bytes ≡ Some (decoded_as targets t, rest))

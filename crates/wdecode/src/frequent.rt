@@ -122,7 +122,7 @@ pub fn br(bytes: &[u8]) -> Option<(Token, &[u8])>
     ensures { IfSome result (λ x. ReadsPlain (0x0C ∷ bytes.now) x.0 x.1.now) }
 {
     let (label, rest) = wnum::front_u32(bytes)?;
-    Some((Token::Br(Label::unchecked(label)), rest))
+    Some((Token::Br(Label::unresolved(label)), rest))
 }
 
 /// The branch `br_if`, its opcode apart, and the bytes after it.
@@ -131,7 +131,7 @@ pub fn br_if(bytes: &[u8]) -> Option<(Token, &[u8])>
     ensures { IfSome result (λ x. ReadsPlain (0x0D ∷ bytes.now) x.0 x.1.now) }
 {
     let (label, rest) = wnum::front_u32(bytes)?;
-    Some((Token::BrIf(Label::unchecked(label)), rest))
+    Some((Token::BrIf(Label::unresolved(label)), rest))
 }
 
 /// A call, its opcode apart, and the bytes after it.

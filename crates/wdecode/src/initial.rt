@@ -3,7 +3,7 @@ ghost use Rattle.std.specs.Prelude.{◌≡◌, ◌≢◌, ℕ, List, [], ◌∷�
 ghost use Rattle.wdecode.specs.Gives.{Begins, Gives, rest_of};
 ghost use Rattle.wsyntax.specs.Instructions.{End};
 ghost use Rattle.wsyntax.specs.Initials.{is_const_or_get, has_constant_form, tokens_read};
-ghost use Rattle.wsyntax.specs.Modules.{seen, initial_tokens};
+ghost use Rattle.wsyntax.specs.Modules.{decoded_as, initial_tokens};
 ghost use Rattle.wsyntax.specs.Binary.Nesting.{expression};
 
 use crate::fault::Fault;
@@ -16,8 +16,8 @@ use wsyntax::{ConstExpr, OtherExpression, Token};
 
 /// The expression of that instruction and its end, where it is a constant or a `global.get`.
 fn alone<'a>(token: Token) -> Option<ConstExpr<'a>>
-    ensures form { (targets : List ℕ) → is_some result ≡ is_const_or_get (seen targets token) }
-    ensures tokens { IfSome result (λ x. (targets : List ℕ) → initial_tokens x ≡ seen targets token ∷ End ∷ []) }
+    ensures form { (targets : List ℕ) → is_some result ≡ is_const_or_get (decoded_as targets token) }
+    ensures tokens { IfSome result (λ x. (targets : List ℕ) → initial_tokens x ≡ decoded_as targets token ∷ End ∷ []) }
 {
     match token {
         Token::I32Const(number) => Some(ConstExpr::I32Const(number)),
@@ -58,9 +58,9 @@ pub fn number_at(bytes: &[u8]) -> Option<(i32, &[u8])>
 /// stands there, or the token is neither a constant nor a `global.get`.
 #[inline(always)]
 fn single_at(token: Token, bytes: &[u8]) -> Option<(ConstExpr<'_>, &[u8])>
-    ensures form { (whole targets : List ℕ) → Begins whole (seen targets token) bytes.now
+    ensures form { (whole targets : List ℕ) → Begins whole (decoded_as targets token) bytes.now
         → is_some result ≡ has_constant_form (tokens_read whole) }
-    ensures single { (whole targets : List ℕ) → Begins whole (seen targets token) bytes.now
+    ensures single { (whole targets : List ℕ) → Begins whole (decoded_as targets token) bytes.now
         → IfSome result (λ x. expression.read whole ≡ Some (initial_tokens x.0, x.1.now)) }
 {
     let after = after_byte(op::END, bytes)?;
@@ -78,7 +78,7 @@ fn end_of<'a>(
     first: Token,
     bytes: &'a [u8],
 ) -> Result<&'a [u8], Fault>
-    ensures { (whole : List ℕ) → Begins whole (seen targets.old.items first) bytes.now
+    ensures { (whole : List ℕ) → Begins whole (decoded_as targets.old.items first) bytes.now
         → Gives (λ x. x.now) result (rest_of (expression.read whole)) }
 {
     let mut opened = SmallVec::new(alloc);

@@ -6,7 +6,7 @@ ghost use Rattle.wsyntax.specs.BranchTables.{Follows, FollowAll};
 ghost use Rattle.wdecode.specs.BranchTables.{targets_of};
 ghost use Rattle.wdecode.specs.Gives.{Gives, GivesImmediates, GivesToken, Fails};
 ghost use Rattle.wsyntax.specs.Instructions.{Do};
-ghost use Rattle.wsyntax.specs.Modules.{seen, tokens_of};
+ghost use Rattle.wsyntax.specs.Modules.{decoded_as, tokens_of};
 ghost use Rattle.wsyntax.specs.Binary.Production.{exactly, raw, times_at as times_of};
 ghost use Rattle.wsyntax.specs.Binary.Values.{u32 as u32_production};
 ghost use Rattle.wsyntax.specs.Binary.Instructions.{immediates, plain_instruction};
@@ -145,7 +145,7 @@ macro_rules! with_label {
     ($made:path, $bytes:expr) => {
         match u32_at($bytes) {
             Err(fault) => Err(fault),
-            Ok((index, rest)) => Ok(($made(Label::unchecked(index)), rest)),
+            Ok((index, rest)) => Ok(($made(Label::unresolved(index)), rest)),
         }
     };
 }
@@ -223,7 +223,7 @@ fn labels_at<'a>(targets: &mut Vec<u32>, count: u32, bytes: &'a [u8]) -> Result<
 
 /// The labels and the default of `br_table`, after its opcode; they go to the end of the targets.
 fn table_at<'a>(targets: &mut Vec<u32>, bytes: &'a [u8]) -> Result<(Token, &'a [u8]), Fault>
-    ensures ok { IfOk result (λ x. GivesToken seen targets.old.items targets.new.items (x.0, x.1.now)
+    ensures ok { IfOk result (λ x. GivesToken decoded_as targets.old.items targets.new.items (x.0, x.1.now)
         (seen_as Do ((immediates Opcode.BrTable).read bytes.now))) }
     ensures within { IfOk result (λ x. IsTrue (lies_within (length targets.new.items) x.0)) }
     ensures follows { IfOk result (λ x. Follows (length targets.old.items) x.0 (length targets.new.items)) }
@@ -241,7 +241,7 @@ fn table_at<'a>(targets: &mut Vec<u32>, bytes: &'a [u8]) -> Result<(Token, &'a [
 #[inline(always)]
 #[tactic(auto, unfolding(wsyntax::specs::Binary::Instructions::plain_instruction))]
 fn plain_at<'a>(targets: &mut Vec<u32>, bytes: &'a [u8]) -> Result<(Token, &'a [u8]), Fault>
-    ensures ok { IfOk result (λ x. GivesToken seen targets.old.items targets.new.items (x.0, x.1.now)
+    ensures ok { IfOk result (λ x. GivesToken decoded_as targets.old.items targets.new.items (x.0, x.1.now)
         (seen_as Do (plain_instruction.read bytes.now))) }
     ensures within { IfOk result (λ x. IsTrue (lies_within (length targets.new.items) x.0)) }
     ensures follows { IfOk result (λ x. Follows (length targets.old.items) x.0 (length targets.new.items)) }
@@ -264,7 +264,7 @@ fn plain_at<'a>(targets: &mut Vec<u32>, bytes: &'a [u8]) -> Result<(Token, &'a [
 #[inline(always)]
 #[tactic(auto, unfolding(wsyntax::specs::Binary::Nesting::token_at))]
 fn front_token<'a>(targets: &mut Vec<u32>, bytes: &'a [u8]) -> Result<(Token, &'a [u8]), Fault>
-    ensures ok { IfOk result (λ x. GivesToken seen targets.old.items targets.new.items (x.0, x.1.now) (token_of bytes.now)) }
+    ensures ok { IfOk result (λ x. GivesToken decoded_as targets.old.items targets.new.items (x.0, x.1.now) (token_of bytes.now)) }
     ensures within { IfOk result (λ x. IsTrue (lies_within (length targets.new.items) x.0)) }
     ensures follows { IfOk result (λ x. Follows (length targets.old.items) x.0 (length targets.new.items)) }
     ensures err { IfErr result (λ e. Fails e (token_of bytes.now)) }
@@ -300,7 +300,7 @@ fn front_token<'a>(targets: &mut Vec<u32>, bytes: &'a [u8]) -> Result<(Token, &'
 /// A caller that decodes and checks in one loop calls this, and `enter` with what is open.
 #[inline(always)]
 pub fn token_at<'a>(targets: &mut Vec<u32>, bytes: &'a [u8]) -> Result<(Token, &'a [u8]), Fault>
-    ensures ok { IfOk result (λ x. GivesToken seen targets.old.items targets.new.items (x.0, x.1.now) (token_of bytes.now)) }
+    ensures ok { IfOk result (λ x. GivesToken decoded_as targets.old.items targets.new.items (x.0, x.1.now) (token_of bytes.now)) }
     ensures within { IfOk result (λ x. IsTrue (lies_within (length targets.new.items) x.0)) }
     ensures follows { IfOk result (λ x. Follows (length targets.old.items) x.0 (length targets.new.items)) }
     ensures shorter { IfOk result (λ x. length x.1.now < length bytes.now) }
@@ -316,9 +316,9 @@ pub fn token_at<'a>(targets: &mut Vec<u32>, bytes: &'a [u8]) -> Result<(Token, &
 /// The answer is whether the token closes the expression; Malformed says that it cannot stand there.
 #[inline(always)]
 pub fn enter(opened: &mut SmallVec<bool, FEW_BLOCKS>, token: Token) -> Result<bool, Fault>
-    ensures ok { IfOk result (λ closed. (targets : List ℕ) → nest (reverse opened.old.items) (seen targets token)
+    ensures ok { IfOk result (λ closed. (targets : List ℕ) → nest (reverse opened.old.items) (decoded_as targets token)
         ≡ Some (if closed then None else Some (reverse opened.new.items))) }
-    ensures err { IfErr result (λ e. (targets : List ℕ) → Fails e (nest (reverse opened.old.items) (seen targets token))) }
+    ensures err { IfErr result (λ e. (targets : List ℕ) → Fails e (nest (reverse opened.old.items) (decoded_as targets token))) }
 {
     match token {
         Token::Block(_) | Token::Loop(_) => {

@@ -3,7 +3,7 @@ ghost use Rattle.std.specs.Prelude.{◌≡◌, ℕ, List, [], IsTrue, map};
 ghost use Rattle.wsyntax.specs.declared.instructions.Token.{Token as Held};
 ghost use Rattle.wsyntax.specs.Brackets.{closes};
 ghost use Rattle.wsyntax.specs.Instructions.{Code, flat_body};
-ghost use Rattle.wsyntax.specs.Modules.{ModuleShape, BodyShape, seen};
+ghost use Rattle.wsyntax.specs.Modules.{ModuleShape, BodyShape, decoded_as};
 ghost use Rattle.wsyntax.specs.Binary.Production.{Agrees};
 ghost use Rattle.wsyntax.specs.Binary.Values.{blob, name};
 ghost use Rattle.wsyntax.specs.Binary.Types.{val_type, block_type, func_type, limits, table_type, global_type};
@@ -37,7 +37,7 @@ pub fn grammar_is_read()
 /// The tokens that an expression holds are those of one tree, the last end after them.
 pub fn tokens_have_one_tree()
     ensures some { (targets : List ℕ) (tokens : List Held) → IsTrue (closes [] tokens)
-        → (code : Code) × (map (seen targets) tokens ≡ flat_body code) }
+        → (code : Code) × (map (decoded_as targets) tokens ≡ flat_body code) }
     ensures one { (c d : Code) → flat_body c ≡ flat_body d → c ≡ d }
 {}
 

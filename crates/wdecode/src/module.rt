@@ -4,7 +4,7 @@ ghost use Rattle.wdecode.specs.Held.{section_shape};
 ghost use Rattle.wdecode.specs.declared.section.TheConstants.{DATA_SECTION};
 ghost use Rattle.wdecode.specs.Fronts.{with_segments, EndsAs, EndsFront, EndsProgress, IsBeforeSegments, stops};
 ghost use Rattle.wsyntax.specs.Modules.{ModuleShape, DataShape, module_shape};
-ghost use Rattle.wsyntax.specs.Binary.Shell.{put as put_section, empty_module as empty_shape, strip, header, Shell, module_limit};
+ghost use Rattle.wsyntax.specs.Binary.Shell.{with_section as put_section, empty_module as empty_shape, strip, header, Shell, module_limit};
 
 use crate::fault::{DecodeFault, Fault};
 use crate::front::ModuleHead;
@@ -13,7 +13,7 @@ use std::alloc::Global as Alloc;
 use wsyntax::{MODULE_LIMIT, Module};
 
 /// A module with what a section holds.
-fn put<'a>(whole: Module<'a>, section: Section<'a>) -> Module<'a>
+fn with_section<'a>(whole: Module<'a>, section: Section<'a>) -> Module<'a>
     ensures { module_shape result ≡ put_section (module_shape whole.entry) (section_shape section.entry) }
 {
     match section {
@@ -81,7 +81,7 @@ pub(crate) fn advance<'a>(
             }
             last = id;
         }
-        module = put(module, section);
+        module = with_section(module, section);
         rest = after;
     }
     Ok(Progress { module, last, rest })

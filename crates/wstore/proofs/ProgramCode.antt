@@ -12,12 +12,12 @@ use Rattle.wsyntax.specs.Modules.{ModuleShape}
 use Rattle.wsyntax.specs.Binary.Sections.{locals_of}
 use Rattle.wsyntax.specs.Validation.ModuleContext.{type_at, empty_type, declared}
 use Rattle.wsyntax.specs.Validation.Rules.{FunctionsTyped}
-use Rattle.checked_body.specs.declared.function_shape.FunctionShape.{FunctionShape}
+use Rattle.checked_body.specs.declared.frame_layout.FrameLayout.{FrameLayout}
 use Rattle.checked_body.specs.declared.body.CheckedBody.{CheckedBody}
 use Rattle.refinement.specs.Machine.{Body, Program}
 use Rattle.interpreter.specs.declared.code.Code.{Code}
 use Rattle.interpreter.specs.Code.{body_of, bodies_of, program_of, IsShapeOf, IsCode}
-use Rattle.accepted_module.specs.FunctionShapes.{function_shape, function_shapes}
+use Rattle.accepted_module.specs.FrameLayouts.{frame_layout, frame_layouts}
 use Rattle.accepted_module.specs.TypeIds.{AreTypeIds}
 use Rattle.wstore.proofs.Programs.{StandsAt, body_at}
 
@@ -32,21 +32,21 @@ length-declared (r ∷ rs) =
     ∙ ap (λ n. n + length (declared rs)) (sym (length-replicate r.count r.content))
     ∙ sym (length-append (replicate r.count r.content) (declared rs))
 
-shape_is : (t : FuncType) (n : ℕ) (c : CheckedBody) → IsShapeOf (body_of t c) (function_shape t n c)
+shape_is : (t : FuncType) (n : ℕ) (c : CheckedBody) → IsShapeOf (body_of t c) (frame_layout t n c)
 shape_is t n c = record { params = refl; declared = length-declared c.body.runs.items; results = refl }
 
-shape_at : (types : List FuncType) (numbers fs : List ℕ) (all : List CheckedBody) (f y : ℕ) (c : CheckedBody) (s : FunctionShape) → slice_get (function_shapes types numbers fs all) f ≡ Some s
-    → slice_get fs f ≡ Some y → slice_get all f ≡ Some c → function_shape (type_at types y) (slice_index numbers y) c ≡ s
+shape_at : (types : List FuncType) (numbers fs : List ℕ) (all : List CheckedBody) (f y : ℕ) (c : CheckedBody) (s : FrameLayout) → slice_get (frame_layouts types numbers fs all) f ≡ Some s
+    → slice_get fs f ≡ Some y → slice_get all f ≡ Some c → frame_layout (type_at types y) (slice_index numbers y) c ≡ s
 shape_at types numbers [] all f y c s e is there = absurd cc
 shape_at types numbers (z ∷ zs) [] f y c s e is there = absurd cc
 shape_at types numbers (z ∷ zs) (b ∷ bs) zero y c s e is there =
     let at : z ≡ y = cc in
     let of : b ≡ c = cc in
-    let first : function_shape (type_at types z) (slice_index numbers z) b ≡ s = cc in
-    ap (λ k. function_shape (type_at types k) (slice_index numbers k) c) (sym at) ∙ ap (λ k. function_shape (type_at types z) (slice_index numbers z) k) (sym of) ∙ first
+    let first : frame_layout (type_at types z) (slice_index numbers z) b ≡ s = cc in
+    ap (λ k. frame_layout (type_at types k) (slice_index numbers k) c) (sym at) ∙ ap (λ k. frame_layout (type_at types z) (slice_index numbers z) k) (sym of) ∙ first
 shape_at types numbers (z ∷ zs) (b ∷ bs) (suc f) y c s e is there = shape_at types numbers zs bs f y c s e is there
 
-shapes_count : (types : List FuncType) (numbers fs : List ℕ) (all : List CheckedBody) → length fs ≡ length all → length (function_shapes types numbers fs all) ≡ length all
+shapes_count : (types : List FuncType) (numbers fs : List ℕ) (all : List CheckedBody) → length fs ≡ length all → length (frame_layouts types numbers fs all) ≡ length all
 shapes_count types numbers [] [] e = refl
 shapes_count types numbers [] (c ∷ cs) e = absurd (omega arith)
 shapes_count types numbers (y ∷ ys) [] e = refl
@@ -79,7 +79,7 @@ pub record HasParts (c : Code) (m : ModuleShape) (numbers : List ℕ) (all : Lis
   pub types : c.types.now ≡ m.types
   pub functions : c.functions.now ≡ m.functions
   pub bodies : c.bodies.now ≡ all
-  pub shapes : c.shapes.now ≡ function_shapes m.types numbers m.functions all
+  pub shapes : c.shapes.now ≡ frame_layouts m.types numbers m.functions all
   pub type_ids : c.type_ids.now ≡ numbers
 
 pub parts_program : (c : Code) (m : ModuleShape) (numbers : List ℕ) (all : List CheckedBody) → HasParts c m numbers all → program_of c ≡ record { types = m.types; bodies = bodies_of m.types m.functions all }
@@ -96,7 +96,7 @@ is_code c m numbers all h rule count n =
     let program = parts_program c m numbers all h in
     let stands : (f : ℕ) (b : Body) → slice_get (program_of c).bodies f ≡ Some b → StandsAt m.types m.functions all f b =
     λ f b e. body_at m.types m.functions all f b (ap (λ (p : Program). slice_get p.bodies f) (sym program) ∙ e) in
-    let shaped : (f : ℕ) (s : FunctionShape) → slice_get c.shapes.now f ≡ Some s → slice_get (function_shapes m.types numbers m.functions all) f ≡ Some s =
+    let shaped : (f : ℕ) (s : FrameLayout) → slice_get c.shapes.now f ≡ Some s → slice_get (frame_layouts m.types numbers m.functions all) f ≡ Some s =
     λ f s e. ap (λ ss. slice_get ss f) (sym h.shapes) ∙ e in
     record {
       count = ap length h.functions ∙ count ∙ ap length (sym h.bodies);
@@ -111,7 +111,7 @@ is_code c m numbers all h rule count n =
       type_ids = λ f b s y t k eb es et ek.
           let at = stands f b eb in
           let shape = shape_at m.types numbers m.functions all f at.of_type at.checked s (shaped f s es) at.typed at.there in
-          ap (λ (x : FunctionShape). nat_eq x.type_id k) (sym shape)
+          ap (λ (x : FrameLayout). nat_eq x.type_id k) (sym shape)
           ∙ numbers_tell m.types numbers at.of_type y k t n (function_type m f at.of_type rule at.typed) (ap (λ (p : Program). slice_get p.types y) (sym program) ∙ et) (ap (λ ks. slice_get ks y) (sym h.type_ids) ∙ ek)
           ∙ ap (λ (x : Body). same_func_type (x.function).func_type t) at.same;
     }

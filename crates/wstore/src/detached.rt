@@ -5,13 +5,13 @@ ghost use Rattle.wstore.specs.Detached.{IsDetached, IsInstanceOf};
 
 use crate::instance::Instance;
 use accepted_module::Accepted;
-use interpreter::StoreParts;
+use interpreter::InstanceState;
 use memory::CleanMem;
 
 /// An instance without its module: the parts of its store, and the marks of the calls that ran on it. It borrows nothing.
 #[derive(Drop)]
 pub struct Detached {
-    pub(crate) parts: StoreParts,
+    pub(crate) parts: InstanceState,
     /// What was lent, where the module has no memory.
     pub(crate) lent: CleanMem,
     /// Whether a call ran out of memory.

@@ -26,7 +26,7 @@ fn code_of<'a>(accepted: &'a Accepted<'_>) -> Code<'a>
         types: &module.types,
         functions: &module.functions,
         bodies: accepted.bodies(),
-        shapes: accepted.function_shapes(),
+        shapes: accepted.frame_layouts(),
         type_ids: accepted.type_ids(),
     }
 }

@@ -4,13 +4,13 @@ ghost use Rattle.wsyntax.specs.Execution.Start.{fresh_store};
 ghost use Rattle.soundness.specs.Slots.{slot_store};
 ghost use Rattle.interpreter.specs.Seen.{seen};
 ghost use Rattle.interpreter.specs.Buffers.{room_with};
-ghost use Rattle.accepted_module.specs.Layouts.{IsLayoutOf};
+ghost use Rattle.accepted_module.specs.InitialStates.{IsLayoutOf};
 ghost use Rattle.wstore.specs.LaidOut.{IsLaidOut};
 
 use crate::memory_part::module_memory;
 use crate::table_part::module_table;
-use accepted_module::Layout;
-use interpreter::StoreParts;
+use accepted_module::InitialState;
+use interpreter::InstanceState;
 use memory::CleanMem;
 use std::alloc::Global;
 use wsyntax::Module;
@@ -20,10 +20,10 @@ use wsyntax::Module;
 pub(crate) fn fresh_parts(
     alloc: Global,
     module: &Module<'_>,
-    layout: &Layout,
+    layout: &InitialState,
     pages: u32,
     clean: CleanMem,
-) -> Result<(StoreParts, CleanMem), CleanMem>
+) -> Result<(InstanceState, CleanMem), CleanMem>
     requires allowed { IsLaidOut pages (module_shape «module».now) }
     requires laid { IsLayoutOf (module_shape «module».now) layout.now }
     ensures fresh { IfOk result (λ r. seen r.0 ≡ slot_store (fresh_store pages (module_shape «module».now))) }
@@ -37,7 +37,7 @@ pub(crate) fn fresh_parts(
         return Err(clean);
     };
     let (memory, lent) = module_memory(alloc, module, layout, pages, clean)?;
-    let parts = StoreParts {
+    let parts = InstanceState {
         memory,
         table,
         globals,

@@ -8,14 +8,14 @@ ghost use Rattle.accepted_module.specs.Judgement.{shapes_of};
 ghost use Rattle.wstore.specs.Held.{IsHeld};
 
 use accepted_module::Accepted;
-use interpreter::StoreParts;
+use interpreter::InstanceState;
 use memory::CleanMem;
 
 /// An instance of an accepted module (4.2.5): the parts of its store, and the marks of the calls that run on it.
 #[derive(Drop)]
 pub struct Instance<'a> {
     pub(crate) accepted: &'a Accepted<'a>,
-    pub(crate) parts: StoreParts,
+    pub(crate) parts: InstanceState,
     /// What was lent, where the module has no memory. Else it is empty.
     pub(crate) lent: CleanMem,
     /// Whether a call ran out of memory.
@@ -63,7 +63,7 @@ impl<'a> Instance<'a> {
             failed: _,
             dispatches: _,
         } = self;
-        let StoreParts {
+        let InstanceState {
             memory,
             table: _,
             globals: _,

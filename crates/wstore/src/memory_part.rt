@@ -8,12 +8,12 @@ ghost use Rattle.wsyntax.specs.Modules.{module_shape};
 ghost use Rattle.wsyntax.specs.Execution.Start.{layout_of};
 ghost use Rattle.interpreter.specs.Seen.{memory_of};
 ghost use Rattle.interpreter.specs.Buffers.{room_with};
-ghost use Rattle.accepted_module.specs.Layouts.{IsLayoutOf};
+ghost use Rattle.accepted_module.specs.InitialStates.{IsLayoutOf};
 ghost use Rattle.accepted_module.specs.Segments.{data_segments, places_of};
 ghost use Rattle.wstore.specs.Buffers.{with_bytes};
 ghost use Rattle.wstore.specs.LaidOut.{IsLaidOut};
 
-use accepted_module::Layout;
+use accepted_module::InitialState;
 use memory::{CleanMem, LinearMemory};
 use std::alloc::Global;
 use wsyntax::{Data, Limits, Module};
@@ -69,7 +69,7 @@ pub(crate) fn fresh_memory(
 pub(crate) fn module_memory(
     alloc: Global,
     module: &Module<'_>,
-    layout: &Layout,
+    layout: &InitialState,
     pages: u32,
     clean: CleanMem,
 ) -> Result<(Option<LinearMemory>, CleanMem), CleanMem>

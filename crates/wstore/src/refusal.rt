@@ -2,16 +2,16 @@ ghost use Rattle.std.specs.Prelude.{◌≡◌, option_map, List, Some, None};
 ghost use Rattle.wsyntax.specs.Modules.{module_shape, BodyShape};
 ghost use Rattle.wsyntax.specs.Execution.Start.{start_refusal, has_floats};
 ghost use Rattle.wsyntax.specs.StartRefusals.{refusal_of};
-ghost use Rattle.accepted_module.specs.Layouts.{IsLayoutOf};
+ghost use Rattle.accepted_module.specs.InitialStates.{IsLayoutOf};
 
-use accepted_module::{Layout, memory_pages, table_size};
+use accepted_module::{InitialState, memory_pages, table_size};
 use wsyntax::{Module, StartRefusal, TABLE_LIMIT};
 
 /// Why there is no instance of a module, the refusal of the least number where there are several. `uses_floats` says whether
 /// the module mentions floats. It takes constant time.
 pub(crate) fn refusal(
     module: &Module<'_>,
-    layout: &Layout,
+    layout: &InitialState,
     uses_floats: bool,
     pages: u32,
 ) -> Option<StartRefusal>
@@ -31,7 +31,7 @@ pub(crate) fn refusal(
     if memory_pages(module) > pages {
         return Some(StartRefusal::MemoryLimit);
     }
-    if let Some(segment) = layout.element_outside() {
+    if let Some(segment) = layout.first_out_of_bounds_elem() {
         return Some(StartRefusal::ElementOutside(segment));
     }
     if let Some(segment) = layout.data_outside() {

@@ -6,12 +6,12 @@ ghost use Rattle.wsyntax.specs.Execution.Store.{SetTo, Unset};
 ghost use Rattle.interpreter.specs.Seen.{entry_of};
 ghost use Rattle.wsyntax.specs.Modules.{module_shape};
 ghost use Rattle.wsyntax.specs.Execution.Start.{layout_of};
-ghost use Rattle.accepted_module.specs.Layouts.{IsLayoutOf};
+ghost use Rattle.accepted_module.specs.InitialStates.{IsLayoutOf};
 ghost use Rattle.accepted_module.specs.Segments.{element_segments, places_of};
 ghost use Rattle.accepted_module.specs.Sizes.{table_size};
 ghost use Rattle.accepted_module.specs.Images.{entry_in};
 
-use accepted_module::Layout;
+use accepted_module::InitialState;
 use interpreter::TableEntry;
 use std::alloc::{AllocError, Global};
 use wsyntax::{Elements, Module, Table};
@@ -82,7 +82,7 @@ fn copied_table(alloc: Global, kept: &[Option<u32>]) -> Result<Vec<TableEntry>, 
 pub(crate) fn module_table(
     alloc: Global,
     module: &Module<'_>,
-    layout: &Layout,
+    layout: &InitialState,
 ) -> Result<Option<Vec<TableEntry>>, AllocError>
     requires within { AllWithin (table_size (module_shape «module».now)) (layout_of (module_shape «module».now)).elements }
     requires laid { IsLayoutOf (module_shape «module».now) layout.now }

@@ -4,7 +4,7 @@ use Rattle.wnum.specs.Arithmetic.{unsigned}
 use Rattle.wsyntax.specs.Types.{I32, I64, F32, F64, FuncType, Limits, GlobalType}
 use Rattle.wsyntax.specs.Instructions.{Token, Do, OpenBlock, OpenLoop, OpenIf, Else, End, Unreachable, Nop, Return, Br, BrIf, Call, CallIndirect, BrTable, Drop, Select, LocalGet, LocalSet, LocalTee, GlobalGet, GlobalSet, MemoryLoad, MemoryStore, MemorySize, MemoryGrow, Const, Numeric}
 use Rattle.wsyntax.specs.Table.{num_op, load_access, store_access, little_endian}
-use Rattle.wsyntax.specs.declared.instructions.Destination.TheVariants.{Short}
+use Rattle.wsyntax.specs.declared.instructions.BranchTarget.TheVariants.{Short}
 use Rattle.wsyntax.specs.declared.instructions.Token.{Token as Flat}
 use Rattle.wsyntax.specs.declared.instructions.Token.TheVariants as flat
 use Rattle.wsyntax.specs.HeldElement.{HeldElement}
@@ -26,48 +26,48 @@ use Rattle.wsyntax.specs.declared.module.Body.{Body}
 -- Tokens.
 
 -- 2.4 the token of a tree that a token of the code stands for, whatever the check has written into it; a branch table's labels lie in the list of targets, its default after them
-abbrev pub seen : List ℕ → Flat → Token
-seen targets flat.Unreachable = Do Unreachable
-seen targets flat.Nop = Do Nop
-seen targets (flat.Block t) = OpenBlock t
-seen targets (flat.Loop t) = OpenLoop t
-seen targets (flat.If t target) = OpenIf t
-seen targets (flat.Else target) = Else
-seen targets flat.End = End
-seen targets (flat.Br l) = Do (Br l.index)
-seen targets (flat.BrIf l) = Do (BrIf l.index)
-seen targets (flat.BrTable count first) = Do (BrTable (slice_range targets first (first + count)) (slice_index_or targets (first + count) 0))
-seen targets flat.Return = Do Return
-seen targets (flat.Call f) = Do (Call f)
-seen targets (flat.CallIndirect y) = Do (CallIndirect y)
-seen targets flat.Drop = Do Drop
-seen targets flat.Select = Do Select
-seen targets (flat.LocalGet x) = Do (LocalGet x)
-seen targets (flat.LocalSet x) = Do (LocalSet x)
-seen targets (flat.LocalTee x) = Do (LocalTee x)
-seen targets (flat.GlobalGet x) = Do (GlobalGet x)
-seen targets (flat.GlobalSet x) = Do (GlobalSet x)
-seen targets (flat.Load l align offset) = Do (MemoryLoad (load_access l align offset))
-seen targets (flat.Store s align offset) = Do (MemoryStore (store_access s align offset))
-seen targets flat.MemorySize = Do MemorySize
-seen targets flat.MemoryGrow = Do MemoryGrow
-seen targets (flat.I32Const n) = Do (Const I32 (unsigned 32 n))
-seen targets (flat.I64Const n) = Do (Const I64 (unsigned 64 n))
-seen targets (flat.F32Const bytes) = Do (Const F32 (little_endian bytes))
-seen targets (flat.F64Const bytes) = Do (Const F64 (little_endian bytes))
-seen targets (flat.Numeric f) = Do (Numeric (num_op f))
+abbrev pub decoded_as : List ℕ → Flat → Token
+decoded_as targets flat.Unreachable = Do Unreachable
+decoded_as targets flat.Nop = Do Nop
+decoded_as targets (flat.Block t) = OpenBlock t
+decoded_as targets (flat.Loop t) = OpenLoop t
+decoded_as targets (flat.If t target) = OpenIf t
+decoded_as targets (flat.Else target) = Else
+decoded_as targets flat.End = End
+decoded_as targets (flat.Br l) = Do (Br l.index)
+decoded_as targets (flat.BrIf l) = Do (BrIf l.index)
+decoded_as targets (flat.BrTable count first) = Do (BrTable (slice_range targets first (first + count)) (slice_index_or targets (first + count) 0))
+decoded_as targets flat.Return = Do Return
+decoded_as targets (flat.Call f) = Do (Call f)
+decoded_as targets (flat.CallIndirect y) = Do (CallIndirect y)
+decoded_as targets flat.Drop = Do Drop
+decoded_as targets flat.Select = Do Select
+decoded_as targets (flat.LocalGet x) = Do (LocalGet x)
+decoded_as targets (flat.LocalSet x) = Do (LocalSet x)
+decoded_as targets (flat.LocalTee x) = Do (LocalTee x)
+decoded_as targets (flat.GlobalGet x) = Do (GlobalGet x)
+decoded_as targets (flat.GlobalSet x) = Do (GlobalSet x)
+decoded_as targets (flat.Load l align offset) = Do (MemoryLoad (load_access l align offset))
+decoded_as targets (flat.Store s align offset) = Do (MemoryStore (store_access s align offset))
+decoded_as targets flat.MemorySize = Do MemorySize
+decoded_as targets flat.MemoryGrow = Do MemoryGrow
+decoded_as targets (flat.I32Const n) = Do (Const I32 (unsigned 32 n))
+decoded_as targets (flat.I64Const n) = Do (Const I64 (unsigned 64 n))
+decoded_as targets (flat.F32Const bytes) = Do (Const F32 (little_endian bytes))
+decoded_as targets (flat.F64Const bytes) = Do (Const F64 (little_endian bytes))
+decoded_as targets (flat.Numeric f) = Do (Numeric (num_op f))
 
 -- the token without what the check of its body writes into it
-abbrev pub unchecked : Flat → Flat
-unchecked (flat.If t target) = flat.If t 0
-unchecked (flat.Else target) = flat.Else 0
-unchecked (flat.Br l) = flat.Br (record { index = l.index; destination = Short 0 0 0 })
-unchecked (flat.BrIf l) = flat.BrIf (record { index = l.index; destination = Short 0 0 0 })
-unchecked t = t
+abbrev pub unresolved : Flat → Flat
+unresolved (flat.If t target) = flat.If t 0
+unresolved (flat.Else target) = flat.Else 0
+unresolved (flat.Br l) = flat.Br (record { index = l.index; destination = Short 0 0 0 })
+unresolved (flat.BrIf l) = flat.BrIf (record { index = l.index; destination = Short 0 0 0 })
+unresolved t = t
 
 -- 2.4.6 the tokens that an expression of the code holds
 abbrev pub tokens_of : Expression → List Token
-tokens_of e = map (seen e.targets.items) e.tokens.items
+tokens_of e = map (decoded_as e.targets.items) e.tokens.items
 
 -- 3.3.7.2 the instruction of an expression of one constant, or of one global.get
 abbrev pub constant_instruction : ConstExpr → Option Flat
@@ -80,11 +80,11 @@ constant_instruction (initial.Other e) = None
 
 -- 2.5.6 to 2.5.8 the tokens of the expression of a first value or an offset
 abbrev pub initial_tokens : ConstExpr → List Token
-initial_tokens (initial.I32Const n) = seen [] (flat.I32Const n) ∷ End ∷ []
-initial_tokens (initial.I64Const n) = seen [] (flat.I64Const n) ∷ End ∷ []
-initial_tokens (initial.F32Const bytes) = seen [] (flat.F32Const bytes) ∷ End ∷ []
-initial_tokens (initial.F64Const bytes) = seen [] (flat.F64Const bytes) ∷ End ∷ []
-initial_tokens (initial.GlobalGet x) = seen [] (flat.GlobalGet x) ∷ End ∷ []
+initial_tokens (initial.I32Const n) = decoded_as [] (flat.I32Const n) ∷ End ∷ []
+initial_tokens (initial.I64Const n) = decoded_as [] (flat.I64Const n) ∷ End ∷ []
+initial_tokens (initial.F32Const bytes) = decoded_as [] (flat.F32Const bytes) ∷ End ∷ []
+initial_tokens (initial.F64Const bytes) = decoded_as [] (flat.F64Const bytes) ∷ End ∷ []
+initial_tokens (initial.GlobalGet x) = decoded_as [] (flat.GlobalGet x) ∷ End ∷ []
 initial_tokens (initial.Other e) = tokens_read e.bytes.now
 
 -- 2.5 modules.

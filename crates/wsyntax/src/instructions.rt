@@ -178,7 +178,7 @@ pub enum Store {
 
 /// Where a branch goes on, as the check of its body writes it into the token. It is no part of the instruction.
 #[derive(Clone, Copy, Debug, PartialEq, Eq)]
-pub enum Destination {
+pub enum BranchTarget {
     /// At the token of number `target`, with `arity` operands kept above `height` others.
     Short { arity: u8, height: u16, target: u32 },
     /// It is this one of the body's long branches.
@@ -189,7 +189,7 @@ pub enum Destination {
 #[derive(Clone, Copy, Debug, PartialEq, Eq)]
 pub struct Label {
     pub index: u32,
-    pub destination: Destination,
+    pub destination: BranchTarget,
 }
 
 impl Label {
@@ -197,12 +197,12 @@ impl Label {
 
     /// A label whose body is not checked yet.
     #[inline(always)]
-    pub fn unchecked(index: u32) -> Self
+    pub fn unresolved(index: u32) -> Self
         ensures { result.index ≡ index }
     {
         Label {
             index,
-            destination: Destination::Short {
+            destination: BranchTarget::Short {
                 arity: 0,
                 height: 0,
                 target: 0,

@@ -35,7 +35,7 @@ pub use bounds::{
 pub use elements::{Element, Elements};
 pub use func_types::{FuncType, FuncTypes};
 pub use instruction_row::{Immediates, Row};
-pub use instructions::{BlockType, Destination, Label, Load, Operator, Store, Token};
+pub use instructions::{BlockType, BranchTarget, Label, Load, Operator, Store, Token};
 pub use module::{
     Body, ConstExpr, Data, Export, ExportKind, Expression, Global, Import, ImportKind, LocalRun,
     Module, Table,

@@ -7,7 +7,7 @@ use Rattle.wsyntax.specs.declared.types.ValType.{ValType}
 use Rattle.wsyntax.specs.Types.{FuncType, same_type}
 use Rattle.wsyntax.specs.Instructions.{Token, Do, OpenBlock, OpenLoop, OpenIf, Else, End}
 use Rattle.wsyntax.specs.Validation.Context.{Stack, enter, leave, Context, body_context, block_sig}
-use Rattle.wsyntax.specs.Validation.Algorithm.{Rule, Takes, Ends, Drops, Selects, rule, Operands, fits, split, take_any, take_one, take_all, put, fresh, join, apply, ends_with, Frame, context_in, open_frame, may_lack_else, pass_on, step, start, run}
+use Rattle.wsyntax.specs.Validation.Algorithm.{Rule, Takes, Ends, Drops, Selects, rule, Operands, fits, split, pop_any, pop_one, pop_all, push_list, fresh, join, apply, ends_with, Frame, context_in, open_frame, may_lack_else, pass_on, step, start, run}
 use Rattle.wsyntax.specs.Validation.Laws.{IsKnown, AreKnown, ReachedIsKnown}
 use Rattle.soundness.proofs.Chapter3.Basics.{on_some, when_some}
 
@@ -35,21 +35,21 @@ split_known (y ∷ ys) false x h e = go (h refl).0 (h refl).1
         let b : ys ≡ map Some ts = cc in
         subst (λ z. Taken false z) (same_Some _ _ e) record { left = λ e1. (ts, b); same = refl; taken = λ e1. (t, a) }
 
-any_known : (o : Operands) (x : Option ValType × Operands) → IsKnown o → take_any o ≡ Some x → Taken o.is_dead x
+any_known : (o : Operands) (x : Option ValType × Operands) → IsKnown o → pop_any o ≡ Some x → Taken o.is_dead x
 any_known o x h e = split_known o.known o.is_dead x h e
 
-one_known : (t : ValType) (o o1 : Operands) → IsKnown o → take_one t o ≡ Some o1 → IsKnown o1 × (o1.is_dead ≡ o.is_dead)
+one_known : (t : ValType) (o o1 : Operands) → IsKnown o → pop_one t o ≡ Some o1 → IsKnown o1 × (o1.is_dead ≡ o.is_dead)
 one_known t o o1 h e =
-    let x = on_some (take_any o) _ o1 e in
+    let x = on_some (pop_any o) _ o1 e in
     let y = when_some (fits x.0.0 t) (Some x.0.1) o1 x.2 in
     let k = any_known o x.0 h x.1 in
     subst (λ z. IsKnown z × (z.is_dead ≡ o.is_dead)) (same_Some _ _ y.1) (k.left, k.same)
 
-all_known : (p : Stack) (o o1 : Operands) → IsKnown o → take_all p o ≡ Some o1 → IsKnown o1
+all_known : (p : Stack) (o o1 : Operands) → IsKnown o → pop_all p o ≡ Some o1 → IsKnown o1
 all_known [] o o1 h e = subst (λ z. IsKnown z) (same_Some _ _ e) h
-all_known (t ∷ p) o o1 h e = let x = on_some (take_one t o) (take_all p) o1 e in all_known p x.0 o1 (one_known t o x.0 h x.1).0 x.2
+all_known (t ∷ p) o o1 h e = let x = on_some (pop_one t o) (pop_all p) o1 e in all_known p x.0 o1 (one_known t o x.0 h x.1).0 x.2
 
-put_known : (q : Stack) (o : Operands) → IsKnown o → IsKnown (put q o)
+put_known : (q : Stack) (o : Operands) → IsKnown o → IsKnown (push_list q o)
 put_known q o h = λ e. let k = h e in (q ++ k.0, ap (λ z. map Some q ++ z) k.1 ∙ sym (map-append Some q k.0))
 
 fresh_known : (p : Stack) → IsKnown (fresh p)
@@ -62,15 +62,15 @@ join_known x y z t u ex ey e =
 
 apply_known : (r : Rule) (o o1 : Operands) → IsKnown o → apply r o ≡ Some o1 → IsKnown o1
 apply_known (Takes p q) o o1 h e =
-    let x = on_some (take_all p o) _ o1 e in
+    let x = on_some (pop_all p o) _ o1 e in
     subst (λ z. IsKnown z) (same_Some _ _ x.2) (put_known q x.0 (all_known p o x.0 h x.1))
-apply_known (Ends p) o o1 h e = let x = on_some (take_all p o) _ o1 e in subst (λ z. IsKnown z) (same_Some _ _ x.2) (dead_known [])
+apply_known (Ends p) o o1 h e = let x = on_some (pop_all p o) _ o1 e in subst (λ z. IsKnown z) (same_Some _ _ x.2) (dead_known [])
 apply_known Drops o o1 h e =
-    let x = on_some (take_any o) _ o1 e in subst (λ z. IsKnown z) (same_Some _ _ x.2) (any_known o x.0 h x.1).left
+    let x = on_some (pop_any o) _ o1 e in subst (λ z. IsKnown z) (same_Some _ _ x.2) (any_known o x.0 h x.1).left
 apply_known Selects o o1 h e =
-    let a = on_some (take_one I32 o) _ o1 e in
-    let x = on_some (take_any a.0) _ o1 a.2 in
-    let y = on_some (take_any x.0.1) _ o1 x.2 in
+    let a = on_some (pop_one I32 o) _ o1 e in
+    let x = on_some (pop_any a.0) _ o1 a.2 in
+    let y = on_some (pop_any x.0.1) _ o1 x.2 in
     let z = on_some (join x.0.0 y.0.0) _ o1 y.2 in
     let ka = one_known I32 o a.0 h a.1 in
     let kx = any_known a.0 x.0 ka.0 x.1 in
@@ -89,7 +89,7 @@ apply_known Selects o o1 h e =
 
 opened_known : (is_then : Bool) (label : Stack) (s : FuncType) (f : Frame) (fs gs : List Frame) (o : Operands) → IsKnown o → AreKnown fs → open_frame is_then label s f fs o ≡ Some gs → AreKnown gs
 opened_known is_then label s f fs gs o h k e =
-    let x = on_some (take_all (enter s) o) _ gs e in
+    let x = on_some (pop_all (enter s) o) _ gs e in
     subst (λ z. AreKnown z) (same_Some _ _ x.2) (fresh_known (enter s), (all_known (enter s) o x.0 h x.1, k))
 
 pass_known : (r : Stack) (fs : List Frame) → AreKnown fs → AreKnown (pass_on r fs)
@@ -108,7 +108,7 @@ step_known C (OpenLoop t) (f ∷ fs) gs k e =
     let s = on_some (block_sig C.types t) _ gs e in opened_known false (enter s.0) s.0 f fs gs f.operands k.0 k.1 s.2
 step_known C (OpenIf t) (f ∷ fs) gs k e =
     let s = on_some (block_sig C.types t) _ gs e in
-    let o = on_some (take_one I32 f.operands) _ gs s.2 in
+    let o = on_some (pop_one I32 f.operands) _ gs s.2 in
     opened_known true (leave s.0) s.0 f fs gs o.0 (one_known I32 f.operands o.0 k.0 o.1).0 k.1 o.2
 step_known C Else (f ∷ fs) gs k e =
     let a = when_some f.is_then _ gs e in

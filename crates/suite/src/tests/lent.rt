@@ -7,7 +7,7 @@ use std::sync::Wait;
 use std::test::Fail;
 use std::thread::Threads;
 use verdict::{Accepted, judge};
-use wsyntax::{Destination, ExportKind, GlobalType, ImportKind, Label, LocalRun, Token, ValType};
+use wsyntax::{BranchTarget, ExportKind, GlobalType, ImportKind, Label, LocalRun, Token, ValType};
 
 /// (module (import "m" "f" (func)) (import "m" "g" (global i64)) (memory 1) (export "a" (func 1))
 ///   (func (param i32) (result i32) (local i64 i64)
@@ -93,7 +93,7 @@ fn lends_locals_and_tokens<R: Abort>(rt: &R, accepted: &Accepted<'_>) -> Result<
 fn lends_the_place_of_a_branch<R: Abort>(rt: &R, accepted: &Accepted<'_>) -> Result<(), Fail> {
     let body = accepted.body(1).ok_or("no body")?;
     // on after the block's end, with one operand above the 5
-    let destination = Destination::Short {
+    let destination = BranchTarget::Short {
         arity: 1,
         height: 1,
         target: 8,
@@ -141,7 +141,7 @@ fn lends_no_other_body<R: Abort>(rt: &R, accepted: &Accepted<'_>) {
 }
 
 fn lends_the_shapes_of_functions<R: Abort>(rt: &R, accepted: &Accepted<'_>) -> Result<(), Fail> {
-    let [first, second] = accepted.function_shapes() else {
+    let [first, second] = accepted.frame_layouts() else {
         return Err("two shapes".into());
     };
     assert_eq!(rt;

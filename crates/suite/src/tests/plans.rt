@@ -62,7 +62,7 @@ const THIRD: Refusal = Refusal::Body {
     refusal: BodyRefusal::IllTyped { at: 0 },
 };
 
-const LATE: Refusal = Refusal::Body {
+const FIRST_LATE_RULE: Refusal = Refusal::Body {
     func: 900,
     refusal: BodyRefusal::IllTyped { at: 100 },
 };
@@ -92,7 +92,11 @@ fn a_long_body_is_named_behind_no_other(rt: HostRuntime) -> Result<(), Fail> {
             let examined = examine(&rt, rt.alloc(), &both, plan, &Quiet);
             assert_eq!(rt; examined, Err(THIRD), "{workers} workers, {piece} a piece");
             let examined = examine(&rt, rt.alloc(), &alone, plan, &Quiet);
-            assert_eq!(rt; examined, Err(LATE), "{workers} workers, {piece} a piece");
+            assert_eq!(rt;
+                examined,
+                Err(FIRST_LATE_RULE),
+                "{workers} workers, {piece} a piece"
+            );
         }
     }
     Ok(())

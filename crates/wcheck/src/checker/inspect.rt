@@ -1,6 +1,6 @@
 //! What a checker knows between two tokens, for a reader who asks why the next one is refused. No check of a body asks.
 ghost use Rattle.std.specs.Prelude.{◌≡◌, [], MatchOption, drop, reverse, option_map, slice_get};
-ghost use Rattle.wsyntax.specs.Modules.{seen};
+ghost use Rattle.wsyntax.specs.Modules.{decoded_as};
 ghost use Rattle.wsyntax.specs.Validation.Context.{block_sig};
 ghost use Rattle.wsyntax.specs.Validation.Algorithm.{context_in};
 ghost use Rattle.wcontext.specs.Lists.{pair_type};
@@ -61,7 +61,7 @@ impl<'a> Checker<'a> {
 
     /// Takes the topmost operand of the innermost frame, whatever its type: `Some(None)` is one whose type is not known. `None`:
     /// there is none.
-    pub fn take_operand(&mut self) -> Option<Option<ValType>>
+    pub fn pop_operand(&mut self) -> Option<Option<ValType>>
         ensures taken { TakesOperand self.old.frames self.new.frames result }
         ensures same { self.new ≡ with_frames self.old self.new.frames }
     {
@@ -71,7 +71,7 @@ impl<'a> Checker<'a> {
         if self.control.operands.is_empty() && !self.control.operands.is_unreachable() {
             return None;
         }
-        self.control.operands.take_any()
+        self.control.operands.pop_any()
     }
 
     /// Leaves the innermost frame, with its operands.
@@ -93,7 +93,7 @@ impl<'a> Checker<'a> {
     pub fn rule(&self, token: Token, targets: &[u32]) -> Option<OperandRule>
         requires { self.now.frames ≡ [] → ⊥ }
         ensures { option_map (rule_of self.now.outside.types) result
-            ≡ token_rule (context_in self.now.inside self.now.frames) (seen targets.now token) }
+            ≡ token_rule (context_in self.now.inside self.now.frames) (decoded_as targets.now token) }
     {
         rule_of_token(
             &self.scope,

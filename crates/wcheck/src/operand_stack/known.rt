@@ -2,7 +2,7 @@
 //! then done nothing: the general rules decide. One comparison of lengths tells whether they are above the innermost frame's
 //! height, and a byte a type whether they fit.
 ghost use Rattle.std.specs.Prelude.{◌≡◌, [], ◌∷◌, true, false, Some};
-ghost use Rattle.wsyntax.specs.Validation.Algorithm.{Takes, Drops, apply, take_one};
+ghost use Rattle.wsyntax.specs.Validation.Algorithm.{Takes, Drops, apply, pop_one};
 
 use super::OperandStack;
 use crate::entry::{is_known, is_run, packed};
@@ -11,8 +11,8 @@ use wsyntax::ValType;
 impl OperandStack<'_> {
     /// Takes the topmost operand, if it is known to be of this type.
     #[inline(always)]
-    pub(crate) fn take_known(&mut self, t: ValType) -> bool
-        ensures above { result ≡ true → take_one t self.old.above ≡ Some self.new.above }
+    pub(crate) fn pop_known(&mut self, t: ValType) -> bool
+        ensures above { result ≡ true → pop_one t self.old.above ≡ Some self.new.above }
         ensures others { result ≡ false → self.new.above ≡ self.old.above }
         ensures below { self.new.below ≡ self.old.below }
         ensures types { self.new.types ≡ self.old.types }
@@ -80,7 +80,7 @@ impl OperandStack<'_> {
 
     /// Takes the two topmost operands, if they are known to be of the first type and, below it, of the second.
     #[inline(always)]
-    pub(crate) fn take_two_known(&mut self, t: ValType, u: ValType) -> bool
+    pub(crate) fn pop_two_known(&mut self, t: ValType, u: ValType) -> bool
         ensures above { result ≡ true → apply (Takes (t ∷ u ∷ []) []) self.old.above ≡ Some self.new.above }
         ensures others { result ≡ false → self.new.above ≡ self.old.above }
         ensures below { self.new.below ≡ self.old.below }
@@ -100,7 +100,7 @@ impl OperandStack<'_> {
 
     /// Puts an operand of this type on top. `false`: memory was refused.
     #[inline(always)]
-    pub(crate) fn put_known(&mut self, t: ValType) -> bool
+    pub(crate) fn push_known(&mut self, t: ValType) -> bool
         ensures above { result ≡ true → apply (Takes [] (t ∷ [])) self.old.above ≡ Some self.new.above }
         ensures others { result ≡ false → self.new.above ≡ self.old.above }
         ensures below { self.new.below ≡ self.old.below }

@@ -82,25 +82,25 @@ split [] true = Some (None, record { known = []; is_dead = true })
 split (x ∷ xs) d = Some (x, record { known = xs; is_dead = d })
 
 -- the topmost operand and the others, whatever its type
-abbrev pub take_any : Operands → Option (Option ValType × Operands)
-take_any o = split o.known o.is_dead
+abbrev pub pop_any : Operands → Option (Option ValType × Operands)
+pop_any o = split o.known o.is_dead
 
 -- the operands without the topmost, which is of this type
-abbrev pub take_one : ValType → Operands → Option Operands
-take_one t o = on (take_any o) (λ x. when (fits x.0 t) (Some x.1))
+abbrev pub pop_one : ValType → Operands → Option Operands
+pop_one t o = on (pop_any o) (λ x. when (fits x.0 t) (Some x.1))
 
 -- the operands without these
-abbrev pub take_all : Stack → Operands → Option Operands
-take_all [] o = Some o
-take_all (t ∷ ts) o = on (take_one t o) (take_all ts)
+abbrev pub pop_all : Stack → Operands → Option Operands
+pop_all [] o = Some o
+pop_all (t ∷ ts) o = on (pop_one t o) (pop_all ts)
 
 -- the operands with these on top
-abbrev pub put : Stack → Operands → Operands
-put ts o = record { known = map Some ts ++ o.known; is_dead = o.is_dead }
+abbrev pub push_list : Stack → Operands → Operands
+push_list ts o = record { known = map Some ts ++ o.known; is_dead = o.is_dead }
 
 -- the operands at the beginning of a frame
 abbrev pub fresh : Stack → Operands
-fresh ts = put ts record { known = []; is_dead = false }
+fresh ts = push_list ts record { known = []; is_dead = false }
 
 -- the type of both operands of a select, if they may be of one type
 abbrev pub join : Option ValType → Option ValType → Option (Option ValType)
@@ -110,11 +110,11 @@ join (Some t) (Some u) = when (same_type t u) (Some (Some t))
 
 -- 7.3 what a rule makes of the operands
 abbrev pub apply : Rule → Operands → Option Operands
-apply (Takes p q) o = on (take_all p o) (λ o1. Some (put q o1))
-apply (Ends p) o = on (take_all p o) (λ o1. Some record { known = []; is_dead = true })
-apply Drops o = on (take_any o) (λ x. Some x.1)
+apply (Takes p q) o = on (pop_all p o) (λ o1. Some (push_list q o1))
+apply (Ends p) o = on (pop_all p o) (λ o1. Some record { known = []; is_dead = true })
+apply Drops o = on (pop_any o) (λ x. Some x.1)
 apply Selects o =
-    on (take_one I32 o) (λ o1. on (take_any o1) (λ x. on (take_any x.1) (λ y. on (join x.0 y.0) (λ z. Some record { known = z ∷ y.1.known; is_dead = y.1.is_dead }))))
+    on (pop_one I32 o) (λ o1. on (pop_any o1) (λ x. on (pop_any x.1) (λ y. on (join x.0 y.0) (λ z. Some record { known = z ∷ y.1.known; is_dead = y.1.is_dead }))))
 
 -- nothing is there
 abbrev pub is_nil : {A : Type 0} → List A → Bool
@@ -128,7 +128,7 @@ is_used_up (Some o) = is_nil o.known
 
 -- the operands are exactly these
 abbrev pub ends_with : Stack → Operands → Bool
-ends_with r o = is_used_up (take_all r o)
+ends_with r o = is_used_up (pop_all r o)
 
 -- 7.3 a control frame: an open block, a loop, a branch of an if, or the function
 pub record Frame : Type 0 where
@@ -148,7 +148,7 @@ context_in C fs = record C { labels = map (λ f. f.label) fs }
 -- a frame more, whose parameters are taken from the operands
 abbrev pub open_frame : Bool → Stack → FuncType → Frame → List Frame → Operands → Option (List Frame)
 open_frame is_then label s f fs o =
-    on (take_all (enter s) o) (λ o1. Some (record { is_then = is_then; label = label; starts = enter s; gives = leave s; operands = fresh (enter s) } ∷ record f { operands = o1 } ∷ fs))
+    on (pop_all (enter s) o) (λ o1. Some (record { is_then = is_then; label = label; starts = enter s; gives = leave s; operands = fresh (enter s) } ∷ record f { operands = o1 } ∷ fs))
 
 -- where the else was not written, the empty branch gives what the if takes
 abbrev pub may_lack_else : Frame → Bool
@@ -157,7 +157,7 @@ may_lack_else f = elim f.is_then [ true ↦ ends_with f.gives (fresh f.starts) |
 -- the results of a frame go to the one outside
 abbrev pub pass_on : Stack → List Frame → List Frame
 pass_on r [] = []
-pass_on r (f ∷ fs) = record f { operands = put r f.operands } ∷ fs
+pass_on r (f ∷ fs) = record f { operands = push_list r f.operands } ∷ fs
 
 -- 7.3 one token, under these frames. Ours: an end that closes an if without else also asks that the empty else fits
 abbrev pub step : Context → Token → List Frame → Option (List Frame)
@@ -167,7 +167,7 @@ step C (Do i) (f ∷ fs) =
 step C (OpenBlock t) (f ∷ fs) = on (block_sig C.types t) (λ s. open_frame false (leave s) s f fs f.operands)
 step C (OpenLoop t) (f ∷ fs) = on (block_sig C.types t) (λ s. open_frame false (enter s) s f fs f.operands)
 step C (OpenIf t) (f ∷ fs) =
-    on (block_sig C.types t) (λ s. on (take_one I32 f.operands) (open_frame true (leave s) s f fs))
+    on (block_sig C.types t) (λ s. on (pop_one I32 f.operands) (open_frame true (leave s) s f fs))
 step C Else (f ∷ fs) =
     when f.is_then (when (ends_with f.gives f.operands) (Some (record f { is_then = false; operands = fresh f.starts } ∷ fs)))
 step C End (f ∷ fs) = when (ends_with f.gives f.operands) (when (may_lack_else f) (Some (pass_on f.gives fs)))

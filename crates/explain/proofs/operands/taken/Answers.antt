@@ -7,13 +7,13 @@ pub returns-in_default-clause-taken : goal.returns-in_default-clause-taken
 returns-in_default-clause-taken c =
     let l = c.loop-at in
     sym (append-nil l.operands.items)
-    ∙ ap (λ z. l.operands.items ++ z) (sym (none_taken l.checker.frames c.take_operand.new.self.frames (c.args.count - l.at) c.in_default.ensures.taken))
+    ∙ ap (λ z. l.operands.items ++ z) (sym (none_taken l.checker.frames c.pop_operand.new.self.frames (c.args.count - l.at) c.in_default.ensures.taken))
     ∙ l.invariant.taken
 
 pub loop-at-preserved : goal.loop-at-preserved
 loop-at-preserved c =
     let l = c.loop-at in
-    let fs = c.take_operand.new.self.frames in
+    let fs = c.pop_operand.new.self.frames in
     let x = c.in-Some.operand in
     record {
       taken = ap (λ z. z ++ topmost (c.args.count - (l.at + 1)) fs) c.in_ok-push.ensures.items

@@ -1,6 +1,6 @@
 use Rattle.std.proofs.Common.{◌∙◌, ap, reverse}
 use Rattle.std.proofs.lemmas.Result.{IfOk-weaker}
-use Rattle.wsyntax.specs.Modules.{seen}
+use Rattle.wsyntax.specs.Modules.{decoded_as}
 use Rattle.wcheck.specs.OperandRules.{rule_of}
 use Rattle.explain.specs.Typed.{asked}
 use Rattle.explain.proofs.Typings.{entered_block, entered_loop, entered_if, ruled}
@@ -24,5 +24,5 @@ returns-in-If c =
 pub returns-in_ok-operands-in-Some-rule : goal.returns-in_ok-operands-in-Some-rule
 returns-in_ok-operands-in-Some-rule c =
     let now = c.args.checker.now in
-    ruled now.inside (seen c.args.targets.now c.args.token) now.frames c.in-Some.frame (rule_of now.outside.types c.in-Some-rule.rule) (reverse c.in_ok-operands-in-Some-rule.operands.items)
+    ruled now.inside (decoded_as c.args.targets.now c.args.token) now.frames c.in-Some.frame (rule_of now.outside.types c.in-Some-rule.rule) (reverse c.in_ok-operands-in-Some-rule.operands.items)
     c.in-Some.ensures c.in-Some-rule.ensures (c.in_ok-operands-in-Some-rule.ensures ∙ ap (λ C. asked (rule_of C.types c.in-Some-rule.rule)) c.context.ensures.outside)

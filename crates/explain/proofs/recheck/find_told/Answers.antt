@@ -1,5 +1,5 @@
 use Rattle.std.proofs.Common.{subst, List, ℕ, IfSome}
-use Rattle.wsyntax.specs.Modules.{seen}
+use Rattle.wsyntax.specs.Modules.{decoded_as}
 use Rattle.explain.specs.Causes.{IsCause, IsCauseOf}
 use Rattle.explain.specs.Typed.{IsTypingIn}
 use Rattle.explain.proofs.Lefts.{first_of, token_read}
@@ -37,10 +37,10 @@ returns-clause-typing c =
           c.in_ok-rest.ensures.passed c.in_ok-begin.ensures.begun c.new-checker.ensures.outside c.deref.ensures.value;
       left = left;
       rest = c.in_ok-rest.ensures.left;
-      token = seen targets t;
+      token = decoded_as targets t;
       after = c.in_ok-token.after.now;
       next = token_read left c.in_ok-token.after.now targets t c.in_ok-token.ensures.ok.2;
-      so = subst (λ (ts : List ℕ). IsTypingIn now.inside (seen ts t) now.frames c.in_ok-typing.typing) c.deref-2.ensures.value c.in_ok-typing.ensures.typing;
+      so = subst (λ (ts : List ℕ). IsTypingIn now.inside (decoded_as ts t) now.frames c.in_ok-typing.typing) c.deref-2.ensures.value c.in_ok-typing.ensures.typing;
     }
 
 pub returns-clause-cause : goal.returns-clause-cause
@@ -52,8 +52,8 @@ returns-clause-cause c =
     let targets = c.token_at.new.targets.items in
     let t = c.in_ok-token.token in
     let left = c.in_ok-rest.rest.now in
-    let why = subst (λ (ts : List ℕ). IfSome c.in_ok-typing.cause (IsCause now.inside (seen ts t) now.frames)) c.deref-2.ensures.value c.in_ok-typing.ensures.cause in
-    some_more (IsCause now.inside (seen targets t) now.frames) (IsCauseOf C c.args.func c.args.body.now c.args.number) c.in_ok-typing.cause (λ x p. record {
+    let why = subst (λ (ts : List ℕ). IfSome c.in_ok-typing.cause (IsCause now.inside (decoded_as ts t) now.frames)) c.deref-2.ensures.value c.in_ok-typing.ensures.cause in
+    some_more (IsCause now.inside (decoded_as targets t) now.frames) (IsCauseOf C c.args.func c.args.body.now c.args.number) c.in_ok-typing.cause (λ x p. record {
       runs = runs;
       code = code;
       declared = c.in_ok-runs.ensures;
@@ -62,9 +62,9 @@ returns-clause-cause c =
           c.in_ok-rest.ensures.passed c.in_ok-begin.ensures.begun c.new-checker.ensures.outside c.deref.ensures.value;
       left = left;
       rest = c.in_ok-rest.ensures.left;
-      token = seen targets t;
+      token = decoded_as targets t;
       after = c.in_ok-token.after.now;
       next = token_read left c.in_ok-token.after.now targets t c.in_ok-token.ensures.ok.2;
       so = p;
-      refused = refused now.inside (seen targets t) now.frames x p;
+      refused = refused now.inside (decoded_as targets t) now.frames x p;
     }) why

@@ -29,15 +29,15 @@ returns-then-memory_pages-pages-clause-reason c = λ e.
     let above : c.args.pages < memory_pages (module_shape c.args.module.now) = omega (arith, c.memory_pages.ensures) in
     at_memory c.args.pages (module_shape c.args.module.now) (shapes_of c.args.bodies.now) none (sym e ∙ c.if-uses_floats.false) table above
 
-pub returns-in-Some-element_outside-clause-reason : goal.returns-in-Some-element_outside-clause-reason
-returns-in-Some-element_outside-clause-reason c = λ e.
+pub returns-in-Some-first_out_of_bounds_elem-clause-reason : goal.returns-in-Some-first_out_of_bounds_elem-clause-reason
+returns-in-Some-first_out_of_bounds_elem-clause-reason c = λ e.
     let p : Passes c.args.pages (module_shape c.args.module.now) (shapes_of c.args.bodies.now) = record {
       imports = no_import c.args.module.now.imports.items c.deref.result.now c.first.result c.deref.ensures.value c.first.ensures.value c.in_default.not-Some;
       floats = sym e ∙ c.if-uses_floats.false;
       table = omega (arith, c.table_size.ensures);
       memory = omega (arith, c.memory_pages.ensures);
     } in
-    at_element c.args.pages (module_shape c.args.module.now) (shapes_of c.args.bodies.now) c.in-Some-element_outside.segment p (sym c.in-Some-element_outside.is ∙ c.element_outside.ensures ∙ c.requires.element_outside)
+    at_element c.args.pages (module_shape c.args.module.now) (shapes_of c.args.bodies.now) c.in-Some-first_out_of_bounds_elem.segment p (sym c.in-Some-first_out_of_bounds_elem.is ∙ c.first_out_of_bounds_elem.ensures ∙ c.requires.first_out_of_bounds_elem)
 
 pub returns-in-Some-data_outside-clause-reason : goal.returns-in-Some-data_outside-clause-reason
 returns-in-Some-data_outside-clause-reason c = λ e.
@@ -47,7 +47,7 @@ returns-in-Some-data_outside-clause-reason c = λ e.
       table = omega (arith, c.table_size.ensures);
       memory = omega (arith, c.memory_pages.ensures);
     } in
-    at_data c.args.pages (module_shape c.args.module.now) (shapes_of c.args.bodies.now) c.in-Some-data_outside.segment p (none_of c.element_outside.result c.in_default-element_outside.not-Some ∙ c.element_outside.ensures ∙ c.requires.element_outside) (sym c.in-Some-data_outside.is ∙ c.data_outside.ensures ∙ c.requires.data_outside)
+    at_data c.args.pages (module_shape c.args.module.now) (shapes_of c.args.bodies.now) c.in-Some-data_outside.segment p (none_of c.first_out_of_bounds_elem.result c.in_default-first_out_of_bounds_elem.not-Some ∙ c.first_out_of_bounds_elem.ensures ∙ c.requires.first_out_of_bounds_elem) (sym c.in-Some-data_outside.is ∙ c.data_outside.ensures ∙ c.requires.data_outside)
 
 pub returns-clause-reason : goal.returns-clause-reason
 returns-clause-reason c = λ e.
@@ -57,4 +57,4 @@ returns-clause-reason c = λ e.
       table = omega (arith, c.table_size.ensures);
       memory = omega (arith, c.memory_pages.ensures);
     } in
-    at_none c.args.pages (module_shape c.args.module.now) (shapes_of c.args.bodies.now) p (none_of c.element_outside.result c.in_default-element_outside.not-Some ∙ c.element_outside.ensures ∙ c.requires.element_outside) (none_of c.data_outside.result c.in_default-data_outside.not-Some ∙ c.data_outside.ensures ∙ c.requires.data_outside)
+    at_none c.args.pages (module_shape c.args.module.now) (shapes_of c.args.bodies.now) p (none_of c.first_out_of_bounds_elem.result c.in_default-first_out_of_bounds_elem.not-Some ∙ c.first_out_of_bounds_elem.ensures ∙ c.requires.first_out_of_bounds_elem) (none_of c.data_outside.result c.in_default-data_outside.not-Some ∙ c.data_outside.ensures ∙ c.requires.data_outside)

@@ -15,7 +15,7 @@ pub returns-in-Ok-write_text-clause-printed : goal.returns-in-Ok-write_text-clau
 returns-in-Ok-write_text-clause-printed g c =
     let value : length c.as_slice.result.now ≡ length c.in-Ok.taken.items = ap length c.as_slice.ensures.value in
     let count : c.len-count.result ≡ length c.in-Ok.taken.items = omega (arith, c.len-count.ensures, c.as_slice.ensures.len, value) in
-    round_printed (g.S.Source.holds c.args.source.now) c.args.names.now c.in-Ok.taken.items c.as_slice.result.now c.in-Ok-judged_lines.lines.text.items c.as_slice-2.result.now c.in-Ok-judged_lines.lines.outcome
+    round_printed (g.S.Source.holds c.args.source.now) c.args.names.now c.in-Ok.taken.items c.as_slice.result.now c.in-Ok-judged_lines.lines.text.items c.as_slice-2.result.now c.in-Ok-judged_lines.lines.file_outcome
     (g.S.Source.asked c.args.source.now) (g.S.Source.asked c.take_round.new.source) (g.O.Write.contents c.args.out.now) (g.O.Write.contents c.write_text.new.out) c.len-count.result
     count c.as_slice.ensures.value c.as_slice-2.ensures.value c.in-Ok.ensures.taken c.in-Ok-judged_lines.ensures c.in-Ok.ensures.logged c.in-Ok-write_text.ensures.text
 
@@ -23,6 +23,6 @@ pub returns-clause-begun : goal.returns-clause-begun
 returns-clause-begun g c =
     let value : length c.as_slice.result.now ≡ length c.in-Ok.taken.items = ap length c.as_slice.ensures.value in
     let count : c.len-count.result ≡ length c.in-Ok.taken.items = omega (arith, c.len-count.ensures, c.as_slice.ensures.len, value) in
-    round_begun (g.S.Source.holds c.args.source.now) c.args.names.now c.in-Ok.taken.items c.as_slice.result.now c.in-Ok-judged_lines.lines.text.items c.as_slice-2.result.now c.in-Ok-judged_lines.lines.outcome
+    round_begun (g.S.Source.holds c.args.source.now) c.args.names.now c.in-Ok.taken.items c.as_slice.result.now c.in-Ok-judged_lines.lines.text.items c.as_slice-2.result.now c.in-Ok-judged_lines.lines.file_outcome
     (g.S.Source.asked c.args.source.now) (g.S.Source.asked c.take_round.new.source) (g.O.Write.contents c.args.out.now) (g.O.Write.contents c.write_text.new.out) c.len-count.result
     count c.as_slice.ensures.value c.as_slice-2.ensures.value c.in-Ok.ensures.taken c.in-Ok-judged_lines.ensures c.in-Ok.ensures.logged c.in-Err-write_text.ensures.text

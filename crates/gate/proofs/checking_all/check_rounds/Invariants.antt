@@ -11,5 +11,5 @@ invariant-loop-done g l = record {
   within : l.done ≤ length l.names;
   same : (other : List ℕ) → g.S.Source.holds l.source other ≡ g.S.Source.holds l.initial.source other;
   printed : PrintsFiles (g.S.Source.holds l.initial.source) (take l.done (map (λ n. n.now) l.names)) (g.S.Source.asked l.initial.source) (g.S.Source.asked l.source)
-      (g.O.Write.contents l.initial.out) (g.O.Write.contents l.out) l.outcome;
+      (g.O.Write.contents l.initial.out) (g.O.Write.contents l.out) l.file_outcome;
 }

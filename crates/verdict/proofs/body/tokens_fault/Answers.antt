@@ -1,6 +1,6 @@
 use Rattle.std.proofs.Common.{refl, sym, arith, ◌≡◌, ◌∙◌, ◌-◌, ◌+◌, suc, [], length, reverse}
 use Rattle.std.proofs.lemmas.Result.{err_from_is_err_and}
-use Rattle.wsyntax.specs.Modules.{seen}
+use Rattle.wsyntax.specs.Modules.{decoded_as}
 use Rattle.verdict.proofs.WholeBodies.{begins, reads_one, closes_body, closes_early, none_there, cannot_stand, unclosed, read_lent}
 use Rattle.verdict.proofs.body.tokens_fault.Goals as goal
 
@@ -26,7 +26,7 @@ returns-in_err-closes-clause-verdict c =
     let fuel : n - l.at ≡ suc (n - (l.at + 1)) = omega (arith, c.loop-at-test.true) in
     let lent = c.deref.result.now in
     let read = read_lent l.rest.now c.in_ok-token.after.now c.token_at.new.targets.items lent c.in_ok-token.token (c.in_ok-token.ensures.ok.2 []) c.deref.ensures.value in
-    rw (p.1, p.2) (cannot_stand c.args.checker.now l.checker c.args.known l.so_far c.args.bytes.now l.rest.now c.in_ok-token.after.now l.at (n - l.at) (n - (l.at + 1)) (reverse l.opened.items) (seen lent c.in_ok-token.token) c.in_err-closes.field-0.0 fuel read (c.in_err-closes.ensures.err lent) l.invariant.tells_same)
+    rw (p.1, p.2) (cannot_stand c.args.checker.now l.checker c.args.known l.so_far c.args.bytes.now l.rest.now c.in_ok-token.after.now l.at (n - l.at) (n - (l.at + 1)) (reverse l.opened.items) (decoded_as lent c.in_ok-token.token) c.in_err-closes.field-0.0 fuel read (c.in_err-closes.ensures.err lent) l.invariant.tells_same)
 
 pub returns-then-is_empty-clause-verdict : goal.returns-then-is_empty-clause-verdict
 returns-then-is_empty-clause-verdict c =
@@ -35,7 +35,7 @@ returns-then-is_empty-clause-verdict c =
     let fuel : n - l.at ≡ suc (n - (l.at + 1)) = omega (arith, c.loop-at-test.true) in
     let lent = c.deref.result.now in
     let read = read_lent l.rest.now c.in_ok-token.after.now c.token_at.new.targets.items lent c.in_ok-token.token (c.in_ok-token.ensures.ok.2 []) c.deref.ensures.value in
-    closes_body c.args.checker.now l.checker c.look.new.checker c.args.known l.so_far c.in_ok-so_far.so_far c.args.bytes.now l.rest.now c.in_ok-token.after.now l.at (n - l.at) (n - (l.at + 1)) _ (reverse l.opened.items) (reverse c.enter.new.opened.items) (seen lent c.in_ok-token.token) c.in_ok-closes.closes _ fuel refl read c.in_ok-so_far.ensures.goes_on (c.in_ok-closes.ensures.ok lent) c.if-closes.true (sym c.is_empty.ensures ∙ c.if-is_empty.true) c.at_end.ensures l.invariant.tells_same
+    closes_body c.args.checker.now l.checker c.look.new.checker c.args.known l.so_far c.in_ok-so_far.so_far c.args.bytes.now l.rest.now c.in_ok-token.after.now l.at (n - l.at) (n - (l.at + 1)) _ (reverse l.opened.items) (reverse c.enter.new.opened.items) (decoded_as lent c.in_ok-token.token) c.in_ok-closes.closes _ fuel refl read c.in_ok-so_far.ensures.goes_on (c.in_ok-closes.ensures.ok lent) c.if-closes.true (sym c.is_empty.ensures ∙ c.if-is_empty.true) c.at_end.ensures l.invariant.tells_same
 
 pub returns-then-closes-clause-verdict : goal.returns-then-closes-clause-verdict
 returns-then-closes-clause-verdict c =
@@ -44,7 +44,7 @@ returns-then-closes-clause-verdict c =
     let fuel : n - l.at ≡ suc (n - (l.at + 1)) = omega (arith, c.loop-at-test.true) in
     let lent = c.deref.result.now in
     let read = read_lent l.rest.now c.in_ok-token.after.now c.token_at.new.targets.items lent c.in_ok-token.token (c.in_ok-token.ensures.ok.2 []) c.deref.ensures.value in
-    closes_early c.args.checker.now l.checker c.look.new.checker c.args.known l.so_far c.in_ok-so_far.so_far c.args.bytes.now l.rest.now c.in_ok-token.after.now l.at (n - l.at) (n - (l.at + 1)) _ (reverse l.opened.items) (reverse c.enter.new.opened.items) (seen lent c.in_ok-token.token) c.in_ok-closes.closes fuel refl read c.in_ok-so_far.ensures.goes_on (c.in_ok-closes.ensures.ok lent) c.if-closes.true (sym c.is_empty.ensures ∙ c.if-is_empty.false) l.invariant.tells_same
+    closes_early c.args.checker.now l.checker c.look.new.checker c.args.known l.so_far c.in_ok-so_far.so_far c.args.bytes.now l.rest.now c.in_ok-token.after.now l.at (n - l.at) (n - (l.at + 1)) _ (reverse l.opened.items) (reverse c.enter.new.opened.items) (decoded_as lent c.in_ok-token.token) c.in_ok-closes.closes fuel refl read c.in_ok-so_far.ensures.goes_on (c.in_ok-closes.ensures.ok lent) c.if-closes.true (sym c.is_empty.ensures ∙ c.if-is_empty.false) l.invariant.tells_same
 
 pub loop-at-preserved : goal.loop-at-preserved
 loop-at-preserved c =
@@ -55,7 +55,7 @@ loop-at-preserved c =
     let read = read_lent l.rest.now c.in_ok-token.after.now c.token_at.new.targets.items lent c.in_ok-token.token (c.in_ok-token.ensures.ok.2 []) c.deref.ensures.value in
     record {
       outside = c.in_ok-so_far.ensures.outside ∙ l.invariant.outside;
-      tells_same = reads_one c.args.checker.now l.checker c.look.new.checker c.args.known l.so_far c.in_ok-so_far.so_far c.args.bytes.now l.rest.now c.in_ok-token.after.now l.at (n - l.at) (n - (l.at + 1)) _ (reverse l.opened.items) (reverse c.enter.new.opened.items) (seen lent c.in_ok-token.token) c.in_ok-closes.closes fuel refl read c.in_ok-so_far.ensures.goes_on (c.in_ok-closes.ensures.ok lent) c.if-closes.false l.invariant.tells_same;
+      tells_same = reads_one c.args.checker.now l.checker c.look.new.checker c.args.known l.so_far c.in_ok-so_far.so_far c.args.bytes.now l.rest.now c.in_ok-token.after.now l.at (n - l.at) (n - (l.at + 1)) _ (reverse l.opened.items) (reverse c.enter.new.opened.items) (decoded_as lent c.in_ok-token.token) c.in_ok-closes.closes fuel refl read c.in_ok-so_far.ensures.goes_on (c.in_ok-closes.ensures.ok lent) c.if-closes.false l.invariant.tells_same;
     }
 
 pub returns-clause-verdict : goal.returns-clause-verdict

@@ -1,6 +1,6 @@
 use Rattle.std.proofs.Common.{Err, ap, sym, subst, arith}
 use Rattle.std.proofs.lemmas.List.{length-map}
-use Rattle.wsyntax.specs.Modules.{BodyShape, body_shape, seen}
+use Rattle.wsyntax.specs.Modules.{BodyShape, body_shape, decoded_as}
 use Rattle.wsyntax.specs.Binary.Shell.{SpellsBody, FewLocals}
 use Rattle.verdict.proofs.Bodies.{refusal_malformed, refusal_too_many}
 use Rattle.verdict.proofs.Checks.{typed_refusal, faulty_refusal, checked_from}
@@ -19,7 +19,7 @@ pub check_body-requires-clause-few : goal.check_body-requires-clause-few
 check_body-requires-clause-few c =
     let b = c.in-Ok.body in
     let within = tokens_fit c.args.bytes.now (body_shape b) c.in-Ok.ensures.found.0 in
-    let count = length-map b.code.tokens.items (seen b.code.targets.items) in
+    let count = length-map b.code.tokens.items (decoded_as b.code.targets.items) in
     omega (arith, within, count, c.requires.short)
 
 pub returns-in-Ok-check_body-clause-verdict : goal.returns-in-Ok-check_body-clause-verdict

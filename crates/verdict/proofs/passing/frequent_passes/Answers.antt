@@ -42,17 +42,17 @@ returns-in-Some-block_start-3-clause-passes c = looked_open c.args.checker.now c
 pub returns-in-Some-br-clause-passes : goal.returns-in-Some-br-clause-passes
 returns-in-Some-br-clause-passes c = looked c.args.checker.now c.step-in-Some-br.new.self c.args.bytes.now c.in-Some-br.after [] 12 c.in-Some-br.token c.step-in-Some-br.result c.looked_at-in-Some-br.result c.in-len1-up.len_at_least c.in-12.is c.in-Some-br.ensures c.step-in-Some-br.ensures.step c.step-in-Some-br.ensures.same c.looked_at-in-Some-br.ensures
 
-pub returns-then-step_known-clause-passes : goal.returns-then-step_known-clause-passes
-returns-then-step_known-clause-passes c = looked_known c.args.checker.now c.step_known.new.self c.args.bytes.now c.in-Some-variable_at.after.now 32 c.in-Some-variable_at.token c.in-len1-up.len_at_least c.in-32.is c.in-Some-variable_at.ensures (c.step_known.ensures.step c.if-step_known.true) (c.step_known.ensures.same c.if-step_known.true)
+pub returns-then-try_fast_step-clause-passes : goal.returns-then-try_fast_step-clause-passes
+returns-then-try_fast_step-clause-passes c = looked_known c.args.checker.now c.try_fast_step.new.self c.args.bytes.now c.in-Some-variable_at.after.now 32 c.in-Some-variable_at.token c.in-len1-up.len_at_least c.in-32.is c.in-Some-variable_at.ensures (c.try_fast_step.ensures.step c.if-try_fast_step.true) (c.try_fast_step.ensures.same c.if-try_fast_step.true)
 
-pub returns-then-step_known-2-clause-passes : goal.returns-then-step_known-2-clause-passes
-returns-then-step_known-2-clause-passes c = looked_known c.args.checker.now c.step_known-in-Some-variable_at-2.new.self c.args.bytes.now c.in-Some-variable_at-2.after.now 33 c.in-Some-variable_at-2.token c.in-len1-up.len_at_least c.in-33.is c.in-Some-variable_at-2.ensures (c.step_known-in-Some-variable_at-2.ensures.step c.if-step_known-2.true) (c.step_known-in-Some-variable_at-2.ensures.same c.if-step_known-2.true)
+pub returns-then-try_fast_step-2-clause-passes : goal.returns-then-try_fast_step-2-clause-passes
+returns-then-try_fast_step-2-clause-passes c = looked_known c.args.checker.now c.try_fast_step-in-Some-variable_at-2.new.self c.args.bytes.now c.in-Some-variable_at-2.after.now 33 c.in-Some-variable_at-2.token c.in-len1-up.len_at_least c.in-33.is c.in-Some-variable_at-2.ensures (c.try_fast_step-in-Some-variable_at-2.ensures.step c.if-try_fast_step-2.true) (c.try_fast_step-in-Some-variable_at-2.ensures.same c.if-try_fast_step-2.true)
 
-pub returns-then-step_known-3-clause-passes : goal.returns-then-step_known-3-clause-passes
-returns-then-step_known-3-clause-passes c = looked_known c.args.checker.now c.step_known-in-Some-variable_at-3.new.self c.args.bytes.now c.in-Some-variable_at-3.after.now 34 c.in-Some-variable_at-3.token c.in-len1-up.len_at_least c.in-34.is c.in-Some-variable_at-3.ensures (c.step_known-in-Some-variable_at-3.ensures.step c.if-step_known-3.true) (c.step_known-in-Some-variable_at-3.ensures.same c.if-step_known-3.true)
+pub returns-then-try_fast_step-3-clause-passes : goal.returns-then-try_fast_step-3-clause-passes
+returns-then-try_fast_step-3-clause-passes c = looked_known c.args.checker.now c.try_fast_step-in-Some-variable_at-3.new.self c.args.bytes.now c.in-Some-variable_at-3.after.now 34 c.in-Some-variable_at-3.token c.in-len1-up.len_at_least c.in-34.is c.in-Some-variable_at-3.ensures (c.try_fast_step-in-Some-variable_at-3.ensures.step c.if-try_fast_step-3.true) (c.try_fast_step-in-Some-variable_at-3.ensures.same c.if-try_fast_step-3.true)
 
-pub returns-then-step_known-4-clause-passes : goal.returns-then-step_known-4-clause-passes
-returns-then-step_known-4-clause-passes c = looked_known c.args.checker.now c.step_known-in-Some-i32_const.new.self c.args.bytes.now c.in-Some-i32_const.after.now 65 c.in-Some-i32_const.token c.in-len1-up.len_at_least c.in-65.is c.in-Some-i32_const.ensures (c.step_known-in-Some-i32_const.ensures.step c.if-step_known-4.true) (c.step_known-in-Some-i32_const.ensures.same c.if-step_known-4.true)
+pub returns-then-try_fast_step-4-clause-passes : goal.returns-then-try_fast_step-4-clause-passes
+returns-then-try_fast_step-4-clause-passes c = looked_known c.args.checker.now c.try_fast_step-in-Some-i32_const.new.self c.args.bytes.now c.in-Some-i32_const.after.now 65 c.in-Some-i32_const.token c.in-len1-up.len_at_least c.in-65.is c.in-Some-i32_const.ensures (c.try_fast_step-in-Some-i32_const.ensures.step c.if-try_fast_step-4.true) (c.try_fast_step-in-Some-i32_const.ensures.same c.if-try_fast_step-4.true)
 
-pub returns-then-step_known-5-clause-passes : goal.returns-then-step_known-5-clause-passes
-returns-then-step_known-5-clause-passes c = looked_known c.args.checker.now c.step_known-in-Some-i64_const.new.self c.args.bytes.now c.in-Some-i64_const.after.now 66 c.in-Some-i64_const.token c.in-len1-up.len_at_least c.in-66.is c.in-Some-i64_const.ensures (c.step_known-in-Some-i64_const.ensures.step c.if-step_known-5.true) (c.step_known-in-Some-i64_const.ensures.same c.if-step_known-5.true)
+pub returns-then-try_fast_step-5-clause-passes : goal.returns-then-try_fast_step-5-clause-passes
+returns-then-try_fast_step-5-clause-passes c = looked_known c.args.checker.now c.try_fast_step-in-Some-i64_const.new.self c.args.bytes.now c.in-Some-i64_const.after.now 66 c.in-Some-i64_const.token c.in-len1-up.len_at_least c.in-66.is c.in-Some-i64_const.ensures (c.try_fast_step-in-Some-i64_const.ensures.step c.if-try_fast_step-5.true) (c.try_fast_step-in-Some-i64_const.ensures.same c.if-try_fast_step-5.true)

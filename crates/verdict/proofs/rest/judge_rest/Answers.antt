@@ -15,11 +15,11 @@ returns-in-Err-Rule c =
     let b = c.in-Err-Rule.ensures.broken c.in-Err-Rule.rule c.in-Err-Rule.field-0-is in
     rw c.refused-in-Err-Rule.ensures (with_segments m ends.0, (ends.0, ends.1, refl), least_of_whole m ends.0 c.in-Err-Rule.rule b.0 b.1)
 
-pub returns-in-Ok-check_late : goal.returns-in-Ok-check_late
-returns-in-Ok-check_late c =
+pub returns-in-Ok-check_rules_after_code : goal.returns-in-Ok-check_rules_after_code
+returns-in-Ok-check_rules_after_code c =
     let m = module_shape c.args.head.now.front.«module» in
     let ends = c.in-Ok.ensures.found in
-    (with_segments m ends.0, (ends.0, ends.1, refl), none_of_whole m ends.0 c.args.head.now.counts c.requires.counted c.in-Ok-check_late.ensures.valid (ends.2.0 c.if-segments.true))
+    (with_segments m ends.0, (ends.0, ends.1, refl), none_of_whole m ends.0 c.args.head.now.counts c.requires.counted c.in-Ok-check_rules_after_code.ensures.valid (ends.2.0 c.if-segments.true))
 
 pub returns-in-Ok-2 : goal.returns-in-Ok-2
 returns-in-Ok-2 c =

@@ -1,6 +1,6 @@
 use Rattle.std.specs.Vec.{with_items}
 use Rattle.std.proofs.Common.{[], length, refl}
-use Rattle.wcheck.proofs.Unchecked.{closes_same, lies_same, written_back}
+use Rattle.wcheck.proofs.Unresolved.{closes_same, lies_same, written_back}
 use Rattle.wcheck.proofs.check.written.Goals as goal
 
 pub invariant_of-code : goal.invariant_of-code
@@ -13,8 +13,8 @@ invariant_of-code c =
       within = lies_same (length code.targets.items) tokens code.tokens.items same code.within;
     }
 
-pub returns-clause-unchecked : goal.returns-clause-unchecked
-returns-clause-unchecked c =
+pub returns-clause-unresolved : goal.returns-clause-unresolved
+returns-clause-unresolved c =
     record {
       runs = refl;
       targets = refl;

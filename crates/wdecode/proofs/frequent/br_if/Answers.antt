@@ -8,4 +8,4 @@ use Rattle.wdecode.proofs.frequent.br_if.Goals as goal
 
 pub returns : goal.returns
 unfolding opcode_of
-returns c = reads 0x0D code.BrIf (op.BrIf c.in_ok-label.label) c.args.bytes.now c.in_ok-label.rest.now (held.BrIf c.unchecked.result) refl (rw (sym c.in_ok-label.ensures) refl) (λ _. refl) (λ _. rw c.unchecked.ensures refl)
+returns c = reads 0x0D code.BrIf (op.BrIf c.in_ok-label.label) c.args.bytes.now c.in_ok-label.rest.now (held.BrIf c.unresolved.result) refl (rw (sym c.in_ok-label.ensures) refl) (λ _. refl) (λ _. rw c.unresolved.ensures refl)

@@ -1,6 +1,6 @@
 use Rattle.std.proofs.Common.{◌++◌, [], length, reverse}
 use Rattle.std.proofs.lemmas.Result.{err_from_is_err_and}
-use Rattle.wsyntax.specs.Modules.{seen}
+use Rattle.wsyntax.specs.Modules.{decoded_as}
 use Rattle.wsyntax.specs.Binary.Nesting.{tokens_at, expression}
 use Rattle.wdecode.proofs.FlatLoop.{token_fails, nest_fails}
 use Rattle.wdecode.proofs.BranchTables.{all_targets}
@@ -18,7 +18,7 @@ unfolding expression
 returns-in_err-closes-clause-value c =
     let p = err_from_is_err_and c.from_residual-in_err-closes.result c.from_residual-in_err-closes.ensures.1 in
     let g = c.in_ok-token.ensures.ok in
-    let t = seen (c.token_at.new.targets.items ++ []) c.in_ok-token.token in
+    let t = decoded_as (c.token_at.new.targets.items ++ []) c.in_ok-token.token in
     rw (p.1, p.2) (nest_fails c.in_err-closes.field-0.0 _ _ _ c.each.rest.now c.in_ok-token.after.now t (tokens_at (length c.args.bytes.now) [] c.args.bytes.now) (g.2 []) (c.in_err-closes.ensures.err (c.token_at.new.targets.items ++ [])) (c.each.invariant.so_far []))
 
 pub returns-then-closes : goal.returns-then-closes

@@ -32,7 +32,7 @@ each-preserved c =
     let now = c.if-id-ne0.last in
     let id = c.id-id.result in
     let m = module_shape c.each.module in
-    let n = module_shape c.put-module.result in
+    let n = module_shape c.with_section-module.result in
     let bytes = c.each.rest.now in
     let after = c.in_ok-section.after.now in
     let before = c.args.before_segments in
@@ -41,6 +41,6 @@ each-preserved c =
       | then-id-ne0+else-id-last w ↦ follows_next s last id now c.id-id.ensures w.if-id-ne0.true (omega arith) w.last-is
       | else-id-ne0 w ↦ follows_custom s last id now c.id-id.ensures (omega arith) w.last-is
     ] in (
-      carried (EndsProgress c.args.start) last now m n bytes after s c.in_ok-section.ensures follows.0 follows.1 c.put-module.ensures c.each.invariant.0,
-      λ wanted early. early_next before last now m n bytes after s c.in_ok-section.ensures follows.1 c.put-module.ensures goes wanted (c.each.invariant.1 wanted early),
+      carried (EndsProgress c.args.start) last now m n bytes after s c.in_ok-section.ensures follows.0 follows.1 c.with_section-module.ensures c.each.invariant.0,
+      λ wanted early. early_next before last now m n bytes after s c.in_ok-section.ensures follows.1 c.with_section-module.ensures goes wanted (c.each.invariant.1 wanted early),
     )

@@ -38,7 +38,7 @@ returns-in-Some c = λ bodies e.
       table = omega (arith, c.table_size.ensures);
       memory = omega (arith, c.memory_pages.ensures);
     } in
-    at_element c.args.pages (module_shape c.args.module.now) bodies c.in-Some.segment p (sym c.in-Some.is ∙ c.element_outside.ensures ∙ c.requires.element_outside)
+    at_element c.args.pages (module_shape c.args.module.now) bodies c.in-Some.segment p (sym c.in-Some.is ∙ c.first_out_of_bounds_elem.ensures ∙ c.requires.first_out_of_bounds_elem)
 
 pub returns-in-Some-data_outside : goal.returns-in-Some-data_outside
 returns-in-Some-data_outside c = λ bodies e.
@@ -49,7 +49,7 @@ returns-in-Some-data_outside c = λ bodies e.
       table = omega (arith, c.table_size.ensures);
       memory = omega (arith, c.memory_pages.ensures);
     } in
-    at_data c.args.pages (module_shape c.args.module.now) bodies c.in-Some-data_outside.segment p (none_of c.element_outside.result c.in_default.not-Some ∙ c.element_outside.ensures ∙ c.requires.element_outside) (sym c.in-Some-data_outside.is ∙ c.data_outside.ensures ∙ c.requires.data_outside)
+    at_data c.args.pages (module_shape c.args.module.now) bodies c.in-Some-data_outside.segment p (none_of c.first_out_of_bounds_elem.result c.in_default.not-Some ∙ c.first_out_of_bounds_elem.ensures ∙ c.requires.first_out_of_bounds_elem) (sym c.in-Some-data_outside.is ∙ c.data_outside.ensures ∙ c.requires.data_outside)
 
 pub returns : goal.returns
 returns c = λ bodies e.
@@ -60,4 +60,4 @@ returns c = λ bodies e.
       table = omega (arith, c.table_size.ensures);
       memory = omega (arith, c.memory_pages.ensures);
     } in
-    at_none c.args.pages (module_shape c.args.module.now) bodies p (none_of c.element_outside.result c.in_default.not-Some ∙ c.element_outside.ensures ∙ c.requires.element_outside) (none_of c.data_outside.result c.in_default-data_outside.not-Some ∙ c.data_outside.ensures ∙ c.requires.data_outside)
+    at_none c.args.pages (module_shape c.args.module.now) bodies p (none_of c.first_out_of_bounds_elem.result c.in_default.not-Some ∙ c.first_out_of_bounds_elem.ensures ∙ c.requires.first_out_of_bounds_elem) (none_of c.data_outside.result c.in_default-data_outside.not-Some ∙ c.data_outside.ensures ∙ c.requires.data_outside)

@@ -10,20 +10,20 @@ use Rattle.accepted_module.proofs.accepted.Accepted.of.Goals as goal
 -- What the shapes ask for.
 
 -- rule 3 is kept
-pub function_shapes-requires-clause-typed : goal.function_shapes-requires-clause-typed
-function_shapes-requires-clause-typed c =
+pub frame_layouts-requires-clause-typed : goal.frame_layouts-requires-clause-typed
+frame_layouts-requires-clause-typed c =
     typed_same c.args.«module».types c.deref-3.result.now c.args.«module».functions.items c.deref-3.ensures.value (c.requires.judged.rules 3)
 
-pub function_shapes-requires-clause-numbered : goal.function_shapes-requires-clause-numbered
-function_shapes-requires-clause-numbered c =
+pub frame_layouts-requires-clause-numbered : goal.frame_layouts-requires-clause-numbered
+frame_layouts-requires-clause-numbered c =
     numbered_same c.args.«module».types c.deref-2.result.now c.in_ok-type_ids.type_ids.items c.deref-2.ensures.value c.in_ok-type_ids.ensures
 
-pub function_shapes-requires-clause-paired : goal.function_shapes-requires-clause-paired
-function_shapes-requires-clause-paired c =
+pub frame_layouts-requires-clause-paired : goal.frame_layouts-requires-clause-paired
+frame_layouts-requires-clause-paired c =
     paired_same c.deref-3.result.now c.deref-4.result.now c.args.bodies.items (module_shape c.args.«module») c.args.context c.deref-3.ensures.value c.deref-4.ensures.value c.requires.judged
 
-pub function_shapes-requires-clause-few : goal.function_shapes-requires-clause-few
-function_shapes-requires-clause-few c = few_same c.deref-4.result.now c.args.bodies.items (module_shape c.args.«module») c.args.context c.deref-4.ensures.value c.requires.judged
+pub frame_layouts-requires-clause-few : goal.frame_layouts-requires-clause-few
+frame_layouts-requires-clause-few c = few_same c.deref-4.result.now c.args.bodies.items (module_shape c.args.«module») c.args.context c.deref-4.ensures.value c.requires.judged
 
 -- What the layout asks for.
 

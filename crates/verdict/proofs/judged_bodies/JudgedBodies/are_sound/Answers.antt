@@ -1,4 +1,4 @@
-use Rattle.verdict.proofs.Noted.{is_sound}
+use Rattle.verdict.proofs.Recorded.{is_sound}
 use Rattle.verdict.proofs.judged_bodies.JudgedBodies.are_sound.Goals as goal
 
 pub returns : goal.returns

@@ -1,4 +1,4 @@
-use Rattle.verdict.proofs.Noted.{below_count, first_gap_so}
+use Rattle.verdict.proofs.Recorded.{below_count, first_gap_so}
 use Rattle.verdict.proofs.judged_bodies.JudgedBodies.first_gap.Goals as goal
 
 pub marks_of-requires : goal.marks_of-requires

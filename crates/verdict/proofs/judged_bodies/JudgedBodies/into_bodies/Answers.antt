@@ -1,5 +1,5 @@
 use Rattle.std.proofs.Common.{refl}
-use Rattle.verdict.proofs.Noted.{below_count, none_empty, all_checked}
+use Rattle.verdict.proofs.Recorded.{below_count, none_empty, all_checked}
 use Rattle.verdict.proofs.judged_bodies.JudgedBodies.into_bodies.Goals as goal
 
 pub in_slots-requires : goal.in_slots-requires

@@ -1,6 +1,6 @@
 use Rattle.std.proofs.Common.{◌≡◌, sym, ap, ◌∙◌}
 use Rattle.verdict.specs.Steps.{Progress}
-use Rattle.verdict.proofs.Noted.{as_before, both_kept, least_refused}
+use Rattle.verdict.proofs.Recorded.{as_before, both_kept, least_refused}
 use Rattle.verdict.proofs.judged_bodies.JudgedBodies.join.Goals as goal
 
 pub invariant_of-self : goal.invariant_of-self

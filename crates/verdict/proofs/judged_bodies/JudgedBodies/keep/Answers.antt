@@ -1,7 +1,7 @@
 use Rattle.std.proofs.Common.{sym, subst}
 use Rattle.std.proofs.lemmas.List.Elements.{All-push}
 use Rattle.verdict.specs.Steps.{Progress, IsKept}
-use Rattle.verdict.proofs.Noted.{as_before}
+use Rattle.verdict.proofs.Recorded.{as_before}
 use Rattle.verdict.proofs.judged_bodies.JudgedBodies.keep.Goals as goal
 
 pub invariant_of-self : goal.invariant_of-self

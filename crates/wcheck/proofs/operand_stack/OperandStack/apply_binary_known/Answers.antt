@@ -1,5 +1,5 @@
 use Rattle.std.proofs.Common.{◌-◌, map, take, refl, ◌∙◌, [], ◌∷◌, arith}
-use Rattle.wcontext.specs.Lists.{front_of}
+use Rattle.wcontext.specs.Lists.{prefix_of}
 use Rattle.std.specs.Prelude.{set}
 use Rattle.wcheck.specs.Runs.{types_in}
 use Rattle.wcheck.proofs.Known.{two_off, two_over, two_over_counted}
@@ -8,10 +8,10 @@ use Rattle.wcheck.proofs.operand_stack.OperandStack.apply_binary_known.Goals as 
 
 pub invariant_of-self : goal.invariant_of-self
 invariant_of-self c =
-    (two_over_counted c.self.inside.entries.items (map (front_of c.self.inside.context.now.context.types) c.self.inside.runs.items) (types_in c.self.inside.entries.items (map (front_of c.self.inside.context.now.context.types) c.self.inside.runs.items)) c.len-count.result c.index.result.now c.index-else-not-is_known.result.now c.args.t c.args.t refl (c.len-count.ensures ∙ c.self.inside.entries.ok.0) (omega (arith, c.if-count-lt2.false)) c.index.ensures c.index-else-not-is_known.ensures (c.is_known.ensures c.if-not-is_known.false) (c.is_known-else-not-is_known.ensures c.if-not-is_known-2.false) c.truncate.new.self.items c.packed.result c.args.u c.truncate.ensures.items c.packed.ensures.value c.self.inside.extra c.self.invariant.0, swapped_enough (types_in c.self.inside.entries.items (map (front_of c.self.inside.context.now.context.types) c.self.inside.runs.items)) (types_in (set c.truncate.new.self.items (c.len-count.result - 2) c.packed.result) (map (front_of c.self.inside.context.now.context.types) c.self.inside.runs.items)) c.self.inside.context.now.context.types c.self.inside.base c.self.inside.unreachable c.args.self.now c.self.view_is (types_in (take (c.len-count.result - 2) c.self.inside.entries.items) (map (front_of c.self.inside.context.now.context.types) c.self.inside.runs.items)) (c.args.t ∷ c.args.t ∷ []) (c.args.u ∷ []) (two_off c.self.inside.entries.items (map (front_of c.self.inside.context.now.context.types) c.self.inside.runs.items) (types_in c.self.inside.entries.items (map (front_of c.self.inside.context.now.context.types) c.self.inside.runs.items)) c.len-count.result c.index.result.now c.index-else-not-is_known.result.now c.args.t c.args.t refl (c.len-count.ensures ∙ c.self.inside.entries.ok.0) (omega (arith, c.if-count-lt2.false)) c.index.ensures c.index-else-not-is_known.ensures (c.is_known.ensures c.if-not-is_known.false) (c.is_known-else-not-is_known.ensures c.if-not-is_known-2.false)) (two_over c.self.inside.entries.items (map (front_of c.self.inside.context.now.context.types) c.self.inside.runs.items) (types_in c.self.inside.entries.items (map (front_of c.self.inside.context.now.context.types) c.self.inside.runs.items)) c.len-count.result c.index.result.now c.index-else-not-is_known.result.now c.args.t c.args.t refl (c.len-count.ensures ∙ c.self.inside.entries.ok.0) (omega (arith, c.if-count-lt2.false)) c.index.ensures c.index-else-not-is_known.ensures (c.is_known.ensures c.if-not-is_known.false) (c.is_known-else-not-is_known.ensures c.if-not-is_known-2.false) c.truncate.new.self.items c.packed.result c.args.u c.truncate.ensures.items c.packed.ensures.value) (reaches c.self.inside.entries.items (map (front_of c.self.inside.context.now.context.types) c.self.inside.runs.items) c.len-count.result 2 c.self.inside.base (c.len-count.ensures ∙ c.self.inside.entries.ok.0) (omega (arith, c.if-count-self.false))))
+    (two_over_counted c.self.inside.entries.items (map (prefix_of c.self.inside.context.now.context.types) c.self.inside.runs.items) (types_in c.self.inside.entries.items (map (prefix_of c.self.inside.context.now.context.types) c.self.inside.runs.items)) c.len-count.result c.index.result.now c.index-else-not-is_known.result.now c.args.t c.args.t refl (c.len-count.ensures ∙ c.self.inside.entries.ok.0) (omega (arith, c.if-count-lt2.false)) c.index.ensures c.index-else-not-is_known.ensures (c.is_known.ensures c.if-not-is_known.false) (c.is_known-else-not-is_known.ensures c.if-not-is_known-2.false) c.truncate.new.self.items c.packed.result c.args.u c.truncate.ensures.items c.packed.ensures.value c.self.inside.run_surplus c.self.invariant.0, swapped_enough (types_in c.self.inside.entries.items (map (prefix_of c.self.inside.context.now.context.types) c.self.inside.runs.items)) (types_in (set c.truncate.new.self.items (c.len-count.result - 2) c.packed.result) (map (prefix_of c.self.inside.context.now.context.types) c.self.inside.runs.items)) c.self.inside.context.now.context.types c.self.inside.base c.self.inside.unreachable c.args.self.now c.self.view_is (types_in (take (c.len-count.result - 2) c.self.inside.entries.items) (map (prefix_of c.self.inside.context.now.context.types) c.self.inside.runs.items)) (c.args.t ∷ c.args.t ∷ []) (c.args.u ∷ []) (two_off c.self.inside.entries.items (map (prefix_of c.self.inside.context.now.context.types) c.self.inside.runs.items) (types_in c.self.inside.entries.items (map (prefix_of c.self.inside.context.now.context.types) c.self.inside.runs.items)) c.len-count.result c.index.result.now c.index-else-not-is_known.result.now c.args.t c.args.t refl (c.len-count.ensures ∙ c.self.inside.entries.ok.0) (omega (arith, c.if-count-lt2.false)) c.index.ensures c.index-else-not-is_known.ensures (c.is_known.ensures c.if-not-is_known.false) (c.is_known-else-not-is_known.ensures c.if-not-is_known-2.false)) (two_over c.self.inside.entries.items (map (prefix_of c.self.inside.context.now.context.types) c.self.inside.runs.items) (types_in c.self.inside.entries.items (map (prefix_of c.self.inside.context.now.context.types) c.self.inside.runs.items)) c.len-count.result c.index.result.now c.index-else-not-is_known.result.now c.args.t c.args.t refl (c.len-count.ensures ∙ c.self.inside.entries.ok.0) (omega (arith, c.if-count-lt2.false)) c.index.ensures c.index-else-not-is_known.ensures (c.is_known.ensures c.if-not-is_known.false) (c.is_known-else-not-is_known.ensures c.if-not-is_known-2.false) c.truncate.new.self.items c.packed.result c.args.u c.truncate.ensures.items c.packed.ensures.value) (reaches c.self.inside.entries.items (map (prefix_of c.self.inside.context.now.context.types) c.self.inside.runs.items) c.len-count.result 2 c.self.inside.base (c.len-count.ensures ∙ c.self.inside.entries.ok.0) (omega (arith, c.if-count-self.false))))
 
 pub returns-clause-above : goal.returns-clause-above
-returns-clause-above c = λ _. swapped (types_in c.self.inside.entries.items (map (front_of c.self.inside.context.now.context.types) c.self.inside.runs.items)) (types_in (set c.truncate.new.self.items (c.len-count.result - 2) c.packed.result) (map (front_of c.self.inside.context.now.context.types) c.self.inside.runs.items)) c.self.inside.context.now.context.types c.self.inside.base c.self.inside.unreachable c.args.self.now c.self.view_is (types_in (take (c.len-count.result - 2) c.self.inside.entries.items) (map (front_of c.self.inside.context.now.context.types) c.self.inside.runs.items)) (c.args.t ∷ c.args.t ∷ []) (c.args.u ∷ []) (two_off c.self.inside.entries.items (map (front_of c.self.inside.context.now.context.types) c.self.inside.runs.items) (types_in c.self.inside.entries.items (map (front_of c.self.inside.context.now.context.types) c.self.inside.runs.items)) c.len-count.result c.index.result.now c.index-else-not-is_known.result.now c.args.t c.args.t refl (c.len-count.ensures ∙ c.self.inside.entries.ok.0) (omega (arith, c.if-count-lt2.false)) c.index.ensures c.index-else-not-is_known.ensures (c.is_known.ensures c.if-not-is_known.false) (c.is_known-else-not-is_known.ensures c.if-not-is_known-2.false)) (two_over c.self.inside.entries.items (map (front_of c.self.inside.context.now.context.types) c.self.inside.runs.items) (types_in c.self.inside.entries.items (map (front_of c.self.inside.context.now.context.types) c.self.inside.runs.items)) c.len-count.result c.index.result.now c.index-else-not-is_known.result.now c.args.t c.args.t refl (c.len-count.ensures ∙ c.self.inside.entries.ok.0) (omega (arith, c.if-count-lt2.false)) c.index.ensures c.index-else-not-is_known.ensures (c.is_known.ensures c.if-not-is_known.false) (c.is_known-else-not-is_known.ensures c.if-not-is_known-2.false) c.truncate.new.self.items c.packed.result c.args.u c.truncate.ensures.items c.packed.ensures.value) (reaches c.self.inside.entries.items (map (front_of c.self.inside.context.now.context.types) c.self.inside.runs.items) c.len-count.result 2 c.self.inside.base (c.len-count.ensures ∙ c.self.inside.entries.ok.0) (omega (arith, c.if-count-self.false)))
+returns-clause-above c = λ _. swapped (types_in c.self.inside.entries.items (map (prefix_of c.self.inside.context.now.context.types) c.self.inside.runs.items)) (types_in (set c.truncate.new.self.items (c.len-count.result - 2) c.packed.result) (map (prefix_of c.self.inside.context.now.context.types) c.self.inside.runs.items)) c.self.inside.context.now.context.types c.self.inside.base c.self.inside.unreachable c.args.self.now c.self.view_is (types_in (take (c.len-count.result - 2) c.self.inside.entries.items) (map (prefix_of c.self.inside.context.now.context.types) c.self.inside.runs.items)) (c.args.t ∷ c.args.t ∷ []) (c.args.u ∷ []) (two_off c.self.inside.entries.items (map (prefix_of c.self.inside.context.now.context.types) c.self.inside.runs.items) (types_in c.self.inside.entries.items (map (prefix_of c.self.inside.context.now.context.types) c.self.inside.runs.items)) c.len-count.result c.index.result.now c.index-else-not-is_known.result.now c.args.t c.args.t refl (c.len-count.ensures ∙ c.self.inside.entries.ok.0) (omega (arith, c.if-count-lt2.false)) c.index.ensures c.index-else-not-is_known.ensures (c.is_known.ensures c.if-not-is_known.false) (c.is_known-else-not-is_known.ensures c.if-not-is_known-2.false)) (two_over c.self.inside.entries.items (map (prefix_of c.self.inside.context.now.context.types) c.self.inside.runs.items) (types_in c.self.inside.entries.items (map (prefix_of c.self.inside.context.now.context.types) c.self.inside.runs.items)) c.len-count.result c.index.result.now c.index-else-not-is_known.result.now c.args.t c.args.t refl (c.len-count.ensures ∙ c.self.inside.entries.ok.0) (omega (arith, c.if-count-lt2.false)) c.index.ensures c.index-else-not-is_known.ensures (c.is_known.ensures c.if-not-is_known.false) (c.is_known-else-not-is_known.ensures c.if-not-is_known-2.false) c.truncate.new.self.items c.packed.result c.args.u c.truncate.ensures.items c.packed.ensures.value) (reaches c.self.inside.entries.items (map (prefix_of c.self.inside.context.now.context.types) c.self.inside.runs.items) c.len-count.result 2 c.self.inside.base (c.len-count.ensures ∙ c.self.inside.entries.ok.0) (omega (arith, c.if-count-self.false)))
 
 pub returns-clause-below : goal.returns-clause-below
-returns-clause-below c = swapped_below (types_in c.self.inside.entries.items (map (front_of c.self.inside.context.now.context.types) c.self.inside.runs.items)) (types_in (set c.truncate.new.self.items (c.len-count.result - 2) c.packed.result) (map (front_of c.self.inside.context.now.context.types) c.self.inside.runs.items)) c.self.inside.context.now.context.types c.self.inside.base c.self.inside.unreachable c.args.self.now c.self.view_is (types_in (take (c.len-count.result - 2) c.self.inside.entries.items) (map (front_of c.self.inside.context.now.context.types) c.self.inside.runs.items)) (c.args.t ∷ c.args.t ∷ []) (c.args.u ∷ []) (two_off c.self.inside.entries.items (map (front_of c.self.inside.context.now.context.types) c.self.inside.runs.items) (types_in c.self.inside.entries.items (map (front_of c.self.inside.context.now.context.types) c.self.inside.runs.items)) c.len-count.result c.index.result.now c.index-else-not-is_known.result.now c.args.t c.args.t refl (c.len-count.ensures ∙ c.self.inside.entries.ok.0) (omega (arith, c.if-count-lt2.false)) c.index.ensures c.index-else-not-is_known.ensures (c.is_known.ensures c.if-not-is_known.false) (c.is_known-else-not-is_known.ensures c.if-not-is_known-2.false)) (two_over c.self.inside.entries.items (map (front_of c.self.inside.context.now.context.types) c.self.inside.runs.items) (types_in c.self.inside.entries.items (map (front_of c.self.inside.context.now.context.types) c.self.inside.runs.items)) c.len-count.result c.index.result.now c.index-else-not-is_known.result.now c.args.t c.args.t refl (c.len-count.ensures ∙ c.self.inside.entries.ok.0) (omega (arith, c.if-count-lt2.false)) c.index.ensures c.index-else-not-is_known.ensures (c.is_known.ensures c.if-not-is_known.false) (c.is_known-else-not-is_known.ensures c.if-not-is_known-2.false) c.truncate.new.self.items c.packed.result c.args.u c.truncate.ensures.items c.packed.ensures.value) (reaches c.self.inside.entries.items (map (front_of c.self.inside.context.now.context.types) c.self.inside.runs.items) c.len-count.result 2 c.self.inside.base (c.len-count.ensures ∙ c.self.inside.entries.ok.0) (omega (arith, c.if-count-self.false)))
+returns-clause-below c = swapped_below (types_in c.self.inside.entries.items (map (prefix_of c.self.inside.context.now.context.types) c.self.inside.runs.items)) (types_in (set c.truncate.new.self.items (c.len-count.result - 2) c.packed.result) (map (prefix_of c.self.inside.context.now.context.types) c.self.inside.runs.items)) c.self.inside.context.now.context.types c.self.inside.base c.self.inside.unreachable c.args.self.now c.self.view_is (types_in (take (c.len-count.result - 2) c.self.inside.entries.items) (map (prefix_of c.self.inside.context.now.context.types) c.self.inside.runs.items)) (c.args.t ∷ c.args.t ∷ []) (c.args.u ∷ []) (two_off c.self.inside.entries.items (map (prefix_of c.self.inside.context.now.context.types) c.self.inside.runs.items) (types_in c.self.inside.entries.items (map (prefix_of c.self.inside.context.now.context.types) c.self.inside.runs.items)) c.len-count.result c.index.result.now c.index-else-not-is_known.result.now c.args.t c.args.t refl (c.len-count.ensures ∙ c.self.inside.entries.ok.0) (omega (arith, c.if-count-lt2.false)) c.index.ensures c.index-else-not-is_known.ensures (c.is_known.ensures c.if-not-is_known.false) (c.is_known-else-not-is_known.ensures c.if-not-is_known-2.false)) (two_over c.self.inside.entries.items (map (prefix_of c.self.inside.context.now.context.types) c.self.inside.runs.items) (types_in c.self.inside.entries.items (map (prefix_of c.self.inside.context.now.context.types) c.self.inside.runs.items)) c.len-count.result c.index.result.now c.index-else-not-is_known.result.now c.args.t c.args.t refl (c.len-count.ensures ∙ c.self.inside.entries.ok.0) (omega (arith, c.if-count-lt2.false)) c.index.ensures c.index-else-not-is_known.ensures (c.is_known.ensures c.if-not-is_known.false) (c.is_known-else-not-is_known.ensures c.if-not-is_known-2.false) c.truncate.new.self.items c.packed.result c.args.u c.truncate.ensures.items c.packed.ensures.value) (reaches c.self.inside.entries.items (map (prefix_of c.self.inside.context.now.context.types) c.self.inside.runs.items) c.len-count.result 2 c.self.inside.base (c.len-count.ensures ∙ c.self.inside.entries.ok.0) (omega (arith, c.if-count-self.false)))

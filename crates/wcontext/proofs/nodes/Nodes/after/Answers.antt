@@ -10,10 +10,10 @@ returns-then-child-gt0 c = found_after c.args.self.now c.args.node c.child-child
 pub returns : goal.returns
 returns c texts are within =
     let old = c.args.self.now in
-    let n : Node = record { above = c.longest_end-link.result; below = 0 } in
-    let mid : Nodes = record { nodes = c.push-2.new.self; links = c.push.new.self; forks = old.forks; growing = old.growing; next = old.next } in
+    let n : Node = record { above = c.longest_suffix-link.result; below = 0 } in
+    let mid : Nodes = record { nodes = c.push-2.new.self; links = c.push.new.self; forks = old.forks; current_level = old.current_level; next = old.next } in
     let made : c.in_ok-made.made ≡ length old.nodes.items = grind arith in
     let nodes : mid.nodes.items ≡ old.nodes.items ++ n ∷ [] = grind arith in
     let links : mid.links.items ≡ old.links.items ++ n.above ∷ [] = grind arith in
-    let after = made_after old mid c.put_child.new.self c.args.node c.in_ok-made.made c.args.t n texts are within (c.longest_end-link.ensures texts are within) refl made nodes links refl c.in_ok-put_child.ensures in
+    let after = made_after old mid c.put_child.new.self c.args.node c.in_ok-made.made c.args.t n texts are within (c.longest_suffix-link.ensures texts are within) refl made nodes links refl c.in_ok-put_child.ensures in
     (after.0, c.in_ok-pass_link.ensures (texts ++ after.0) after.1, after.2, after.3)

@@ -7,6 +7,6 @@ loop-k-preserved c =
     let k = c.loop-k.k in
     let within : k < length c.args.lists.now = grind arith in
     record {
-      fronts = λ all texts column each read. c.in_ok-put_fronts.ensures.fronts all texts column (each k _ within) (before.fronts all texts column each read);
-      nodes = c.put_fronts.ensures.nodes ∙ before.nodes;
+      prefixes = λ all texts column each read. c.in_ok-put_prefixes.ensures.prefixes all texts column (each k _ within) (before.prefixes all texts column each read);
+      nodes = c.put_prefixes.ensures.nodes ∙ before.nodes;
     }

@@ -4,6 +4,6 @@ use Rattle.wcontext.proofs.trie.Trie.end_block.Given as goal
 
 abbrev pub invariant-loop-k : goal.invariant-loop-k
 invariant-loop-k l = record {
-  fronts : PutsBlock l.fn.self.fronts.items l.self.fronts.items l.lists l.base;
+  prefixes : PutsBlock l.fn.self.prefixes.items l.self.prefixes.items l.lists l.base;
   nodes : l.self.nodes ≡ l.fn.self.nodes;
 }

@@ -3,4 +3,4 @@ use Rattle.wcontext.specs.Trie.{ReadsBlock}
 use Rattle.wcontext.proofs.trie.Trie.read_block.Given as goal
 
 abbrev pub invariant-loop-i : goal.invariant-loop-i
-invariant-loop-i l = record { fronts : l.self.fronts ≡ l.fn.self.fronts; read : ReadsBlock l.fn.self.nodes l.self.nodes l.fn.lists l.lists l.base l.i }
+invariant-loop-i l = record { prefixes : l.self.prefixes ≡ l.fn.self.prefixes; read : ReadsBlock l.fn.self.nodes l.self.nodes l.fn.lists l.lists l.base l.i }

@@ -4,8 +4,8 @@ use Rattle.wcontext.proofs.trie.Trie.read_column.Goals as goal
 
 pub loop-k-init : goal.loop-k-init
 loop-k-init c = record {
-  fronts = refl;
-  read = none_of_column c.args.self.now.nodes c.grow_next.new.self c.args.lists.now c.args.base c.args.i c.in_ok-grow_next.ensures;
+  prefixes = refl;
+  read = none_of_column c.args.self.now.nodes c.start_level.new.self c.args.lists.now c.args.base c.args.i c.in_ok-start_level.ensures;
 }
 
 pub loop-k-preserved : goal.loop-k-preserved
@@ -15,7 +15,7 @@ loop-k-preserved c =
     let within : k < length now = grind arith in
     let next = c.read_type.new.list in
     record {
-      fronts = c.read_type.ensures.fronts ∙ c.loop-k.invariant.fronts;
+      prefixes = c.read_type.ensures.prefixes ∙ c.loop-k.invariant.prefixes;
       read = next_read c.args.self.now.nodes c.loop-k.self.nodes c.read_type.new.self.nodes c.args.lists.now now c.args.base c.args.i k _ next c.loop-k.invariant.read c.in_ok-read_type.ensures.read within;
     }
 

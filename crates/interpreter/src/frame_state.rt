@@ -1,0 +1,20 @@
+/// Where the machine stands: the running function, its next token, where its locals (`base`) and its operands (`operand_base`)
+/// begin, where the next operand goes (`sp`), and the fuel that is left.
+#[derive(Clone, Copy)]
+pub(crate) struct FrameState {
+    pub(crate) function: u32,
+    pub(crate) pc: usize,
+    pub(crate) base: usize,
+    pub(crate) operand_base: usize,
+    pub(crate) sp: usize,
+    pub(crate) fuel: u32,
+}
+
+/// Where a caller goes on: its function, the token after its call, and where its locals and its operands begin.
+#[derive(Clone, Copy)]
+pub(crate) struct ReturnPoint {
+    pub(crate) function: u32,
+    pub(crate) pc: usize,
+    pub(crate) base: usize,
+    pub(crate) operand_base: usize,
+}

@@ -1,8 +1,0 @@
-use Rattle.std.proofs.Common.{arith}
-use Rattle.wcontext.specs.Lists.{front_of}
-use Rattle.wcheck.proofs.Above.{types_taken}
-use Rattle.wcheck.proofs.operand_stack.OperandStack.take_run.Goals as goal
-
-pub returns-clause-taken : goal.returns-clause-taken
-returns-clause-taken c =
-    types_taken c.args.self.now c.in_ok-count.ensures.last.0 (front_of c.args.self.now.types c.args.front) c.in_ok-count.count _ c.truncate.new.self.above c.in_ok-count.ensures.last.1 c.in_ok-count.ensures.count (omega (arith, c.if-height-base.false, c.height-height.ensures, c.base.ensures)) (omega (arith, c.if-height-base.false, c.height-height.ensures, c.base.ensures)) c.truncate.ensures.above

@@ -1,8 +1,0 @@
-use Rattle.std.proofs.Common.{arith}
-use Rattle.wcontext.proofs.check.check_early.Goals as goal
-
-pub new-requires-2-clause-imports : goal.new-requires-2-clause-imports
-new-requires-2-clause-imports c = c.loop-rule.invariant 2 (omega arith)
-
-pub new-requires-2-clause-functions : goal.new-requires-2-clause-functions
-new-requires-2-clause-functions c = c.loop-rule.invariant 3 (omega arith)
