@@ -10,8 +10,5 @@ pub mod Floating
 pub mod FrameLayouts
 pub mod CheckedBodies
 pub mod Lendings
-pub mod Lists
-pub mod Steps
-pub mod Tables
 pub mod TypeOrder
 pub mod Numbering

@@ -1,14 +1,14 @@
 -- The first segment that lies outside, segment by segment.
-use Rattle.std.proofs.Common.{◌≡◌, ℕ, suc, ◌+◌, ◌<◌, Bool, true, false, List, [], ◌∷◌, length, drop, map, get_or, Option, Some, None, refl, sym, ap, ◌∙◌, cond, arith}
-use Rattle.std.specs.Prelude.{nat_lt, is_some, slice_get}
+use Rattle.std.proofs.Common.{◌≡◌, ℕ, suc, ◌+◌, ◌<◌, Bool, true, false, List, ◌∷◌, length, drop, map, get_or, Some, sym, ap, ◌∙◌, cond, arith}
+use Rattle.std.specs.Prelude.{nat_lt, slice_get}
 use lib.Dec.{leb}
-use Rattle.std.proofs.lemmas.Bool.{lt-ltb, le-ltb, ltb-false, leb-true, leb-false}
+use Rattle.std.proofs.lemmas.Bool.{lt-ltb, le-ltb, leb-true, leb-false}
 use Rattle.std.proofs.lemmas.List.{drop-map, drop_more}
 use Rattle.std.proofs.lemmas.Option.{slice_get_within, get_or_from_slice_get}
 use Rattle.wsyntax.specs.Modules.{element_shape, data_shape}
 use Rattle.wsyntax.specs.HeldElement.{HeldElement}
 use Rattle.wsyntax.specs.declared.module.Data.{Data}
-use Rattle.wsyntax.specs.Execution.Allocation.{Segment, AllWithin}
+use Rattle.wsyntax.specs.Execution.Allocation.{Segment}
 use Rattle.wsyntax.specs.Execution.Start.{element_segment, data_segment, first_outside}
 use Rattle.accepted_module.specs.Segments.{element_segments, data_segments}
 
@@ -49,19 +49,3 @@ inside_here n place count i s all from rest b is at many test holds before =
     let in' : nat_lt n (s.place + length s.items) ≡ false = ap (nat_lt n) (sym e) ∙ le-ltb n (place + count) (leb-true (place + count) n t) in
     let next : suc i ≡ i + 1 = omega arith in
     before ∙ ap (first_outside i n) is ∙ ap (λ x. cond x (Some i) (first_outside (suc i) n rest)) in' ∙ ap (λ k. first_outside k n rest) next
-
--- Where none lies outside, all are within.
-
-within_if : (b : Bool) (k : ℕ) (o : Option ℕ) → cond b (Some k) o ≡ None → (b ≡ false) × (o ≡ None)
-within_if true k o e = absurd cc
-within_if false k o e = (refl, e)
-
-pub all_within : (k n : ℕ) (all : List Segment) → first_outside k n all ≡ None → AllWithin n all
-all_within k n [] e = tt
-all_within k n (s ∷ ss) e =
-    let h = within_if (nat_lt n (s.place + length s.items)) k (first_outside (suc k) n ss) e in
-    (ltb-false n (s.place + length s.items) h.0, all_within (suc k) n ss h.1)
-
-pub none_outside : (n : ℕ) (all : List Segment) (o : Option ℕ) (b : Bool) → b ≡ is_some o → b ≡ false → o ≡ first_outside 0 n all → AllWithin n all
-none_outside n all None b test found is = all_within 0 n all (sym is)
-none_outside n all (Some k) b test found is = absurd cc

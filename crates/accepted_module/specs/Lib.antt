@@ -1,6 +1,5 @@
 pub mod Segments
 pub mod Sizes
-pub mod Images
 pub mod InitialStates
 pub mod Floats
 pub mod Judgement

@@ -1,5 +1,4 @@
 use crate::globals::first_words;
-use crate::images::{kept_memory, kept_table};
 use crate::places::{data_places, element_places};
 use crate::segments::{first_data_outside, first_element_outside};
 use crate::sizes::{memory_pages, table_size};
@@ -15,19 +14,16 @@ pub struct InitialState {
     data_places: Vec<u32>,
     first_out_of_bounds_elem: Option<u32>,
     data_outside: Option<u32>,
-    table: Option<Vec<Option<u32>>>,
-    memory: Option<Vec<u8>>,
 }
 
 impl InitialState {
-    ghost use Rattle.std.specs.Prelude.{◌≡◌, IfOk, option_map};
+    ghost use Rattle.std.specs.Prelude.{◌≡◌, IfOk};
     ghost use Rattle.wsyntax.specs.Modules.{module_shape};
     ghost use Rattle.wsyntax.specs.Validation.Rules.{ElementsValid, SegmentsValid};
     ghost use Rattle.accepted_module.specs.Sizes.{HasFewSegments};
     ghost use Rattle.accepted_module.specs.InitialStates.{IsLayoutOf};
 
-    /// The layout of a module. Its table and its memory may be larger than any instance may have. They are made only where its
-    /// segments write as much.
+    /// The layout of a module. Its table and its memory may be larger than any instance may have.
     pub fn of(alloc: Global, module: &Module<'_>) -> Result<InitialState, AllocError>
         requires few { HasFewSegments (module_shape «module».now) }
         requires elements { ElementsValid (module_shape «module».now) }
@@ -38,24 +34,12 @@ impl InitialState {
         let segments = module.data.as_slice();
         let entries = table_size(module) as usize;
         let bytes = memory_pages(module) as usize * PAGE;
-        let element_places = element_places(alloc, elements)?;
-        let data_places = data_places(alloc, segments)?;
-        let first_out_of_bounds_elem = first_element_outside(entries, elements);
-        let data_outside = first_data_outside(bytes, segments);
         Ok(InitialState {
             globals: first_words(alloc, &module.globals)?,
-            table: kept_table(
-                alloc,
-                entries,
-                elements,
-                &element_places,
-                first_out_of_bounds_elem,
-            )?,
-            memory: kept_memory(alloc, bytes, segments, &data_places, data_outside)?,
-            element_places,
-            data_places,
-            first_out_of_bounds_elem,
-            data_outside,
+            element_places: element_places(alloc, elements)?,
+            data_places: data_places(alloc, segments)?,
+            first_out_of_bounds_elem: first_element_outside(entries, elements),
+            data_outside: first_data_outside(bytes, segments),
         })
     }
 
@@ -92,19 +76,5 @@ impl InitialState {
         ensures { result ≡ self.now.data_outside }
     {
         self.data_outside
-    }
-
-    /// The entries of a fresh table, `None` of one that is unset. They are kept where the segments write twice as many.
-    pub fn table(&self) -> Option<&[Option<u32>]>
-        ensures { option_map (λ s. s.now) result ≡ option_map (λ v. v.items) self.now.table }
-    {
-        self.table.as_deref()
-    }
-
-    /// The bytes of a fresh memory. They are kept where to copy them takes less time than to write the segments.
-    pub fn memory(&self) -> Option<&[u8]>
-        ensures { option_map (λ s. s.now) result ≡ option_map (λ v. v.items) self.now.memory }
-    {
-        self.memory.as_deref()
     }
 }

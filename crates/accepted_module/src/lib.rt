@@ -13,14 +13,12 @@ mod constant;
 mod exports;
 mod floats;
 mod globals;
-mod images;
 mod initial_state;
 mod making;
 mod places;
 mod segments;
 mod shapes;
 mod sizes;
-mod tuning;
 mod type_ids;
 
 pub use accepted::Accepted;

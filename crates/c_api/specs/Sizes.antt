@@ -1,5 +1,5 @@
 -- How many bytes the lists of a module take.
-use Rattle.std.specs.Prelude.{ℕ, ◌+◌, ◌*◌, ◌^◌, ◌-◌, min, List, length, Option, Some, None, option_map}
+use Rattle.std.specs.Prelude.{ℕ, ◌+◌, ◌*◌, ◌^◌, ◌-◌, min, List, length}
 use Rattle.std.specs.List.{sum_by}
 use Rattle.checked_body.specs.declared.body.CheckedBody.{CheckedBody}
 use Rattle.wsyntax.specs.Types.{FuncType}
@@ -34,15 +34,9 @@ element_bytes e = 4 * length e.functions
 abbrev pub elements_bytes : List HeldElement → ℕ
 elements_bytes es = 32 * length es + sum_by element_bytes es
 
--- a list that may not be there, whose elements take so many bytes each
-abbrev pub kept_bytes : {X : Type 0} → ℕ → Option (List X) → ℕ
-kept_bytes each None = 0
-kept_bytes each (Some xs) = each * length xs
-
--- what instances start from: first values of globals, places of segments, and the table and the memory, where they are kept
+-- what instances start from: first values of globals, and places of segments
 abbrev pub layout_bytes : InitialState → ℕ
 layout_bytes l = 8 * length l.globals.items + 4 * length l.element_places.items + 4 * length l.data_places.items
-    + kept_bytes 8 (option_map (λ v. v.items) l.table) + kept_bytes 1 (option_map (λ v. v.items) l.memory)
 
 -- 2.5 the module's imports, functions, tables, memories and globals
 abbrev pub space_bytes : Module → ℕ

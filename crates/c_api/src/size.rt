@@ -1,9 +1,9 @@
 //! How many bytes the lists of a module take.
 
-ghost use Rattle.std.specs.Prelude.{◌≡◌, ◌+◌, ◌*◌, length, option_map};
+ghost use Rattle.std.specs.Prelude.{◌≡◌, ◌+◌, ◌*◌, length};
 ghost use Rattle.std.specs.List.{sum_by};
 ghost use Rattle.c_api.specs.Sizes.{capped, body_bytes, bodies_bytes, type_bytes, types_bytes, element_bytes, elements_bytes};
-ghost use Rattle.c_api.specs.Sizes.{layout_bytes, kept_bytes, space_bytes, named_bytes, module_bytes};
+ghost use Rattle.c_api.specs.Sizes.{layout_bytes, space_bytes, named_bytes, module_bytes};
 
 use accepted_module::InitialState;
 use checked_body::{Branch, CheckedBody, FrameLayout};
@@ -25,8 +25,6 @@ const _: () = prove!(size_of::<Branch>() == 16);
 const _: () = prove!(size_of::<FrameLayout>() == 16);
 
 const _: () = prove!(size_of::<ValType>() == 1);
-
-const _: () = prove!(size_of::<Option<u32>>() == 8);
 
 const _: () = prove!(size_of::<Import<'static>>() == 48);
 
@@ -98,35 +96,13 @@ fn with_elements(total: u64, elements: &Elements<'_>) -> u64
     sum
 }
 
-/// These bytes and those of an entry list that may not be there.
-fn with_table(total: u64, table: Option<&[Option<u32>]>) -> u64
-    ensures { result ≡ capped (total + kept_bytes 8 (option_map (λ s. s.now) table.entry)) }
-{
-    match table {
-        Some(entries) => with_list(total, entries.len(), 8),
-        None => total,
-    }
-}
-
-/// These bytes and those of a memory that may not be there.
-fn with_memory(total: u64, memory: Option<&[u8]>) -> u64
-    ensures { result ≡ capped (total + kept_bytes 1 (option_map (λ s. s.now) memory.entry)) }
-{
-    match memory {
-        Some(bytes) => with_list(total, bytes.len(), 1),
-        None => total,
-    }
-}
-
 /// These bytes and those of what instances start from.
 fn with_layout(total: u64, layout: &InitialState) -> u64
     ensures { result ≡ capped (total + layout_bytes layout.now) }
 {
     let total = with_list(total, layout.globals().len(), 8);
     let total = with_list(total, layout.element_places().len(), 4);
-    let total = with_list(total, layout.data_places().len(), 4);
-    let total = with_table(total, layout.table());
-    with_memory(total, layout.memory())
+    with_list(total, layout.data_places().len(), 4)
 }
 
 /// These bytes and those of the module's spaces.

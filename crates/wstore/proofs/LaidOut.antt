@@ -1,5 +1,5 @@
 -- A module whose rules hold and that is not refused is laid out.
-use Rattle.std.proofs.Common.{◌≡◌, ℕ, ◌*◌, ◌≤◌, Bool, true, false, List, [], ◌∷◌, ◌++◌, length, Option, Some, None, refl, sym, subst, arith}
+use Rattle.std.proofs.Common.{◌≡◌, ℕ, suc, ◌+◌, ◌*◌, ◌≤◌, Bool, true, false, List, [], ◌∷◌, ◌++◌, length, Option, Some, None, refl, sym, subst, cond, arith}
 use Rattle.std.specs.Prelude.{nat_lt, nat_le, unwrap_or, option_map, ◌&&◌, All, filter_map}
 use Rattle.std.specs.Option.{ForSome}
 use Rattle.std.proofs.Math.Logic.{∥∥₁_elim}
@@ -11,10 +11,10 @@ use Rattle.wsyntax.specs.Modules.{ModuleShape, BodyShape}
 use Rattle.wsyntax.specs.Validation.ModuleContext.{imported_memory}
 use Rattle.wsyntax.specs.Validation.Rules.{WithinRange, NoneBroken}
 use Rattle.wsyntax.specs.Execution.Store.{page, within, may_have}
+use Rattle.wsyntax.specs.Execution.Allocation.{Segment, AllWithin}
 use Rattle.wsyntax.specs.Execution.Start.{StartRefusal, HasImports, HasFloats, TableLimit, MemoryLimit, ElementOutside, DataOutside, has_floats, first, layout_of, table_limit, first_outside, or_else, refused_if, start_refusal}
 use Rattle.memory.specs.Buffered.{zeros}
 use Rattle.accepted_module.specs.Sizes.{table_size, memory_pages}
-use Rattle.accepted_module.proofs.Outside.{all_within}
 use Rattle.wstore.specs.LaidOut.{IsLaidOut}
 
 -- What is not refused.
@@ -51,6 +51,18 @@ unrefused pages m bodies e =
       elements = map_none ElementOutside _ f.0;
       segments = map_none DataOutside _ f.1;
     }
+
+-- Where none lies outside, all are within.
+
+within_if : (b : Bool) (k : ℕ) (o : Option ℕ) → cond b (Some k) o ≡ None → (b ≡ false) × (o ≡ None)
+within_if true k o e = absurd cc
+within_if false k o e = (refl, e)
+
+all_within : (k n : ℕ) (all : List Segment) → first_outside k n all ≡ None → AllWithin n all
+all_within k n [] e = tt
+all_within k n (s ∷ ss) e =
+    let h = within_if (nat_lt n (s.place + length s.items)) k (first_outside (suc k) n ss) e in
+    (ltb-false n (s.place + length s.items) h.0, all_within (suc k) n ss h.1)
 
 -- The memory.
 

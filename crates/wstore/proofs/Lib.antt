@@ -8,4 +8,7 @@ pub mod Programs
 pub mod ProgramCode
 pub mod TypedCalls
 pub mod ByteLists
+pub mod Lists
+pub mod Steps
+pub mod Tables
 pub mod ExportedItems

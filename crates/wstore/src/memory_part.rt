@@ -1,6 +1,6 @@
 //! The memory of a fresh store.
 
-ghost use Rattle.std.specs.Prelude.{◌≡◌, ◌<◌, ◌*◌, ◌^◌, true, length, max, replicate, IfOk, IfErr, IfSome, option_map, ◌≤◌};
+ghost use Rattle.std.specs.Prelude.{◌≡◌, ◌*◌, true, length, max, IfOk, IfErr, option_map, ◌≤◌};
 ghost use Rattle.wsyntax.specs.Execution.Allocation.{put_data, AllWithin, fresh_memory};
 ghost use Rattle.wsyntax.specs.Execution.Store.{page, may_have};
 ghost use Rattle.memory.specs.Buffered.{zeros};
@@ -29,19 +29,6 @@ fn put_data(memory: &mut LinearMemory, segments: &[Data<'_>], places: &[u32])
     }
 }
 
-/// Writes what a fresh memory has: the bytes that are kept, or else the data segments in order.
-fn fill(memory: &mut LinearMemory, segments: &[Data<'_>], places: &[u32], kept: Option<&[u8]>)
-    requires within { AllWithin (length memory.old.memory.bytes) (data_segments segments.now) }
-    requires placed { places.now ≡ places_of (data_segments segments.now) }
-    requires kept { IfSome kept (λ k. k.now ≡ put_data (data_segments segments.now) memory.old.memory.bytes) }
-    ensures { memory.new ≡ with_bytes memory.old (put_data (data_segments segments.now) memory.old.memory.bytes) }
-{
-    match kept {
-        Some(bytes) => memory.overwrite(0, bytes),
-        None => put_data(memory, segments, places),
-    }
-}
-
 /// A memory of its minimum with zeros, and then the data segments in order. Where memory is refused, what was lent comes back
 /// as it was.
 pub(crate) fn fresh_memory(
@@ -50,18 +37,16 @@ pub(crate) fn fresh_memory(
     pages: u32,
     segments: &[Data<'_>],
     places: &[u32],
-    kept: Option<&[u8]>,
 ) -> Result<LinearMemory, CleanMem>
     requires may_have { may_have (zeros limits.now.min limits.now.max pages) limits.now.min ≡ true }
     requires within { AllWithin (limits.now.min * page) (data_segments segments.now) }
     requires placed { places.now ≡ places_of (data_segments segments.now) }
-    requires kept { IfSome kept (λ k. k.now ≡ put_data (data_segments segments.now) (replicate (limits.now.min * page) 0)) }
     ensures memory { IfOk result (λ m. m.memory ≡ fresh_memory pages (data_segments segments.now) limits.now) }
     ensures room { IfOk result (λ m. m.room ≡ max clean (limits.now.min * page)) }
     ensures refused { IfErr result (λ back. back ≡ clean) }
 {
     let mut memory = LinearMemory::allocate(clean, limits.min, limits.max, pages)?;
-    fill(&mut memory, segments, places, kept);
+    put_data(&mut memory, segments, places);
     Ok(memory)
 }
 
@@ -84,7 +69,6 @@ pub(crate) fn module_memory(
     let Some(limits) = module.memories.first() else {
         return Ok((None, clean));
     };
-    let places = layout.data_places();
-    let memory = fresh_memory(clean, limits, pages, &module.data, places, layout.memory())?;
+    let memory = fresh_memory(clean, limits, pages, &module.data, layout.data_places())?;
     Ok((Some(memory), CleanMem::empty(alloc)))
 }

@@ -9,7 +9,6 @@ ghost use Rattle.wsyntax.specs.Execution.Start.{layout_of};
 ghost use Rattle.accepted_module.specs.InitialStates.{IsLayoutOf};
 ghost use Rattle.accepted_module.specs.Segments.{element_segments, places_of};
 ghost use Rattle.accepted_module.specs.Sizes.{table_size};
-ghost use Rattle.accepted_module.specs.Images.{entry_in};
 
 use accepted_module::InitialState;
 use interpreter::TableEntry;
@@ -57,27 +56,6 @@ pub(crate) fn fresh_table(
     Ok(entries)
 }
 
-/// The entry of a function, or an unset one.
-fn entry(function: Option<u32>) -> TableEntry
-    ensures { entry_of result ≡ entry_in function }
-{
-    match function {
-        None => TableEntry::Unset,
-        Some(func) => TableEntry::SetTo(func),
-    }
-}
-
-/// A table of the entries that are kept.
-fn copied_table(alloc: Global, kept: &[Option<u32>]) -> Result<Vec<TableEntry>, AllocError>
-    ensures { IfOk result (λ t. map entry_of t.items ≡ map entry_in kept.now) }
-{
-    let mut entries = Vec::with_capacity(alloc, kept.len())?;
-    for function in kept {
-        entries.push(entry(*function))?;
-    }
-    Ok(entries)
-}
-
 /// The table of a fresh store, where the module has one.
 pub(crate) fn module_table(
     alloc: Global,
@@ -94,9 +72,6 @@ pub(crate) fn module_table(
     let Some(table) = module.tables.first() else {
         return Ok(None);
     };
-    let entries = match layout.table() {
-        Some(kept) => copied_table(alloc, kept)?,
-        None => fresh_table(alloc, table, &module.elements, layout.element_places())?,
-    };
+    let entries = fresh_table(alloc, table, &module.elements, layout.element_places())?;
     Ok(Some(entries))
 }

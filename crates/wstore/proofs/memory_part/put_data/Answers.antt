@@ -3,10 +3,10 @@ use Rattle.wsyntax.specs.Modules.{data_shape}
 use Rattle.wsyntax.specs.Execution.Start.{data_segment}
 use Rattle.wsyntax.specs.Execution.Allocation.{overwrite}
 use Rattle.wstore.proofs.Buffers.{replaced_twice}
-use Rattle.accepted_module.proofs.Lists.{length-overwrite}
+use Rattle.wstore.proofs.Lists.{length-overwrite}
 use Rattle.accepted_module.specs.Segments.{data_segments}
 use Rattle.accepted_module.proofs.Outside.{data_from}
-use Rattle.accepted_module.proofs.Steps.{data_placed, within_here, within_later, put_data_here}
+use Rattle.wstore.proofs.Steps.{data_placed, within_here, within_later, put_data_here}
 use Rattle.wstore.proofs.memory_part.put_data.Goals as goal
 
 pub overwrite-requires : goal.overwrite-requires

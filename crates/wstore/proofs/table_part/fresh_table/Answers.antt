@@ -3,7 +3,7 @@ use Rattle.wsyntax.specs.Execution.Allocation.{put_elements}
 use Rattle.interpreter.specs.Seen.{entry_of}
 use Rattle.interpreter.specs.declared.store.TableEntry.TheVariants as held
 use Rattle.accepted_module.specs.Segments.{element_segments}
-use Rattle.accepted_module.proofs.Tables.{whole_front, map-replicate}
+use Rattle.wstore.proofs.Tables.{whole_front, map-replicate}
 use Rattle.wstore.proofs.table_part.fresh_table.Goals as goal
 
 pub returns : goal.returns

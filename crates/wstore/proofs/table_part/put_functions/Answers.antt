@@ -1,7 +1,7 @@
 use Rattle.std.proofs.Common.{refl}
 use Rattle.interpreter.specs.declared.store.TableEntry.TheVariants as held
 use Rattle.interpreter.specs.Seen.{entry_of}
-use Rattle.accepted_module.proofs.Tables.{put_more, put_all}
+use Rattle.wstore.proofs.Tables.{put_more, put_all}
 use Rattle.wstore.proofs.table_part.put_functions.Goals as goal
 
 pub loop-i-preserved : goal.loop-i-preserved

@@ -5,7 +5,7 @@ use Rattle.std.proofs.lemmas.List.{map-append, length-map, take_more, length-tak
 use Rattle.std.proofs.lemmas.Simd.{map-map}
 use Rattle.wsyntax.specs.Execution.Store.{Entry, SetTo}
 use Rattle.wsyntax.specs.Execution.Allocation.{overwrite}
-use Rattle.accepted_module.proofs.Lists.{overwrite_more, map-overwrite}
+use Rattle.wstore.proofs.Lists.{overwrite_more, map-overwrite}
 
 -- one more function is written, where `held` is the entry of a function
 pub put_more : {A : Type 0} (held : ℕ → A) (p i : ℕ) (fs : List ℕ) (old new : List A) → new ≡ overwrite p (map held (take i fs)) old → i < length fs → p + length fs ≤ length old

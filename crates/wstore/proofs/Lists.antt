@@ -1,8 +1,8 @@
 -- Lists that are overwritten from a place on.
 use Rattle.std.proofs.Common.{◌≡◌, ℕ, ◌+◌, ◌<◌, ◌≤◌, List, [], ◌∷◌, ◌++◌, length, take, drop, map, get_or, sym, ap, ◌∙◌, arith, length-append, length-drop}
 use Rattle.std.proofs.Math.ListN.{set}
-use Rattle.std.proofs.lemmas.List.{append_assoc, append-nil, drop_all, map-append, length-map, take-map, drop-map, drop_more, length-take-le, set_at}
-use Rattle.wsyntax.specs.Execution.Allocation.{Segment, AllWithin, put_data, overwrite}
+use Rattle.std.proofs.lemmas.List.{append_assoc, map-append, length-map, take-map, drop-map, drop_more, length-take-le, set_at}
+use Rattle.wsyntax.specs.Execution.Allocation.{overwrite}
 
 -- one more item is written
 pub overwrite_more : {A : Type 0} (p k : ℕ) (xs ys : List A) (x : A) → k ≡ p + length xs → k < length ys → set (overwrite p xs ys) k x ≡ overwrite p (xs ++ x ∷ []) ys
@@ -32,13 +32,3 @@ map-overwrite f p xs ys =
 pub length-overwrite : {A : Type 0} (p : ℕ) (xs ys : List A) → p + length xs ≤ length ys → length (overwrite p xs ys) ≡ length ys
 length-overwrite p xs ys within =
     omega (arith, length-append (take p ys) (xs ++ drop (p + length xs) ys), length-append xs (drop (p + length xs) ys), length-drop (p + length xs) ys, length-take-le p ys (omega arith))
-
--- writing segments keeps the length
-pub length-put_data : (n : ℕ) (all : List Segment) (bytes : List ℕ) → length bytes ≡ n → AllWithin n all → length (put_data all bytes) ≡ n
-length-put_data n [] bytes long within = long
-length-put_data n (s ∷ ss) bytes long within =
-    length-put_data n ss (overwrite s.place s.items bytes) (length-overwrite s.place s.items bytes (omega (arith, within.0)) ∙ long) within.1
-
--- what is as long as a list replaces it
-pub overwrite_all : {A : Type 0} (xs ys : List A) → length xs ≡ length ys → overwrite 0 xs ys ≡ xs
-overwrite_all xs ys long = ap (λ l. xs ++ l) (drop_all (0 + length xs) ys (omega arith)) ∙ append-nil xs
