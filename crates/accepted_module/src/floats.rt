@@ -1,26 +1,13 @@
 //! Where floats stand: a module that mentions f32 or f64 is not run.
 ghost use Rattle.std.specs.Prelude.{◌≡◌, map};
-ghost use Rattle.wsyntax.specs.FuncTypes.{func_type_of};
 ghost use Rattle.wsyntax.specs.Modules.{global_shape, module_shape};
 ghost use Rattle.wsyntax.specs.Validation.Rules.{GlobalsConstant, ElementsValid, SegmentsValid};
-ghost use Rattle.wsyntax.specs.Execution.Start.{any, is_float, type_has_floats, body_has_floats, has_floats};
+ghost use Rattle.wsyntax.specs.Execution.Start.{any, type_has_floats, body_has_floats, has_floats};
 ghost use Rattle.accepted_module.specs.Floats.{global_has_floats, declarations_have_floats};
 ghost use Rattle.accepted_module.specs.Judgement.{shapes_of};
 
-use checked_body::{CheckedBody, is_float};
-use wsyntax::{FuncType, FuncTypes, Global, Module, ValType};
-
-fn any_is_float(types: &[ValType]) -> bool
-    ensures { result ≡ any is_float types.now }
-{
-    types.iter().any(|of_type| is_float(*of_type))
-}
-
-fn type_has_floats(of_type: FuncType<'_>) -> bool
-    ensures { result ≡ type_has_floats (func_type_of of_type.entry) }
-{
-    any_is_float(of_type.params) || any_is_float(of_type.results)
-}
+use checked_body::{CheckedBody, is_float, type_has_floats};
+use wsyntax::{FuncTypes, Global, Module};
 
 fn types_have_floats(types: &FuncTypes) -> bool
     ensures { result ≡ any type_has_floats types.now }

@@ -1,10 +1,11 @@
 //! Where floats stand in a body: a module that mentions f32 or f64 is not run.
 ghost use Rattle.std.specs.Prelude.{◌≡◌, List, ℕ};
+ghost use Rattle.wsyntax.specs.FuncTypes.{func_type_of};
 ghost use Rattle.wsyntax.specs.Table.{num_op};
 ghost use Rattle.wsyntax.specs.Modules.{decoded_as};
-ghost use Rattle.wsyntax.specs.Execution.Start.{any, is_float, is_float_operator, block_has_floats, token_has_floats, run_has_floats};
+ghost use Rattle.wsyntax.specs.Execution.Start.{any, is_float, is_float_operator, block_has_floats, token_has_floats, run_has_floats, type_has_floats};
 
-use wsyntax::{BlockType, LocalRun, Operator, Token, ValType};
+use wsyntax::{BlockType, FuncType, LocalRun, Operator, Token, ValType};
 
 /// Whether it is f32 or f64.
 #[inline]
@@ -15,6 +16,19 @@ pub fn is_float(of_type: ValType) -> bool
         ValType::I32 | ValType::I64 => false,
         ValType::F32 | ValType::F64 => true,
     }
+}
+
+fn any_is_float(types: &[ValType]) -> bool
+    ensures { result ≡ any is_float types.now }
+{
+    types.iter().any(|of_type| is_float(*of_type))
+}
+
+/// Whether a parameter or a result of the function type is a float.
+pub fn type_has_floats(of_type: FuncType<'_>) -> bool
+    ensures { result ≡ type_has_floats (func_type_of of_type.entry) }
+{
+    any_is_float(of_type.params) || any_is_float(of_type.results)
 }
 
 /// Whether the operator takes or gives a float.

@@ -5,7 +5,7 @@
 //! on it.
 //!
 //! Proved: a `CheckedBody` is made only of parts that are proved to fit. `entry_at` is the entry that a token holds.
-//! `is_float`, `token_has_floats` and `runs_have_floats` say what their names say, exactly.
+//! `is_float`, `token_has_floats`, `runs_have_floats` and `type_has_floats` say what their names say, exactly.
 #![tactic(auto)]
 
 mod body;
@@ -18,6 +18,6 @@ mod table;
 pub use body::CheckedBody;
 pub use branch::Branch;
 pub use entry::entry_at;
-pub use floats::{is_float, runs_have_floats, token_has_floats};
+pub use floats::{is_float, runs_have_floats, token_has_floats, type_has_floats};
 pub use frame_layout::FrameLayout;
 pub use table::SideTable;

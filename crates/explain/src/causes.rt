@@ -1,6 +1,6 @@
 //! Why a token is ill typed.
 ghost use Rattle.std.specs.Prelude.{◌≡◌, ◌≢◌, ◌≤◌, ◌<◌, ◌+◌, ◌∷◌, [], ℕ, List, cond, Some, None, true, false};
-ghost use Rattle.std.specs.Prelude.{IfOk, IfSome, MatchOption, length, map, reverse, slice_get, slice_range, slice_index_or};
+ghost use Rattle.std.specs.Prelude.{IfOk, IfSome, MatchOption, length, map, reverse, slice_get};
 ghost use Rattle.wsyntax.specs.Instructions.{Token as AnyToken, Do, BrTable, Select, Else, End};
 ghost use Rattle.wsyntax.specs.Modules.{decoded_as};
 ghost use Rattle.wsyntax.specs.Validation.Context.{Context as AnyContext};
@@ -13,7 +13,7 @@ use crate::cause::{Cause, Space};
 use crate::explanation::Signature;
 use crate::operands::{Operands, count_told, finds_of};
 use std::alloc::{AllocError, Global};
-use wcheck::{Checker, OpenFrame};
+use wcheck::{Checker, OpenFrame, table_default, table_labels};
 use wcontext::Context;
 use wsyntax::{BlockType, Token, ValType};
 
@@ -192,33 +192,6 @@ fn no_index(checker: &Checker<'_>, space: Space, index: u32) -> Option<Cause>
         index,
         count,
     })
-}
-
-/// The labels of a branch table, its default apart.
-fn table_labels(targets: &[u32], first: usize, count: u32) -> &[u32]
-    ensures { result.now ≡ slice_range targets.now first (first + count) }
-{
-    let rest = if first <= targets.len() {
-        &targets[first..]
-    } else {
-        &targets[targets.len()..]
-    };
-    let count = count as usize;
-    if count <= rest.len() {
-        &rest[..count]
-    } else {
-        rest
-    }
-}
-
-/// The default of a branch table.
-fn table_default(targets: &[u32], first: usize, count: u32) -> u32
-    ensures { result ≡ slice_index_or targets.now (first + count) 0 }
-{
-    match first.checked_add(count as usize) {
-        Some(place) => targets.get(place).copied().unwrap_or(0),
-        None => 0,
-    }
 }
 
 /// Why a label of a branch table is refused, or its default.

@@ -1,8 +1,7 @@
 //! Why no instance of an accepted module starts (4.5.4), and where what hinders it stands.
 ghost use Rattle.std.specs.Prelude.{◌≡◌, [], IfSome, option_map, position};
-ghost use Rattle.wsyntax.specs.FuncTypes.{func_type_of};
 ghost use Rattle.wsyntax.specs.Modules.{body_shape, global_shape, module_shape, decoded_as};
-ghost use Rattle.wsyntax.specs.Execution.Start.{any, has_floats, is_float, run_has_floats, start_refusal};
+ghost use Rattle.wsyntax.specs.Execution.Start.{has_floats, run_has_floats, start_refusal};
 ghost use Rattle.wsyntax.specs.Execution.Start.{token_has_floats, type_has_floats};
 ghost use Rattle.accepted_module.specs.Floats.{global_has_floats};
 ghost use Rattle.accepted_module.specs.Judgement.{shapes_of};
@@ -10,8 +9,8 @@ ghost use Rattle.accepted_module.specs.InitialStates.{IsLayoutOf};
 ghost use Rattle.explain.specs.Starting.{IsNamed, first_float, first_in, float_in, refusal_named};
 
 use accepted_module::{Accepted, InitialState, memory_pages, table_size};
-use checked_body::{CheckedBody, is_float, token_has_floats};
-use wsyntax::{FuncType, FuncTypes, Global, Import, LocalRun, Module, TABLE_LIMIT, Token, ValType};
+use checked_body::{CheckedBody, is_float, token_has_floats, type_has_floats};
+use wsyntax::{FuncTypes, Global, Import, LocalRun, Module, TABLE_LIMIT, Token};
 
 /// Where f32 or f64 stands first in a module without imports, in which the index of a function is the place of its body.
 #[derive(Clone, Copy)]
@@ -41,20 +40,6 @@ pub enum NotStarting<'a> {
     ElementOutside(u32),
     /// The data segment of that number ends past the memory.
     DataOutside(u32),
-}
-
-/// Whether one of the types is a float.
-fn any_is_float(types: &[ValType]) -> bool
-    ensures { result ≡ any is_float types.now }
-{
-    types.iter().any(|of_type| is_float(*of_type))
-}
-
-/// Whether a function type has floats.
-fn type_has_floats(of_type: FuncType<'_>) -> bool
-    ensures { result ≡ type_has_floats (func_type_of of_type.entry) }
-{
-    any_is_float(of_type.params) || any_is_float(of_type.results)
 }
 
 /// The index of the first function type that has floats.

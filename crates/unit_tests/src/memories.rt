@@ -2,11 +2,10 @@
 //! are read are the standard's: the lowest byte stands first.
 
 ghost use Rattle.std.specs.Prelude.{◌≤◌};
-ghost use Rattle.memory.specs.Pools.{IsTicketOf};
 
+use crate::pools::{expect_lent, give_memory};
 use memory::*;
 use std::process::Abort;
-use std::sync::Wait;
 use std::test::*;
 
 /// A memory of `min` pages, which may grow to three.
@@ -89,20 +88,6 @@ fn after<R: Abort>(rt: &R, clean: CleanMem, min: u32, steps: &[Step]) -> Result<
     let mut memory = new_memory(clean, min)?;
     assert_steps(rt, &mut memory, steps)?;
     Ok(memory.close())
-}
-
-fn give_memory<R: Wait>(rt: &R, pool: &Pool, ticket: &mut Ticket, memory: CleanMem)
-    requires { IsTicketOf pool.now ticket.old }
-    ensures { IsTicketOf pool.now ticket.new }
-{
-    pool.give(rt, ticket, memory);
-}
-
-fn expect_lent<R: Wait + Abort>(rt: &R, pool: &Pool, ticket: &mut Ticket, bytes: usize)
-    requires { IsTicketOf pool.now ticket.old }
-    ensures { IsTicketOf pool.now ticket.new }
-{
-    assert!(rt; pool.lend(rt, ticket).len() == bytes);
 }
 
 const TWO_PAGES: [Step; 2] = [Grow(1, Some(1)), Write(131_064, 8, u64::MAX, true)];

@@ -48,14 +48,14 @@ fn run_in_lent<R: Wait + Abort>(
     Ok(())
 }
 
-fn give_memory<R: Wait>(rt: &R, pool: &Pool, ticket: &mut Ticket, memory: CleanMem)
+pub(crate) fn give_memory<R: Wait>(rt: &R, pool: &Pool, ticket: &mut Ticket, memory: CleanMem)
     requires { IsTicketOf pool.now ticket.old }
     ensures { IsTicketOf pool.now ticket.new }
 {
     pool.give(rt, ticket, memory);
 }
 
-fn expect_lent<R: Wait + Abort>(rt: &R, pool: &Pool, ticket: &mut Ticket, bytes: usize)
+pub(crate) fn expect_lent<R: Wait + Abort>(rt: &R, pool: &Pool, ticket: &mut Ticket, bytes: usize)
     requires { IsTicketOf pool.now ticket.old }
     ensures { IsTicketOf pool.now ticket.new }
 {

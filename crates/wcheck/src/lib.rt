@@ -37,4 +37,4 @@ pub use building::{is_plain, record_plain, record_token};
 pub use check::{CheckFault, check_body, keep_body};
 pub use checked_body::CheckedBody;
 pub use checker::{Checker, OpenFrame};
-pub use rule::OperandRule;
+pub use rule::{OperandRule, table_default, table_labels};

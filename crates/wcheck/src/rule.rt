@@ -102,7 +102,7 @@ fn store_rule(context: &Context, store: Store, align: u32) -> Option<OperandRule
 
 /// The labels of a branch table, the default apart.
 #[inline]
-pub(crate) fn table_labels(targets: &[u32], first: usize, count: u32) -> &[u32]
+pub fn table_labels(targets: &[u32], first: usize, count: u32) -> &[u32]
     ensures labels { result.now ≡ slice_range targets.now first (first + count) }
     ensures few { length result.now < 2 ^ 32 }
 {
@@ -121,7 +121,7 @@ pub(crate) fn table_labels(targets: &[u32], first: usize, count: u32) -> &[u32]
 
 /// The default of a branch table.
 #[inline]
-pub(crate) fn table_default(targets: &[u32], first: usize, count: u32) -> u32
+pub fn table_default(targets: &[u32], first: usize, count: u32) -> u32
     ensures { result ≡ slice_index_or targets.now (first + count) 0 }
 {
     match first.checked_add(count as usize) {
