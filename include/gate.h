@@ -95,7 +95,7 @@ extern "C" {
 #endif
 
 #define GATE_INTERFACE 1
-#define GATE_VERSION "0.1.0"
+#define GATE_VERSION "0.2.0"
 
 /* The number of the interface: GATE_INTERFACE of the header that the library was made with. */
 uint32_t gate_version(void);
@@ -174,7 +174,7 @@ uint32_t gate_check(const uint8_t *bytes, size_t bytes_length, gate_verdict *ver
 uint32_t gate_verdict_line(const gate_verdict *verdict, uint8_t *out, size_t room, size_t *length)
     GATE_WRITES(2, 3) GATE_NOT_NULL((1, 4)) GATE_ANSWERS;
 
-/* Writes which build the library is: `gate 0.1.0 (commit 0123456789ab, rattle-kit-13f)`, by its version, the commit and the toolchain that
+/* Writes which build the library is: `gate 0.2.0 (commit 0123456789ab, rattle-kit-13f)`, by its version, the commit and the toolchain that
  * proved it. Twelve dashes for the commit say that it is of no release. Without a NUL. 64 bytes are enough. Since revision 1.
  *   GATE_OK            the first *length bytes of out are the text
  *   GATE_SHORT_BUFFER  *length bytes are wanted */

@@ -60,7 +60,7 @@ inline std::string line(const gate_verdict &verdict) {
     return std::string(reinterpret_cast<const char *>(out), length - 1);
 }
 
-/// Which build the library is: `gate 0.1.0 (commit 0123456789ab, rattle-kit-13f)`.
+/// Which build the library is: `gate 0.2.0 (commit 0123456789ab, rattle-kit-13f)`.
 inline std::string build() {
     std::uint8_t out[64];
     std::size_t length = 0;

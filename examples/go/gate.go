@@ -44,7 +44,7 @@ func Revision() uint32 {
 	return uint32(C.gate_revision())
 }
 
-// Build says which build the library is: `gate 0.1.0 (commit 0123456789ab, rattle-kit-13f)`.
+// Build says which build the library is: `gate 0.2.0 (commit 0123456789ab, rattle-kit-13f)`.
 func Build() string {
 	var out [64]C.uint8_t // enough, as gate.h says
 	var length C.size_t

@@ -65,7 +65,7 @@ func sevens(count int) []byte {
 }
 
 func TestInterface(t *testing.T) {
-	if Interface() != 1 || Revision() != 1 || !strings.HasPrefix(Build(), "gate 0.1.0 (commit ") {
+	if Interface() != 1 || Revision() != 1 || !strings.HasPrefix(Build(), "gate 0.2.0 (commit ") {
 		t.Error(Interface(), Revision(), Build())
 	}
 }

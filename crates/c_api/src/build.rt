@@ -6,7 +6,7 @@ use crate::status::OK;
 use crate::text::hand_text;
 
 /// Release, commit and kit. The dashes stand for the digits of the commit, which `./release` writes into what is built.
-const BUILD: &[u8] = b"gate 0.1.0 (commit ------------, rattle-kit-13f)";
+const BUILD: &[u8] = b"gate 0.2.0 (commit ------------, rattle-kit-13f)";
 
 /// Writes the text that says which build this is. 0: it is written, and its length; 75: it has `length` bytes, and there is no room
 /// for it.

@@ -229,7 +229,7 @@ fn the_version_goes_to_standard_output(rt: HostRuntime) {
     assert_eq!(rt; status, 0);
     assert_eq!(rt;
         out.shown.as_slice(),
-        b"gate 0.1.0 (commit ------------, rattle-kit-13f)\n".as_slice()
+        b"gate 0.2.0 (commit ------------, rattle-kit-13f)\n".as_slice()
     );
 }
 

@@ -21,7 +21,7 @@ from gate.settings import Settings
 from gate.values import I32, I64, Value, call_line, value_of
 from gate.verdict import Refusal, Verdict, build, check
 
-__version__ = '0.1.0'
+__version__ = '0.2.0'
 __all__ = ['Closed', 'End', 'EndKind', 'Explanation', 'Export', 'ExportKind', 'FunctionType', 'I32', 'I64', 'Instance', 'Module',
            'ModuleRefused', 'NoGlobal', 'NoInstance', 'NotStarted', 'OutsideMemory', 'Refusal', 'Report', 'Settings', 'Status', 'Trap',
            'Value', 'ValueType', 'Verdict', '__version__', 'build', 'call_line', 'check', 'explain', 'run', 'value_of']

@@ -59,7 +59,7 @@ class Verdict:
 
 
 def build() -> str:
-    """Which build the library is: `gate 0.1.0 (commit 0123456789ab, rattle-kit-13f)`."""
+    """Which build the library is: `gate 0.2.0 (commit 0123456789ab, rattle-kit-13f)`."""
     out, length = ctypes.create_string_buffer(LINE_ROOM), ctypes.c_size_t()
     expect(library.gate_build(out, LINE_ROOM, length), OK)
     return ctypes.string_at(out, length.value).decode()

@@ -55,7 +55,7 @@ pub fn revision() -> u32 {
     unsafe { ffi::gate_revision() }
 }
 
-/// Which build the library is: `gate 0.1.0 (commit 0123456789ab, rattle-kit-13f)`.
+/// Which build the library is: `gate 0.2.0 (commit 0123456789ab, rattle-kit-13f)`.
 pub fn build() -> Result<String, NoMemory> {
     let (mut text, mut length) = (error::zeros(64)?, 0);
     // SAFETY: `text` has the room that is told, and the two overlap nowhere.

@@ -19,7 +19,7 @@ fn with_body(body: &[u8]) -> Vec<u8> {
 #[test]
 fn the_interface_is_the_crate_s() {
     assert_eq!((gate::interface(), gate::revision()), (1, 1));
-    assert!(gate::build().unwrap().starts_with("gate 0.1.0 (commit "));
+    assert!(gate::build().unwrap().starts_with("gate 0.2.0 (commit "));
 }
 
 #[test]
