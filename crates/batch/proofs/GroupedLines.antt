@@ -3,7 +3,7 @@ use Rattle.std.proofs.Common.{◌≡◌, ℕ, suc, ◌+◌, ◌-◌, ◌<◌, �
 use Rattle.std.specs.Prelude.{slice_get}
 use Rattle.std.specs.declared.alloc.Global.{Global}
 use Rattle.std.proofs.lemmas.Grind.{flat_map-append}
-use Rattle.std.proofs.lemmas.List.{append-nil, length-map, length-take, map-append, pop_all, take_more, take-append-drop}
+use Rattle.std.proofs.lemmas.List.{append-nil, length-map, length-take, map-append, take_all, take_more, take-append-drop}
 use Rattle.std.proofs.lemmas.Option.{same_Some}
 use Rattle.pieces.specs.TryAll.{AllPass}
 use Rattle.batch_text.specs.Ends.{end_of, ends_of}
@@ -43,7 +43,7 @@ give_more a s calls i c lines line below at h g =
 
 -- the lines of all calls
 pub all_given : (a : Accepted) (s : Settings) (calls : List Call) (i : ℕ) (lines : List Line) → length calls ≤ i → GiveLines a s (take i calls) lines → GiveLines a s calls lines
-all_given a s calls i lines past h = subst (λ (l : List Call). GiveLines a s l lines) (pop_all i calls past) h
+all_given a s calls i lines past h = subst (λ (l : List Call). GiveLines a s l lines) (take_all i calls past) h
 
 -- all lines of a group
 pub part_given : (a : Accepted) (s : Settings) (g : Group) (i : ℕ) (lines given : List Line) (p : Part) → length g.calls.now ≤ i → GiveLines a s (take i g.calls.now) lines → given ≡ lines → IsPart g.first (ends_of given) p → GivesPart a s g p

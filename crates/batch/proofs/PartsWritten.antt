@@ -4,7 +4,7 @@ use Rattle.std.specs.Prelude.{◌≢◌, IfErr, MatchResult}
 use Rattle.std.specs.Io.KnownBytes.{Appends}
 use Rattle.std.proofs.KnownBytes.{Appends-trans}
 use Rattle.std.proofs.lemmas.Grind.{flat_map-append}
-use Rattle.std.proofs.lemmas.List.{append-nil, drop_more, pop_all, take_more, take-append-drop}
+use Rattle.std.proofs.lemmas.List.{append-nil, drop_more, take_all, take_more, take-append-drop}
 use Rattle.batch_text.specs.Parts.{parts_text}
 use Rattle.batch_text.specs.declared.part.Part.{Part}
 use Rattle.batch.specs.Output.{AppendsFront, AppendsLess}
@@ -59,12 +59,12 @@ part_failed parts i p text last old mid new below at is before now =
 -- all parts are written, and so is the last line
 pub all_written : (parts : List Part) (i : ℕ) (last : List ℕ) (old mid new : Option (List ℕ)) → length parts ≤ i → Appends old mid (parts_text (take i parts)) → Appends mid new last → Appends old new (parts_text parts ++ last)
 all_written parts i last old mid new past before now =
-    subst (λ (l : List Part). Appends old new (parts_text l ++ last)) (pop_all i parts past) (Appends-trans old mid new _ _ before now)
+    subst (λ (l : List Part). Appends old new (parts_text l ++ last)) (take_all i parts past) (Appends-trans old mid new _ _ before now)
 
 -- or a beginning of it
 pub last_failed : (parts : List Part) (i : ℕ) (last : List ℕ) (old mid new : Option (List ℕ)) → length parts ≤ i → Appends old mid (parts_text (take i parts)) → AppendsLess mid new last → AppendsLess old new (parts_text parts ++ last)
 last_failed parts i last old mid new past before now =
-    let all : parts_text parts ≡ parts_text (take i parts) = ap parts_text (sym (pop_all i parts past)) in
+    let all : parts_text parts ≡ parts_text (take i parts) = ap parts_text (sym (take_all i parts past)) in
     front_behind old mid new (parts_text parts ++ last) (parts_text (take i parts)) last [] (ap (λ l. l ++ last) all ∙ ap (λ l. parts_text (take i parts) ++ l) (sym (append-nil last))) before now
 
 -- the last text is written or falls short

@@ -3,7 +3,7 @@ use Rattle.std.proofs.Common.{◌≡◌, ℕ, zero, suc, ◌+◌, ◌*◌, ◌-�
 use Rattle.std.specs.Char.{digit_value}
 use Rattle.std.specs.Int.{IsInRange}
 use Rattle.std.specs.Str.Parse.{AllDigits, digits_value}
-use Rattle.std.proofs.lemmas.List.{pop_all}
+use Rattle.std.proofs.lemmas.List.{take_all}
 use Rattle.std.proofs.lemmas.Fmt.{decimal_digit, decimal_nonempty, first_decimal, digits_decimal, digits_value-decimal, decimal-digits_value}
 use Rattle.std.proofs.lemmas.Int.Digits.{digits_more, digits_value_more}
 use Rattle.std.proofs.lemmas.Str.{digit_value_digit}
@@ -69,6 +69,6 @@ read_more bytes i n d longer l at (all, v, b) (r, e, small) = (digits_and_more b
 -- all is read
 pub read_all : (bytes : List ℕ) (i n : ℕ) → length bytes ≤ i → IsFrontPrinted bytes → IsReadTo bytes i n → (n < 2 ^ 64) × (bytes ≡ decimal n)
 read_all bytes i n l (some, lone) (all, v, small) =
-    let whole : take i bytes ≡ bytes = pop_all i bytes l in
+    let whole : take i bytes ≡ bytes = take_all i bytes l in
     let same : n ≡ digits_value 10 bytes = v ∙ ap (digits_value 10) whole in
     (small, printed bytes (subst (AllDigits 10) whole all) some lone (omega arith) ∙ ap decimal (sym same))

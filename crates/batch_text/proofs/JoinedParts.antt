@@ -1,7 +1,7 @@
 -- A part of a report, and parts one after another.
 use Rattle.std.proofs.Common.{◌≡◌, ℕ, ◌+◌, ◌<◌, ◌≤◌, List, [], ◌∷◌, ◌++◌, length, get_or, take, drop, string_bytes, refl, sym, ap, ◌∙◌, subst, append_assoc, length-append, arith}
 use Rattle.std.proofs.lemmas.Grind.{flat_map-append}
-use Rattle.std.proofs.lemmas.List.{append-nil, drop_more, drop_all, length-map, pop_all, take_more}
+use Rattle.std.proofs.lemmas.List.{append-nil, drop_more, drop_all, length-map, take_all, take_more}
 use Rattle.wsyntax.specs.Texts.Report.{CallEnd, call_lines, plus, total_of, report_text}
 use Rattle.batch_text.specs.declared.line.Line.{Line}
 use Rattle.batch_text.specs.declared.part.Part.{Part}
@@ -17,7 +17,7 @@ use Rattle.batch_text.proofs.Joined.{lines_append, totals_append, report_whole}
 pub part_whole : (n : ℕ) (lines : List Line) (i : ℕ) (p : Part) → i ≡ length lines → string_bytes p.text ≡ call_lines n (ends_of (take i lines)) → tally p.total ≡ total_of (ends_of (take i lines)) → p.total.calls ≡ i → IsWithin p.total
     → IsPart n (ends_of lines) p
 part_whole n lines i p all text counts calls within =
-    let every : take i lines ≡ lines = pop_all i lines (omega arith) in
+    let every : take i lines ≡ lines = take_all i lines (omega arith) in
     record {
       lines = text ∙ ap (λ x. call_lines n (ends_of x)) every;
       calls = simp length-map (omega arith);
@@ -99,5 +99,5 @@ joined_whole parts i empty line total ends past h none w =
     let left : h.left ≡ [] = subst (AreParts (length h.done) h.left) over h.others in
     let all : ends ≡ h.done = h.all ∙ ap (λ l. h.done ++ l) left ∙ append-nil h.done in
     let last : line ≡ total_text total.calls (tally total) = w ∙ ap (λ l. l ++ total_text total.calls (tally total)) none in
-    let texts : parts_text parts ≡ parts_text (take i parts) = ap parts_text (sym (pop_all i parts past)) in
+    let texts : parts_text parts ≡ parts_text (take i parts) = ap parts_text (sym (take_all i parts past)) in
     report_whole ends total (parts_text (take i parts)) _ (h.written ∙ ap (call_lines 0) (sym all)) (h.counts ∙ ap total_of (sym all)) (h.calls ∙ ap length (sym all)) (ap (λ l. parts_text parts ++ l) last ∙ ap (λ l. l ++ total_text total.calls (tally total)) texts)

@@ -2,7 +2,7 @@
 use Rattle.std.proofs.Common.{◌≡◌, ◌↔◌, ℕ, ◌+◌, ◌<◌, ◌≤◌, Bool, true, false, IsTrue, List, length, get_or, map, take, Some, refl, ap, sym, subst, ◌∙◌, arith}
 use Rattle.std.specs.Prelude.{slice_get, option_map}
 use Rattle.std.specs.List.{All}
-use Rattle.std.proofs.lemmas.List.{pop_all, take-map}
+use Rattle.std.proofs.lemmas.List.{take_all, take-map}
 use Rattle.std.proofs.lemmas.List.Elements.{All-map, All-more}
 use Rattle.std.proofs.lemmas.Option.{slice_get_read, slice_get-get_or, slice_get-map, slice_get_within, get_or_from_slice_get}
 use Rattle.explain.specs.Rules.{IsFirst}
@@ -32,7 +32,7 @@ right_got P xs i x got = right_here P xs i x (sym (get_or_from_slice_get xs i x 
 
 -- each is right
 pub all_right : {X : Type 0} (P : X → Type 0) (xs : List X) (n : ℕ) → length xs ≤ n → All P (take n xs) → All P xs
-all_right P xs n end before = subst (All P) (pop_all n xs end) before
+all_right P xs n end before = subst (All P) (take_all n xs end) before
 
 -- the same list, in another form
 pub first_along : {X : Type 0} (P : X → Type 0) (xs ys : List X) (i : ℕ) (x : X) → xs ≡ ys → IsFirst P xs i x → IsFirst P ys i x

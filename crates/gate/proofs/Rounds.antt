@@ -3,7 +3,7 @@ use Rattle.std.proofs.Common.{◌≡◌, ◌⊎◌, ℕ, ◌+◌, ◌-◌, ◌<�
 use Rattle.std.specs.Prelude.{IfErr, IfSome, IsSomeAnd, Vec}
 use Rattle.std.specs.declared.alloc.Global.{Global}
 use Rattle.std.proofs.lemmas.Bool.{eq-eqb, ne_eqb}
-use Rattle.std.proofs.lemmas.List.{drop-append-le, drop_all, get_or-map, length-drop, length-map, length-take, length_push, map_push, drop-map, take-append-drop, take-map, pop_all, take_more}
+use Rattle.std.proofs.lemmas.List.{drop-append-le, drop_all, get_or-map, length-drop, length-map, length-take, length_push, map_push, drop-map, take-append-drop, take-map, take_all, take_more}
 use Rattle.std.proofs.KnownBytes.{Appends-kept, Appends-nil, Appends-trans}
 use Rattle.std.proofs.Math.Seq.{take-add, take-append-add}
 use Rattle.std.proofs.lemmas.Slice.{between_is}
@@ -320,7 +320,7 @@ files_end holds files a b old mid new o r printed kept (inl e) = inl (
   },
 )
 files_end holds files a b old mid new o r printed kept (inr e) =
-    let whole : take (length files) files ≡ files = pop_all (length files) files (omega arith) in
+    let whole : take (length files) files ≡ files = take_all (length files) files (omega arith) in
     inr (
       fault.Write,
       e,
@@ -355,7 +355,7 @@ names_spread folders lists names files texts holds later a b c old new r e same 
     )
 
 pub rest_whole : {X : Type 0} (xs : List X) (d : ℕ) → take (length xs - d) (drop d xs) ≡ drop d xs
-rest_whole xs d = pop_all (length xs - d) (drop d xs) (omega (arith, length-drop d xs))
+rest_whole xs d = take_all (length xs - d) (drop d xs) (omega (arith, length-drop d xs))
 
 spread_same : (folders : Bool) (lists later : List ℕ → Option (List (List ℕ))) (names files : List (List ℕ)) → ((other : List ℕ) → later other ≡ lists other) → IsSpread folders later names files → IsSpread folders lists names files
 spread_same false lists later names files same stand = stand

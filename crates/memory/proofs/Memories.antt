@@ -1,7 +1,7 @@
 -- What the operations on a memory in its buffer leave is what the definitions say.
 use Rattle.std.proofs.Common.{◌≡◌, ◌≢◌, ℕ, zero, suc, ◌+◌, ◌*◌, ◌/◌, ◌<◌, ◌≤◌, List, Bool, false, ◌++◌, length, take, drop, replicate, set, get_or, true, Option, Some, refl, sym, ap, subst, ◌∙◌, arith, length-set, get_or-set_other}
 use Rattle.std.specs.Prelude.{nat_le}
-use Rattle.std.proofs.lemmas.List.{length-take-le, pop_all, take-append-le, take-take, ext_get_or, get_or-take}
+use Rattle.std.proofs.lemmas.List.{length-take-le, take_all, take-append-le, take-take, ext_get_or, get_or-take}
 use Rattle.std.proofs.lemmas.Bool.{le-leb}
 use Rattle.wsyntax.specs.Table.{little_endian}
 use Rattle.wsyntax.specs.Execution.Store.{Memory, may_have, to_bytes, read, write, write_if, grow_if}
@@ -71,7 +71,7 @@ did_overwrite old items slice put xs n room at most pages view fits all within w
 
 -- what a `Vec` that was lent as a slice of as many elements has then
 lent_back : {A : Type 0} (items put : List A) (room : ℕ) → room ≡ length items → length put ≡ length items → take room (put ++ drop (length put) items) ≡ put
-lent_back items put room all same = take-append-le room put (drop (length put) items) (omega arith) ∙ pop_all room put (omega arith)
+lent_back items put room all same = take-append-le room put (drop (length put) items) (omega arith) ∙ take_all room put (omega arith)
 
 -- it is still whole pages in its buffer where bytes within them are other ones
 still_buffered : (items new : List ℕ) (marks after : List Bool) (n : ℕ) (most : Option ℕ) (pages : ℕ) → IsBuffered items marks n most pages

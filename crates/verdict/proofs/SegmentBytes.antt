@@ -8,7 +8,7 @@ use Rattle.wsyntax.specs.Binary.Production.{Production, SpellsAll}
 use Rattle.wsyntax.specs.Binary.Types.{func_type, limits, table_type}
 use Rattle.wsyntax.specs.Binary.Values.{u32, vector, blob}
 use Rattle.wsyntax.specs.Binary.Sections.{an_import, global, an_export, element, data_segment, SectionShape, Custom, Types, Imports, Functions, Tables, Memories, Globals, Exports, Start, Elements, Bodies, Segments, filling, contents_of, section, SectionKind, CustomSection, TypeSection, ImportSection, FunctionSection, TableSection, MemorySection, GlobalSection, ExportSection, StartSection, ElementSection, CodeSection, DataSection}
-use Rattle.wsyntax.specs.Binary.Shell.{Shell, header, push_list, put_all, empty_module}
+use Rattle.wsyntax.specs.Binary.Shell.{Shell, header, with_section, put_all, empty_module}
 use Rattle.soundness.specs.Instances.{SegmentsAreBytes}
 
 some_is : {A : Type 0} (a c : A) → Some a ≡ Some c → a ≡ c
@@ -100,7 +100,7 @@ section_held bytes shape t h =
 
 -- ---- modules
 
-put_held : (m : ModuleShape) (s : SectionShape) → HoldBytes m.segments → Held s → HoldBytes (push_list m s).segments
+put_held : (m : ModuleShape) (s : SectionShape) → HoldBytes m.segments → Held s → HoldBytes (with_section m s).segments
 put_held m Custom h t = h
 put_held m (Types v) h t = h
 put_held m (Imports v) h t = h
@@ -117,7 +117,7 @@ put_held m (Segments v) h t = t
 all_held : (bytes : List ℕ) (sections : List SectionShape) (m : ModuleShape) → SpellsAll section.spells bytes sections → AreBytes bytes → HoldBytes m.segments → HoldBytes (put_all m sections).segments
 all_held bytes [] m t are h = h
 all_held bytes (s ∷ rest) m t are h =
-    all_held t.1 rest (push_list m s) t.4 (back bytes t.0 t.1 t.2 are)
+    all_held t.1 rest (with_section m s) t.4 (back bytes t.0 t.1 t.2 are)
     (put_held m s h (section_held t.0 s t.3 (front bytes t.0 t.1 t.2 are)))
 
 -- the bytes that spell a module are below 256, so those of its segments are

@@ -9,7 +9,7 @@ use Rattle.wsyntax.specs.Binary.Production.{Production, SpellsAll, byte, exactly
 use Rattle.wsyntax.specs.Binary.Types.{func_type, limits, table_type}
 use Rattle.wsyntax.specs.Binary.Values.{u32, vector, blob, name}
 use Rattle.wsyntax.specs.Binary.Sections.{an_import, global, an_export, element, data_segment, SectionShape, Custom, Types, Imports, Functions, Tables, Memories, Globals, Exports, Start, Elements, Bodies, Segments, filling, contents_of, section, SectionKind, CustomSection, TypeSection, ImportSection, FunctionSection, TableSection, MemorySection, GlobalSection, ExportSection, StartSection, ElementSection, CodeSection, DataSection}
-use Rattle.wsyntax.specs.Binary.Shell.{Shell, push_list, put_all, empty_module, module_limit}
+use Rattle.wsyntax.specs.Binary.Shell.{Shell, with_section, put_all, empty_module, module_limit}
 use Rattle.wsyntax.specs.Validation.ModuleContext.{imported_functions}
 use Rattle.wsyntax.specs.Validation.Verdict.{IsModule}
 
@@ -153,7 +153,7 @@ section_holds bytes shape t =
 abbrev total : ModuleShape → ℕ
 total m = length m.types + length m.imports + weight m.bodies + length m.elements + length m.segments
 
-put_holds : (m : ModuleShape) (s : SectionShape) → total (push_list m s) ≤ total m + held s
+put_holds : (m : ModuleShape) (s : SectionShape) → total (with_section m s) ≤ total m + held s
 put_holds m Custom = omega arith
 put_holds m (Types v) = omega arith
 put_holds m (Imports v) = omega arith
@@ -171,8 +171,8 @@ all_hold : (bytes : List ℕ) (sections : List SectionShape) (m : ModuleShape) �
 all_hold bytes [] m t = omega arith
 all_hold bytes (s ∷ rest) m t =
     let here : held s ≤ length t.0 = section_holds t.0 s t.3 in
-    let one : total (push_list m s) ≤ total m + held s = put_holds m s in
-    let others : total (put_all (push_list m s) rest) ≤ total (push_list m s) + length t.1 = all_hold t.1 rest (push_list m s) t.4 in
+    let one : total (with_section m s) ≤ total m + held s = put_holds m s in
+    let others : total (put_all (with_section m s) rest) ≤ total (with_section m s) + length t.1 = all_hold t.1 rest (with_section m s) t.4 in
     let e : length bytes ≡ length t.0 + length t.1 = ap length t.2 ∙ length-append t.0 t.1 in
     omega arith
 

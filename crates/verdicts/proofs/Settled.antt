@@ -2,7 +2,7 @@
 use denote.Ref.{Bor}
 use Rattle.std.proofs.Common.{◌≡◌, ℕ, ◌+◌, ◌<◌, ◌≤◌, List, [], ◌∷◌, ◌++◌, Option, Result, Some, None, length, get_or, map, take, sym, ap, subst, ◌∙◌, arith}
 use Rattle.std.specs.Prelude.{IfSome, slice_get}
-use Rattle.std.proofs.lemmas.List.{map-append, pop_all, take_more}
+use Rattle.std.proofs.lemmas.List.{map-append, take_all, take_more}
 use Rattle.std.proofs.lemmas.Option.{same_Some, slice_get-get_or}
 use Rattle.verdict.specs.declared.refusal.Refusal.{Refusal}
 use Rattle.verdicts.specs.Verdicts.{AreFound, AreVerdicts, GivesVerdict, IsJudged}
@@ -35,4 +35,4 @@ found_here modules found i d e below all =
 
 -- on all of them
 pub all_settled : (modules : List (Bor (List ℕ))) (k : ℕ) (vs : List (Result (Unit {0}) Refusal)) → length modules ≤ k → AreVerdicts (map (λ b. b.now) (take k modules)) vs → AreVerdicts (map (λ b. b.now) modules) vs
-all_settled modules k vs past h = subst (λ (l : List (Bor (List ℕ))). AreVerdicts (map (λ b. b.now) l) vs) (pop_all k modules past) h
+all_settled modules k vs past h = subst (λ (l : List (Bor (List ℕ))). AreVerdicts (map (λ b. b.now) l) vs) (take_all k modules past) h

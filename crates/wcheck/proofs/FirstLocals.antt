@@ -2,7 +2,7 @@
 use Rattle.std.proofs.Common.{◌≡◌, ◌+◌, ◌-◌, ◌≤◌, ◌<◌, ℕ, List, [], ◌∷◌, ◌++◌, take, drop, map, length, get_or, refl, sym, ap, ◌∙◌, subst, arith, length-append}
 use Rattle.std.specs.Prelude.{replicate}
 use Rattle.std.proofs.Math.ListN.{get_or-map}
-use Rattle.std.proofs.lemmas.List.{length-map, take-append-drop, append_assoc, pop_all, take_more, drop_more, replicate-append-replicate, length-replicate}
+use Rattle.std.proofs.lemmas.List.{length-map, take-append-drop, append_assoc, take_all, take_more, drop_more, replicate-append-replicate, length-replicate}
 use Rattle.wsyntax.specs.declared.LocalRun.{LocalRun}
 use Rattle.wsyntax.specs.declared.ValType.{ValType}
 use Rattle.wsyntax.specs.Validation.ModuleContext.{declared}
@@ -68,7 +68,7 @@ same_first some params runs others e f = subst (λ z. AreFirst some (params ++ d
 -- these, filled up to n with the locals of the next run
 pub full_first : (new some params : List ValType) (runs : List LocalRun) (i n m k : ℕ) (d : LocalRun) → some ≡ params ++ declared (take i runs) → length some ≤ n → i < length runs → m ≡ length some → k ≡ m → n - m < (get_or runs i d).count → new ≡ take n some ++ replicate (n - k) (get_or runs i d).content → AreFirst new (params ++ declared runs)
 full_first new some params runs i n m k d e le lt q p more h =
-    subst (λ z. AreFirst z (params ++ declared runs)) (sym (h ∙ ap (λ z. z ++ replicate (n - k) (get_or runs i d).content) (pop_all n some le))) (part_first some params runs i (n - k) d e lt (omega (arith, more, p)))
+    subst (λ z. AreFirst z (params ++ declared runs)) (sym (h ∙ ap (λ z. z ++ replicate (n - k) (get_or runs i d).content) (take_all n some le))) (part_first some params runs i (n - k) d e lt (omega (arith, more, p)))
 
 -- these, and all locals of the next run, of which there are not too many
 pub next_new : (new some params : List ValType) (runs : List LocalRun) (i n m k : ℕ) (d : LocalRun) → some ≡ params ++ declared (take i runs) → length some ≤ n → i < length runs → m ≡ length some → k ≡ m → (get_or runs i d).count ≤ n - m → new ≡ take (m + (get_or runs i d).count) some ++ replicate (m + (get_or runs i d).count - k) (get_or runs i d).content → (new ≡ params ++ declared (take (i + 1) runs)) × (length new ≤ n)
@@ -76,7 +76,7 @@ next_new new some params runs i n m k d e le lt q p few h =
     let r = get_or runs i d in
     let j : m + r.count - k ≡ r.count = omega (arith, p) in
     let now : new ≡ some ++ replicate r.count r.content =
-    h ∙ ap (λ z. z ++ replicate (m + r.count - k) r.content) (pop_all (m + r.count) some (omega (arith, q))) ∙ ap (λ z. some ++ replicate z r.content) j in
+    h ∙ ap (λ z. z ++ replicate (m + r.count - k) r.content) (take_all (m + r.count) some (omega (arith, q))) ∙ ap (λ z. some ++ replicate z r.content) j in
     let size : length new ≡ length some + r.count =
     ap length now ∙ length-append some (replicate r.count r.content) ∙ ap (λ z. length some + z) (length-replicate r.count r.content) in
     (now ∙ next_first some params runs i d e lt, omega (arith, size, le, q, few))

@@ -1,7 +1,7 @@
 -- Operands on top whose types are known, each in a place of its own.
 use Rattle.std.proofs.Common.{◌≡◌, ℕ, suc, false, ◌-◌, ◌+◌, ◌<◌, ◌≤◌, List, [], ◌∷◌, ◌++◌, map, length, take, get_or, Option, Some, refl, sym, ap, subst, ◌∙◌, arith, length-take}
 use Rattle.std.specs.Prelude.{set}
-use Rattle.std.proofs.lemmas.List.{append_assoc, append-nil, map-append, take_more, pop_all}
+use Rattle.std.proofs.lemmas.List.{append_assoc, append-nil, map-append, take_more, take_all}
 use Rattle.wsyntax.specs.declared.ValType.{ValType}
 use Rattle.wcheck.specs.declared.entry.StackEntry.{StackEntry}
 use Rattle.wcheck.specs.Heights.{type_of}
@@ -129,6 +129,6 @@ known_none xs rs ts s =
 -- all of the types ts
 pub known_all : (xs : List StackEntry) (rs : List (List ValType)) (ts : List ValType) (i : ℕ) → length ts ≤ length xs → i ≡ length ts → types_in (take (length xs - length ts + i) xs) rs ≡ types_in (take (length xs - length ts) xs) rs ++ map Some (take i ts) → types_in xs rs ≡ types_in (take (length xs - length ts) xs) rs ++ map Some ts
 known_all xs rs ts i le e h =
-    ap (λ z. types_in z rs) (sym (pop_all (length xs - length ts + i) xs (omega (arith, le, e))))
+    ap (λ z. types_in z rs) (sym (take_all (length xs - length ts + i) xs (omega (arith, le, e))))
     ∙ h
-    ∙ ap (λ z. types_in (take (length xs - length ts) xs) rs ++ map Some z) (pop_all i ts (omega (arith, e)))
+    ∙ ap (λ z. types_in (take (length xs - length ts) xs) rs ++ map Some z) (take_all i ts (omega (arith, e)))

@@ -1,7 +1,7 @@
 -- Lists of items, and the lists of what the items stand for.
 use Rattle.std.proofs.Common.{◌≡◌, ℕ, ◌+◌, ◌≤◌, ◌<◌, ◌↔◌, Bool, true, false, IsTrue, List, [], ◌∷◌, map, take, Option, Some, length, refl, ap, ◌∙◌, sym, subst, ◌++◌, arith}
 use Rattle.std.specs.List.{filter_map, cons_option, All, slice_get, slice_index_or, AllPairs}
-use Rattle.std.proofs.lemmas.List.{pop_all, get_or-map, length-map}
+use Rattle.std.proofs.lemmas.List.{take_all, get_or-map, length-map}
 use Rattle.std.proofs.lemmas.List.Elements.{All-map, All-more}
 use Rattle.std.proofs.lemmas.Option.{slice_get_within, get_or_from_slice_get}
 use Rattle.std.proofs.lemmas.Simd.{map-map}
@@ -13,7 +13,7 @@ filter_map-map h f (x ∷ xs) = ap (cons_option (h (f x))) (filter_map-map h f x
 
 -- all of a list, mapped twice
 pub map-map-take : {X Y Z : Type 0} (g : Y → Z) (f : X → Y) (n : ℕ) (xs : List X) → length xs ≤ n → map (λ x. g (f x)) (take n xs) ≡ map g (map f xs)
-map-map-take g f n xs all = ap (map (λ x. g (f x))) (pop_all n xs all) ∙ sym (map-map g f xs)
+map-map-take g f n xs all = ap (map (λ x. g (f x))) (take_all n xs all) ∙ sym (map-map g f xs)
 
 -- what holds of each item's shape holds at each item
 pub All-unmap : {X Y : Type 0} (f : X → Y) (P : Y → Type 0) (xs : List X) → All P (map f xs) → All (λ x. P (f x)) xs
@@ -54,7 +54,7 @@ got_passes P xs i x b got = passes_here P xs i x b (sym (get_or_from_slice_get x
 
 -- each has passed
 pub passes_all : {X : Type 0} (P : X → Type 0) (xs : List X) (n : ℕ) → length xs ≤ n → All P (take n xs) → IsTrue true ↔ All P xs
-passes_all P xs n end passed = (λ t. subst (All P) (pop_all n xs end) passed, λ all. refl)
+passes_all P xs n end passed = (λ t. subst (All P) (take_all n xs end) passed, λ all. refl)
 
 -- A test that ran over a copy of the list.
 

@@ -2,7 +2,7 @@
 use Rattle.std.proofs.Common.{◌≡◌, ◌≢◌, ℕ, ◌+◌, ◌<◌, ◌≤◌, List, [], ◌∷◌, ◌++◌, length, take, get_or, set, replicate, Bool, refl, sym, ap, subst, ◌∙◌, arith, inl, inr, length-append, length-set}
 use Rattle.std.specs.List.{All, AllWithin, filter}
 use Rattle.std.proofs.lemmas.Bool.{cases_lt, cases_eq}
-use Rattle.std.proofs.lemmas.List.{get_or-set_same, get_or-set_other, append-nil, append_assoc, get_or_past, get_or-replicate, length-replicate, take_more, pop_all}
+use Rattle.std.proofs.lemmas.List.{get_or-set_same, get_or-set_other, append-nil, append_assoc, get_or_past, get_or-replicate, length-replicate, take_more, take_all}
 use Rattle.std.proofs.lemmas.List.Elements.{AllWithin-more_set, AllWithin-upto, AllWithin-none, AllWithin-from_all, All-from_all_within, All-filter, All-weaker}
 use Rattle.wsyntax.specs.declared.ValType.{ValType}
 use Rattle.wcontext.specs.Nodes.{text, AreNodes}
@@ -92,7 +92,7 @@ none_there all texts list base i held past = record {
   reading = record {
     prefixes = held.reading.prefixes;
     within = held.reading.within;
-    is = held.reading.is ∙ pop_all (base + i) list.types.now past ∙ sym (pop_all (base + i + 1) list.types.now (omega (arith, past)));
+    is = held.reading.is ∙ take_all (base + i) list.types.now past ∙ sym (take_all (base + i + 1) list.types.now (omega (arith, past)));
   };
   block = held.block;
   nodes = held.nodes;

@@ -1,7 +1,7 @@
 -- Sections that are read step by step, up to the data segments and from there on, agree with the grammar of a module.
 use Rattle.std.proofs.Common.{◌≡◌, ℕ, ◌-◌, ◌<◌, Bool, true, false, eqb, eq-eqb, List, [], ◌∷◌, ◌++◌, length, take, drop, Some, None, Result, Err, ◌≢◌, ◌↔◌, refl, sym, ap, subst, ◌∙◌, arith}
 use Rattle.std.specs.Prelude.{IsTrue, All}
-use Rattle.std.proofs.lemmas.List.{pop_all}
+use Rattle.std.proofs.lemmas.List.{take_all}
 use Rattle.std.proofs.lemmas.List.Elements.{All-nil, All-cons, All-head, All-tail, All-push}
 use Rattle.std.proofs.lemmas.Bool.{eqb-true, lt-ltb}
 use Rattle.wsyntax.specs.Modules.{ModuleShape, DataShape}
@@ -142,7 +142,7 @@ after_id bytes = take (length bytes - 1) (drop 1 bytes)
 pub begin : (bytes : List ℕ) → 0 < length bytes → ((id : ℕ) (tail : List ℕ) → bytes ≡ id ∷ tail → id ≡ 11) → bytes ≡ 11 ∷ after_id bytes
 begin [] some next = absurd (omega arith)
 begin (b ∷ bytes) some next =
-    let all : after_id (b ∷ bytes) ≡ bytes = pop_all (length (b ∷ bytes) - 1) bytes (omega arith) in
+    let all : after_id (b ∷ bytes) ≡ bytes = take_all (length (b ∷ bytes) - 1) bytes (omega arith) in
     ap (λ (n : ℕ). n ∷ bytes) (next b bytes refl) ∙ ap (λ (r : List ℕ). 11 ∷ r) (sym all)
 
 segments_read : (rest contents after : List ℕ) (segments : List DataShape) → blob.read rest ≡ Some (contents, after) → whole_at (vector_at data_segment.read) contents ≡ Some segments → section.read (11 ∷ rest) ≡ Some (Segments segments, after)

@@ -1,7 +1,7 @@
 -- What the loop over the functions of an element segment leaves of a table.
 use Rattle.std.proofs.Common.{◌≡◌, ℕ, zero, suc, ◌+◌, ◌<◌, ◌≤◌, List, [], ◌∷◌, ◌++◌, length, take, drop, replicate, map, get_or, refl, sym, ap, ◌∙◌, arith}
 use Rattle.std.proofs.Math.ListN.{set}
-use Rattle.std.proofs.lemmas.List.{map-append, length-map, take_more, length-take-le, pop_all, take-append-le}
+use Rattle.std.proofs.lemmas.List.{map-append, length-map, take_more, length-take-le, take_all, take-append-le}
 use Rattle.std.proofs.lemmas.Simd.{map-map}
 use Rattle.wsyntax.specs.Execution.Store.{Entry, SetTo}
 use Rattle.wsyntax.specs.Execution.Allocation.{overwrite}
@@ -24,11 +24,11 @@ put_all entry held p n fs old new meant was all =
     ap (map entry) was
     ∙ map-overwrite entry p (map held (take n fs)) old
     ∙ ap (λ l. overwrite p l (map entry old)) (map-map entry held (take n fs) ∙ meant (take n fs))
-    ∙ ap (λ l. overwrite p (map SetTo l) (map entry old)) (pop_all n fs all)
+    ∙ ap (λ l. overwrite p (map SetTo l) (map entry old)) (take_all n fs all)
 
 -- the front of a buffer that was written whole
 pub whole_front : {A : Type 0} (n : ℕ) (new items : List A) → length new ≡ n → take n (new ++ drop (length new) items) ≡ new
-whole_front n new items long = take-append-le n new (drop (length new) items) (omega arith) ∙ pop_all n new (omega arith)
+whole_front n new items long = take-append-le n new (drop (length new) items) (omega arith) ∙ take_all n new (omega arith)
 
 pub map-replicate : {A B : Type 0} (f : A → B) (n : ℕ) (x : A) → map f (replicate n x) ≡ replicate n (f x)
 map-replicate f zero x = refl

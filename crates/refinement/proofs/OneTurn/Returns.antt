@@ -1,7 +1,7 @@
 -- Turns that leave a function: a return, and the end of its body. With nobody waiting the call is over.
 use Rattle.std.proofs.Common.{◌≡◌, ℕ, ◌≤◌, cond, List, [], ◌∷◌, ◌++◌, length, map, take, append-nil, refl, sym, ap, ap₂, ◌∙◌, arith, append_assoc}
 use Rattle.std.proofs.lemmas.Bool.{eq-eqb}
-use Rattle.std.proofs.lemmas.List.{pop_all}
+use Rattle.std.proofs.lemmas.List.{take_all}
 use Rattle.wsyntax.specs.Instructions.{Return, Code, Stop, Plain}
 use Rattle.wsyntax.specs.declared.value.Value.{Value}
 use Rattle.wsyntax.specs.Execution.Store.{Module, Store}
@@ -35,7 +35,7 @@ frame_done m s l below own held n levels code rest ec el en =
     ∙ ap (λ c. cond c (leaves Quiet s l (held ++ below) rest) Stuck) (eq-eqb (length held) n en)
 
 all_held : (j : Joint) → length (j.running).held ≡ (activation j.running).arity → take (activation j.running).arity (j.running).held ≡ (j.running).held
-all_held j en = pop_all (activation j.running).arity (j.running).held (omega (arith, en))
+all_held j en = take_all (activation j.running).arity (j.running).held (omega (arith, en))
 
 module _ (laws : ReductionLaws) where
   return_step : (p : Program) (j : Joint) (b : Site) (bs : List Site) (rest : Code) → (j.running).code ≡ Plain Return rest → (activation j.running).arity ≤ length (j.running).held → step (module_of p) (config_of (state_of (called_by j b bs))) ≡ Steps Working j.store [] ((config_of (state_of (given j (take (activation j.running).arity (j.running).held) b bs))).work)

@@ -2,7 +2,7 @@
 use Rattle.std.proofs.Common.{◌≡◌, ℕ, zero, suc, ◌+◌, ◌-◌, ◌<◌, false, List, [], ◌∷◌, ◌++◌, length, length-append, take, drop, Option, Some, None, refl, sym, ap, ◌∙◌, subst, arith, inl, inr, add-one}
 use Rattle.std.specs.Prelude.{◌⊎◌}
 use Rattle.std.proofs.lemmas.Option.{same_Some}
-use Rattle.std.proofs.lemmas.List.{take-append-drop, pop_all}
+use Rattle.std.proofs.lemmas.List.{take-append-drop, take_all}
 use Rattle.std.proofs.lemmas.Bool.{cases_lt}
 use Rattle.wsyntax.specs.Instructions.{Code, Token, End, flat, flat_body}
 use Rattle.wsyntax.specs.Validation.Context.{Stack, Context, body_context}
@@ -189,7 +189,7 @@ fault_inside C r body k f =
       | inl h ↦ h
       | inr h ↦
           let last : n - 1 < k = omega arith in
-          let whole : take (n - 1 + 1) (flat_body body) ≡ take (k + 1) (flat_body body) = pop_all (n - 1 + 1) (flat_body body) (omega arith) ∙ sym (pop_all (k + 1) (flat_body body) (omega arith)) in
+          let whole : take (n - 1 + 1) (flat_body body) ≡ take (k + 1) (flat_body body) = take_all (n - 1 + 1) (flat_body body) (omega arith) ∙ sym (take_all (k + 1) (flat_body body) (omega arith)) in
           absurd (f.lost (subst (CanBeTyped C r) whole (f.before (n - 1) last)))
     ]
 

@@ -37,24 +37,24 @@ IsOrdered last [] = Unit {0}
 IsOrdered last (s ∷ ss) = (may_follow last s ≡ true) × IsOrdered (last_after last s) ss
 
 -- a module with what a section holds
-abbrev pub push_list : ModuleShape → SectionShape → ModuleShape
-push_list m Custom = m
-push_list m (Types v) = record m { types = v }
-push_list m (Imports v) = record m { imports = v }
-push_list m (Functions v) = record m { functions = v }
-push_list m (Tables v) = record m { tables = v }
-push_list m (Memories v) = record m { memories = v }
-push_list m (Globals v) = record m { globals = v }
-push_list m (Exports v) = record m { exports = v }
-push_list m (Start x) = record m { start = Some x }
-push_list m (Elements v) = record m { elements = v }
-push_list m (Bodies v) = record m { bodies = v }
-push_list m (Segments v) = record m { segments = v }
+abbrev pub with_section : ModuleShape → SectionShape → ModuleShape
+with_section m Custom = m
+with_section m (Types v) = record m { types = v }
+with_section m (Imports v) = record m { imports = v }
+with_section m (Functions v) = record m { functions = v }
+with_section m (Tables v) = record m { tables = v }
+with_section m (Memories v) = record m { memories = v }
+with_section m (Globals v) = record m { globals = v }
+with_section m (Exports v) = record m { exports = v }
+with_section m (Start x) = record m { start = Some x }
+with_section m (Elements v) = record m { elements = v }
+with_section m (Bodies v) = record m { bodies = v }
+with_section m (Segments v) = record m { segments = v }
 
 -- a module with what these sections hold
 abbrev pub put_all : ModuleShape → List SectionShape → ModuleShape
 put_all m [] = m
-put_all m (s ∷ ss) = put_all (push_list m s) ss
+put_all m (s ∷ ss) = put_all (with_section m s) ss
 
 -- 5.5.2 an absent section counts as an empty one
 abbrev pub empty_module : ModuleShape

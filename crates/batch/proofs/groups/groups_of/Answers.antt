@@ -1,5 +1,5 @@
 use Rattle.std.proofs.Common.{◌≡◌, [], length, List, length-append, take, sym, ap, subst, arith}
-use Rattle.std.proofs.lemmas.List.{pop_all}
+use Rattle.std.proofs.lemmas.List.{take_all}
 use Rattle.batch_text.specs.Slices.{joined_calls}
 use Rattle.batch_text.specs.declared.call.Call.{Call}
 use Rattle.batch.specs.Groups.{AddsGroups}
@@ -36,5 +36,5 @@ pub returns-clause-few : goal.returns-clause-few
 returns-clause-few c =
     let (more, now, are) = c.loop-calls.invariant.added in
     let many : length c.loop-calls.groups.items ≡ length more = ap length now in
-    let all = pop_all c.loop-calls.calls-index c.args.slices.now c.loop-calls-test.false in
+    let all = take_all c.loop-calls.calls-index c.args.slices.now c.loop-calls-test.false in
     omega (arith, few_groups 0 (joined_calls (take c.loop-calls.calls-index c.args.slices.now)) more are, many, ap (λ l. length (joined_calls l)) all)

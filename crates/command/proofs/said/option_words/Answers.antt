@@ -1,4 +1,4 @@
-use Rattle.std.proofs.Common.{◌≡◌, [], ◌∙◌, ap, arith, codes, false, get_or, map, sym, take, pop_all}
+use Rattle.std.proofs.Common.{◌≡◌, [], ◌∙◌, ap, arith, codes, false, get_or, map, sym, take, take_all}
 use Rattle.std.proofs.lemmas.List.{get_or-map}
 use Rattle.std.specs.Str.{bytes_eq}
 use Rattle.command.proofs.Found.{texts_before_first}
@@ -17,5 +17,5 @@ loop-i-preserved c =
 
 pub returns : goal.returns
 returns c =
-    let whole : take c.loop-i.i c.args.words.now ≡ c.args.words.now = pop_all c.loop-i.i c.args.words.now (omega arith) in
+    let whole : take c.loop-i.i c.args.words.now ≡ c.args.words.now = take_all c.loop-i.i c.args.words.now (omega arith) in
     ap (map (λ w. w.now)) (sym whole) ∙ texts_before_first (λ w. w.now) (λ word. bytes_eq word (codes "--")) c.args.words.now c.loop-i.i (omega arith) c.loop-i.invariant (λ lt. absurd (omega arith))

@@ -1,5 +1,5 @@
 use Rattle.std.proofs.Common.{subst}
-use Rattle.std.proofs.lemmas.List.{pop_all}
+use Rattle.std.proofs.lemmas.List.{take_all}
 use Rattle.wsyntax.specs.declared.value.Value.TheVariants.{I32}
 use Rattle.wsyntax.specs.Execution.Values.{AreWords}
 use Rattle.wmachine.proofs.Words.{words_more}
@@ -9,4 +9,4 @@ pub loop-value-preserved : goal.loop-value-preserved
 loop-value-preserved c = words_more c.args.values.now c.loop-value.value-index (I32 0) c.loop-value-test.true c.loop-value.invariant c.is_word.ensures
 
 pub returns : goal.returns
-returns c = subst AreWords (pop_all c.loop-value.value-index c.args.values.now c.loop-value-test.false) c.loop-value.invariant
+returns c = subst AreWords (take_all c.loop-value.value-index c.args.values.now c.loop-value-test.false) c.loop-value.invariant
