@@ -1,6 +1,6 @@
 //! The answer to a text of calls of any length, which is given while it is read.
 
-ghost use Rattle.std.specs.Prelude.{◌≡◌, ◌<◌, ◌≤◌, ◌+◌, ◌++◌, ◌^◌, IfSome, false, length};
+ghost use Rattle.std.specs.Prelude.{◌≡◌, ◌≢◌, ◌<◌, ◌≤◌, ◌+◌, ◌++◌, ◌^◌, IfOk, IfSome, false, length};
 ghost use Rattle.wstore.specs.CallLimits.{limits_of};
 ghost use Rattle.batch_text.specs.Totals.{tally, total_text};
 ghost use Rattle.batch.specs.Streams.{AnswersAsRun, EndsWith, IsFree, IsHeld, RefusesLine, Streams, Takes};
@@ -84,7 +84,8 @@ impl Rounds<'_> {
 
     /// Writes the last line of a report, and flushes it.
     fn end_report<O: Write>(&self, total: &Total, out: &mut O) -> Result<Status, StreamFault>
-        ensures { EndsWith (total_text total.now.calls (tally total.now)) Status.Good (O.contents out.old) (O.contents out.new) result }
+        ensures written { EndsWith (total_text total.now.calls (tally total.now)) Status.Good (O.contents out.old) (O.contents out.new) result }
+        ensures status { IfOk result (λ s. s ≢ Status.ModuleRefused) }
     {
         let mut last = String::new(self.alloc);
         total.push_line(&mut last)?;
@@ -97,7 +98,8 @@ impl Rounds<'_> {
     /// Writes that the line behind those of the calls so far is bad, and flushes it.
     fn refuse_line<O: Write>(&self, tally: &Total, out: &mut O) -> Result<Status, StreamFault>
         requires { tally.now.calls + 1 < 2 ^ 64 }
-        ensures { RefusesLine tally.now (O.contents out.old) (O.contents out.new) result }
+        ensures written { RefusesLine tally.now (O.contents out.old) (O.contents out.new) result }
+        ensures status { IfOk result (λ s. s ≢ Status.ModuleRefused) }
     {
         let line = tally.calls + 1;
         let last = format!(in self.alloc; "calls line {line} refused\n")?;
@@ -117,8 +119,9 @@ impl Rounds<'_> {
     ) -> Result<Status, StreamFault>
         requires some { 0 < length piece.old }
         requires most { length piece.old ≤ PIECE }
-        ensures { IfSome (F.remaining calls.old) (λ text.
+        ensures written { IfSome (F.remaining calls.old) (λ text.
             Streams self.now.accepted.now (limits_of self.now.settings) text (O.contents out.old) (O.contents out.new) result) }
+        ensures status { IfOk result (λ s. s ≢ Status.ModuleRefused) }
     {
         let mut held = Vec::new(self.alloc);
         let mut progress = Progress {
@@ -174,6 +177,8 @@ pub fn stream<R: Threads + Wait + Sync, F: Read, O: Write>(
         Streams accepted.now (limits_of settings) text (O.contents out.old) (O.contents out.new) result) }
     ensures answer { IfSome (F.remaining calls.old) (λ text.
         AnswersAsRun accepted.now (limits_of settings) text (O.contents out.old) (O.contents out.new) result) }
+    // The status is of the calls alone, whatever is known of the reader.
+    ensures status { IfOk result (λ s. s ≢ Status.ModuleRefused) }
 {
     let rounds = Rounds {
         alloc,
