@@ -7,7 +7,7 @@ ghost use Rattle.batch.specs.Streams.{AnswersAsRun, EndsWith, IsFree, IsHeld, Re
 ghost use Rattle.batch.specs.declared.status.Status.TheVariants as Status;
 
 use crate::reader::read_piece;
-use crate::rounds::{Behind, Progress, Rounds, write_and_flush};
+use crate::rounds::{Behind, Rounds, StreamProgress, write_and_flush};
 use crate::status::Status;
 use crate::stream_fault::StreamFault;
 use crate::tuning::PIECE;
@@ -25,7 +25,7 @@ use wsyntax::CALLS_LIMIT;
 const MOST_READS: u64 = 1 << 45;
 
 /// Whether the lines so far are good.
-enum Lines {
+enum LinesSoFar {
     Good,
     Bad,
 }
@@ -38,13 +38,13 @@ fn has_newline(piece: &[u8]) -> bool
 }
 
 /// Bad where the line that is held is too long.
-fn line_held(held: &[u8]) -> Lines
+fn line_held(held: &[u8]) -> LinesSoFar
     ensures { IsHeld held.now result }
 {
     if held.len() < CALLS_LIMIT {
-        Lines::Good
+        LinesSoFar::Good
     } else {
-        Lines::Bad
+        LinesSoFar::Bad
     }
 }
 
@@ -55,9 +55,9 @@ impl Rounds<'_> {
         rt: &R,
         piece: &[u8],
         held: &mut Vec<u8>,
-        progress: &mut Progress,
+        progress: &mut StreamProgress,
         out: &mut O,
-    ) -> Result<Lines, StreamFault>
+    ) -> Result<LinesSoFar, StreamFault>
         requires free { IsFree held.old.items }
         requires room { progress.old.tally.calls + length held.old.items + length piece.now < 2 ^ 64 }
         ensures { Takes self.now.accepted.now (limits_of self.now.settings) (held.old.items ++ piece.now)
@@ -77,7 +77,7 @@ impl Rounds<'_> {
                 *held = kept;
                 Ok(line_held(held))
             }
-            Ok(Behind::Bad) => Ok(Lines::Bad),
+            Ok(Behind::Bad) => Ok(LinesSoFar::Bad),
             Err(fault) => Err(fault),
         }
     }
@@ -124,7 +124,7 @@ impl Rounds<'_> {
         ensures status { IfOk result (λ s. s ≢ Status.ModuleRefused) }
     {
         let mut held = Vec::new(self.alloc);
-        let mut progress = Progress {
+        let mut progress = StreamProgress {
             tally: Total::new(),
             size: self.plan.workers() as usize,
         };
@@ -132,8 +132,8 @@ impl Rounds<'_> {
             match read_piece(calls, piece) {
                 Ok(Some(count)) => {
                     match self.take_piece(rt, &piece[..count], &mut held, &mut progress, out) {
-                        Ok(Lines::Good) => {}
-                        Ok(Lines::Bad) => return self.refuse_line(&progress.tally, out),
+                        Ok(LinesSoFar::Good) => {}
+                        Ok(LinesSoFar::Bad) => return self.refuse_line(&progress.tally, out),
                         Err(fault) => return Err(fault),
                     }
                 }
