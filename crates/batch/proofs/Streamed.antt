@@ -29,8 +29,8 @@ use Rattle.batch.specs.declared.status.Status.{Status}
 use Rattle.batch.specs.declared.status.Status.TheVariants.{Good, ModuleRefused, CallsRefused}
 use Rattle.batch.specs.declared.rounds.Behind.{Behind}
 use Rattle.batch.specs.declared.rounds.Behind.TheVariants as behind
-use Rattle.batch.specs.declared.streaming.Lines.{Lines}
-use Rattle.batch.specs.declared.streaming.Lines.TheVariants as lines
+use Rattle.batch.specs.declared.streaming.LinesSoFar.{LinesSoFar}
+use Rattle.batch.specs.declared.streaming.LinesSoFar.TheVariants as lines
 use Rattle.std.proofs.lemmas.Grind.{common_steps}
 use Rattle.batch.specs.declared.stream_fault.StreamFault.{StreamFault}
 use Rattle.batch.specs.declared.stream_fault.StreamFault.TheVariants as fault
@@ -220,12 +220,12 @@ no_newline : (front more : List ℕ) → IsFree front → IsFree more → IsFree
 no_newline front more h g = grind (arith, common_steps)
 
 -- what is held after lines that were answered
-pub held_on : (a : Accepted) (l : Limits) (r : Lines) (text first held : List ℕ) (from to : Tally) (old new : Option (List ℕ)) → text ≡ first ++ held → IsFree held → Advances a l first from to old new → IsHeld held r → Takes a l text from to held old new (Ok r)
+pub held_on : (a : Accepted) (l : Limits) (r : LinesSoFar) (text first held : List ℕ) (from to : Tally) (old new : Option (List ℕ)) → text ≡ first ++ held → IsFree held → Advances a l first from to old new → IsHeld held r → Takes a l text from to held old new (Ok r)
 held_on a l lines.Good text first held from to old new split free h fits = (first, split, free, fits, h)
 held_on a l lines.Bad text first held from to old new split free h long = (first, held, split, held_long held free long, h)
 
 -- no line ends in the piece
-pub held_longer : (a : Accepted) (l : Limits) (r : Lines) (held piece now : List ℕ) (from : Tally) (old : Option (List ℕ)) → IsFree held → IsFree piece → now ≡ held ++ piece → IsHeld now r → Takes a l (held ++ piece) from from now old old (Ok r)
+pub held_longer : (a : Accepted) (l : Limits) (r : LinesSoFar) (held piece now : List ℕ) (from : Tally) (old : Option (List ℕ)) → IsFree held → IsFree piece → now ≡ held ++ piece → IsHeld now r → Takes a l (held ++ piece) from from now old old (Ok r)
 held_longer a l r held piece now from old free free' is h =
     held_on a l r (held ++ piece) [] now from from old old (sym is) (subst IsFree (sym is) (no_newline held piece free free')) (nothing_answered a l from old) h
 
@@ -234,19 +234,19 @@ pub nothing_stops : (a : Accepted) (l : Limits) (text : List ℕ) (from : Tally)
 nothing_stops a l text from old = ([], text, from, refl, nothing_answered a l from old)
 
 -- what is held is kept
-kept_on : (a : Accepted) (l : Limits) (r : Lines) (text given rest kept now : List ℕ) (from to : Tally) (old new : Option (List ℕ)) → given ≡ text → kept ≡ rest → now ≡ kept
+kept_on : (a : Accepted) (l : Limits) (r : LinesSoFar) (text given rest kept now : List ℕ) (from to : Tally) (old new : Option (List ℕ)) → given ≡ text → kept ≡ rest → now ≡ kept
     → (first : List ℕ) × (given ≡ first ++ rest) × IsFree rest × Advances a l first from to old new → IsHeld now r → Takes a l text from to kept old new (Ok r)
 kept_on a l r text given rest kept now from to old new is same same' (first, split, free, h) fits =
     held_on a l r text first kept from to old new (sym is ∙ split ∙ ap (λ (t : List ℕ). first ++ t) (sym same)) (subst IsFree (sym same) free) h (subst (λ (t : List ℕ). IsHeld t r) same' fits)
 
-pub held_kept : (a : Accepted) (l : Limits) (r : Lines) (text given kept now : List ℕ) (rest : Bor (List ℕ)) (found : Behind) (answered : Result Behind StreamFault) (from to : Tally) (old new : Option (List ℕ)) → given ≡ text → kept ≡ rest.now → now ≡ kept
+pub held_kept : (a : Accepted) (l : Limits) (r : LinesSoFar) (text given kept now : List ℕ) (rest : Bor (List ℕ)) (found : Behind) (answered : Result Behind StreamFault) (from to : Tally) (old new : Option (List ℕ)) → given ≡ text → kept ≡ rest.now → now ≡ kept
     → answered ≡ Ok found → found ≡ behind.Unended rest → Answers a l given from to old new answered → IsHeld now r → Takes a l text from to kept old new (Ok r)
 held_kept a l r text given kept now rest found answered from to old new is same same' ok unended h fits =
     let answers = subst (λ (b : Result Behind StreamFault). Answers a l given from to old new b) (ok ∙ ap (λ (b : Behind). Ok b) unended) h in
     kept_on a l r text given rest.now kept now from to old new is same same' answers fits
 
 -- no line ends in the piece, and what is held is long
-pub held_after : (a : Accepted) (l : Limits) (r : Lines) (held piece now given : List ℕ) (from : Tally) (old : Option (List ℕ)) → IsFree held → IsFree piece → now ≡ held ++ piece → given ≡ now → IsHeld given r → Takes a l (held ++ piece) from from now old old (Ok r)
+pub held_after : (a : Accepted) (l : Limits) (r : LinesSoFar) (held piece now given : List ℕ) (from : Tally) (old : Option (List ℕ)) → IsFree held → IsFree piece → now ≡ held ++ piece → given ≡ now → IsHeld given r → Takes a l (held ++ piece) from from now old old (Ok r)
 held_after a l r held piece now given from old free free' is same h = held_longer a l r held piece now from old free free' is (subst (λ (t : List ℕ). IsHeld t r) same h)
 
 -- the text that was put together is the one that is answered
@@ -495,14 +495,14 @@ stream_endless a l from to count held old_in mid_in old mid start h = stream_unr
 
 -- ---- what was taken
 
-pub taken_bad : (a : Accepted) (l : Limits) (text : List ℕ) (from to : Tally) (held : List ℕ) (old new : Option (List ℕ)) (r : Result Lines StreamFault) (found : Lines) → Takes a l text from to held old new r → r ≡ Ok found → found ≡ lines.Bad → StopsBad a l text from to old new
-taken_bad a l text from to held old new r found h ok bad = subst (Takes a l text from to held old new) (ok ∙ ap (λ (o : Lines). Ok o) bad) h
+pub taken_bad : (a : Accepted) (l : Limits) (text : List ℕ) (from to : Tally) (held : List ℕ) (old new : Option (List ℕ)) (r : Result LinesSoFar StreamFault) (found : LinesSoFar) → Takes a l text from to held old new r → r ≡ Ok found → found ≡ lines.Bad → StopsBad a l text from to old new
+taken_bad a l text from to held old new r found h ok bad = subst (Takes a l text from to held old new) (ok ∙ ap (λ (o : LinesSoFar). Ok o) bad) h
 
-pub taken_good : (a : Accepted) (l : Limits) (text : List ℕ) (from to : Tally) (held : List ℕ) (old new : Option (List ℕ)) (r : Result Lines StreamFault) (found : Lines) → Takes a l text from to held old new r → r ≡ Ok found → found ≡ lines.Good
+pub taken_good : (a : Accepted) (l : Limits) (text : List ℕ) (from to : Tally) (held : List ℕ) (old new : Option (List ℕ)) (r : Result LinesSoFar StreamFault) (found : LinesSoFar) → Takes a l text from to held old new r → r ≡ Ok found → found ≡ lines.Good
     → (first : List ℕ) × (text ≡ first ++ held) × IsFree held × (length held < calls_limit) × Advances a l first from to old new
-taken_good a l text from to held old new r found h ok good = subst (Takes a l text from to held old new) (ok ∙ ap (λ (o : Lines). Ok o) good) h
+taken_good a l text from to held old new r found h ok good = subst (Takes a l text from to held old new) (ok ∙ ap (λ (o : LinesSoFar). Ok o) good) h
 
-pub taken_fault : (a : Accepted) (l : Limits) (text : List ℕ) (from to : Tally) (held : List ℕ) (old new : Option (List ℕ)) (r : Result Lines StreamFault) (f : StreamFault) → Takes a l text from to held old new r → r ≡ Err f → Stops a l text from old new f
+pub taken_fault : (a : Accepted) (l : Limits) (text : List ℕ) (from to : Tally) (held : List ℕ) (old new : Option (List ℕ)) (r : Result LinesSoFar StreamFault) (f : StreamFault) → Takes a l text from to held old new r → r ≡ Err f → Stops a l text from old new f
 taken_fault a l text from to held old new r f h err = subst (Takes a l text from to held old new) err h
 
 -- a line after those that were answered has a number

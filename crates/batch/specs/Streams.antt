@@ -21,8 +21,8 @@ use Rattle.batch.specs.declared.status.Status.{Status}
 use Rattle.batch.specs.declared.status.Status.TheVariants.{Good, ModuleRefused, CallsRefused}
 use Rattle.batch.specs.declared.stream_fault.StreamFault.{StreamFault}
 use Rattle.batch.specs.declared.stream_fault.StreamFault.TheVariants as fault
-use Rattle.batch.specs.declared.streaming.Lines.{Lines}
-use Rattle.batch.specs.declared.streaming.Lines.TheVariants as lines
+use Rattle.batch.specs.declared.streaming.LinesSoFar.{LinesSoFar}
+use Rattle.batch.specs.declared.streaming.LinesSoFar.TheVariants as lines
 use Rattle.batch_text.specs.declared.total.Total.{Total as Tally}
 
 -- What a stream says.
@@ -196,12 +196,12 @@ Answers a l text from to old new (Ok behind.Bad) = StopsBad a l text from to old
 Answers a l text from to old new (Err f) = Stops a l text from old new f
 
 -- bad where the line that is held is too long
-abbrev pub IsHeld : List ℕ → Lines → Type 0
+abbrev pub IsHeld : List ℕ → LinesSoFar → Type 0
 IsHeld held lines.Good = length held < calls_limit
 IsHeld held lines.Bad = calls_limit ≤ length held
 
 -- where they are good, the beginning of a line is held, which is not too long yet
-abbrev pub Takes : Accepted → Limits → List ℕ → Tally → Tally → List ℕ → Option (List ℕ) → Option (List ℕ) → Result Lines StreamFault → Type 0
+abbrev pub Takes : Accepted → Limits → List ℕ → Tally → Tally → List ℕ → Option (List ℕ) → Option (List ℕ) → Result LinesSoFar StreamFault → Type 0
 Takes a l text from to held old new (Ok lines.Good) = (first : List ℕ) × (text ≡ first ++ held) × IsFree held × (length held < calls_limit) × Advances a l first from to old new
 Takes a l text from to held old new (Ok lines.Bad) = StopsBad a l text from to old new
 Takes a l text from to held old new (Err f) = Stops a l text from old new f

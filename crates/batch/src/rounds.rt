@@ -32,7 +32,7 @@ pub(crate) struct Rounds<'a> {
 
 /// How far a stream is answered.
 #[derive(Clone, Copy)]
-pub(crate) struct Progress {
+pub(crate) struct StreamProgress {
     /// The counts of the calls that were answered, whose lines are written.
     pub(crate) tally: Total,
     /// The most calls of the next round.
@@ -80,7 +80,7 @@ impl Rounds<'_> {
         &self,
         rt: &R,
         calls: &[Call<'_>],
-        progress: &mut Progress,
+        progress: &mut StreamProgress,
         out: &mut O,
     ) -> Result<(), StreamFault>
         requires { progress.old.tally.calls + length calls.now < 2 ^ 64 }
@@ -116,7 +116,7 @@ impl Rounds<'_> {
         &self,
         rt: &R,
         text: &'t [u8],
-        progress: &mut Progress,
+        progress: &mut StreamProgress,
         out: &mut O,
     ) -> Result<Behind<'t>, StreamFault>
         requires { progress.old.tally.calls + length text.now < 2 ^ 64 }

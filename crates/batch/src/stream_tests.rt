@@ -42,15 +42,15 @@ impl Read for Slow<'_> {
 
 /// Holds what it takes, `room` bytes in all, and counts how often it was flushed.
 #[derive(Drop)]
-struct Held {
+struct BoundedOutput {
     bytes: Vec<u8>,
     room: usize,
     flushes: u32,
 }
 
-impl Held {
-    fn new(alloc: Global, room: usize) -> Held {
-        Held {
+impl BoundedOutput {
+    fn new(alloc: Global, room: usize) -> BoundedOutput {
+        BoundedOutput {
             bytes: Vec::new(alloc),
             room,
             flushes: 0,
@@ -58,7 +58,7 @@ impl Held {
     }
 }
 
-impl Write for Held {
+impl Write for BoundedOutput {
     fn write(&mut self, buf: &[u8]) -> io::Result<usize> {
         let count = buf.len().min(self.room);
         if count == 0 {
@@ -92,7 +92,7 @@ fn streamed<R: AllocGlobal + Threads + Wait + Abort + Sync>(
     workers: u32,
     fails: bool,
     room: usize,
-) -> Result<(Held, Result<Status, StreamFault>), Fail> {
+) -> Result<(BoundedOutput, Result<Status, StreamFault>), Fail> {
     let alloc = rt.alloc();
     let accepted = judge_alone(alloc, ADD).ok().ok_or("accepted")?;
     let settings = Settings::new(10, 100, 1).ok_or("settings")?;
@@ -103,7 +103,7 @@ fn streamed<R: AllocGlobal + Threads + Wait + Abort + Sync>(
         interrupted: false,
         fails,
     };
-    let mut out = Held::new(alloc, room);
+    let mut out = BoundedOutput::new(alloc, room);
     let status = stream(rt, alloc, &accepted, &mut reader, settings, plan, &mut out);
     Ok((out, status))
 }
@@ -115,7 +115,7 @@ fn reported<R: AllocGlobal + Threads + Wait + Abort + Sync>(
 ) -> Result<Vec<u8>, Fail> {
     let settings = Settings::new(10, 100, 1).ok_or("settings")?;
     let plan = Plan::new(2, 16).ok_or("plan")?;
-    let mut out = Held::new(rt.alloc(), ROOM);
+    let mut out = BoundedOutput::new(rt.alloc(), ROOM);
     answer(rt, rt.alloc(), ADD, calls, settings, plan, &Quiet, &mut out)?;
     Ok(out.bytes)
 }

@@ -1,13 +1,13 @@
 //! The answer to a text of calls of any length, which is given while it is read.
 
-ghost use Rattle.std.specs.Prelude.{◌≡◌, ◌<◌, ◌≤◌, ◌+◌, ◌++◌, ◌^◌, IfSome, false, length};
+ghost use Rattle.std.specs.Prelude.{◌≡◌, ◌≢◌, ◌<◌, ◌≤◌, ◌+◌, ◌++◌, ◌^◌, IfOk, IfSome, false, length};
 ghost use Rattle.wstore.specs.CallLimits.{limits_of};
 ghost use Rattle.batch_text.specs.Totals.{tally, total_text};
 ghost use Rattle.batch.specs.Streams.{AnswersAsRun, EndsWith, IsFree, IsHeld, RefusesLine, Streams, Takes};
 ghost use Rattle.batch.specs.declared.status.Status.TheVariants as Status;
 
 use crate::reader::read_piece;
-use crate::rounds::{Behind, Progress, Rounds, write_and_flush};
+use crate::rounds::{Behind, Rounds, StreamProgress, write_and_flush};
 use crate::status::Status;
 use crate::stream_fault::StreamFault;
 use crate::tuning::PIECE;
@@ -25,7 +25,7 @@ use wsyntax::CALLS_LIMIT;
 const MOST_READS: u64 = 1 << 45;
 
 /// Whether the lines so far are good.
-enum Lines {
+enum LinesSoFar {
     Good,
     Bad,
 }
@@ -38,13 +38,13 @@ fn has_newline(piece: &[u8]) -> bool
 }
 
 /// Bad where the line that is held is too long.
-fn line_held(held: &[u8]) -> Lines
+fn line_held(held: &[u8]) -> LinesSoFar
     ensures { IsHeld held.now result }
 {
     if held.len() < CALLS_LIMIT {
-        Lines::Good
+        LinesSoFar::Good
     } else {
-        Lines::Bad
+        LinesSoFar::Bad
     }
 }
 
@@ -55,9 +55,9 @@ impl Rounds<'_> {
         rt: &R,
         piece: &[u8],
         held: &mut Vec<u8>,
-        progress: &mut Progress,
+        progress: &mut StreamProgress,
         out: &mut O,
-    ) -> Result<Lines, StreamFault>
+    ) -> Result<LinesSoFar, StreamFault>
         requires free { IsFree held.old.items }
         requires room { progress.old.tally.calls + length held.old.items + length piece.now < 2 ^ 64 }
         ensures { Takes self.now.accepted.now (limits_of self.now.settings) (held.old.items ++ piece.now)
@@ -77,14 +77,15 @@ impl Rounds<'_> {
                 *held = kept;
                 Ok(line_held(held))
             }
-            Ok(Behind::Bad) => Ok(Lines::Bad),
+            Ok(Behind::Bad) => Ok(LinesSoFar::Bad),
             Err(fault) => Err(fault),
         }
     }
 
     /// Writes the last line of a report, and flushes it.
     fn end_report<O: Write>(&self, total: &Total, out: &mut O) -> Result<Status, StreamFault>
-        ensures { EndsWith (total_text total.now.calls (tally total.now)) Status.Good (O.contents out.old) (O.contents out.new) result }
+        ensures written { EndsWith (total_text total.now.calls (tally total.now)) Status.Good (O.contents out.old) (O.contents out.new) result }
+        ensures status { IfOk result (λ s. s ≢ Status.ModuleRefused) }
     {
         let mut last = String::new(self.alloc);
         total.push_line(&mut last)?;
@@ -97,7 +98,8 @@ impl Rounds<'_> {
     /// Writes that the line behind those of the calls so far is bad, and flushes it.
     fn refuse_line<O: Write>(&self, tally: &Total, out: &mut O) -> Result<Status, StreamFault>
         requires { tally.now.calls + 1 < 2 ^ 64 }
-        ensures { RefusesLine tally.now (O.contents out.old) (O.contents out.new) result }
+        ensures written { RefusesLine tally.now (O.contents out.old) (O.contents out.new) result }
+        ensures status { IfOk result (λ s. s ≢ Status.ModuleRefused) }
     {
         let line = tally.calls + 1;
         let last = format!(in self.alloc; "calls line {line} refused\n")?;
@@ -117,11 +119,12 @@ impl Rounds<'_> {
     ) -> Result<Status, StreamFault>
         requires some { 0 < length piece.old }
         requires most { length piece.old ≤ PIECE }
-        ensures { IfSome (F.remaining calls.old) (λ text.
+        ensures written { IfSome (F.remaining calls.old) (λ text.
             Streams self.now.accepted.now (limits_of self.now.settings) text (O.contents out.old) (O.contents out.new) result) }
+        ensures status { IfOk result (λ s. s ≢ Status.ModuleRefused) }
     {
         let mut held = Vec::new(self.alloc);
-        let mut progress = Progress {
+        let mut progress = StreamProgress {
             tally: Total::new(),
             size: self.plan.workers() as usize,
         };
@@ -129,8 +132,8 @@ impl Rounds<'_> {
             match read_piece(calls, piece) {
                 Ok(Some(count)) => {
                     match self.take_piece(rt, &piece[..count], &mut held, &mut progress, out) {
-                        Ok(Lines::Good) => {}
-                        Ok(Lines::Bad) => return self.refuse_line(&progress.tally, out),
+                        Ok(LinesSoFar::Good) => {}
+                        Ok(LinesSoFar::Bad) => return self.refuse_line(&progress.tally, out),
                         Err(fault) => return Err(fault),
                     }
                 }
@@ -174,6 +177,8 @@ pub fn stream<R: Threads + Wait + Sync, F: Read, O: Write>(
         Streams accepted.now (limits_of settings) text (O.contents out.old) (O.contents out.new) result) }
     ensures answer { IfSome (F.remaining calls.old) (λ text.
         AnswersAsRun accepted.now (limits_of settings) text (O.contents out.old) (O.contents out.new) result) }
+    // The status is of the calls alone, whatever is known of the reader.
+    ensures status { IfOk result (λ s. s ≢ Status.ModuleRefused) }
 {
     let rounds = Rounds {
         alloc,

@@ -5,8 +5,8 @@ use Rattle.accepted_module.specs.Kept.{IsAcceptedFrom}
 use Rattle.verdict.specs.Steps.{Progress, join}
 use Rattle.c_api.specs.declared.steps.JoinFault.{JoinFault}
 use Rattle.c_api.specs.declared.steps.JoinFault.TheVariants.{OtherBytes, Memory}
-use Rattle.c_api.specs.declared.steps.Ended.{Ended}
-use Rattle.c_api.specs.declared.steps.Ended.TheVariants as ended
+use Rattle.c_api.specs.declared.steps.EndedCheck.{EndedCheck}
+use Rattle.c_api.specs.declared.steps.EndedCheck.TheVariants as ended
 
 -- what both judged is known, where they are of the same bytes; else nothing changes
 abbrev pub Joins : Progress → Progress → Progress → Result (Unit {0}) JoinFault → Type 0
@@ -21,7 +21,7 @@ joined_number (Err OtherBytes) = 64
 joined_number (Err Memory) = 70
 
 -- the module of these bytes is accepted; or it has other owners, and nothing changes; or memory was refused
-abbrev pub Ends : Progress → Ended → Type 0
+abbrev pub Ends : Progress → EndedCheck → Type 0
 Ends p (ended.Accepted a) = IsVerdict p.bytes Accepted × IsAcceptedFrom p.bytes a
 Ends p (ended.Shared s) = s.judged ≡ p
 Ends p ended.Memory = Unit {0}

@@ -12,7 +12,7 @@ use crate::judged::GateVerdict;
 use crate::module::ModuleSlot;
 use crate::sending::sendable;
 use crate::status::{BAD_ARGUMENT, NO_MEMORY, NOT_JUDGED, OK, SHARED};
-use crate::steps::{Ended, JoinFault, Steps};
+use crate::steps::{EndedCheck, JoinFault, Steps};
 use std::alloc::Global;
 use std::sync::Arc;
 use verdict::{Accepted, Judging, Refusal, Standing};
@@ -165,9 +165,9 @@ fn accept(
     ensures { EndsAccepted steps.judged result.0 verdict.old verdict.new «module».old «module».new result.1 }
 {
     match steps.end(alloc) {
-        Ended::Accepted(accepted) => hand_accepted(alloc, accepted, verdict, module),
-        Ended::Shared(steps) => (Some(Pending::of(steps)), SHARED),
-        Ended::Memory => (Some(Pending::gone()), NO_MEMORY),
+        EndedCheck::Accepted(accepted) => hand_accepted(alloc, accepted, verdict, module),
+        EndedCheck::Shared(steps) => (Some(Pending::of(steps)), SHARED),
+        EndedCheck::Memory => (Some(Pending::gone()), NO_MEMORY),
     }
 }
 

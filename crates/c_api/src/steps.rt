@@ -24,7 +24,7 @@ pub(crate) enum JoinFault {
 
 /// What becomes of a check of which all bodies passed.
 #[derive(Drop)]
-pub(crate) enum Ended {
+pub(crate) enum EndedCheck {
     /// The module is accepted.
     Accepted(Accepted<'static>),
     /// Another handle holds it too.
@@ -94,18 +94,18 @@ impl Steps {
     }
 
     /// The accepted module, where no other handle holds it. No body is judged again.
-    pub(crate) fn end(self, alloc: Global) -> Ended
+    pub(crate) fn end(self, alloc: Global) -> EndedCheck
         requires { HasAll self.judged }
         ensures { Ends self.judged result }
     {
         let Steps { judging, judged } = self;
         let judging = match Arc::try_unwrap(judging) {
             Ok(judging) => judging,
-            Err(judging) => return Ended::Shared(Steps { judging, judged }),
+            Err(judging) => return EndedCheck::Shared(Steps { judging, judged }),
         };
         match judging.end(alloc, judged) {
-            Ok(accepted) => Ended::Accepted(accepted),
-            Err(_) => Ended::Memory,
+            Ok(accepted) => EndedCheck::Accepted(accepted),
+            Err(_) => EndedCheck::Memory,
         }
     }
 }

@@ -6,14 +6,14 @@ use Rattle.wsyntax.specs.Modules.{ModuleShape, DataShape, module_shape}
 use Rattle.wsyntax.specs.Binary.Shell.{Shell}
 use Rattle.wdecode.specs.declared.front.ModuleHead.{ModuleHead}
 use Rattle.wdecode.specs.Fronts.{EndsFront, with_segments}
-use Rattle.explain.specs.declared.explanation.RefusedBody.{RefusedBody}
+use Rattle.explain.specs.declared.explanation.RefusedFunction.{RefusedFunction}
 use Rattle.explain.specs.Placed.{IsSo, IsSoIn}
 
 -- data segments are not spoken of
-with_others : (bytes : List ℕ) (m : ModuleShape) (segments : List DataShape) (r : RefusedBody) → IsSoIn bytes m r → IsSoIn bytes (with_segments m segments) r
+with_others : (bytes : List ℕ) (m : ModuleShape) (segments : List DataShape) (r : RefusedFunction) → IsSoIn bytes m r → IsSoIn bytes (with_segments m segments) r
 with_others bytes m segments r so = record { «export» = so.«export»; signature = so.signature; body = so.body }
 
-pub so_of_each : (bytes : List ℕ) (f : ModuleHead) (r : Result RefusedBody AllocError)
+pub so_of_each : (bytes : List ℕ) (f : ModuleHead) (r : Result RefusedFunction AllocError)
     → ((m : ModuleShape) → Shell bytes m ↔ ((segments : List DataShape) × EndsFront f segments × (m ≡ with_segments (module_shape f.«module») segments)))
     → IfOk r (IsSoIn bytes (module_shape f.«module»)) → IfOk r (IsSo bytes)
 so_of_each bytes f (Ok r) whole so =

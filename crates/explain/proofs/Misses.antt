@@ -15,7 +15,7 @@ use Rattle.wsyntax.specs.Validation.Context.{Stack, Context, enter, leave, block
 use Rattle.wsyntax.specs.Validation.Algorithm.{Rule, Takes, Ends, Drops, Selects, rule, Operands, fits, pop_any, pop_one, pop_all, push_list, fresh, join, apply, is_used_up, ends_with, takes, all_take, Frame, on, when, context_in, may_lack_else, pass_on, step}
 use Rattle.wcheck.specs.declared.checker.inspect.OpenFrame.{OpenFrame}
 use Rattle.wcheck.specs.Inspected.{IsInnermost, labels_of}
-use Rattle.explain.specs.declared.explanation.Signature.{Signature}
+use Rattle.explain.specs.declared.explanation.FunctionSignature.{FunctionSignature}
 use Rattle.explain.specs.declared.cause.Space.{Space}
 use Rattle.explain.specs.declared.cause.Space.TheVariants.{Types, Functions, Globals, Locals, Labels}
 use Rattle.explain.specs.declared.cause.Cause.{Cause}
@@ -362,7 +362,7 @@ may_else : (b x : Bool) → b ≡ true → x ≡ false → elim b [ true ↦ x |
 may_else true x e h = h
 may_else false x e h = absurd cc
 
-pub lacks : (g : OpenFrame) (fs : List Frame) (s : Signature) (is_end : Bool) → is_end ≡ true → g.is_then ≡ true → (g.starts.now ≡ g.gives.now → ⊥) → s.params.items ≡ g.starts.now → s.results.items ≡ g.gives.now → IsInnermost fs g
+pub lacks : (g : OpenFrame) (fs : List Frame) (s : FunctionSignature) (is_end : Bool) → is_end ≡ true → g.is_then ≡ true → (g.starts.now ≡ g.gives.now → ⊥) → s.params.items ≡ g.starts.now → s.results.items ≡ g.gives.now → IsInnermost fs g
     → (cond is_end End Else ≡ End) × LacksElse s fs
 lacks g fs s is_end e th ne p q i =
     let a : reverse s.params.items ≡ i.frame.starts = ap reverse p ∙ i.starts in

@@ -11,7 +11,7 @@ use Rattle.wsyntax.specs.Binary.Nesting.{token_at}
 use Rattle.wsyntax.specs.Binary.Sections.{locals}
 use Rattle.wcheck.specs.Checking.{Checking, begun}
 use Rattle.wcheck.specs.Inspected.{labels_of}
-use Rattle.explain.specs.declared.explanation.Signature.{Signature}
+use Rattle.explain.specs.declared.explanation.FunctionSignature.{FunctionSignature}
 use Rattle.explain.specs.declared.cause.Space.{Space}
 use Rattle.explain.specs.declared.cause.Space.TheVariants.{Types, Functions, Globals, Locals, Labels}
 use Rattle.explain.specs.declared.cause.Cause.{Cause}
@@ -41,7 +41,7 @@ left_over [] = 0
 left_over (f ∷ fs) = length f.operands.known - length f.gives
 
 -- the first frame is an if of that type, which is not that of an empty else
-abbrev pub LacksElse : Signature → List Frame → Type 0
+abbrev pub LacksElse : FunctionSignature → List Frame → Type 0
 LacksElse s [] = ⊥
 LacksElse s (f ∷ fs) = (reverse s.params.items ≡ f.starts) × (reverse s.results.items ≡ f.gives) × (may_lack_else f ≡ false)
 

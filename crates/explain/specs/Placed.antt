@@ -12,7 +12,7 @@ use Rattle.wsyntax.specs.Validation.ModuleContext.{module_context, imported_func
 use Rattle.explain.specs.declared.explanation.Span.{Span}
 use Rattle.explain.specs.declared.explanation.BodyExplanation.{BodyExplanation}
 use Rattle.explain.specs.declared.explanation.BodyExplanation.TheVariants.{Malformed, TooManyLocals, IllTyped}
-use Rattle.explain.specs.declared.explanation.RefusedBody.{RefusedBody}
+use Rattle.explain.specs.declared.explanation.RefusedFunction.{RefusedFunction}
 use Rattle.explain.specs.declared.explanation.Explanation.{Explanation}
 use Rattle.explain.specs.declared.explanation.Explanation.TheVariants as told
 use Rattle.explain.specs.Headers.{TellsHeader}
@@ -64,20 +64,20 @@ TellsBody bytes C imported bodies f (Some s) fault =
     IsBodyOf imported bodies f (between s.from s.to bytes) × TellsPlaces C f (between s.from s.to bytes) s.from fault
 
 -- no more is told than the verdict
-pub record KnowsNothing (r : RefusedBody) : Type 0 where
+pub record KnowsNothing (r : RefusedFunction) : Type 0 where
   pub «export» : r.«export» ≡ None
   pub signature : r.signature ≡ None
   pub span : r.span ≡ None
   pub places : TellsNoPlaces r.fault
 
 -- what is told of the function and its body is so in that module, which the bytes spell
-pub record IsSoIn (bytes : List ℕ) (m : ModuleShape) (r : RefusedBody) : Type 0 where
+pub record IsSoIn (bytes : List ℕ) (m : ModuleShape) (r : RefusedFunction) : Type 0 where
   pub «export» : IfSome r.«export» (λ name. first_name r.func m.exports ≡ Some name.now)
   pub signature : IfSome r.signature (λ s. slice_get (module_context m).functions r.func ≡ Some (type_told s))
   pub body : TellsBody bytes (module_context m) (length (imported_functions m)) m.bodies r.func r.span r.fault
 
 -- it is so in each module that the bytes spell
-abbrev pub IsSo : List ℕ → RefusedBody → Type 0
+abbrev pub IsSo : List ℕ → RefusedFunction → Type 0
 IsSo bytes r = (m : ModuleShape) → Shell bytes m → IsSoIn bytes m r
 
 -- what is told beside the verdict is so

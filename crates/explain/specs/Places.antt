@@ -7,7 +7,7 @@ use Rattle.wsyntax.specs.Binary.Nesting.{token_at}
 use Rattle.wsyntax.specs.Binary.Sections.{locals}
 use Rattle.wdecode.specs.Gives.{rest_of}
 use Rattle.explain.specs.declared.explanation.FoundToken.{FoundToken}
-use Rattle.explain.specs.declared.explanation.Stop.{Stop}
+use Rattle.explain.specs.declared.explanation.StopPlace.{StopPlace}
 use Rattle.explain.specs.declared.explanation.Stopped.{Stopped}
 use Rattle.explain.specs.declared.explanation.Stopped.TheVariants as stopped
 use Rattle.explain.specs.declared.stops.Halt.{Halt}
@@ -47,7 +47,7 @@ CannotGoOn stopped.Left rest = rest ≢ []
 CannotGoOn stopped.Short rest = rest ≡ []
 
 -- reading the body, which begins at offset `start`, stops there and for that: so many tokens stand before, or it has no locals
-pub record IsStopOf (body : List ℕ) (start : ℕ) (s : Stop) : Type 0 where
+pub record IsStopOf (body : List ℕ) (start : ℕ) (s : StopPlace) : Type 0 where
   pub before : IsLeft body s.tokens s.rest.now ⊎ ((locals.read body ≡ None) × (s.tokens ≡ 0) × (s.rest.now ≡ body))
   pub why : CannotGoOn s.why s.rest.now
   pub at : s.at ≡ start + (length body - length s.rest.now)

@@ -7,7 +7,7 @@ use Rattle.verdict.specs.declared.refusal.BodyRefusal.TheVariants as refusal
 use Rattle.verdict.specs.Refusals.{fault_of}
 use Rattle.explain.specs.declared.explanation.BodyExplanation.{BodyExplanation}
 use Rattle.explain.specs.declared.explanation.BodyExplanation.TheVariants as fault
-use Rattle.explain.specs.declared.explanation.RefusedBody.{RefusedBody}
+use Rattle.explain.specs.declared.explanation.RefusedFunction.{RefusedFunction}
 use Rattle.explain.specs.declared.explanation.Explanation.{Explanation}
 use Rattle.explain.specs.declared.explanation.Explanation.TheVariants.{Accepted, TooLarge, Malformed, Rule, Body, Memory}
 
@@ -27,5 +27,5 @@ verdict_told (Body b) = Some (BodyRefused b.func (fault_of (refusal_told b.fault
 verdict_told Memory = None
 
 -- it is said of the body of that function, and for that refusal
-abbrev pub Tells : ℕ → BodyRefusal → RefusedBody → Type 0
+abbrev pub Tells : ℕ → BodyRefusal → RefusedFunction → Type 0
 Tells f r b = (b.func ≡ f) × (refusal_told b.fault ≡ r)

@@ -11,12 +11,12 @@ use Rattle.wsyntax.specs.Validation.Context.{Context, enter, block_sig}
 use Rattle.wsyntax.specs.Validation.Algorithm.{Rule, Takes, Ends, Drops, Selects, rule, Frame, on, context_in, run, step}
 use Rattle.wcheck.specs.Checking.{Checking, begun, with_frames}
 use Rattle.wcheck.specs.Inspected.{take_top}
-use Rattle.explain.specs.declared.explanation.Signature.{Signature}
+use Rattle.explain.specs.declared.explanation.FunctionSignature.{FunctionSignature}
 use Rattle.explain.specs.declared.typing.Typing.{Typing}
 use Rattle.explain.specs.Places.{left_after}
 
 -- 2.3.3 the type that a signature says
-abbrev pub type_told : Signature → FuncType
+abbrev pub type_told : FunctionSignature → FuncType
 type_told s = record { params = s.params.items; results = s.results.items }
 
 -- ---- the tokens before

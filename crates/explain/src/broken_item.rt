@@ -1,6 +1,6 @@
 //! An item of a module that breaks a module rule, and what is wrong with it.
 
-use crate::explanation::Signature;
+use crate::explanation::FunctionSignature;
 use wsyntax::{ExportKind, GlobalType, Limits, ValType};
 
 /// The expression of a first value or of an offset.
@@ -78,7 +78,7 @@ pub enum ItemFault<'a> {
     /// The start function has that type.
     StartTyped {
         func: u32,
-        signature: Signature,
+        signature: FunctionSignature,
     },
     /// The table of an element segment is none of so many.
     ElementTable {

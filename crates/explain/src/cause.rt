@@ -1,6 +1,6 @@
 //! The ways to be ill typed.
 
-use crate::explanation::Signature;
+use crate::explanation::FunctionSignature;
 use wsyntax::ValType;
 
 /// A space of indices (2.5.1).
@@ -32,7 +32,7 @@ pub enum Cause {
         count: usize,
     },
     /// An if of that type needs an else.
-    NoElse(Signature),
+    NoElse(FunctionSignature),
     /// It names an index, and there are fewer.
     NoIndex {
         space: Space,

@@ -10,7 +10,7 @@ ghost use Rattle.explain.specs.Typed.{frame_type, known_in, pops, told_of, topmo
 ghost use Rattle.explain.specs.Causes.{IsAlignedTo, IsCause, IsMisfit, Names, UsesMemory, size_of};
 
 use crate::cause::{Cause, Space};
-use crate::explanation::Signature;
+use crate::explanation::FunctionSignature;
 use crate::operands::{Operands, count_told, finds_of};
 use std::alloc::{AllocError, Global};
 use wcheck::{Checker, OpenFrame, table_default, table_labels};
@@ -91,7 +91,7 @@ fn end_cause(alloc: Global, frame: OpenFrame<'_>, is_end: bool) -> Result<Option
         return Ok(Some(Cause::LeftOver { count }));
     }
     if is_end && frame.is_then && differ(frame.starts, frame.gives) {
-        return Ok(Some(Cause::NoElse(Signature {
+        return Ok(Some(Cause::NoElse(FunctionSignature {
             params: Vec::from_slice(alloc, frame.starts)?,
             results: Vec::from_slice(alloc, frame.gives)?,
         })));

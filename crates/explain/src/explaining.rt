@@ -6,7 +6,7 @@ ghost use Rattle.explain.specs.Headers.{TellsHeader};
 ghost use Rattle.explain.specs.Placed.{AreSo, IsSo, IsSoIn, KnowsNothing};
 ghost use Rattle.explain.specs.Told.{Tells, verdict_told};
 
-use crate::explanation::{Explanation, NoModule, RefusedBody};
+use crate::explanation::{Explanation, NoModule, RefusedFunction};
 use crate::faults::{Located, locate, not_located};
 use crate::functions::{first_export, signature_of};
 use crate::headers::no_module;
@@ -19,12 +19,12 @@ use wcontext::{ModuleFault, check_rules_before_code};
 use wdecode::{DecodeFault, ModuleHead, decode_front};
 
 /// A refused body of which no more is known than its verdict.
-fn bare_body<'a>(func: u32, refusal: BodyRefusal) -> RefusedBody<'a>
+fn bare_body<'a>(func: u32, refusal: BodyRefusal) -> RefusedFunction<'a>
     ensures refusal { Tells func refusal result }
     ensures nothing { KnowsNothing result }
 {
     let Located { span, fault } = not_located(refusal);
-    RefusedBody {
+    RefusedFunction {
         func,
         span,
         name: None,
@@ -41,7 +41,7 @@ fn body_of<'a>(
     front: &ModuleHead<'a>,
     func: u32,
     refusal: BodyRefusal,
-) -> Result<RefusedBody<'a>, AllocError>
+) -> Result<RefusedFunction<'a>, AllocError>
     ensures refusal { IfOk result (Tells func refusal) }
     ensures so { IfOk result (IsSoIn bytes.now (module_shape front.now.module)) }
 {
@@ -61,7 +61,7 @@ fn body_of<'a>(
         func,
         refusal,
     )?;
-    Ok(RefusedBody {
+    Ok(RefusedFunction {
         func,
         span,
         name: name_of(bytes, func),
@@ -77,7 +77,7 @@ fn refused_body<'a>(
     bytes: &'a [u8],
     func: u32,
     refusal: BodyRefusal,
-) -> Result<RefusedBody<'a>, AllocError>
+) -> Result<RefusedFunction<'a>, AllocError>
     ensures refusal { IfOk result (Tells func refusal) }
     ensures so { IfOk result (IsSo bytes.now) }
 {

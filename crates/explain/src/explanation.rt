@@ -16,7 +16,7 @@ pub struct Span {
 
 /// The type of a function: the types of its parameters and of its results.
 #[derive(Drop)]
-pub struct Signature {
+pub struct FunctionSignature {
     pub params: Vec<ValType>,
     pub results: Vec<ValType>,
 }
@@ -80,7 +80,7 @@ pub enum Stopped {
 
 /// Where reading a malformed body stopped.
 #[derive(Clone, Copy, Debug)]
-pub struct Stop<'a> {
+pub struct StopPlace<'a> {
     pub why: Stopped,
     /// How many tokens stand before.
     pub tokens: usize,
@@ -107,7 +107,7 @@ pub struct FoundToken {
 pub enum BodyExplanation<'a> {
     /// Its bytes spell no body.
     Malformed {
-        stop: Option<Stop<'a>>,
+        stop: Option<StopPlace<'a>>,
     },
     /// It declares more than 100,000 locals, parameters aside: so many.
     TooManyLocals {
@@ -125,7 +125,7 @@ pub enum BodyExplanation<'a> {
 
 /// A body that is refused, and its function.
 #[derive(Drop)]
-pub struct RefusedBody<'a> {
+pub struct RefusedFunction<'a> {
     /// The index of the function, imported ones counted.
     pub func: u32,
     /// The bytes of the body in the module, its size in front of it apart.
@@ -134,7 +134,7 @@ pub struct RefusedBody<'a> {
     pub name: Option<&'a [u8]>,
     /// The name of the first export of the function.
     pub export: Option<&'a [u8]>,
-    pub signature: Option<Signature>,
+    pub signature: Option<FunctionSignature>,
     pub fault: BodyExplanation<'a>,
 }
 
@@ -154,7 +154,7 @@ pub enum Explanation<'a> {
         item: Option<BrokenItem<'a>>,
     },
     /// The first body that is refused.
-    Body(RefusedBody<'a>),
+    Body(RefusedFunction<'a>),
     /// An allocation was refused; nothing is said of the module.
     Memory,
 }

@@ -4,7 +4,7 @@ ghost use Rattle.wsyntax.specs.Modules.{export_shape};
 ghost use Rattle.explain.specs.Placed.{first_name, is_function as names_function};
 ghost use Rattle.explain.specs.Typed.{type_told};
 
-use crate::explanation::Signature;
+use crate::explanation::FunctionSignature;
 use std::alloc::{AllocError, Global};
 use wcontext::Context;
 use wsyntax::{Export, ExportKind};
@@ -36,12 +36,12 @@ pub(crate) fn signature_of(
     alloc: Global,
     context: &Context,
     func: u32,
-) -> Result<Option<Signature>, AllocError>
+) -> Result<Option<FunctionSignature>, AllocError>
     ensures { IfOk result (λ s. IfSome s (λ t. slice_get context.now.context.functions func ≡ Some (type_told t))) }
 {
     match context.function(func) {
         None => Ok(None),
-        Some(found) => Ok(Some(Signature {
+        Some(found) => Ok(Some(FunctionSignature {
             params: Vec::from_slice(alloc, found.params)?,
             results: Vec::from_slice(alloc, found.results)?,
         })),

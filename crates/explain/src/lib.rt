@@ -50,8 +50,8 @@ pub use cause::{Cause, Space};
 pub use explaining::explain;
 pub use explaining_calls::{CallsExplanation, Refused, explain_calls};
 pub use explanation::{
-    BodyExplanation, Explanation, Form, FoundToken, NoModule, RefusedBody, Signature, Span, Stop,
-    Stopped,
+    BodyExplanation, Explanation, Form, FoundToken, FunctionSignature, NoModule, RefusedFunction,
+    Span, StopPlace, Stopped,
 };
 pub use exports_text::text_of_exports;
 pub use numbers::ExplanationKind;

@@ -4,7 +4,7 @@ ghost use Rattle.explain.specs.Numbers.{at_offset, item_of_part, kind_of_fault, 
 ghost use Rattle.explain.specs.Numbers.{kind_of_stop, opcode_of_fault, opcode_of_stop, place_of_fault, place_of_no_module};
 
 use crate::broken_item::BrokenItem;
-use crate::explanation::{BodyExplanation, Explanation, NoModule, Span, Stop, Stopped};
+use crate::explanation::{BodyExplanation, Explanation, NoModule, Span, StopPlace, Stopped};
 use crate::shell_place::{Place, SectionPart};
 
 /// The id of the section of bodies (5.5.13).
@@ -145,7 +145,7 @@ fn fault_place(fault: &BodyExplanation<'_>) -> Option<Span>
 }
 
 /// The byte that no token begins with, or that of an `else` that stands in no `if`.
-fn stop_opcode(stop: &Stop<'_>) -> Option<u8>
+fn stop_opcode(stop: &StopPlace<'_>) -> Option<u8>
     ensures { result ≡ opcode_of_stop stop.now.why stop.now.rest.now }
 {
     match stop.why {

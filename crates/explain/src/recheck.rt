@@ -10,7 +10,7 @@ ghost use Rattle.explain.specs.Typed.{IsTypingIn, IsTypingOf, PassesTo, StepsTo,
 
 use crate::cause::Cause;
 use crate::causes::{name_cause, operand_cause};
-use crate::explanation::{FoundToken, Signature, Span};
+use crate::explanation::{FoundToken, FunctionSignature, Span};
 use crate::operands::{Operands, takes_of};
 use crate::places::offset_of;
 use crate::trail::{Trail, puts};
@@ -117,10 +117,10 @@ fn pass_tokens<'a>(
 }
 
 /// The type of an open block.
-fn signature_in(alloc: Global, frame: OpenFrame<'_>) -> Result<Signature, AllocError>
+fn signature_in(alloc: Global, frame: OpenFrame<'_>) -> Result<FunctionSignature, AllocError>
     ensures { IfOk result (λ s. type_told s ≡ record { params = frame.entry.starts.now; results = frame.entry.gives.now }) }
 {
-    Ok(Signature {
+    Ok(FunctionSignature {
         params: Vec::from_slice(alloc, frame.starts)?,
         results: Vec::from_slice(alloc, frame.gives)?,
     })

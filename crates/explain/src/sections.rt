@@ -21,14 +21,14 @@ pub(crate) fn sized_at(bytes: &[u8], at: usize) -> Option<Span> {
 
 /// A part of a module that begins with an id and a size: a section, or a part of the names.
 #[derive(Clone, Copy)]
-pub(crate) struct Part {
+pub(crate) struct SizedPart {
     pub(crate) id: u8,
     pub(crate) inside: Span,
 }
 
 /// The part whose id stands at that offset.
-pub(crate) fn part_at(bytes: &[u8], at: usize) -> Option<Part> {
+pub(crate) fn part_at(bytes: &[u8], at: usize) -> Option<SizedPart> {
     let id = *bytes.get(at)?;
     let inside = sized_at(bytes, at.checked_add(1)?)?;
-    Some(Part { id, inside })
+    Some(SizedPart { id, inside })
 }

@@ -157,9 +157,9 @@ fn reason_of<'a>(
 pub fn not_starting<'a>(accepted: &Accepted<'a>, pages: u32) -> Option<NotStarting<'a>>
     // It is the first reason, as a run has it.
     ensures reason { option_map refusal_named result
-        ≡ start_refusal pages (module_shape accepted.now.module) (shapes_of accepted.now.bodies.items) }
+        ≡ start_refusal pages (module_shape accepted.now.«module») (shapes_of accepted.now.bodies.items) }
     // What it names hinders the start, and is the first that does.
-    ensures named { IfSome result (IsNamed (module_shape accepted.now.module) (shapes_of accepted.now.bodies.items)) }
+    ensures named { IfSome result (IsNamed (module_shape accepted.now.«module») (shapes_of accepted.now.bodies.items)) }
 {
     accepted.is_laid_out();
     reason_of(

@@ -276,7 +276,7 @@ pub(crate) fn start_line(
     pages: u32,
 ) -> Result<String, AllocError>
     ensures { IfOk result (λ line. IsStartLine
-        (start_refusal pages (module_shape accepted.now.module) (shapes_of accepted.now.bodies.items)) (string_bytes line)) }
+        (start_refusal pages (module_shape accepted.now.«module») (shapes_of accepted.now.bodies.items)) (string_bytes line)) }
 {
     match not_starting(accepted, pages) {
         None => String::from_str(alloc, "starts\n"),

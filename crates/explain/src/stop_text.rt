@@ -1,6 +1,6 @@
 //! Why reading a malformed body stopped, in words.
 
-use crate::explanation::{Stop, Stopped};
+use crate::explanation::{StopPlace, Stopped};
 use crate::misreads::{Misread, misread_locals, misread_token};
 use crate::opcode_names::{Feature, feature_of_byte, name_of_byte, name_of_later, named_after_fc};
 use crate::quoting::push_hex;
@@ -126,7 +126,7 @@ fn push_no_locals(text: &mut String, at: usize, body: &[u8]) -> Result<(), Alloc
 }
 
 /// Why reading a malformed body stopped.
-pub(crate) fn push_stop(text: &mut String, stop: Stop<'_>) -> Result<(), AllocError> {
+pub(crate) fn push_stop(text: &mut String, stop: StopPlace<'_>) -> Result<(), AllocError> {
     if stop.why != Stopped::Locals {
         let at = stop.at;
         let tokens = stop.tokens;

@@ -7,7 +7,9 @@ ghost use Rattle.explain.specs.Texts.{BeginsWith};
 ghost use Rattle.explain.specs.Told.{verdict_told};
 
 use crate::cause_text::push_cause;
-use crate::explanation::{BodyExplanation, Explanation, Form, FoundToken, NoModule, RefusedBody};
+use crate::explanation::{
+    BodyExplanation, Explanation, Form, FoundToken, NoModule, RefusedFunction,
+};
 use crate::quoting::{push_hex, push_name};
 use crate::rule_text::push_broken_item;
 use crate::shell_text::push_place;
@@ -47,7 +49,7 @@ fn first_line(alloc: Global, explanation: &Explanation<'_>) -> Result<String, Al
 }
 
 /// The line on the function.
-fn push_function(text: &mut String, body: &RefusedBody<'_>) -> Result<(), AllocError> {
+fn push_function(text: &mut String, body: &RefusedFunction<'_>) -> Result<(), AllocError> {
     write!(text, "function  {}", body.func)?;
     if let Some(name) = body.name {
         text.push_str(" ")?;

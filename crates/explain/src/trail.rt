@@ -11,7 +11,7 @@ use wsyntax::{Token, ValType};
 
 /// Operands side by side that one token gave.
 #[derive(Clone, Copy)]
-struct Held {
+struct GivenRun {
     /// How many operands lie below them, of all open blocks.
     below: usize,
     /// The number of the token.
@@ -31,7 +31,7 @@ pub(crate) struct Trail<'a> {
     passed: u32,
     /// Where the token that opened a block begins in the code, the innermost last.
     opened: Vec<u32>,
-    held: Vec<Held>,
+    held: Vec<GivenRun>,
     /// How many operands are known, of all open blocks.
     height: usize,
     /// And of the innermost.
@@ -120,7 +120,7 @@ impl<'a> Trail<'a> {
     #[inline(always)]
     fn grow_to(&mut self, height: usize, at: u32) -> Result<(), AllocError> {
         if height > self.height {
-            self.held.push(Held {
+            self.held.push(GivenRun {
                 below: self.height,
                 number: self.passed,
                 at,
@@ -208,7 +208,7 @@ impl<'a> Trail<'a> {
     }
 
     /// The token that gave a run of operands.
-    fn giver(&self, alloc: Global, held: Held) -> Result<Option<Giver>, AllocError> {
+    fn giver(&self, alloc: Global, held: GivenRun) -> Result<Option<Giver>, AllocError> {
         let bytes = self.code.get(held.at as usize..).unwrap_or(&[]);
         let [opcode, ..] = bytes else {
             return Ok(None);

@@ -2,7 +2,7 @@
 ghost use Rattle.std.specs.Prelude.{◌≡◌, ◌++◌, OnOk, flat_map, string_bytes};
 ghost use Rattle.explain.specs.Types.{lists_text, others_text, shown_text, type_word, types_text};
 
-use crate::explanation::Signature;
+use crate::explanation::FunctionSignature;
 use std::alloc::AllocError;
 use wsyntax::ValType;
 
@@ -73,7 +73,10 @@ pub(crate) fn push_lists(
 }
 
 /// The type of a function.
-pub(crate) fn push_signature(text: &mut String, signature: &Signature) -> Result<(), AllocError> {
+pub(crate) fn push_signature(
+    text: &mut String,
+    signature: &FunctionSignature,
+) -> Result<(), AllocError> {
     push_lists(
         text,
         signature.params.as_slice(),

@@ -1,6 +1,6 @@
 //! What is told of an ill-typed token: what it takes, what it finds, which tokens gave it, and in which blocks it stands.
 
-use crate::explanation::Signature;
+use crate::explanation::FunctionSignature;
 use wsyntax::{Token, ValType};
 
 /// What opened a block.
@@ -23,7 +23,7 @@ pub struct Opening {
 #[derive(Drop)]
 pub struct OpenBlock {
     pub opening: Option<Opening>,
-    pub signature: Signature,
+    pub signature: FunctionSignature,
 }
 
 /// A token that gave an operand: its number, and the first of its bytes.

@@ -1,5 +1,5 @@
 -- What is streamed is on what was read.
-use Rattle.std.proofs.Common.{◌≡◌, ℕ, List, [], ◌∷◌, Option, Some, None, Result, Ok, Err, IfOk, IfSome, inl, inr, refl, subst, sym}
+use Rattle.std.proofs.Common.{◌≡◌, ◌≢◌, ℕ, List, [], ◌∷◌, Option, Some, None, Result, Ok, Err, IfOk, IfSome, inl, inr, refl, subst, sym}
 use Rattle.std.specs.Prelude.{IsErrAnd, IsSomeAnd, string_bytes, String}
 use Rattle.std.specs.Io.KnownBytes.{Appends, Keeps}
 use Rattle.std.specs.declared.alloc.AllocError.{AllocError}
@@ -79,39 +79,30 @@ of_held P None remaining is said = tt
 of_calls : (P : List ℕ → Type 0) (held_calls held_later remaining : Option (List ℕ)) → held_later ≡ held_calls → IfSome held_later (λ x. remaining ≡ Some x) → IfSome remaining P → IfSome held_calls P
 of_calls P held_calls held_later remaining same is said = subst (λ (x : Option (List ℕ)). IfSome x P) same (of_held P held_later remaining is said)
 
--- no text has this end
-no_end : (P : List ℕ → Type 0) (held : Option (List ℕ)) → IfSome held (λ _. ⊥) → IfSome held P
-no_end P (Some text) none = absurd none
-no_end P None none = tt
+-- the end of a stream says nothing of the module
+abbrev pub IsOfCalls : Result Status StreamFault → Type 0
+IsOfCalls s = IfOk s (λ status. status ≢ ModuleRefused)
 
-ended : (held_module held_calls : Option (List ℕ)) (l : Limits) (calls : List ℕ) (old new : Option (List ℕ)) (s : Result Status StreamFault) (r : Result Status ProgramFault) → IsStreamedOn held_module held_calls l old new s → EndsStream calls s r → StreamsOn held_module held_calls l old new r
-ended held_module held_calls l calls old new (Ok Good) r on e = subst (StreamsOn held_module held_calls l old new) (sym e) on
-ended held_module held_calls l calls old new (Ok CallsRefused) r on e = subst (StreamsOn held_module held_calls l old new) (sym e) on
-ended held_module held_calls l calls old new (Ok ModuleRefused) r on e = subst (StreamsOn held_module held_calls l old new) (sym e) record {
-  bytes = on.bytes;
-  read = on.read;
-  verdict = on.verdict;
-  judged = on.judged;
-  from = on.from;
-  streamed = no_end (λ text. Streams on.judged l text old new (Ok Good)) held_calls on.streamed;
-  as_run = no_end (λ text. AnswersAsRun on.judged l text old new (Ok Good)) held_calls on.streamed;
-}
-ended held_module held_calls l calls old new (Err stream.Write) r on e = subst (StreamsOn held_module held_calls l old new) (sym e) (inr on)
-ended held_module held_calls l calls old new (Err stream.Memory) r on e = subst (StreamsOn held_module held_calls l old new) (sym e) (inr on)
-ended held_module held_calls l calls old new (Err stream.Read) (Ok s) on e = absurd e
-ended held_module held_calls l calls old new (Err stream.Read) (Err (Usage text)) on e = absurd e
-ended held_module held_calls l calls old new (Err stream.Read) (Err (Unreadable p)) on e = absurd e
-ended held_module held_calls l calls old new (Err stream.Read) (Err (Unread p reason)) on e = inr on
-ended held_module held_calls l calls old new (Err stream.Read) (Err SomeUnread) on e = absurd e
-ended held_module held_calls l calls old new (Err stream.Read) (Err Names) on e = absurd e
-ended held_module held_calls l calls old new (Err stream.Read) (Err Write) on e = absurd e
-ended held_module held_calls l calls old new (Err stream.Read) (Err Memory) on e = absurd e
+ended : (held_module held_calls : Option (List ℕ)) (l : Limits) (calls : List ℕ) (old new : Option (List ℕ)) (s : Result Status StreamFault) (r : Result Status ProgramFault) → IsStreamedOn held_module held_calls l old new s → IsOfCalls s → EndsStream calls s r → StreamsOn held_module held_calls l old new r
+ended held_module held_calls l calls old new (Ok Good) r on apart e = subst (StreamsOn held_module held_calls l old new) (sym e) on
+ended held_module held_calls l calls old new (Ok CallsRefused) r on apart e = subst (StreamsOn held_module held_calls l old new) (sym e) on
+ended held_module held_calls l calls old new (Ok ModuleRefused) r on apart e = absurd (apart refl)
+ended held_module held_calls l calls old new (Err stream.Write) r on apart e = subst (StreamsOn held_module held_calls l old new) (sym e) (inr on)
+ended held_module held_calls l calls old new (Err stream.Memory) r on apart e = subst (StreamsOn held_module held_calls l old new) (sym e) (inr on)
+ended held_module held_calls l calls old new (Err stream.Read) (Ok s) on apart e = absurd e
+ended held_module held_calls l calls old new (Err stream.Read) (Err (Usage text)) on apart e = absurd e
+ended held_module held_calls l calls old new (Err stream.Read) (Err (Unreadable p)) on apart e = absurd e
+ended held_module held_calls l calls old new (Err stream.Read) (Err (Unread p reason)) on apart e = inr on
+ended held_module held_calls l calls old new (Err stream.Read) (Err SomeUnread) on apart e = absurd e
+ended held_module held_calls l calls old new (Err stream.Read) (Err Names) on apart e = absurd e
+ended held_module held_calls l calls old new (Err stream.Read) (Err Write) on apart e = absurd e
+ended held_module held_calls l calls old new (Err stream.Read) (Err Memory) on apart e = absurd e
 
 -- a stream of the calls that the path held when the module was read
 pub streamed : (held_module held_calls held_later remaining : Option (List ℕ)) (l : Limits) (bytes slice calls : List ℕ) (a : AcceptedModule) (old new : Option (List ℕ)) (s : Result Status StreamFault) (r : Result Status ProgramFault)
     → IsRead module_limit held_module bytes → slice ≡ bytes → IsVerdict slice Accepted → IsAcceptedFrom slice a → held_later ≡ held_calls → IfSome held_later (λ x. remaining ≡ Some x)
-    → IfSome remaining (λ text. Streams a l text old new s) → IfSome remaining (λ text. AnswersAsRun a l text old new s) → EndsStream calls s r → StreamsOn held_module held_calls l old new r
-streamed held_module held_calls held_later remaining l bytes slice calls a old new s r read same verdict from same_held is written as_run e =
+    → IfSome remaining (λ text. Streams a l text old new s) → IfSome remaining (λ text. AnswersAsRun a l text old new s) → IsOfCalls s → EndsStream calls s r → StreamsOn held_module held_calls l old new r
+streamed held_module held_calls held_later remaining l bytes slice calls a old new s r read same verdict from same_held is written as_run apart e =
     ended held_module held_calls l calls old new s r record {
       bytes = bytes;
       read = read;
@@ -120,22 +111,22 @@ streamed held_module held_calls held_later remaining l bytes slice calls a old n
       from = subst (λ x. IsAcceptedFrom x a) same from;
       streamed = of_calls (λ text. Streams a l text old new s) held_calls held_later remaining same_held is written;
       as_run = of_calls (λ text. AnswersAsRun a l text old new s) held_calls held_later remaining same_held is as_run;
-    } e
+    } apart e
 
-pub ends_after : (calls : List ℕ) (s : Result Status StreamFault) (r : Result Status ProgramFault) → EndsStream calls s r → EndsAfter calls r
-ends_after calls (Ok Good) r e = subst (EndsAfter calls) (sym e) tt
-ends_after calls (Ok CallsRefused) r e = subst (EndsAfter calls) (sym e) tt
-ends_after calls (Ok ModuleRefused) r e = subst (EndsAfter calls) (sym e) tt
-ends_after calls (Err stream.Write) r e = subst (EndsAfter calls) (sym e) tt
-ends_after calls (Err stream.Memory) r e = subst (EndsAfter calls) (sym e) tt
-ends_after calls (Err stream.Read) (Ok s) e = absurd e
-ends_after calls (Err stream.Read) (Err (Usage text)) e = absurd e
-ends_after calls (Err stream.Read) (Err (Unreadable p)) e = absurd e
-ends_after calls (Err stream.Read) (Err (Unread p reason)) e = e.0
-ends_after calls (Err stream.Read) (Err SomeUnread) e = absurd e
-ends_after calls (Err stream.Read) (Err Names) e = absurd e
-ends_after calls (Err stream.Read) (Err Write) e = absurd e
-ends_after calls (Err stream.Read) (Err Memory) e = absurd e
+pub ends_after : (calls : List ℕ) (s : Result Status StreamFault) (r : Result Status ProgramFault) → IsOfCalls s → EndsStream calls s r → EndsAfter calls r
+ends_after calls (Ok Good) r apart e = subst (EndsAfter calls) (sym e) tt
+ends_after calls (Ok CallsRefused) r apart e = subst (EndsAfter calls) (sym e) tt
+ends_after calls (Ok ModuleRefused) r apart e = absurd (apart refl)
+ends_after calls (Err stream.Write) r apart e = subst (EndsAfter calls) (sym e) tt
+ends_after calls (Err stream.Memory) r apart e = subst (EndsAfter calls) (sym e) tt
+ends_after calls (Err stream.Read) (Ok s) apart e = absurd e
+ends_after calls (Err stream.Read) (Err (Usage text)) apart e = absurd e
+ends_after calls (Err stream.Read) (Err (Unreadable p)) apart e = absurd e
+ends_after calls (Err stream.Read) (Err (Unread p reason)) apart e = e.0
+ends_after calls (Err stream.Read) (Err SomeUnread) apart e = absurd e
+ends_after calls (Err stream.Read) (Err Names) apart e = absurd e
+ends_after calls (Err stream.Read) (Err Write) apart e = absurd e
+ends_after calls (Err stream.Read) (Err Memory) apart e = absurd e
 
 -- Of a module that is refused.
 

@@ -9,7 +9,7 @@ use Rattle.accepted_module.specs.declared.accepted.Accepted.{Accepted as Accepte
 use Rattle.batch.specs.Report.{Reports, status_of}
 use Rattle.batch.specs.Streams.{AnswersAsRun, Streams}
 use Rattle.batch.specs.declared.status.Status.{Status}
-use Rattle.batch.specs.declared.status.Status.TheVariants.{Good, ModuleRefused, CallsRefused}
+use Rattle.batch.specs.declared.status.Status.TheVariants.{ModuleRefused}
 use Rattle.batch.specs.declared.status.AnswerFault.TheVariants as answer
 use Rattle.batch.specs.declared.stream_fault.StreamFault.{StreamFault}
 use Rattle.batch.specs.declared.stream_fault.StreamFault.TheVariants as stream
@@ -63,10 +63,9 @@ abbrev pub ReadsAccepted : Option (List ℕ) → List ℕ → List ℕ → Optio
 ReadsAccepted held path calls old new r =
     (EndsBefore path r × ReadsPaths old new (path ∷ [])) ⊎ (Judges held Accepted × EndsAfter calls r × ReadsPaths old new (path ∷ calls ∷ []))
 
--- how the program ends by the end of a stream, which says nothing of its module: a failed read is told of the calls' path
+-- how the program ends by the end of a stream: a failed read is told of the calls' path
 abbrev pub EndsStream : List ℕ → Result Status StreamFault → Result Status ProgramFault → Type 0
-EndsStream calls (Ok CallsRefused) r = r ≡ Ok CallsRefused
-EndsStream calls (Ok _) r = r ≡ Ok Good
+EndsStream calls (Ok status) r = r ≡ Ok status
 EndsStream calls (Err stream.Write) r = r ≡ Err fault.Write
 EndsStream calls (Err stream.Memory) r = r ≡ Err fault.Memory
 EndsStream calls (Err stream.Read) (Err (fault.Unread path reason)) = (path.now ≡ calls) × (reason ≡ Failed)

@@ -2,7 +2,7 @@
 use crate::disk::Disk;
 use crate::fault::{ProgramFault, end};
 use crate::program::run;
-use crate::progress::Progress;
+use crate::progress::ProgressWriter;
 use command::{WordsFault, usage};
 use std::alloc::{AllocError, Global};
 use std::env;
@@ -30,7 +30,7 @@ pub fn run_process<
     if !wants_progress(words) {
         return run(rt, alloc, words, &mut Disk { rt }, out, err);
     }
-    let mut out = Progress::new(out, told);
+    let mut out = ProgressWriter::new(out, told);
     run(rt, alloc, words, &mut Disk { rt }, &mut out, err)
 }
 

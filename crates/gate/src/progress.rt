@@ -7,12 +7,12 @@ const LINES: u64 = 1_000;
 
 /// How many lines were written, and how many there were at the last report.
 #[derive(Clone, Copy)]
-struct Lines {
+struct LineCount {
     written: u64,
     told: u64,
 }
 
-impl Lines {
+impl LineCount {
     /// Counts the lines that end in these bytes, and reports where there are enough. A report that fails changes nothing.
     fn count<E: Write>(&mut self, bytes: &[u8], err: &mut E) {
         let more = bytes.iter().filter(|byte| **byte == b'\n').count() as u64;
@@ -26,28 +26,28 @@ impl Lines {
 
 /// Hands on what is written to `out`, and reports to `err` how many lines that was.
 #[derive(Drop)]
-pub struct Progress<O, E> {
+pub struct ProgressWriter<O, E> {
     out: O,
     err: E,
-    lines: Lines,
+    lines: LineCount,
 }
 
-impl<O: Write, E: Write> Progress<O, E> {
+impl<O: Write, E: Write> ProgressWriter<O, E> {
     ghost use Rattle.std.specs.Prelude.{◌≡◌};
 
     /// Nothing is written yet.
     pub fn new(out: O, err: E) -> Self
         ensures { O.contents result.out ≡ O.contents out }
     {
-        let lines = Lines {
+        let lines = LineCount {
             written: 0,
             told: 0,
         };
-        Progress { out, err, lines }
+        ProgressWriter { out, err, lines }
     }
 }
 
-impl<O: Write, E: Write> Write for Progress<O, E> {
+impl<O: Write, E: Write> Write for ProgressWriter<O, E> {
     ghost contents = { λ p. O.contents p.out };
 
     fn write(&mut self, buf: &[u8]) -> io::Result<usize> {

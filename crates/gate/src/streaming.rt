@@ -17,13 +17,12 @@ use std::thread::Threads;
 use verdict::judge;
 use wsyntax::MODULE_LIMIT;
 
-/// How the program ends by the end of a stream of the calls at a path: its status is of the calls alone.
+/// How the program ends by the end of a stream of the calls at a path.
 fn end_of(streamed: Result<Status, StreamFault>, path: &str) -> Result<Status, ProgramFault<'_>>
     ensures { EndsStream path.entry.now streamed result }
 {
     match streamed {
-        Ok(Status::CallsRefused) => Ok(Status::CallsRefused),
-        Ok(_) => Ok(Status::Good),
+        Ok(status) => Ok(status),
         Err(StreamFault::Read) => Err(ProgramFault::Unread {
             path,
             reason: Reason::Failed,

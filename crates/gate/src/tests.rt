@@ -13,15 +13,15 @@ use std::thread::Threads;
 
 /// A module as `x.wasm`, and calls as `x.calls` and on standard input; or out of memory at each read.
 #[derive(Clone, Copy)]
-struct Held<'a> {
+struct HeldFiles<'a> {
     module: &'a [u8],
     calls: &'a [u8],
     has_memory: bool,
 }
 
-impl<'a> Held<'a> {
-    fn new(module: &'a [u8], calls: &'a [u8]) -> Held<'a> {
-        Held {
+impl<'a> HeldFiles<'a> {
+    fn new(module: &'a [u8], calls: &'a [u8]) -> HeldFiles<'a> {
+        HeldFiles {
             module,
             calls,
             has_memory: true,
@@ -29,7 +29,7 @@ impl<'a> Held<'a> {
     }
 }
 
-impl<'a> Source for Held<'a> {
+impl<'a> Source for HeldFiles<'a> {
     fn read(&mut self, alloc: Global, path: &str, most: usize) -> Result<Vec<u8>, ReadFault> {
         let bytes = match path {
             "x.wasm" => self.module,
@@ -126,7 +126,7 @@ fn status_of<R: Threads + Wait + Sync>(
     out: &mut Screen,
     err: &mut Screen,
 ) -> u8 {
-    let mut source = Held::new(&HEADER, &[]);
+    let mut source = HeldFiles::new(&HEADER, &[]);
     run(rt, alloc, words, &mut source, out, err)
 }
 
@@ -261,7 +261,7 @@ fn a_file_that_cannot_be_read(rt: HostRuntime) {
     // The second module would be refused.
     for module in [&HEADER, &HEADER[..7]] {
         for (words, told) in asked {
-            let mut source = Held::new(module, &[]);
+            let mut source = HeldFiles::new(module, &[]);
             let (mut out, mut err) = (Screen::wide(rt.alloc()), Screen::wide(rt.alloc()));
             let status = run(&rt, rt.alloc(), words, &mut source, &mut out, &mut err);
             assert_eq!(rt; status, 74);
@@ -274,7 +274,7 @@ fn a_file_that_cannot_be_read(rt: HostRuntime) {
 #[test]
 fn a_file_of_many_that_cannot_be_read(rt: HostRuntime) {
     let words = ["check-all", "x.wasm", "y\t.wasm", "x.wasm"];
-    let mut source = Held::new(&HEADER, &[]);
+    let mut source = HeldFiles::new(&HEADER, &[]);
     let (mut out, mut err) = (Screen::wide(rt.alloc()), Screen::wide(rt.alloc()));
     let status = run(
         &rt,
@@ -297,7 +297,7 @@ fn a_file_of_many_that_cannot_be_read(rt: HostRuntime) {
 
 #[test]
 fn a_read_that_wants_memory(rt: HostRuntime) {
-    let mut source = Held {
+    let mut source = HeldFiles {
         module: &HEADER,
         calls: &[],
         has_memory: false,
@@ -403,7 +403,7 @@ fn a_flush_that_fails_after_an_answer(rt: HostRuntime) {
             (true, status, b"".as_slice()),
             (false, 74, b"gate: write failed\n".as_slice()),
         ] {
-            let mut source = Held::new(module, text);
+            let mut source = HeldFiles::new(module, text);
             let mut out = Screen::new(rt.alloc(), 100_000, 100_000, flushes);
             let mut err = Screen::wide(rt.alloc());
             let ended = run(&rt, rt.alloc(), words, &mut source, &mut out, &mut err);

@@ -6,7 +6,7 @@ use std::rt::Files;
 
 /// What is found below a folder, and what folders are still to be read.
 #[derive(Drop)]
-struct Walk {
+struct FolderWalk {
     files: Vec<String>,
     folders: Vec<String>,
 }
@@ -23,7 +23,7 @@ pub fn files_of<R: Files + AllocGlobal + Clone + Drop>(
         return Ok(vec![in alloc; first]?);
     }
     let folders = vec![in alloc; first]?;
-    let mut walk = Walk {
+    let mut walk = FolderWalk {
         files: Vec::new(alloc),
         folders,
     };
@@ -50,7 +50,7 @@ fn read_folder<R: Files + AllocGlobal + Clone + Drop>(
     rt: &R,
     alloc: Global,
     folder: String,
-    walk: &mut Walk,
+    walk: &mut FolderWalk,
 ) -> Result<(), AllocError> {
     let Ok(entries) = fs::read_dir(rt, folder.as_str()) else {
         walk.files.push(folder)?;
@@ -73,7 +73,7 @@ fn read_folder<R: Files + AllocGlobal + Clone + Drop>(
 fn note_entry<R: Files>(
     alloc: Global,
     entry: &DirEntry<R>,
-    walk: &mut Walk,
+    walk: &mut FolderWalk,
 ) -> Result<(), AllocError> {
     let path = String::from_str(alloc, entry.path().as_str())?;
     let Ok(kind) = entry.file_type() else {

@@ -15,18 +15,18 @@ const SHORT: usize = 65_536;
 
 /// A row of a table of verdicts.
 #[derive(Clone, Copy)]
-struct Row<'a> {
+struct VerdictRow<'a> {
     name: &'a str,
     spelled: &'a str,
     line: &'a str,
     status: &'a str,
 }
 
-fn read_row(line: &str) -> Option<Row<'_>> {
+fn read_row(line: &str) -> Option<VerdictRow<'_>> {
     let (name, rest) = line.split_once('\t')?;
     let (spelled, rest) = rest.split_once('\t')?;
     let (line, status) = rest.split_once('\t')?;
-    Some(Row {
+    Some(VerdictRow {
         name,
         spelled,
         line,
@@ -52,7 +52,7 @@ pub fn judge_row<R: AllocGlobal + Threads + Wait + Sync>(rt: &R, line: &str) -> 
 
 fn judge_with<R: AllocGlobal + Threads + Wait + Sync>(
     rt: &R,
-    row: &Row<'_>,
+    row: &VerdictRow<'_>,
     bytes: &[u8],
     plan: Plan,
 ) -> Result<()> {

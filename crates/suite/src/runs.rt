@@ -14,7 +14,7 @@ const PIECES: [u32; 3] = [1, 7, 65_535];
 
 /// A row of a table of runs.
 #[derive(Clone, Copy)]
-struct Row<'a> {
+struct RunRow<'a> {
     name: &'a str,
     module: &'a str,
     calls: &'a str,
@@ -33,13 +33,13 @@ struct Run {
     status: Status,
 }
 
-fn split_row(line: &str) -> Option<Row<'_>> {
+fn split_row(line: &str) -> Option<RunRow<'_>> {
     let (name, rest) = line.split_once('\t')?;
     let (module, rest) = rest.split_once('\t')?;
     let (calls, rest) = rest.split_once('\t')?;
     let (options, rest) = rest.split_once('\t')?;
     let (text, status) = rest.split_once('\t')?;
-    Some(Row {
+    Some(RunRow {
         name,
         module,
         calls,
@@ -49,7 +49,7 @@ fn split_row(line: &str) -> Option<Row<'_>> {
     })
 }
 
-fn read_run<R: AllocGlobal>(rt: &R, row: &Row<'_>) -> Result<Run> {
+fn read_run<R: AllocGlobal>(rt: &R, row: &RunRow<'_>) -> Result<Run> {
     Ok(Run {
         module: read_bytes(rt.alloc(), row.module)?,
         calls: read_text(rt.alloc(), row.calls)?,

@@ -51,7 +51,7 @@ fn segment_at(memory: &mut LinearMemory, at: u32, bytes: &[u8]) -> bool {
 
 /// What is done to a memory, with what it has to answer.
 #[derive(Clone, Copy)]
-enum Step {
+enum MemoryStep {
     /// A read of some bytes from a place on, and the number that they make.
     Read(u32, u32, Option<u64>),
     /// A write of some bytes of a number from a place on, and whether there was room.
@@ -62,10 +62,10 @@ enum Step {
     Grow(u32, Option<u32>),
 }
 
-use Step::{Grow, Read, Segment, Write};
+use MemoryStep::{Grow, Read, Segment, Write};
 
 /// Whether the memory answers so.
-fn answers(memory: &mut LinearMemory, step: Step) -> Result<bool, Fail> {
+fn answers(memory: &mut LinearMemory, step: MemoryStep) -> Result<bool, Fail> {
     match step {
         Read(at, width, number) => Ok(read_at(memory, at, width) == number),
         Write(at, width, bits, done) => Ok(write_at(memory, at, width, bits) == done),
@@ -74,7 +74,11 @@ fn answers(memory: &mut LinearMemory, step: Step) -> Result<bool, Fail> {
     }
 }
 
-fn assert_steps<R: Abort>(rt: &R, memory: &mut LinearMemory, steps: &[Step]) -> Result<(), Fail> {
+fn assert_steps<R: Abort>(
+    rt: &R,
+    memory: &mut LinearMemory,
+    steps: &[MemoryStep],
+) -> Result<(), Fail> {
     for (place, step) in steps.iter().enumerate() {
         assert!(rt; answers(memory, *step)?, "step {place}");
     }
@@ -82,7 +86,12 @@ fn assert_steps<R: Abort>(rt: &R, memory: &mut LinearMemory, steps: &[Step]) -> 
 }
 
 /// What is left of a memory of `min` pages after these steps.
-fn after<R: Abort>(rt: &R, clean: CleanMem, min: u32, steps: &[Step]) -> Result<CleanMem, Fail>
+fn after<R: Abort>(
+    rt: &R,
+    clean: CleanMem,
+    min: u32,
+    steps: &[MemoryStep],
+) -> Result<CleanMem, Fail>
     requires { min ≤ 3 }
 {
     let mut memory = new_memory(clean, min)?;
@@ -90,7 +99,7 @@ fn after<R: Abort>(rt: &R, clean: CleanMem, min: u32, steps: &[Step]) -> Result<
     Ok(memory.close())
 }
 
-const TWO_PAGES: [Step; 2] = [Grow(1, Some(1)), Write(131_064, 8, u64::MAX, true)];
+const TWO_PAGES: [MemoryStep; 2] = [Grow(1, Some(1)), Write(131_064, 8, u64::MAX, true)];
 
 #[test]
 fn two_tickets_share_one_pool(rt: HostRuntime) -> Result<(), Fail> {
@@ -135,7 +144,7 @@ fn two_tickets_fill_one_pool(rt: HostRuntime) -> Result<(), Fail> {
     Ok(())
 }
 
-const WIDTHS: [Step; 13] = [
+const WIDTHS: [MemoryStep; 13] = [
     Write(8, 8, 0x8877_6655_4433_2211, true),
     Read(8, 1, Some(0x11)),
     Read(9, 2, Some(0x3322)),
@@ -157,9 +166,9 @@ fn every_width_reads_what_was_written(rt: HostRuntime) -> Result<(), Fail> {
     Ok(())
 }
 
-const LENT: [Step; 2] = [Write(70_000, 4, 7, true), Write(3, 1, 7, true)];
+const LENT: [MemoryStep; 2] = [Write(70_000, 4, 7, true), Write(3, 1, 7, true)];
 
-const USED_AGAIN: [Step; 6] = [
+const USED_AGAIN: [MemoryStep; 6] = [
     Read(70_000, 4, None),
     Grow(1, Some(1)),
     Read(70_000, 4, Some(0)),
@@ -176,7 +185,7 @@ fn a_lent_memory_is_used_again(rt: HostRuntime) -> Result<(), Fail> {
     Ok(())
 }
 
-const ACROSS_BLOCKS: [Step; 7] = [
+const ACROSS_BLOCKS: [MemoryStep; 7] = [
     Write(4_095, 8, u64::MAX, true),
     Write(12_284, 8, u64::MAX, true),
     Write(65_529, 8, u64::MAX, true),
@@ -186,7 +195,7 @@ const ACROSS_BLOCKS: [Step; 7] = [
     Read(20_480, 4, Some(0x7373_6f72)),
 ];
 
-const NOTHING_ACROSS: [Step; 6] = [
+const NOTHING_ACROSS: [MemoryStep; 6] = [
     Read(4_088, 8, Some(0)),
     Read(4_096, 8, Some(0)),
     Read(12_284, 8, Some(0)),
@@ -202,13 +211,13 @@ fn no_other_call_sees_a_store_across_blocks(rt: HostRuntime) -> Result<(), Fail>
     Ok(())
 }
 
-const GROWN: [Step; 3] = [
+const GROWN: [MemoryStep; 3] = [
     Write(65_528, 8, u64::MAX, true),
     Grow(2, Some(1)),
     Write(196_607, 1, 7, true),
 ];
 
-const NOTHING_GROWN: [Step; 3] = [
+const NOTHING_GROWN: [MemoryStep; 3] = [
     Read(65_528, 8, Some(0)),
     Read(65_536, 8, Some(0)),
     Read(196_600, 8, Some(0)),
@@ -221,7 +230,7 @@ fn a_growth_keeps_what_is_marked(rt: HostRuntime) -> Result<(), Fail> {
     Ok(())
 }
 
-const ENDS: [Step; 5] = [
+const ENDS: [MemoryStep; 5] = [
     Read(0, 1, Some(0)),
     Read(67_108_863, 1, Some(0)),
     Write(0, 1, 1, true),

@@ -5,7 +5,7 @@ ghost use Rattle.explain.specs.Rules.{BreaksIn, TellsFault, rule_of};
 ghost use Rattle.wcontext.specs.Spaces.{AreSpacesOf};
 
 use crate::broken_item::{BrokenItem, ItemFault};
-use crate::explanation::Signature;
+use crate::explanation::FunctionSignature;
 use crate::item_places::START;
 use std::alloc::{AllocError, Global};
 use wcontext::Spaces;
@@ -32,7 +32,7 @@ fn start_fault<'a>(
     if found.params.is_empty() && found.results.is_empty() {
         return Ok(None);
     }
-    let signature = Signature {
+    let signature = FunctionSignature {
         params: Vec::from_slice(alloc, found.params)?,
         results: Vec::from_slice(alloc, found.results)?,
     };

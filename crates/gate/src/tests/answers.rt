@@ -1,6 +1,6 @@
 //! What an option's number may look like, and writes that fail within an answer. What the answers are, the tables of the crate
 //! `suite` say, which go through the built program.
-use super::{Held, Screen, status_of};
+use super::{HeldFiles, Screen, status_of};
 use crate::program::run;
 use std::alloc::Global;
 use std::sync::Wait;
@@ -31,7 +31,7 @@ fn looped<'a, R: Threads + Wait + Sync>(
     let mut words: Vec<&'a str> = Vec::new(alloc);
     words.extend_from_slice(&["run", "x.wasm", "x.calls"])?;
     words.extend_from_slice(options)?;
-    let mut source = Held::new(&LOOPS, b"f\n");
+    let mut source = HeldFiles::new(&LOOPS, b"f\n");
     let mut out = Screen::new(alloc, 7, room, true);
     let mut err = Screen::wide(alloc);
     let status = run(rt, alloc, words.as_slice(), &mut source, &mut out, &mut err);

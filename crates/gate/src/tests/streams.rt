@@ -1,5 +1,5 @@
 //! Calls that are answered while they are read.
-use super::{HEADER, Held, Screen};
+use super::{HEADER, HeldFiles, Screen};
 use crate::program::run;
 
 #[test]
@@ -37,7 +37,7 @@ fn calls_of_a_stream(rt: HostRuntime) {
         ),
     ];
     for (words, module, text, answer, status, told) in answers {
-        let mut source = Held::new(module, text);
+        let mut source = HeldFiles::new(module, text);
         let (mut out, mut err) = (Screen::wide(rt.alloc()), Screen::wide(rt.alloc()));
         let ended = run(&rt, rt.alloc(), words, &mut source, &mut out, &mut err);
         assert_eq!(rt; ended, status);

@@ -66,21 +66,21 @@ impl Tally {
 
 /// Counts what it is told.
 #[derive(Drop)]
-struct Counting {
+struct CountingWatch {
     bodies: Tally,
     calls: Tally,
 }
 
-impl Counting {
-    fn new(alloc: Global) -> Result<Counting, AllocError> {
-        Ok(Counting {
+impl CountingWatch {
+    fn new(alloc: Global) -> Result<CountingWatch, AllocError> {
+        Ok(CountingWatch {
             bodies: Tally::new(alloc)?,
             calls: Tally::new(alloc)?,
         })
     }
 }
 
-impl Watch for Counting {
+impl Watch for CountingWatch {
     fn note(&self, stage: Stage, index: u32) {
         match stage {
             Stage::Body => self.bodies.add(index),
@@ -98,7 +98,7 @@ fn judges_tell_each_once<R: Threads + Wait + Abort + Sync>(
     plan: Plan,
 ) -> Result<(), Fail> {
     let module = hundred_bodies(alloc)?;
-    let counting = Counting::new(alloc)?;
+    let counting = CountingWatch::new(alloc)?;
     assert!(rt; judge(rt, alloc, &module, plan, &counting).is_ok());
     assert!(rt; counting.bodies.is_each(1));
     assert!(rt; examine(rt, alloc, &module, plan, &counting).is_ok());
@@ -114,7 +114,7 @@ fn answer_tells_each_once<R: Threads + Wait + Abort + Sync>(
 ) -> Result<(), Fail> {
     let module = hundred_bodies(alloc)?;
     let calls = hundred_calls(alloc)?;
-    let counting = Counting::new(alloc)?;
+    let counting = CountingWatch::new(alloc)?;
     let settings = Settings::new(10, 1, 0).ok_or("settings")?;
     let mut text = Vec::new(alloc);
     let status = answer(

@@ -25,12 +25,12 @@ returns-in-Ok-clause-streamed g c =
     (limits_of c.args.settings) c.in_ok-bytes.bytes.items c.as_slice.result.now c.args.calls.now c.in-Ok.accepted
     (g.O.Write.contents c.args.out.now) (g.O.Write.contents c.stream-streamed.new.out) c.stream-streamed.result c.end_of.result
     c.in_ok-bytes.ensures.known c.as_slice.ensures.value c.in-Ok.ensures.verdict c.in-Ok.ensures.parts (c.read_told.ensures.same c.args.calls.now) c.in_ok-file-in-Ok.ensures.known
-    c.stream-streamed.ensures.written c.stream-streamed.ensures.answer c.end_of.ensures
+    c.stream-streamed.ensures.written c.stream-streamed.ensures.answer c.stream-streamed.ensures.status c.end_of.ensures
 
 pub returns-in-Ok-clause-order : goal.returns-in-Ok-clause-order
 returns-in-Ok-clause-order g c = inr (
   accepted (g.S.Source.holds c.args.source.now c.args.path.now) c.in_ok-bytes.bytes.items c.as_slice.result.now c.in_ok-bytes.ensures.known c.as_slice.ensures.value c.in-Ok.ensures.verdict,
-  ends_after c.args.calls.now c.stream-streamed.result c.end_of.result c.end_of.ensures,
+  ends_after c.args.calls.now c.stream-streamed.result c.end_of.result c.stream-streamed.ensures.status c.end_of.ensures,
   both (g.S.Source.asked c.args.source.now) (g.S.Source.asked c.read_told.new.source) (g.S.Source.asked c.open_told.new.source) c.args.path.now c.args.calls.now c.read_told.ensures.logged c.open_told.ensures.logged,
 )
 

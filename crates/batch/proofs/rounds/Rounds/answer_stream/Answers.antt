@@ -33,40 +33,40 @@ refuse_line-requires-in-Ok-None g c =
     let room = stream_room _ _ c.new.result c.loop.progress.tally c.loop.counter c.loop.held.items _ _ _ _ s c.loop.invariant.calls c.loop-test.true in
     omega (arith, room, c.loop-test.true)
 
-pub returns-in-Ok-Bad : goal.returns-in-Ok-Bad
-returns-in-Ok-Bad g c =
+pub returns-in-Ok-Bad-clause-written : goal.returns-in-Ok-Bad-clause-written
+returns-in-Ok-Bad-clause-written g c =
     let taken = piece_bytes (g.F.Read.remaining c.loop.calls) (g.F.Read.remaining c.read_piece.new.file) c.read_piece.new.piece c.read_piece.result c.in-Ok-Some.field-0 c.in-Ok-Some.count c.read_piece.ensures c.in-Ok-Some.is c.in-Ok-Some.field-0-is in
     let bad = taken_bad c.args.self.now.accepted.now (limits_of c.args.self.now.settings) (c.loop.held.items ++ take c.in-Ok-Some.count c.read_piece.new.piece) c.loop.progress.tally c.take_piece.new.progress.tally c.take_piece.new.held.items (g.O.Write.contents c.loop.out) (g.O.Write.contents c.take_piece.new.out) c.take_piece.result c.in-Ok-Bad.field-0 c.take_piece.ensures c.in-Ok-Bad.is c.in-Ok-Bad.field-0-is in
     let start : IsZero c.new.result = record { calls = c.loop.invariant.calls; counts = c.loop.invariant.counts } in
     stream_refused c.args.self.now.accepted.now (limits_of c.args.self.now.settings) c.refuse_line.result c.new.result c.loop.progress.tally c.take_piece.new.progress.tally c.loop.counter c.loop.held.items (take c.in-Ok-Some.count c.read_piece.new.piece) (g.F.Read.remaining c.args.calls.now) (g.F.Read.remaining c.loop.calls) (g.F.Read.remaining c.read_piece.new.file)
-    (g.O.Write.contents c.args.out.now) (g.O.Write.contents c.loop.out) (g.O.Write.contents c.take_piece.new.out) (g.O.Write.contents c.refuse_line.new.out) start c.loop.invariant.streaming taken.1 bad c.refuse_line.ensures
+    (g.O.Write.contents c.args.out.now) (g.O.Write.contents c.loop.out) (g.O.Write.contents c.take_piece.new.out) (g.O.Write.contents c.refuse_line.new.out) start c.loop.invariant.streaming taken.1 bad c.refuse_line.ensures.written
 
-pub returns-in-Err-take_piece : goal.returns-in-Err-take_piece
-returns-in-Err-take_piece g c =
+pub returns-in-Err-take_piece-clause-written : goal.returns-in-Err-take_piece-clause-written
+returns-in-Err-take_piece-clause-written g c =
     let taken = piece_bytes (g.F.Read.remaining c.loop.calls) (g.F.Read.remaining c.read_piece.new.file) c.read_piece.new.piece c.read_piece.result c.in-Ok-Some.field-0 c.in-Ok-Some.count c.read_piece.ensures c.in-Ok-Some.is c.in-Ok-Some.field-0-is in
     let stops = taken_fault c.args.self.now.accepted.now (limits_of c.args.self.now.settings) (c.loop.held.items ++ take c.in-Ok-Some.count c.read_piece.new.piece) c.loop.progress.tally c.take_piece.new.progress.tally c.take_piece.new.held.items (g.O.Write.contents c.loop.out) (g.O.Write.contents c.take_piece.new.out) c.take_piece.result c.in-Err-take_piece.fault c.take_piece.ensures c.in-Err-take_piece.is in
     let start : IsZero c.new.result = record { calls = c.loop.invariant.calls; counts = c.loop.invariant.counts } in
     stream_stopped c.args.self.now.accepted.now (limits_of c.args.self.now.settings) c.in-Err-take_piece.fault c.new.result c.loop.progress.tally c.loop.counter c.loop.held.items (take c.in-Ok-Some.count c.read_piece.new.piece) (g.F.Read.remaining c.args.calls.now) (g.F.Read.remaining c.loop.calls) (g.F.Read.remaining c.read_piece.new.file)
     (g.O.Write.contents c.args.out.now) (g.O.Write.contents c.loop.out) (g.O.Write.contents c.take_piece.new.out) start c.loop.invariant.streaming taken.1 stops
 
-pub returns-then-is_empty : goal.returns-then-is_empty
-returns-then-is_empty g c =
+pub returns-then-is_empty-clause-written : goal.returns-then-is_empty-clause-written
+returns-then-is_empty-clause-written g c =
     let ended = piece_end (g.F.Read.remaining c.loop.calls) (g.F.Read.remaining c.read_piece.new.file) c.read_piece.new.piece c.read_piece.result c.in-Ok-None.field-0 c.read_piece.ensures c.in-Ok-None.is c.in-Ok-None.field-0-is in
     let empty : length c.loop.held.items ≡ 0 = search rules in
     let start : IsZero c.new.result = record { calls = c.loop.invariant.calls; counts = c.loop.invariant.counts } in
     stream_reported c.args.self.now.accepted.now (limits_of c.args.self.now.settings) c.end_report.result c.new.result c.loop.progress.tally c.loop.counter c.loop.held.items (g.F.Read.remaining c.args.calls.now) (g.F.Read.remaining c.loop.calls) (g.F.Read.remaining c.read_piece.new.file)
-    (g.O.Write.contents c.args.out.now) (g.O.Write.contents c.loop.out) (g.O.Write.contents c.end_report.new.out) start c.loop.invariant.streaming empty ended.0 ended.1 c.end_report.ensures
+    (g.O.Write.contents c.args.out.now) (g.O.Write.contents c.loop.out) (g.O.Write.contents c.end_report.new.out) start c.loop.invariant.streaming empty ended.0 ended.1 c.end_report.ensures.written
 
-pub returns-in-Ok-None : goal.returns-in-Ok-None
-returns-in-Ok-None g c =
+pub returns-in-Ok-None-clause-written : goal.returns-in-Ok-None-clause-written
+returns-in-Ok-None-clause-written g c =
     let ended = piece_end (g.F.Read.remaining c.loop.calls) (g.F.Read.remaining c.read_piece.new.file) c.read_piece.new.piece c.read_piece.result c.in-Ok-None.field-0 c.read_piece.ensures c.in-Ok-None.is c.in-Ok-None.field-0-is in
     let some : 0 < length c.loop.held.items = search rules in
     let start : IsZero c.new.result = record { calls = c.loop.invariant.calls; counts = c.loop.invariant.counts } in
     stream_unended c.args.self.now.accepted.now (limits_of c.args.self.now.settings) c.refuse_line-in-Ok-None.result c.new.result c.loop.progress.tally c.loop.counter c.loop.held.items (g.F.Read.remaining c.args.calls.now) (g.F.Read.remaining c.loop.calls) (g.F.Read.remaining c.read_piece.new.file)
-    (g.O.Write.contents c.args.out.now) (g.O.Write.contents c.loop.out) (g.O.Write.contents c.refuse_line-in-Ok-None.new.out) start c.loop.invariant.streaming some ended.0 ended.1 c.refuse_line-in-Ok-None.ensures
+    (g.O.Write.contents c.args.out.now) (g.O.Write.contents c.loop.out) (g.O.Write.contents c.refuse_line-in-Ok-None.new.out) start c.loop.invariant.streaming some ended.0 ended.1 c.refuse_line-in-Ok-None.ensures.written
 
-pub returns-in-Err : goal.returns-in-Err
-returns-in-Err g c =
+pub returns-in-Err-clause-written : goal.returns-in-Err-clause-written
+returns-in-Err-clause-written g c =
     let start : IsZero c.new.result = record { calls = c.loop.invariant.calls; counts = c.loop.invariant.counts } in
     stream_fault c.args.self.now.accepted.now (limits_of c.args.self.now.settings) c.in-Err.fault c.new.result c.loop.progress.tally c.loop.counter c.loop.held.items c.read_piece.new.piece (g.F.Read.remaining c.args.calls.now) (g.F.Read.remaining c.loop.calls) (g.F.Read.remaining c.read_piece.new.file) (g.O.Write.contents c.args.out.now) (g.O.Write.contents c.loop.out) start c.loop.invariant.streaming c.in-Err.ensures
 
@@ -81,7 +81,7 @@ loop-preserved g c =
       counts = c.loop.invariant.counts;
     }
 
-pub returns : goal.returns
-returns g c =
+pub returns-clause-written : goal.returns-clause-written
+returns-clause-written g c =
     let start : IsZero c.new.result = record { calls = c.loop.invariant.calls; counts = c.loop.invariant.counts } in
     stream_endless c.args.self.now.accepted.now (limits_of c.args.self.now.settings) c.new.result c.loop.progress.tally c.loop.counter c.loop.held.items (g.F.Read.remaining c.args.calls.now) (g.F.Read.remaining c.loop.calls) (g.O.Write.contents c.args.out.now) (g.O.Write.contents c.loop.out) start c.loop.invariant.streaming
