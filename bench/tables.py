@@ -237,6 +237,41 @@ def large_pages():
             f'and judging for `gate run` {min(of["judging"]):.2f} to {max(of["judging"]):.2f}.')
 
 
+# What was aimed at.
+
+def judged(name, column):
+    """The values of a column over the sizes of an accepted module that is judged."""
+    rows = [row for row in rows_of('judging', measure='judging', name=name) if row['form'] == 'accepted' and row[column]]
+    return [number(row, column) for row in rows]
+
+
+def process_beside_v8(name):
+    """How many times as fast a process of four workers checks a program as V8 does in process with all its threads; None if unmeasured."""
+    programs = {label: speeds for label, kind, speeds, _ in check_rows() if kind == 'program'}
+    return next((beside(speeds, ('gate process', '4'), ('V8', 'all')) for label, speeds in programs.items() if label.startswith(name)), None)
+
+
+def aims():
+    """What speed and memory were aimed at, beside what is measured."""
+    generated = [times for row in ('functions of 200 bytes', 'functions of 100,000 bytes', 'one function', 'functions of ten bytes')
+                 for times in judged(f'generated, {row}', 'times_check')]
+    lengths = [judged(name, 'memory_lengths')[-1]
+               for name in ('generated, functions of 200 bytes', 'generated, functions of ten bytes', 'functions of two bytes')]
+    processes = [process_beside_v8(name) for name in ('web server', 'sqlite', 'lua')]
+    pages = min(number(row, 'least') for row in rows_of('large_pages', measure='judging'))
+    start = next(number(row, 'least_us') for row in rows_of('embedding', engine='gate', what='process', bytes='41'))
+    return table(['what', 'now', 'aim', 'why not more (bench/LAB.md)'], [
+        ['kernels: JavaScriptCore\'s interpreter beside `gate`', f'{mean_kernel("JavaScriptCore"):.2f}', '1.45',
+         'tokens of 8 bytes for 16 took 1.4 times as long: the compiler shares one jump among many'],
+        ['kernels: computed gotos in C', f'{mean_kernel("C goto"):.2f}', '1', 'the same; and a turn counts itself, which C does not'],
+        ['judging, generated code, beside its check', f'{min(generated):.1f} to {max(generated):.1f}', '2.0',
+         f'fresh memory: with large pages {pages:.2f} of the time'],
+        ['memory, judged: functions of 200, of ten, of two bytes', '; '.join(f'{n:.0f}' for n in lengths), '5.5; 9; 20',
+         '16 bytes a token, and 136 a body'],
+        ['a process, four workers, beside V8 in process: Go server; sqlite; lua', '; '.join(cell(n, '.2f') for n in processes),
+         '1.6; 1.0; 0.8', f'a process that checks 41 bytes takes {start:.0f} us']])
+
+
 # What was measured, when, on what.
 
 def head_line(name):
@@ -276,7 +311,7 @@ def readme_speed():
 BLOCKS = {'README.md': {'readme-speed': readme_speed},
           'docs/SPEED.md': {'speed-summary': summary, 'check-table': check_table, 'kernels-table': kernels_table,
                             'small-calls': small_calls, 'plug-ins': plug_ins, 'worst-table': worst_table, 'judging-list': judging_list,
-                            'large-pages': large_pages, 'sources': sources}}
+                            'large-pages': large_pages, 'aims': aims, 'sources': sources}}
 PLOTS = {'docs/check.svg': check_plot, 'docs/workers.svg': workers_plot, 'docs/kernels.svg': kernels_plot,
          'docs/instances.svg': instances_plot, 'docs/families.svg': families_plot, 'docs/judging.svg': judging_plot}
 
