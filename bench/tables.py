@@ -262,7 +262,7 @@ def aims():
     start = next(number(row, 'least_us') for row in rows_of('embedding', engine='gate', what='process', bytes='41'))
     return table(['what', 'now', 'aim', 'why not more (bench/LAB.md)'], [
         ['kernels: JavaScriptCore\'s interpreter beside `gate`', f'{mean_kernel("JavaScriptCore"):.2f}', '1.45',
-         'tokens of 8 bytes for 16 took 1.4 times as long: the compiler shares one jump among many'],
+         'tokens of 8 bytes for 16, proved and built, took 1.4 times as long'],
         ['kernels: computed gotos in C', f'{mean_kernel("C goto"):.2f}', '1', 'the same; and a turn counts itself, which C does not'],
         ['judging, generated code, beside its check', f'{min(generated):.1f} to {max(generated):.1f}', '2.0',
          f'fresh memory: with large pages {pages:.2f} of the time'],
