@@ -24,7 +24,7 @@ use Rattle.interpreter.specs.Code.{bodies_of, program_of}
 use Rattle.interpreter.specs.Ended.{EndsWith}
 use Rattle.interpreter.specs.Execution.{call_of, Executes, LeavesCall}
 use Rattle.interpreter.specs.declared.machine.Execution.{Execution}
-use Rattle.interpreter.specs.declared.machine.OutOfMemory.{OutOfMemory}
+use Rattle.interpreter.specs.declared.run.OutOfMemory.{OutOfMemory}
 use Rattle.wsyntax.specs.Outcomes.{outcome_of}
 use Rattle.accepted_module.specs.Judgement.{IsJudged, shapes_of}
 use Rattle.accepted_module.specs.Small.{IsSmall}
