@@ -131,7 +131,7 @@ fn go_back(control: &mut Control, outer: OuterFrame) -> Result<(), AllocError>
 
 /// Closes the innermost frame.
 #[inline(always)]
-#[tactic(auto, using(crate::proofs::Cuts::closed_under, crate::proofs::Behind::reversed_last))]
+#[tactic(auto, using(crate::proofs::Cuts::closed_under, crate::proofs::ReversedLists::reversed_last))]
 fn close_frame(control: &mut Control) -> Result<bool, AllocError>
     requires { control.old.is_open ≡ true }
     ensures tight { IsTight control.old → IsTight control.new }
@@ -158,7 +158,7 @@ fn close_frame(control: &mut Control) -> Result<bool, AllocError>
 
 /// An instruction without a body.
 #[inline(always)]
-#[tactic(auto, using(crate::proofs::Behind::labels_outside, crate::proofs::Plain::plain, crate::proofs::Plain::unruled))]
+#[tactic(auto, using(crate::proofs::ReversedLists::labels_outside, crate::proofs::PlainSteps::plain, crate::proofs::PlainSteps::unruled))]
 fn step_plain(
     scope: &Scope,
     targets: &[u32],
