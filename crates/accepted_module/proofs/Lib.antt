@@ -1,5 +1,5 @@
 pub mod Offsets
-pub mod Outside
+pub mod FirstOutside
 pub mod Words
 pub mod Numbers
 pub mod SearchedNames

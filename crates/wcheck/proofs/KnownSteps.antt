@@ -11,7 +11,7 @@ use Rattle.wcheck.specs.declared.rule.OperandRule.{OperandRule}
 use Rattle.wcheck.specs.declared.scope.Scope.{Scope}
 use Rattle.wcheck.specs.OperandRules.{rule_of}
 use Rattle.wcheck.specs.Views.{scope_context, context_at, frame_of, cut, token_rule}
-use Rattle.wcheck.proofs.Plain.{plain}
+use Rattle.wcheck.proofs.PlainSteps.{plain}
 
 -- what follows from the rule, between the frames of a control whose operands are of the same function types
 pub known_step : (s : Scope) (t : Token) (top : ControlFrame) (outer lent : List OuterFrame) (types after : List FuncType) (below under : List (Option ValType)) (a o : Operands) (is_open : Bool) (rule : OperandRule) → is_open ≡ true → types ≡ s.context.now.context.types → after ≡ types → under ≡ below → lent ≡ outer → Some (rule_of s.context.now.context.types rule) ≡ token_rule (context_at s top lent) t → apply (rule_of types rule) a ≡ Some o → step (scope_context s) t (cond is_open (frame_of types top a ∷ cut types (reverse outer) below) []) ≡ Some (cond is_open (frame_of after top o ∷ cut after (reverse outer) under) [])

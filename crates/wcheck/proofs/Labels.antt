@@ -12,7 +12,7 @@ use Rattle.wcheck.specs.declared.scope.Scope.{Scope}
 use Rattle.wcheck.specs.Views.{scope_context, context_at, label_of, labels_in, frame_of, cut, token_rule}
 use Rattle.wcheck.specs.Frames.{inner_of, frames_of}
 use Rattle.wcheck.specs.Inspected.{labels_of}
-use Rattle.wcheck.proofs.Behind.{labels_outside}
+use Rattle.wcheck.proofs.ReversedLists.{labels_outside}
 
 pub labels_inside : (types : List FuncType) (top : ControlFrame) (outer : List OuterFrame) (below : List (Option ValType)) (a : Operands) → labels_of (frame_of types top a ∷ cut types (reverse outer) below) ≡ labels_in types top outer
 labels_inside types top outer below a = ap (λ ls. label_of types top ∷ ls) (labels_outside types outer below)

@@ -2,7 +2,7 @@
 use Rattle.std.proofs.Common.{◌≡◌, ◌≤◌, ◌<◌, ℕ, ◌+◌, Bool, true, false, ◌||◌, List, length, get_or, drop, map, refl, sym, ap, ◌∙◌}
 use Rattle.std.proofs.lemmas.List.{at_drop_more}
 use Rattle.wsyntax.specs.Execution.Start.{any}
-use Rattle.wcheck.proofs.Judging.{drop_past}
+use Rattle.wcheck.proofs.PassOutcomes.{drop_past}
 
 or_false : (t : Bool) → t ≡ (t || false)
 or_false true = refl

@@ -12,7 +12,7 @@ use Rattle.wcontext.specs.declared.lists.TypePrefix.{TypePrefix}
 use Rattle.wcheck.specs.declared.entry.StackEntry.TheVariants.{Run}
 use Rattle.wcheck.specs.Heights.{type_of}
 use Rattle.wcheck.specs.Runs.{run_at, of_run, types_in, IsCounted}
-use Rattle.wcheck.proofs.Lasts.{prefix, set_last}
+use Rattle.wcheck.proofs.LastItems.{prefix, set_last}
 use Rattle.wcheck.proofs.Stretched.{none, several, whole_run, run_length, counted_prefix, run_counted, counted_less, no_run, a_run}
 
 pub nonempty : (xs : List StackEntry) (rs : List (List ValType)) (v : List (Option ValType)) → types_in xs rs ≡ v → 0 < length v → 0 < length xs

@@ -1,20 +1,13 @@
 -- A list of operands in which a run takes one place.
 use Rattle.std.proofs.Common.{◌≡◌, ℕ, suc, ◌+◌, ◌-◌, ◌^◌, ◌<◌, ◌≤◌, false, List, [], ◌∷◌, ◌++◌, map, length, take, reverse, Option, Some, None, refl, sym, ap, ◌∙◌, arith, length-append}
-use Rattle.std.proofs.lemmas.List.{reverse-append, reverse-reverse, length-reverse, length-map, map-append}
+use Rattle.std.proofs.lemmas.List.{reverse-append, reverse-reverse, length-reverse, length-map}
 use Rattle.wsyntax.specs.declared.ValType.{ValType}
 use Rattle.wcheck.specs.declared.entry.StackEntry.{StackEntry}
 use Rattle.wcheck.specs.declared.entry.StackEntry.TheVariants.{I32, I64, F32, F64, Unknown, Run}
 use Rattle.wcheck.specs.Heights.{type_of}
 use Rattle.wcheck.specs.Runs.{is_several, run_at, of_run, stretched, types_in, IsCounted}
-use Rattle.wcheck.proofs.Lasts.{no_last, is_there}
-
-pub reversed_last : {A : Type 0} (xs : List A) (x : A) → reverse (xs ++ x ∷ []) ≡ x ∷ reverse xs
-reversed_last xs x = reverse-append xs (x ∷ [])
-
-map-reverse : {A B : Type 0} (f : A → B) (xs : List A) → map f (reverse xs) ≡ reverse (map f xs)
-map-reverse f [] = refl
-map-reverse f (x ∷ xs) =
-    ap (map f) (reverse-append (x ∷ []) xs) ∙ map-append f (reverse xs) (x ∷ []) ∙ ap (λ z. z ++ f x ∷ []) (map-reverse f xs) ∙ sym (reverse-append (f x ∷ []) (map f xs))
+use Rattle.wcheck.proofs.ReversedLists.{map-reverse, reversed_last}
+use Rattle.wcheck.proofs.LastItems.{no_last, is_there}
 
 -- the topmost place, where no run stands
 top_single : (x : StackEntry) (ys : List StackEntry) (rs : List (List ValType)) → is_several x ≡ false → stretched (x ∷ ys) rs ≡ type_of x ∷ stretched ys rs

@@ -12,7 +12,7 @@ use Rattle.wcheck.specs.declared.entry.StackEntry.{StackEntry}
 use Rattle.wcheck.specs.declared.entry.StackEntry.TheVariants.{I32, I64, F32, F64, Unknown, Run}
 use Rattle.wcheck.specs.Heights.{type_of}
 use Rattle.wcheck.specs.Runs.{is_several, run_at, of_run, types_in, last_types, types_before}
-use Rattle.wcheck.proofs.Lasts.{last_split, no_last, is_there}
+use Rattle.wcheck.proofs.LastItems.{last_split, no_last, is_there}
 use Rattle.wcheck.proofs.Stretched.{none, whole_run, no_run}
 use Rattle.wcheck.proofs.Shortened.{split_run}
 

@@ -1,8 +1,10 @@
 -- The open frames, in the code.
 use Rattle.std.specs.Prelude.{◌≡◌, false, List, [], ◌∷◌, Option, Some, reverse, cond, length}
 use Rattle.wsyntax.specs.Types.{FuncType}
-use Rattle.wsyntax.specs.Validation.Context.{Stack}
-use Rattle.wsyntax.specs.Validation.Algorithm.{Frame, when, open_frame, ends_with, may_lack_else, pass_on, fresh}
+use Rattle.wsyntax.specs.declared.ValType.TheVariants.{I32}
+use Rattle.wsyntax.specs.declared.instructions.BlockType.{BlockType}
+use Rattle.wsyntax.specs.Validation.Context.{Stack, block_sig}
+use Rattle.wsyntax.specs.Validation.Algorithm.{Frame, Operands, when, on, pop_one, open_frame, ends_with, may_lack_else, pass_on, fresh}
 use Rattle.wcontext.specs.Lists.{list_of}
 use Rattle.wcontext.specs.declared.lists.TypeList.{TypeList}
 use Rattle.side_table.specs.declared.label.Opener.{Opener}
@@ -52,6 +54,16 @@ pair_of x params results = record { params = list_of x.operands.types params; re
 abbrev pub opened : Opener → TypeList → TypeList → Control → Option (List Frame)
 opened opener params results x =
     open_frame (is_if opener) (label_by opener (pair_of x params results)) (pair_of x params results) (innermost_of x) (outside_of x) x.operands.above
+
+-- what is left of the operands once an opener has taken its condition
+abbrev pub after_condition : Opener → Operands → Option Operands
+after_condition opener o = cond (is_if opener) (pop_one I32 o) (Some o)
+
+-- 7.3 block, loop and if: a frame is pushed, where the block type names a function type
+abbrev pub entered : Opener → BlockType → Control → Option (List Frame)
+entered opener block x =
+    on (block_sig x.operands.types block) (λ s.
+    on (after_condition opener x.operands.above) (open_frame (is_if opener) (label_by opener s) s (innermost_of x) (outside_of x)))
 
 -- 7.3 else: the first branch of an if is closed, and the second one goes on in its place
 abbrev pub switched : Frame → List Frame → Option (List Frame)

@@ -160,7 +160,7 @@ impl<'a> Checker<'a> {
     }
 
     /// How many operands a branch to the innermost frame takes.
-    #[tactic(auto, using(crate::proofs::ListFacts::reverse_length))]
+    #[tactic(auto, using(crate::proofs::ReversedLists::reverse_length))]
     pub fn arity(&self) -> usize
         ensures size { result ≡ label_size self.now.frames }
         ensures few { result < 2 ^ 32 }

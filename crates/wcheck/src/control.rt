@@ -4,7 +4,7 @@ ghost use Rattle.wsyntax.specs.Modules.{decoded_as};
 ghost use Rattle.wsyntax.specs.Validation.Algorithm.{when, step};
 ghost use Rattle.wcheck.specs.Views.{scope_context, under_all};
 ghost use Rattle.wcheck.specs.Frames.{innermost_of, outside_of, inner_of, frames_of, IsTight};
-ghost use Rattle.wcheck.specs.Frames.{outer_frame_of, gone_back, opened, switched, closed};
+ghost use Rattle.wcheck.specs.Frames.{outer_frame_of, gone_back, opened, entered, switched, closed};
 
 use crate::apply::{apply_known, apply_rule};
 use crate::frames::{ControlFrame, OuterFrame};
@@ -13,8 +13,8 @@ use crate::rule::rule_of_token;
 use crate::scope::{Scope, block_signature};
 use side_table::Opener;
 use std::alloc::AllocError;
-use wcontext::{ListPair, TypeList};
-use wsyntax::{Token, ValType};
+use wcontext::{Context, ListPair, TypeList};
+use wsyntax::{BlockType, Token, ValType};
 
 /// The open frames: the innermost one apart, and the others, the outermost first.
 #[derive(Drop)]
@@ -95,6 +95,30 @@ fn open_frame(
     Ok(true)
 }
 
+/// Opens the frame of a block, a loop or an if, where the block type names a function type. An if takes its condition first.
+// PERF: the opener is a constant of each caller, so that the compiler tells it apart.
+#[inline(always)]
+fn open_block(
+    context: &Context,
+    control: &mut Control,
+    opener: Opener,
+    block: BlockType,
+) -> Result<bool, AllocError>
+    requires { control.old.operands.types ≡ context.now.context.types }
+    ensures frames { IfOk result (λ yes. entered opener block control.old ≡ when yes (Some (inner_of control.new))) }
+    ensures open { IfOk result (λ yes. control.new.is_open ≡ control.old.is_open) }
+    ensures tight { IsTight control.old → IsTight control.new }
+    ensures types { control.new.operands.types ≡ control.old.operands.types }
+{
+    let Some(ListPair { params, results }) = block_signature(context, block) else {
+        return Ok(false);
+    };
+    if opener.is_if() && !control.operands.pop_one(ValType::I32) {
+        return Ok(false);
+    }
+    open_frame(control, opener, params, results)
+}
+
 /// Goes on from the first branch of an if to the second.
 fn switch_to_else(control: &mut Control) -> Result<bool, AllocError>
     ensures frames { IfOk result (λ yes.
@@ -131,7 +155,7 @@ fn go_back(control: &mut Control, outer: OuterFrame) -> Result<(), AllocError>
 
 /// Closes the innermost frame.
 #[inline(always)]
-#[tactic(auto, using(crate::proofs::Cuts::closed_under, crate::proofs::Behind::reversed_last))]
+#[tactic(auto, using(crate::proofs::Cuts::closed_under, crate::proofs::ReversedLists::reversed_last))]
 fn close_frame(control: &mut Control) -> Result<bool, AllocError>
     requires { control.old.is_open ≡ true }
     ensures tight { IsTight control.old → IsTight control.new }
@@ -158,7 +182,7 @@ fn close_frame(control: &mut Control) -> Result<bool, AllocError>
 
 /// An instruction without a body.
 #[inline(always)]
-#[tactic(auto, using(crate::proofs::Behind::labels_outside, crate::proofs::Plain::plain, crate::proofs::Plain::unruled))]
+#[tactic(auto, using(crate::proofs::ReversedLists::labels_outside, crate::proofs::PlainSteps::plain, crate::proofs::PlainSteps::unruled))]
 fn step_plain(
     scope: &Scope,
     targets: &[u32],
@@ -234,34 +258,9 @@ pub(crate) fn step_control(
         return Ok(false);
     }
     match token {
-        Token::Block(block) => match block_signature(scope.context, block) {
-            Some(ListPair { params, results }) => open_frame(
-                control,
-                Opener::Block,
-                params,
-                results,
-            ),
-            None => Ok(false),
-        },
-        Token::Loop(block) => match block_signature(scope.context, block) {
-            Some(ListPair { params, results }) => open_frame(
-                control,
-                Opener::Loop,
-                params,
-                results,
-            ),
-            None => Ok(false),
-        },
-        Token::If { block, .. } => match block_signature(scope.context, block) {
-            Some(ListPair { params, results }) => {
-                if control.operands.pop_one(ValType::I32) {
-                    open_frame(control, Opener::If, params, results)
-                } else {
-                    Ok(false)
-                }
-            }
-            None => Ok(false),
-        },
+        Token::Block(block) => open_block(scope.context, control, Opener::Block, block),
+        Token::Loop(block) => open_block(scope.context, control, Opener::Loop, block),
+        Token::If { block, .. } => open_block(scope.context, control, Opener::If, block),
         Token::Else { .. } => switch_to_else(control),
         Token::End => close_frame(control),
         _ => step_plain(scope, targets, control, token),

@@ -59,7 +59,7 @@ pub(crate) fn label_at(frame: ControlFrame, outer: &[OuterFrame], l: u32) -> Opt
 }
 
 /// Whether what follows in the last of these is unreachable; `false` where there is none.
-#[tactic(auto, using(crate::proofs::Behind::reversed_last))]
+#[tactic(auto, using(crate::proofs::ReversedLists::reversed_last))]
 pub(crate) fn is_last_dead(outer: &[OuterFrame]) -> bool
     ensures { result ≡ first_dead (reverse outer.now) }
 {
@@ -99,7 +99,7 @@ fn whole(context: &Context, list: TypeList) -> TypePrefix
 }
 
 /// Whether two lists of types are the same, which is mostly known without comparing them.
-#[tactic(auto, using(crate::proofs::Taking::same_place))]
+#[tactic(auto, using(crate::proofs::TakenBack::same_place))]
 pub(crate) fn are_same_lists(context: &Context, a: TypeList, b: TypeList) -> bool
     ensures { result ≡ same_types (reverse (list_of context.now.context.types a)) (reverse (list_of context.now.context.types b)) }
 {

@@ -5,8 +5,8 @@
 //!
 //! ```text
 //! checker::Checker::step            counts the looks past the locals that are written out first
-//! control::step_control             opens, switches and closes frames; any other token is an instruction for act
-//! control::act                      asks for the rule, and applies it to the operands of the innermost frame
+//! control::step_control             opens, switches and closes frames; any other token is for step_plain
+//! control::step_plain               asks for the rule, and applies it to the operands of the innermost frame
 //! rule::rule_of_token               the OperandRule: what is taken and put, where all that the token names is there
 //! apply::apply_rule                 which methods of the operands
 //! operand_rules, operand_stack      whether the types on top fit, and what lies there then

@@ -73,7 +73,7 @@ fn end_runs(ended: &mut Vec<EndedRun>, runs: &[LocalRun]) -> Result<(), AllocErr
 }
 
 /// Writes out the types of the first `EXPANDED` locals, or of all where there are fewer.
-#[tactic(auto, using(crate::proofs::FirstLocals::none_first, crate::proofs::FirstLocals::some_first, crate::proofs::FirstLocals::so_far_first, crate::proofs::FirstLocals::part_first, crate::proofs::FirstLocals::next_first))]
+#[tactic(auto, using(crate::proofs::FirstLocals::none_first, crate::proofs::FirstLocals::so_far_first))]
 fn write_first(
     expanded: &mut Vec<ValType>,
     params: &[ValType],

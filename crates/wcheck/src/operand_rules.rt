@@ -203,7 +203,7 @@ impl OperandStack<'_> {
     /// Takes operands of the types of a list, which are these, the last first. Once none is known, no more is read, and what
     /// the list shares with a run is taken at once. The types of a run that does not fit are compared one by one.
     #[inline(never)]
-    #[tactic(auto, using(crate::proofs::ListFacts::taken_empty))]
+    #[tactic(auto, using(crate::proofs::EmptyFrames::taken_empty))]
     fn pop_long_list(&mut self, list: TypeList, ts: &[ValType]) -> bool
         requires types { ts.now ≡ list_of self.old.types list }
         requires few { length ts.now < 2 ^ 32 }

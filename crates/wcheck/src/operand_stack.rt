@@ -119,7 +119,7 @@ impl<'a> OperandStack<'a> {
 
     /// Whether any operands may be taken, and nothing is left of them: none is known, and the rest cannot be reached.
     #[inline]
-    #[tactic(auto, using(crate::proofs::ListFacts::taken_dead))]
+    #[tactic(auto, using(crate::proofs::EmptyFrames::taken_dead))]
     pub(crate) fn gives_any(&self) -> bool
         ensures { result ≡ true → (ts : List ValType) → pop_all ts self.now.above ≡ Some self.now.above }
     {

@@ -3,7 +3,7 @@ use Rattle.wsyntax.specs.Modules.{data_shape}
 use Rattle.wsyntax.specs.Execution.Start.{data_segment}
 use Rattle.wsyntax.specs.declared.module.Data.{Data}
 use Rattle.accepted_module.specs.Segments.{IsOffset}
-use Rattle.accepted_module.proofs.Outside.{outside_here, inside_here, data_from}
+use Rattle.accepted_module.proofs.FirstOutside.{outside_here, inside_here, data_from}
 use Rattle.accepted_module.proofs.segments.first_data_outside.Goals as goal
 
 pub place_of-requires : goal.place_of-requires

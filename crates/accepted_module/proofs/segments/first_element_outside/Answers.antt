@@ -3,7 +3,7 @@ use Rattle.wsyntax.specs.Elements.{element_of}
 use Rattle.wsyntax.specs.Modules.{element_shape}
 use Rattle.wsyntax.specs.Execution.Start.{element_segment}
 use Rattle.accepted_module.proofs.Offsets.{element_offset}
-use Rattle.accepted_module.proofs.Outside.{outside_here, inside_here, elements_from}
+use Rattle.accepted_module.proofs.FirstOutside.{outside_here, inside_here, elements_from}
 use Rattle.accepted_module.proofs.segments.first_element_outside.Goals as goal
 
 pub place_of-requires : goal.place_of-requires

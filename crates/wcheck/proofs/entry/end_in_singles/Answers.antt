@@ -1,5 +1,5 @@
 use Rattle.std.proofs.Common.{◌-◌, length, arith}
-use Rattle.wcheck.proofs.Known.{known_none, known_more, known_all}
+use Rattle.wcheck.proofs.KnownOperands.{known_none, known_more, known_all}
 use Rattle.wcheck.proofs.entry.end_in_singles.Goals as goal
 
 pub loop-i-init : goal.loop-i-init

@@ -1,5 +1,5 @@
 use Rattle.std.proofs.Common.{refl}
-use Rattle.wcheck.proofs.Behind.{differ}
+use Rattle.wcheck.proofs.ReversedLists.{differ}
 use Rattle.wcheck.proofs.frames.are_same.Goals as goal
 
 pub returns-then-a-b : goal.returns-then-a-b

@@ -1,5 +1,5 @@
 use Rattle.std.proofs.Common.{sym}
-use Rattle.wcheck.proofs.Taking.{same_wholes}
+use Rattle.wcheck.proofs.TakenBack.{same_wholes}
 use Rattle.wcheck.proofs.frames.are_same_lists.Goals as goal
 
 pub returns-then-is_suffix : goal.returns-then-is_suffix

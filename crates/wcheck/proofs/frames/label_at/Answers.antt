@@ -1,6 +1,6 @@
 use Rattle.std.proofs.Common.{◌∙◌, ap, sym, Some}
 use Rattle.wcheck.specs.Views.{label_of}
-use Rattle.wcheck.proofs.Behind.{behind_or}
+use Rattle.wcheck.proofs.ReversedLists.{behind_or}
 use Rattle.wcheck.proofs.frames.label_at.Goals as goal
 
 pub returns : goal.returns

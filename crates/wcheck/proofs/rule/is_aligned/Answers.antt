@@ -1,4 +1,4 @@
-use Rattle.wcheck.proofs.Access.{power_order}
+use Rattle.wcheck.proofs.Alignments.{power_order}
 use Rattle.wcheck.proofs.rule.is_aligned.Goals as goal
 
 pub returns : goal.returns

@@ -2,7 +2,7 @@ use Rattle.std.proofs.Common.{[], ◌∷◌, true, sym, ◌∙◌}
 use Rattle.wsyntax.specs.declared.ValType.TheVariants.{I32}
 use Rattle.wsyntax.specs.Table.{load_access}
 use Rattle.wsyntax.specs.Validation.Algorithm.{Takes}
-use Rattle.wcheck.proofs.Access.{with_memory}
+use Rattle.wcheck.proofs.Alignments.{with_memory}
 use Rattle.wcheck.proofs.rule.load_rule.Goals as goal
 
 pub returns : goal.returns

@@ -5,7 +5,7 @@ use Rattle.wsyntax.specs.Execution.Allocation.{overwrite}
 use Rattle.wstore.proofs.Buffers.{replaced_twice}
 use Rattle.wstore.proofs.Lists.{length-overwrite}
 use Rattle.accepted_module.specs.Segments.{data_segments}
-use Rattle.accepted_module.proofs.Outside.{data_from}
+use Rattle.accepted_module.proofs.FirstOutside.{data_from}
 use Rattle.wstore.proofs.Steps.{data_placed, within_here, within_later, put_data_here}
 use Rattle.wstore.proofs.memory_part.put_data.Goals as goal
 

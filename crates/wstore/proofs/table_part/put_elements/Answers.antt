@@ -4,7 +4,7 @@ use Rattle.wsyntax.specs.Modules.{element_shape}
 use Rattle.wsyntax.specs.Execution.Start.{element_segment}
 use Rattle.interpreter.specs.Seen.{entry_of}
 use Rattle.accepted_module.specs.Segments.{element_segments}
-use Rattle.accepted_module.proofs.Outside.{elements_from}
+use Rattle.accepted_module.proofs.FirstOutside.{elements_from}
 use Rattle.wstore.proofs.Steps.{element_placed, within_here, within_later, put_elements_here}
 use Rattle.wstore.proofs.table_part.put_elements.Goals as goal
 

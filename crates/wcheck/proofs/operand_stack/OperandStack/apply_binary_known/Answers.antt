@@ -2,8 +2,8 @@ use Rattle.std.proofs.Common.{◌-◌, map, take, refl, ◌∙◌, [], ◌∷◌
 use Rattle.wcontext.specs.Lists.{prefix_of}
 use Rattle.std.specs.Prelude.{set}
 use Rattle.wcheck.specs.Runs.{types_in}
-use Rattle.wcheck.proofs.Known.{two_off, two_over, two_over_counted}
-use Rattle.wcheck.proofs.Above.{reaches, swapped, swapped_below, swapped_enough}
+use Rattle.wcheck.proofs.KnownOperands.{two_off, two_over, two_over_counted}
+use Rattle.wcheck.proofs.FrameOperands.{reaches, swapped, swapped_below, swapped_enough}
 use Rattle.wcheck.proofs.operand_stack.OperandStack.apply_binary_known.Goals as goal
 
 pub invariant_of-self : goal.invariant_of-self

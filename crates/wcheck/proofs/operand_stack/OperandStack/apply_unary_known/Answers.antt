@@ -2,8 +2,8 @@ use Rattle.std.proofs.Common.{◌-◌, map, take, refl, ◌∙◌, [], ◌∷◌
 use Rattle.wcontext.specs.Lists.{prefix_of}
 use Rattle.std.specs.Prelude.{set}
 use Rattle.wcheck.specs.Runs.{types_in}
-use Rattle.wcheck.proofs.Known.{one_off, one_over, one_over_counted}
-use Rattle.wcheck.proofs.Above.{reaches, swapped, swapped_below, swapped_enough}
+use Rattle.wcheck.proofs.KnownOperands.{one_off, one_over, one_over_counted}
+use Rattle.wcheck.proofs.FrameOperands.{reaches, swapped, swapped_below, swapped_enough}
 use Rattle.wcheck.proofs.operand_stack.OperandStack.apply_unary_known.Goals as goal
 
 pub invariant_of-self : goal.invariant_of-self

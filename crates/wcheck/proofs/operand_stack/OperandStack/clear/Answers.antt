@@ -1,6 +1,6 @@
 use Rattle.std.proofs.Common.{map, ap, ◌∙◌, [], arith, false}
 use Rattle.wcontext.specs.Lists.{prefix_of}
-use Rattle.wcheck.proofs.Above.{empty_stack, empty_counted}
+use Rattle.wcheck.proofs.FrameOperands.{empty_stack, empty_counted}
 use Rattle.wcheck.proofs.operand_stack.OperandStack.clear.Goals as goal
 
 pub invariant_of-self : goal.invariant_of-self

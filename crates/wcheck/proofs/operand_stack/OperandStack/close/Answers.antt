@@ -2,7 +2,7 @@ use Rattle.std.proofs.Common.{◌≡◌, map, ap, ◌∙◌, arith, []}
 use Rattle.std.proofs.Math.ListN.{drop_of_length-le}
 use Rattle.wcontext.specs.Lists.{prefix_of}
 use Rattle.wcheck.specs.Runs.{types_in}
-use Rattle.wcheck.proofs.Above.{base_size, closed}
+use Rattle.wcheck.proofs.FrameOperands.{base_size, closed}
 use Rattle.wcheck.proofs.operand_stack.OperandStack.close.Goals as goal
 
 pub returns-clause-above : goal.returns-clause-above

@@ -3,8 +3,8 @@ use Rattle.wcontext.specs.Lists.{prefix_of}
 use Rattle.wcheck.specs.Runs.{types_in, IsCounted}
 use Rattle.wcheck.specs.Heights.{type_of}
 use Rattle.wcheck.proofs.Stretched.{least}
-use Rattle.wcheck.proofs.Known.{lone_off, lone_off_counted}
-use Rattle.wcheck.proofs.Above.{dropped, one_below, one_enough}
+use Rattle.wcheck.proofs.KnownOperands.{lone_off, lone_off_counted}
+use Rattle.wcheck.proofs.FrameOperands.{dropped, one_below, one_enough}
 use Rattle.wcheck.proofs.operand_stack.OperandStack.drop_known.Goals as goal
 
 pub invariant_of-self : goal.invariant_of-self

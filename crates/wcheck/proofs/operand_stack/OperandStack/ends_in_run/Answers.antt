@@ -6,7 +6,7 @@ use Rattle.wsyntax.specs.Types.{FuncType}
 use Rattle.wcheck.specs.Runs.{types_in, last_types}
 use Rattle.wcheck.specs.Heights.{all_of}
 use Rattle.wcheck.proofs.Topmost.{last_of_prefix, ends_in_none, ends_in_shared}
-use Rattle.wcheck.proofs.Above.{all_items}
+use Rattle.wcheck.proofs.FrameOperands.{all_items}
 use Rattle.wcheck.proofs.operand_stack.OperandStack.ends_in_run.Goals as goal
 
 pub returns-in_default-clause-last : goal.returns-in_default-clause-last

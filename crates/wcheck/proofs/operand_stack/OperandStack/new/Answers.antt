@@ -1,6 +1,6 @@
 use Rattle.std.proofs.Common.{map, arith}
 use Rattle.wcontext.specs.Lists.{prefix_of}
-use Rattle.wcheck.proofs.Above.{empty_stack, empty_counted}
+use Rattle.wcheck.proofs.FrameOperands.{empty_stack, empty_counted}
 use Rattle.wcheck.proofs.operand_stack.OperandStack.new.Goals as goal
 
 pub invariant_of-result : goal.invariant_of-result

@@ -1,5 +1,5 @@
 use Rattle.std.proofs.Common.{arith}
-use Rattle.wcheck.proofs.Above.{all_taken}
+use Rattle.wcheck.proofs.FrameOperands.{all_taken}
 use Rattle.wcheck.proofs.operand_stack.OperandStack.pop_all_known.Goals as goal
 
 pub returns-clause-taken : goal.returns-clause-taken

@@ -2,8 +2,8 @@ use Rattle.std.proofs.Common.{map, ap, sym, subst, refl, ◌∙◌, ◌++◌, []
 use Rattle.wcontext.specs.Lists.{prefix_of}
 use Rattle.wcheck.specs.Runs.{types_in, IsCounted}
 use Rattle.wcheck.proofs.Stretched.{least}
-use Rattle.wcheck.proofs.Known.{one_off, one_off_counted}
-use Rattle.wcheck.proofs.Above.{one_taken, one_below, one_enough}
+use Rattle.wcheck.proofs.KnownOperands.{one_off, one_off_counted}
+use Rattle.wcheck.proofs.FrameOperands.{one_taken, one_below, one_enough}
 use Rattle.wcheck.proofs.operand_stack.OperandStack.pop_known.Goals as goal
 
 pub invariant_of-self : goal.invariant_of-self

@@ -1,6 +1,6 @@
 use Rattle.std.proofs.Common.{arith}
 use Rattle.wcontext.specs.Lists.{prefix_of}
-use Rattle.wcheck.proofs.Above.{types_taken}
+use Rattle.wcheck.proofs.FrameOperands.{types_taken}
 use Rattle.wcheck.proofs.operand_stack.OperandStack.pop_run.Goals as goal
 
 pub returns-clause-taken : goal.returns-clause-taken

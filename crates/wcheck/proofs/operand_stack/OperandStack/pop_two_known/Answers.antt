@@ -2,8 +2,8 @@ use Rattle.std.proofs.Common.{◌-◌, map, take, ap, sym, subst, refl, ◌∙�
 use Rattle.wcontext.specs.Lists.{prefix_of}
 use Rattle.std.proofs.lemmas.List.{append-nil}
 use Rattle.wcheck.specs.Runs.{types_in, IsCounted}
-use Rattle.wcheck.proofs.Known.{two_off, two_off_counted}
-use Rattle.wcheck.proofs.Above.{reaches, swapped, swapped_below, swapped_enough}
+use Rattle.wcheck.proofs.KnownOperands.{two_off, two_off_counted}
+use Rattle.wcheck.proofs.FrameOperands.{reaches, swapped, swapped_below, swapped_enough}
 use Rattle.wcheck.proofs.operand_stack.OperandStack.pop_two_known.Goals as goal
 
 pub invariant_of-self : goal.invariant_of-self

@@ -2,7 +2,7 @@ use Rattle.std.proofs.Common.{map, refl, [], ◌∷◌}
 use Rattle.wcontext.specs.Lists.{prefix_of}
 use Rattle.wcheck.specs.Runs.{types_in}
 use Rattle.wcheck.proofs.Pushed.{pushed, pushed_counted}
-use Rattle.wcheck.proofs.Above.{more_below, more_above, more_enough}
+use Rattle.wcheck.proofs.FrameOperands.{more_below, more_above, more_enough}
 use Rattle.wcheck.proofs.operand_stack.OperandStack.push.Goals as goal
 
 pub invariant_of-self-2 : goal.invariant_of-self-2

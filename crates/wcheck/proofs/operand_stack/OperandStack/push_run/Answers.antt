@@ -3,9 +3,9 @@ use Rattle.wcontext.specs.Lists.{prefix_of}
 use Rattle.wcontext.specs.Lists.{list_of}
 use Rattle.std.specs.Prelude.{reverse}
 use Rattle.wcheck.specs.Runs.{types_in}
-use Rattle.wcheck.proofs.Behind.{map-reverse}
+use Rattle.wcheck.proofs.ReversedLists.{map-reverse}
 use Rattle.wcheck.proofs.Pushed.{whole_list, run_pushed, run_pushed_counted, ok_items}
-use Rattle.wcheck.proofs.Above.{more_below, more_above, more_enough}
+use Rattle.wcheck.proofs.FrameOperands.{more_below, more_above, more_enough}
 use Rattle.wcheck.proofs.operand_stack.OperandStack.push_run.Goals as goal
 
 pub invariant_of-self-2 : goal.invariant_of-self-2

@@ -7,9 +7,9 @@ use Rattle.wcheck.specs.declared.entry.StackEntry.{StackEntry}
 use Rattle.wcheck.specs.Heights.{Stacked, stacked, all_of}
 use Rattle.wcheck.specs.Runs.{types_in, run_at, IsCounted}
 use Rattle.wcheck.proofs.Shortened.{nonempty, one_less, one_less_counted, there_is, is_counted, cut_less, cut_counted, run_less, run_less_counted, last_run_written, last_run_cut, last_run_gone}
-use Rattle.wcheck.proofs.Lasts.{split_at_last}
+use Rattle.wcheck.proofs.LastItems.{split_at_last}
 use Rattle.wcheck.proofs.Topmost.{last_single, last_in_run}
-use Rattle.wcheck.proofs.Above.{all_items, frame_size, short_above, short_below, short_enough}
+use Rattle.wcheck.proofs.FrameOperands.{all_items, frame_size, short_above, short_below, short_enough}
 use Rattle.wcheck.proofs.operand_stack.OperandStack.shorten.Goals as goal
 
 there : (xs : List StackEntry) (rs : List (List ValType)) (v : List (Option ValType)) (by : ℕ) → types_in xs rs ≡ v → 0 < by → by ≤ length v → 0 < length xs

@@ -3,7 +3,7 @@ use Rattle.std.specs.Prelude.{◌==◌}
 use Rattle.wcontext.specs.Lists.{prefix_of}
 use Rattle.wcheck.specs.Runs.{types_in}
 use Rattle.wcheck.proofs.Singles.{counted_any, taken_singles, no_runs}
-use Rattle.wcheck.proofs.Above.{base_size, cut_to, cut_below, cut_enough}
+use Rattle.wcheck.proofs.FrameOperands.{base_size, cut_to, cut_below, cut_enough}
 use Rattle.wcheck.proofs.operand_stack.OperandStack.truncate.Goals as goal
 
 pub invariant_of-self : goal.invariant_of-self

@@ -1,4 +1,4 @@
--- What the code's proofs need.
+-- What is taken of a frame in which no operand is known.
 use Rattle.std.proofs.Common.{◌≡◌, ◌≤◌, ◌<◌, ℕ, true, false, List, [], ◌∷◌, take, reverse, length, Some, None, refl, sym, ap, ◌∙◌, subst, arith, length-take}
 use Rattle.std.proofs.lemmas.List.{length-reverse}
 use Rattle.wsyntax.specs.Validation.Context.{Stack}
@@ -39,6 +39,3 @@ pub taken_empty : (ts : Stack) (i : ℕ) (o : Operands) → 0 < i → i ≤ leng
 taken_empty ts i o lt le e =
     let n : 0 < length (reverse (take i ts)) = omega (arith, length-reverse (take i ts), length-take i ts) in
     taken_none (reverse (take i ts)) o (not_nil _ n) e
-
-pub reverse_length : {A : Type 0} (xs ys : List A) (n : ℕ) → n ≡ length xs → reverse xs ≡ ys → n ≡ length ys
-reverse_length xs ys n e h = e ∙ sym (length-reverse xs) ∙ ap length h

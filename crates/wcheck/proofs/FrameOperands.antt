@@ -1,4 +1,4 @@
--- One list of operands, what of it lies above a height, and what below.
+-- One list of operands, of which the innermost frame has those above a height: what a change of the list is to that frame.
 use Rattle.std.proofs.Common.{◌≡◌, ◌≤◌, ◌<◌, ◌-◌, ◌+◌, ℕ, Bool, false, List, [], ◌∷◌, ◌++◌, map, drop, take, reverse, length, Option, Some, sym, ap, ◌∙◌, arith, length-append, length-drop}
 use Rattle.std.specs.Prelude.{min}
 use Rattle.std.proofs.lemmas.List.{reverse-append, reverse-reverse, length-reverse, length-map, length-take, take-append-drop, take-append-le, append-nil, drop-append-le, take-take, take_min}
@@ -14,9 +14,9 @@ use Rattle.wsyntax.specs.Validation.Algorithm.{Operands, Takes, Drops, when, on,
 use Rattle.wcheck.specs.Heights.{Stacked, above_of, stacked, all_of, without, over}
 use Rattle.wcheck.specs.declared.entry.StackEntry.{StackEntry}
 use Rattle.wcheck.specs.Runs.{types_in, IsCounted, last_types, types_before}
-use Rattle.wcheck.proofs.Behind.{map-reverse}
+use Rattle.wcheck.proofs.ReversedLists.{map-reverse}
 use Rattle.wcheck.proofs.Stretched.{none, least}
-use Rattle.wcheck.proofs.Taking.{same_as_itself, taken_whole, taken_prefix}
+use Rattle.wcheck.proofs.TakenBack.{same_as_itself, taken_whole, taken_prefix}
 
 -- ---- lists
 

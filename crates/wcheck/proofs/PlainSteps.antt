@@ -8,7 +8,7 @@ use Rattle.wcheck.specs.declared.frames.ControlFrame.{ControlFrame}
 use Rattle.wcheck.specs.declared.frames.OuterFrame.{OuterFrame}
 use Rattle.wcheck.specs.declared.scope.Scope.{Scope}
 use Rattle.wcheck.specs.Views.{scope_context, context_at, label_of, frame_of, cut, token_rule}
-use Rattle.wcheck.proofs.Behind.{labels_outside}
+use Rattle.wcheck.proofs.ReversedLists.{labels_outside}
 
 -- the context under these labels
 with_labels : Scope → ControlFrame → List (List ValType) → Context

@@ -1,4 +1,4 @@
--- What the code's proofs need.
+-- Lists that are read backwards: the labels of the outer frames, and the types of operands.
 use Rattle.std.proofs.Common.{◌≡◌, ℕ, zero, suc, ◌-◌, ◌≤◌, ◌<◌, get_or, slice_get, Bool, true, false, List, [], ◌∷◌, ◌++◌, map, reverse, take, length, Option, Some, refl, sym, ap, ◌∙◌, arith}
 use Rattle.std.proofs.lemmas.List.{reverse-append, map-append, get_or-reverse, length-reverse, get_or-map, length-map}
 use Rattle.std.proofs.lemmas.Option.{slice_get-get_or}
@@ -41,3 +41,6 @@ labels_outside types xs below = labels_same types (reverse xs) below ∙ map-rev
 
 pub reversed_last : {A : Type 0} (xs : List A) (x : A) → reverse (xs ++ x ∷ []) ≡ x ∷ reverse xs
 reversed_last xs x = reverse-append xs (x ∷ [])
+
+pub reverse_length : {A : Type 0} (xs ys : List A) (n : ℕ) → n ≡ length xs → reverse xs ≡ ys → n ≡ length ys
+reverse_length xs ys n e h = e ∙ sym (length-reverse xs) ∙ ap length h

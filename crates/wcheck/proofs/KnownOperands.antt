@@ -6,7 +6,7 @@ use Rattle.wsyntax.specs.declared.ValType.{ValType}
 use Rattle.wcheck.specs.declared.entry.StackEntry.{StackEntry}
 use Rattle.wcheck.specs.Heights.{type_of}
 use Rattle.wcheck.specs.Runs.{is_several, types_in, IsCounted}
-use Rattle.wcheck.proofs.Lasts.{prefix, last_two, set_last, split_at_last}
+use Rattle.wcheck.proofs.LastItems.{prefix, last_two, set_last, split_at_last}
 use Rattle.wcheck.proofs.Stretched.{single, counted_prefix, counted_single}
 use Rattle.wcheck.proofs.Topmost.{known_single}
 
