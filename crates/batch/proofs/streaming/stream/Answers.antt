@@ -1,6 +1,6 @@
 use Rattle.wstore.specs.CallLimits.{limits_of}
 use Rattle.batch.specs.declared.stream_fault.StreamFault.TheVariants.{Memory}
-use Rattle.std.proofs.Common.{Err, tt}
+use Rattle.std.proofs.Common.{Err}
 use Rattle.batch.proofs.Streamed.{stream_as_run, stream_unbegun}
 use Rattle.batch.proofs.streaming.stream.Goals as goal
 
