@@ -11,8 +11,6 @@ mod checks;
 #[cfg(test)]
 mod contexts;
 #[cfg(test)]
-mod fronts;
-#[cfg(test)]
 mod instances;
 #[cfg(test)]
 mod invocations;
@@ -26,6 +24,8 @@ mod modules;
 mod numbers;
 #[cfg(test)]
 mod pools;
+#[cfg(test)]
+mod prefixes;
 #[cfg(test)]
 mod rows;
 #[cfg(test)]

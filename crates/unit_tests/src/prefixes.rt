@@ -78,7 +78,7 @@ fn says_as_comparing(
         front_of(types, other.0, other.1),
         front_of(types, one.0, one.1),
     );
-    context.is_end(short, long) == expected
+    context.is_suffix(short, long) == expected
 }
 
 const COUNTS: [u32; 6] = [254, 255, 256, 299, 300, 601];
