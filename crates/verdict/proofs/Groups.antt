@@ -8,9 +8,12 @@ use Rattle.std.proofs.lemmas.Option.{slice_get-map, slice_get-get_or}
 use mathlib.Core.Logic.{dite}
 use native.Mathlib.Decide.{dec_lt}
 use Rattle.wsyntax.specs.Validation.Context.{Context}
-use Rattle.verdict.specs.declared.refused_body.RefusedBody.{RefusedBody}
-use Rattle.verdict.specs.Judged.{body_refusal_of, given_refusal, body_refusal_at, PassBefore}
-use Rattle.verdict.specs.Groups.{IsInGroup, GroupPasses, IsFirstOfGroup}
+use Rattle.verdict.specs.declared.refusal.BodyRefusal.{BodyRefusal}
+use Rattle.verdict.specs.declared.refusal.Refusal.{Refusal}
+use Rattle.verdict.specs.declared.refusal.Refusal.TheVariants.{TooLarge, Malformed, Rule, Body, Memory}
+use Rattle.verdict.specs.Judged.{body_refusal_of, given_refusal, body_refusal_at, IsBodyRefusal, PassBefore}
+use Rattle.verdict.specs.Groups.{IsInGroup, GroupPasses, IsFirstOfGroup, GroupRefused}
+use Rattle.verdict.specs.Refusals.{AllowsRefusal}
 
 -- ---- each place is one of a group
 
@@ -31,8 +34,8 @@ pub groups_pass : (C : Context) (imported : ℕ) (bodies : List (List ℕ)) (siz
 groups_pass C imported bodies size some all k lt = all (k / size) (group_below (length bodies) size k some lt) k (in_group (length bodies) size k some lt)
 
 -- the bodies before the first refused one of a group, where all groups before it pass
-pub pass_before : (C : Context) (imported : ℕ) (bodies : List (List ℕ)) (size group : ℕ) (r : RefusedBody) → 0 < size → IsFirstOfGroup C imported bodies size group r → ((i : ℕ) → i < group → GroupPasses C imported bodies size i) → PassBefore C imported bodies r.place
-pass_before C imported bodies size group r some first earlier k lt =
+pub pass_before : (C : Context) (imported : ℕ) (bodies : List (List ℕ)) (size group f : ℕ) (c : BodyRefusal) → 0 < size → (first : IsFirstOfGroup C imported bodies size group f c) → ((i : ℕ) → i < group → GroupPasses C imported bodies size i) → PassBefore C imported bodies first.place
+pass_before C imported bodies size group f c some first earlier k lt =
     let inside = first.inside in
     let to = inside.to in
     let there = inside.there in
@@ -65,3 +68,13 @@ pub one_more : (C : Context) (imported : ℕ) (bodies : List (List ℕ)) (size g
 one_more C imported bodies size group place before here k inside lt =
     dite (dec_lt k place) (λ y. before k inside y)
     (λ no. let same : place ≡ k = omega (arith, no, lt) in subst (λ (x : ℕ). body_refusal_at C imported bodies x ≡ None) same here)
+
+-- a body of a group is refused, and those of the group before it pass: so the group is refused
+pub group_refused : (C : Context) (imported : ℕ) (bodies : List (List ℕ)) (size group place : ℕ) (x : Refusal) → IsInGroup size (length bodies) group place
+    → ((k : ℕ) → IsInGroup size (length bodies) group k → k < place → body_refusal_at C imported bodies k ≡ None)
+    → AllowsRefusal (IsBodyRefusal (imported + place) (body_refusal_at C imported bodies place)) x → AllowsRefusal (GroupRefused C imported bodies size group) x
+group_refused C imported bodies size group place (Body f c) inside before a = record { place = place; index = a.0; inside = inside; refused = a.1; before = before }
+group_refused C imported bodies size group place TooLarge inside before a = absurd a
+group_refused C imported bodies size group place Malformed inside before a = absurd a
+group_refused C imported bodies size group place (Rule k) inside before a = absurd a
+group_refused C imported bodies size group place Memory inside before a = tt

@@ -1,5 +1,5 @@
 -- From what is known of each group of kept bodies to what is known of all of them.
-use Rattle.std.proofs.Common.{Bor, map, ◌≡◌, ℕ, zero, suc, ◌+◌, ◌-◌, ◌*◌, ◌<◌, min, ◌⊎◌, inl, inr, List, [], ◌∷◌, ◌++◌, length, Some, None, refl, sym, ap, subst, ◌∙◌, arith}
+use Rattle.std.proofs.Common.{Bor, map, get_or, ◌≡◌, ℕ, zero, suc, ◌+◌, ◌-◌, ◌*◌, ◌<◌, min, ◌⊎◌, inl, inr, List, [], ◌∷◌, ◌++◌, length, Some, None, refl, sym, ap, subst, ◌∙◌, arith}
 use Rattle.std.specs.Prelude.{slice_get}
 use Rattle.std.specs.List.{flat_map}
 use Rattle.std.specs.Int.{div_ceil}
@@ -12,16 +12,18 @@ use native.Mathlib.Decide.{dec_le}
 use Rattle.pieces.specs.TryAll.{AllPass, StopsAt}
 use Rattle.pieces.specs.declared.trying.TryFault.{TryFault}
 use Rattle.pieces.specs.declared.trying.TryFault.TheVariants.{Stopped}
+use Rattle.pieces.specs.declared.trying.TryFault.TheVariants as run
 use Rattle.wsyntax.specs.Validation.Context.{Context}
 use Rattle.checked_body.specs.declared.body.CheckedBody.{CheckedBody}
 use Rattle.accepted_module.specs.Judgement.{IsCheckedAt, AreChecked}
-use Rattle.verdict.specs.declared.refused_body.RefusedBody.{RefusedBody}
-use Rattle.verdict.specs.declared.refusal.Refusal.TheVariants.{Body}
-use Rattle.verdict.specs.Judged.{body_refusal_at, PassBefore, IsFirstBody}
-use Rattle.verdict.specs.Groups.{IsInGroup, GroupPasses, IsFirstOfGroup, StandFrom, AreOfGroup}
+use Rattle.verdict.specs.declared.refusal.Refusal.{Refusal}
+use Rattle.verdict.specs.declared.refusal.Refusal.TheVariants.{TooLarge, Malformed, Rule, Body, Memory}
+use Rattle.verdict.specs.Judged.{body_refusal_of, body_refusal_at, IsBodyRefusal, PassBefore, IsFirstBody}
+use Rattle.verdict.specs.Groups.{IsInGroup, GroupPasses, IsFirstOfGroup, GroupRefused, StandFrom, AreOfGroup}
+use Rattle.verdict.specs.Refusals.{AllowsRefusal, of_run}
 use Rattle.verdict.proofs.CheckedBodies.{last_or_before}
 use Rattle.verdict.proofs.Firsts.{each_passes}
-use Rattle.verdict.proofs.Groups.{groups_pass, pass_before}
+use Rattle.verdict.proofs.Groups.{groups_pass, pass_before, refusal_there}
 
 -- ---- one body more
 
@@ -130,27 +132,34 @@ groups_kept items C i j size n bodies passes groups all is some count passed who
     (subst (λ (xs : List CheckedBody). AreChecked C j (map (λ b. b.now) bodies) (length (map (λ b. b.now) bodies)) xs) (sym whole)
     (groups_checked C j (map (λ b. b.now) bodies) size items passes n groups some (count ∙ ap (λ (m : ℕ). div_ceil m size) (sym same)) passed)))
 
-first_group : (C : Context) (imported : ℕ) (bodies : List (List ℕ)) (size n i : ℕ) (r : RefusedBody) → 0 < size
-    → StopsAt n (GroupPasses C imported bodies size) (IsFirstOfGroup C imported bodies size) (Stopped i r) → IsFirstBody C imported bodies (Body (imported + r.place) r.refusal)
-first_group C imported bodies size n i r some stop =
-    let first : IsFirstOfGroup C imported bodies size i r = stop.1 in
+first_group : (C : Context) (imported : ℕ) (bodies : List (List ℕ)) (size n : ℕ) (e : TryFault Refusal) → 0 < size
+    → StopsAt n (GroupPasses C imported bodies size) (GroupRefused C imported bodies size) e → IsFirstBody C imported bodies (of_run e)
+first_group C imported bodies size n (Stopped i (Body f c)) some stop =
+    let first : IsFirstOfGroup C imported bodies size i f c = stop.1 in
     let inside = first.inside in
-    (r.place, inside.there, refl, first.refused, pass_before C imported bodies size i r some first stop.2)
+    (first.place, inside.there, first.index, first.refused, pass_before C imported bodies size i f c some first stop.2)
+first_group C imported bodies size n (Stopped i TooLarge) some stop = absurd stop.1
+first_group C imported bodies size n (Stopped i Malformed) some stop = absurd stop.1
+first_group C imported bodies size n (Stopped i (Rule k)) some stop = absurd stop.1
+first_group C imported bodies size n (Stopped i Memory) some stop = tt
+first_group C imported bodies size n run.Memory some stop = tt
 
 -- a group is refused, and all before it pass
-pub group_stopped : (C : Context) (i j size n k : ℕ) (bodies : List (Bor (List ℕ))) (e : TryFault RefusedBody) (r : RefusedBody) → j ≡ i → 0 < size → e ≡ Stopped k r
-    → StopsAt n (GroupPasses C j (map (λ b. b.now) bodies) size) (IsFirstOfGroup C j (map (λ b. b.now) bodies) size) e → IsFirstBody C i (map (λ b. b.now) bodies) (Body (j + r.place) r.refusal)
-group_stopped C i j size n k bodies e r is some stops stop =
-    subst (λ (x : ℕ). IsFirstBody C x (map (λ b. b.now) bodies) (Body (j + r.place) r.refusal)) is
-    (first_group C j (map (λ b. b.now) bodies) size n k r some (subst (StopsAt n (GroupPasses C j (map (λ b. b.now) bodies) size) (IsFirstOfGroup C j (map (λ b. b.now) bodies) size)) stops stop))
+pub group_stopped : (C : Context) (i j size n : ℕ) (bodies : List (Bor (List ℕ))) (e : TryFault Refusal) → j ≡ i → 0 < size
+    → StopsAt n (GroupPasses C j (map (λ b. b.now) bodies) size) (GroupRefused C j (map (λ b. b.now) bodies) size) e → IsFirstBody C i (map (λ b. b.now) bodies) (of_run e)
+group_stopped C i j size n bodies e is some stop =
+    subst (λ (x : ℕ). IsFirstBody C x (map (λ b. b.now) bodies) (of_run e)) is (first_group C j (map (λ b. b.now) bodies) size n e some stop)
 
--- its body is one of them
-pub stopped_within : (C : Context) (j size n k : ℕ) (bodies : List (Bor (List ℕ))) (e : TryFault RefusedBody) (r : RefusedBody) → e ≡ Stopped k r
-    → StopsAt n (GroupPasses C j (map (λ b. b.now) bodies) size) (IsFirstOfGroup C j (map (λ b. b.now) bodies) size) e → r.place < length bodies
-stopped_within C j size n k bodies e r stops stop =
-    let at : StopsAt n (GroupPasses C j (map (λ b. b.now) bodies) size) (IsFirstOfGroup C j (map (λ b. b.now) bodies) size) (Stopped k r) = subst (StopsAt n (GroupPasses C j (map (λ b. b.now) bodies) size) (IsFirstOfGroup C j (map (λ b. b.now) bodies) size)) stops stop in
-    let first : IsFirstOfGroup C j (map (λ b. b.now) bodies) size k r = at.1 in
-    let inside = first.inside in
-    let same = length-map bodies (λ (b : Bor (List ℕ)). b.now) in
-    let there = inside.there in
-    subst (λ (m : ℕ). r.place < m) same there
+-- ---- one body after the other
+
+-- the body at a place is refused, and those before it pass
+pub first_body : (C D : Context) (i j place : ℕ) (bodies : List (Bor (List ℕ))) (d : Bor (List ℕ)) (x : Refusal) → D ≡ C → j ≡ i → place < length bodies
+    → PassBefore C i (map (λ b. b.now) bodies) place → AllowsRefusal (IsBodyRefusal (j + place) (body_refusal_of D (j + place) (get_or bodies place d).now)) x
+    → IsFirstBody C i (map (λ b. b.now) bodies) x
+first_body C D i j place bodies d (Body f c) same is lt before a =
+    let n = length-map bodies (λ (b : Bor (List ℕ)). b.now) in
+    (place, omega (arith, n, lt), a.0 ∙ ap (λ (k : ℕ). k + place) is, sym (refusal_there C D i j place bodies d same is lt) ∙ a.1, before)
+first_body C D i j place bodies d TooLarge same is lt before a = absurd a
+first_body C D i j place bodies d Malformed same is lt before a = absurd a
+first_body C D i j place bodies d (Rule k) same is lt before a = absurd a
+first_body C D i j place bodies d Memory same is lt before a = tt

@@ -7,6 +7,7 @@ pub mod Firsts
 pub mod Groups
 pub mod Rests
 pub mod Parts
+pub mod RefusalSteps
 pub mod OnePass
 pub mod WholeBodies
 pub mod Checks
@@ -15,6 +16,7 @@ pub mod Judgements
 pub mod Rules
 pub mod CheckedBodies
 pub mod KeptGroups
+pub mod KeptAt
 pub mod SlotSteps
 pub mod InSteps
 pub mod Recorded

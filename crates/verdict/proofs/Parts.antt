@@ -5,11 +5,11 @@ use Rattle.std.proofs.Math.Nat.{min-eq_left, min-eq_right}
 use mathlib.Core.Logic.{dite}
 use native.Mathlib.Decide.{dec_le}
 use Rattle.pieces.specs.declared.job.JobFault.{JobFault}
-use Rattle.pieces.specs.declared.job.JobFault.TheVariants as fault
 use Rattle.pieces.specs.Faults.{AllowsFault}
 use Rattle.pieces.specs.TryAll.{AllPass, StopsAt}
 use Rattle.pieces.specs.declared.trying.TryFault.{TryFault}
 use Rattle.pieces.specs.declared.trying.TryFault.TheVariants.{Stopped}
+use Rattle.pieces.specs.declared.trying.TryFault.TheVariants as run
 use Rattle.wsyntax.specs.Modules.{ModuleShape, module_shape}
 use Rattle.wsyntax.specs.Binary.Shell.{Shell, module_limit}
 use Rattle.wsyntax.specs.Validation.ModuleContext.{IndexedContext, indexed_context, imported_functions, functions_of, type_at}
@@ -24,17 +24,14 @@ use Rattle.wsyntax.specs.Validation.Context.{Context}
 use Rattle.verdict.specs.declared.refusal.BodyRefusal.{BodyRefusal}
 use Rattle.verdict.specs.declared.refusal.Refusal.{Refusal}
 use Rattle.verdict.specs.declared.refusal.Refusal.TheVariants.{TooLarge, Malformed, Rule, Body, Memory}
-use Rattle.verdict.specs.declared.part_fault.RestFault.TheVariants as rest
-use Rattle.verdict.specs.declared.part_fault.PartFault.{PartFault}
-use Rattle.verdict.specs.declared.part_fault.PartFault.TheVariants as part
-use Rattle.verdict.specs.declared.refused_body.RefusedBody.{RefusedBody}
-use Rattle.verdict.specs.Judged.{body_refusal_of, body_refusal_at}
+use Rattle.verdict.specs.Judged.{body_refusal_of, body_refusal_at, IsBodyRefusal}
 use Rattle.verdict.specs.Groups.{IsInGroup, IsFirstOfGroup}
-use Rattle.verdict.specs.Heads.{IsWhole, UniqueWhole, Decoded, Known, RestPasses, IsEarlyRefusal}
-use Rattle.verdict.specs.Parts.{bodies_of, body_refusal_in, BodiesPass, parts_of, PartPasses, PartRefused, IsRestFault, IsBodyAt, IsFirstPart, refusal_for, FitsIn, IsFirstFault, HasRun}
-use Rattle.verdict.specs.Refusals.{verdict_of, of_rules}
+use Rattle.verdict.specs.Heads.{IsWhole, UniqueWhole, Decoded, Known, IsHead, RestPasses, RestRefused, IsEarlyRefusal}
+use Rattle.verdict.specs.Parts.{bodies_of, body_refusal_in, BodiesPass, parts_of, PartPasses, PartRefused, IsFirstPart, HasRun}
+use Rattle.verdict.specs.Refusals.{AllowsRefusal, verdict_of, of_rules, of_run, in_job}
 use Rattle.verdict.proofs.Firsts.{each_passes, judged}
-use Rattle.verdict.proofs.Groups.{refusal_there, groups_pass, pass_before}
+use Rattle.verdict.proofs.Groups.{refusal_there, group_refused, groups_pass, pass_before}
+use Rattle.verdict.proofs.RefusalSteps.{job_refused}
 use Rattle.verdict.proofs.Rests.{least_of_whole}
 use Rattle.verdict.proofs.Sizes.{functions_within}
 
@@ -45,31 +42,31 @@ behind_the_first zero ne = absurd (ne refl)
 behind_the_first (suc i) ne = omega arith
 
 -- what was found of the bytes of a body is found of the body
-pub body_there : {T : Type 0} (C D : Context) (i j place : ℕ) (bodies : List (Bor (List ℕ))) (d : Bor (List ℕ)) (r : Result T (JobFault PartFault)) → D ≡ C → j ≡ i → place < length bodies
-    → MatchResult r (λ _. body_refusal_of D (j + place) (get_or bodies place d).now ≡ None) (AllowsFault (IsBodyAt place (body_refusal_of D (j + place) (get_or bodies place d).now)))
-    → MatchResult r (λ _. body_refusal_at C i (map (λ b. b.now) bodies) place ≡ None) (AllowsFault (IsBodyAt place (body_refusal_at C i (map (λ b. b.now) bodies) place)))
-body_there C D i j place bodies d r same is lt h = subst (λ (o : Option BodyRefusal). MatchResult r (λ _. o ≡ None) (AllowsFault (IsBodyAt place o))) (refusal_there C D i j place bodies d same is lt) h
+pub body_there : {T : Type 0} (C D : Context) (i j place : ℕ) (bodies : List (Bor (List ℕ))) (d : Bor (List ℕ)) (r : Result T Refusal) → D ≡ C → j ≡ i → place < length bodies
+    → MatchResult r (λ _. body_refusal_of D (j + place) (get_or bodies place d).now ≡ None) (AllowsRefusal (IsBodyRefusal (j + place) (body_refusal_of D (j + place) (get_or bodies place d).now)))
+    → MatchResult r (λ _. body_refusal_at C i (map (λ b. b.now) bodies) place ≡ None) (AllowsRefusal (IsBodyRefusal (i + place) (body_refusal_at C i (map (λ b. b.now) bodies) place)))
+body_there C D i j place bodies d r same is lt h =
+    subst (λ (k : ℕ). MatchResult r (λ _. body_refusal_at C i (map (λ b. b.now) bodies) place ≡ None) (AllowsRefusal (IsBodyRefusal (k + place) (body_refusal_at C i (map (λ b. b.now) bodies) place)))) is
+    (subst (λ (o : Option BodyRefusal). MatchResult r (λ _. o ≡ None) (AllowsRefusal (IsBodyRefusal (j + place) o))) (refusal_there C D i j place bodies d same is lt) h)
+
+-- the rest is part 0
+pub rest_passed : (h : Head) (size index : ℕ) → index ≡ 0 → RestPasses h.front → PartPasses h size index
+rest_passed h size index first passes = subst (PartPasses h size) (sym first) passes
+
+pub rest_part : {T : Type 0} (h : Head) (size index : ℕ) (r : Result T (JobFault Refusal)) (x : Refusal) → IsErrAnd r (λ y. y ≡ in_job x) → index ≡ 0 → AllowsRefusal (RestRefused h.front) x
+    → MatchResult r (λ _. PartPasses h size index × Unit {0}) (AllowsFault (PartRefused h size index))
+rest_part h size index r x is first a =
+    job_refused (λ _. PartPasses h size index × Unit {0}) (PartRefused h size index) r x is (subst (λ (k : ℕ). AllowsRefusal (PartRefused h size k) x) (sym first) a)
 
 -- a body is refused, and those of its group before it are accepted
-pub body_part : {T : Type 0} (h : Head) (size index place : ℕ) (r : Result T (JobFault PartFault)) (x : JobFault PartFault) → IsErrAnd r (λ y. y ≡ x) → index ≢ 0
+pub body_part : {T : Type 0} (h : Head) (size index place : ℕ) (r : Result T (JobFault Refusal)) (x : Refusal) → IsErrAnd r (λ y. y ≡ in_job x) → index ≢ 0
     → IsInGroup size (length (bodies_of h)) (index - 1) place
     → ((k : ℕ) → IsInGroup size (length (bodies_of h)) (index - 1) k → k < place → body_refusal_in h k ≡ None)
-    → AllowsFault (IsBodyAt place (body_refusal_in h place)) x
+    → AllowsRefusal (IsBodyRefusal (h.context.imported + place) (body_refusal_in h place)) x
     → MatchResult r (λ _. PartPasses h size index × Unit {0}) (AllowsFault (PartRefused h size index))
-body_part h size index place (Ok t) x is ne inside before a = absurd is
-body_part h size index place (Err y) x is ne inside before a = subst (AllowsFault (PartRefused h size index)) (sym is) (allowed x a)
-  where
-    first : (r : RefusedBody) → r.place ≡ place → body_refusal_in h place ≡ Some r.refusal → IsFirstOfGroup h.context.context h.context.imported (bodies_of h) size (index - 1) r
-    first r at reason = record {
-      inside = subst (IsInGroup size (length (bodies_of h)) (index - 1)) (sym at) inside;
-      refused = ap (body_refusal_in h) at ∙ reason;
-      before = λ k within lt. before k within (omega (arith, lt, at));
-    }
-
-    allowed : (x : JobFault PartFault) → AllowsFault (IsBodyAt place (body_refusal_in h place)) x → AllowsFault (PartRefused h size index) x
-    allowed (fault.Refused (part.Rest r)) a = absurd a
-    allowed (fault.Refused (part.Body r)) a = subst (λ (k : ℕ). PartRefused h size k (part.Body r)) (behind_the_first index ne) (first r a.0 a.1)
-    allowed fault.Memory a = tt
+body_part h size index place r x is ne inside before a =
+    job_refused (λ _. PartPasses h size index × Unit {0}) (PartRefused h size index) r x is
+    (subst (λ (k : ℕ). AllowsRefusal (PartRefused h size k) x) (behind_the_first index ne) (group_refused h.context.context h.context.imported (bodies_of h) size (index - 1) place x inside before a))
 
 -- each body of a group is accepted
 pub group_part : (h : Head) (size index end : ℕ) → index ≢ 0
@@ -94,51 +91,39 @@ all_passed h size n gives outs some count all =
     (passes 0 (omega (arith, count)), groups_pass h.context.context h.context.imported (bodies_of h) size some (λ i lt. passes (suc i) (omega (arith, count, lt))))
 
 -- a part is refused, and all before it pass
-pub first_part : (h : Head) (size n i : ℕ) (r : PartFault) → 0 < size → StopsAt n (PartPasses h size) (PartRefused h size) (Stopped i r) → IsFirstFault h r
-first_part h size n zero (part.Rest rest.Malformed) some stop = (tt, stop.1)
-first_part h size n zero (part.Rest (rest.Rule k)) some stop = (tt, stop.1)
-first_part h size n zero (part.Body r) some stop = absurd stop.1
-first_part h size n (suc i) (part.Rest r) some stop = absurd stop.1
-first_part h size n (suc i) (part.Body r) some stop =
-    let first : IsFirstOfGroup h.context.context h.context.imported (bodies_of h) size i r = stop.1 in
+pub first_part : (h : Head) (size n : ℕ) (e : TryFault Refusal) → 0 < size → StopsAt n (PartPasses h size) (PartRefused h size) e → IsFirstPart h (of_run e)
+first_part h size n (Stopped zero Malformed) some stop = stop.1
+first_part h size n (Stopped zero (Rule k)) some stop = stop.1
+first_part h size n (Stopped zero TooLarge) some stop = absurd stop.1
+first_part h size n (Stopped zero (Body f c)) some stop = absurd stop.1
+first_part h size n (Stopped zero Memory) some stop = tt
+first_part h size n (Stopped (suc i) (Body f c)) some stop =
+    let first : IsFirstOfGroup h.context.context h.context.imported (bodies_of h) size i f c = stop.1 in
     let inside = first.inside in
-    let there : r.place < length (bodies_of h) = inside.there in
-    let few = h.few in (
-      omega (arith, there, few),
-      (stop.2 0 (omega arith), (r.place, there, refl, first.refused, pass_before h.context.context h.context.imported (bodies_of h) size i r some first (λ k lt. stop.2 (suc k) (omega (arith, lt))))),
-    )
-
--- the run stops at a part
-pub first_stop : (h : Head) (size n i : ℕ) (e : TryFault PartFault) (r : PartFault) → 0 < size → e ≡ Stopped i r → StopsAt n (PartPasses h size) (PartRefused h size) e → IsFirstFault h r
-first_stop h size n i e r some is stop = first_part h size n i r some (subst (StopsAt n (PartPasses h size) (PartRefused h size)) is stop)
+    (stop.2 0 (omega arith), (first.place, inside.there, first.index, first.refused, pass_before h.context.context h.context.imported (bodies_of h) size i f c some first (λ k lt. stop.2 (suc k) (omega (arith, lt)))))
+first_part h size n (Stopped (suc i) TooLarge) some stop = absurd stop.1
+first_part h size n (Stopped (suc i) Malformed) some stop = absurd stop.1
+first_part h size n (Stopped (suc i) (Rule k)) some stop = absurd stop.1
+first_part h size n (Stopped (suc i) Memory) some stop = tt
+first_part h size n run.Memory some stop = tt
 
 -- ---- one body after the other
 
 -- the rest is refused
-pub rest_run : {T : Type 0} (h : Head) (r : Result T (JobFault PartFault)) (x : JobFault PartFault) → IsErrAnd r (λ y. y ≡ x) → AllowsFault (IsRestFault h) x → HasRun h r
-rest_run h (Ok t) x is a = absurd is
-rest_run h (Err y) x is a = subst (AllowsFault (IsFirstFault h)) (sym is) (allowed x a)
-  where
-    allowed : (x : JobFault PartFault) → AllowsFault (IsRestFault h) x → AllowsFault (IsFirstFault h) x
-    allowed (fault.Refused (part.Rest rest.Malformed)) a = (tt, a)
-    allowed (fault.Refused (part.Rest (rest.Rule k))) a = (tt, a)
-    allowed (fault.Refused (part.Body r)) a = absurd a
-    allowed fault.Memory a = tt
+pub rest_first : (h : Head) (x : Refusal) → AllowsRefusal (RestRefused h.front) x → IsFirstPart h x
+rest_first h Malformed a = a
+rest_first h (Rule k) a = a
+rest_first h TooLarge a = absurd a
+rest_first h (Body f c) a = absurd a
+rest_first h Memory a = tt
 
 -- a body is refused, and all before it are accepted
-pub body_run : {T : Type 0} (h : Head) (place : ℕ) (r : Result T (JobFault PartFault)) (x : JobFault PartFault) → IsErrAnd r (λ y. y ≡ x) → place < length (bodies_of h) → RestPasses h.front → BodiesPass h place → AllowsFault (IsBodyAt place (body_refusal_in h place)) x → HasRun h r
-body_run h place (Ok t) x is lt passes before a = absurd is
-body_run h place (Err y) x is lt passes before a = subst (AllowsFault (IsFirstFault h)) (sym is) (allowed x a)
-  where
-    first : (r : RefusedBody) → place ≡ r.place → body_refusal_in h place ≡ Some r.refusal → IsFirstFault h (part.Body r)
-    first r at reason =
-        let few = h.few in
-        (omega (arith, at, lt, few), (passes, (place, lt, ap (λ (k : ℕ). h.context.imported + k) (sym at), reason, before)))
-
-    allowed : (x : JobFault PartFault) → AllowsFault (IsBodyAt place (body_refusal_in h place)) x → AllowsFault (IsFirstFault h) x
-    allowed (fault.Refused (part.Rest r)) a = absurd a
-    allowed (fault.Refused (part.Body r)) a = first r (sym a.0) a.1
-    allowed fault.Memory a = tt
+pub body_first : (h : Head) (place : ℕ) (x : Refusal) → place < length (bodies_of h) → RestPasses h.front → BodiesPass h place → AllowsRefusal (IsBodyRefusal (h.context.imported + place) (body_refusal_in h place)) x → IsFirstPart h x
+body_first h place (Body f c) lt passes before a = (passes, (place, lt, a.0, a.1, before))
+body_first h place TooLarge lt passes before a = absurd a
+body_first h place Malformed lt passes before a = absurd a
+body_first h place (Rule k) lt passes before a = absurd a
+body_first h place Memory lt passes before a = tt
 
 -- ---- the verdict
 
@@ -174,16 +159,16 @@ first_judged h (Body g c) d x =
     (h.indexed ∙ same_context h.front m w) (same_bodies h.front m w) (ap length (same_bodies h.front m w)) x.1
 first_judged h Memory d x = tt
 
--- what a run that is refused says of the fault
-pub fault_first : {T : Type 0} (h : Head) (run : Result T (JobFault PartFault)) (e : JobFault PartFault) (r : PartFault) → run ≡ Err e → e ≡ fault.Refused r → HasRun h run → IsFirstFault h r
-fault_first {T} h run e r stops is ran = subst (AllowsFault (IsFirstFault h)) is (subst (HasRun {T = T} h) stops ran)
+-- so is what judging all parts gives
+pub run_judged : {T : Type 0} (bytes : List ℕ) (h : Head) (r : Result T Refusal) → h.bytes.now ≡ bytes → IsHead h.bytes.now h.front h.counts → HasRun h r → MatchResult r (λ _. IsVerdict bytes Accepted) (λ x. IfSome (verdict_of x) (IsVerdict bytes))
+run_judged bytes h (Ok t) is head ran = subst (λ (b : List ℕ). IsVerdict b Accepted) is (all_judged h head.decoded ran)
+run_judged bytes h (Err x) is head ran = subst (λ (b : List ℕ). IfSome (verdict_of x) (IsVerdict b)) is (first_judged h x head.decoded ran)
 
-pub fault_fits : (h : Head) (r : PartFault) (i : ℕ) → i ≡ h.context.imported → IsFirstFault h r → FitsIn i r
-fault_fits h r i same first = subst (λ (k : ℕ). FitsIn k r) (sym same) first.0
+-- ---- a late rule is broken
 
-pub fault_judged : (h : Head) (r : PartFault) (i : ℕ) (x : Refusal) → Decoded h.bytes.now h.front → x ≡ refusal_for i r → i ≡ h.context.imported → IsFirstFault h r → IfSome (verdict_of x) (IsVerdict h.bytes.now)
-fault_judged h r i x d is same first =
-    subst (λ (y : Refusal). IfSome (verdict_of y) (IsVerdict h.bytes.now)) (sym (is ∙ ap (λ (k : ℕ). refusal_for k r) same)) (first_judged h (refusal_for h.context.imported r) d first.1)
+pub late_rule : (f : ModuleHead) (m : ModuleShape) (e : ModuleFault) → IsWhole f m → ((k : ℕ) → e ≡ rules.Rule k → LeastBroken m k) → AllowsRefusal (RestRefused f) (of_rules e)
+late_rule f m (rules.Rule k) is broken = (m, is, broken k refl)
+late_rule f m rules.Memory is broken = tt
 
 -- ---- an early rule is broken
 

@@ -16,9 +16,7 @@ use Rattle.wcontext.specs.declared.fault.ModuleFault.TheVariants as rules
 use Rattle.wdecode.specs.declared.front.ModuleHead.{ModuleHead}
 use Rattle.wdecode.specs.Fronts.{EndsFront, with_segments}
 use Rattle.verdict.specs.declared.refusal.Refusal.{Refusal}
-use Rattle.verdict.specs.declared.refusal.Refusal.TheVariants as refusal
-use Rattle.verdict.specs.declared.part_fault.RestFault.{RestFault}
-use Rattle.verdict.specs.declared.part_fault.RestFault.TheVariants.{Malformed, Rule}
+use Rattle.verdict.specs.declared.refusal.Refusal.TheVariants.{TooLarge, Malformed, Rule, Body, Memory}
 
 -- the module whose front it is: the same, with the data segments that end it
 abbrev pub IsWhole : ModuleHead → ModuleShape → Type 0
@@ -54,17 +52,20 @@ abbrev pub RestPasses : ModuleHead → Type 0
 RestPasses f = (m : ModuleShape) × IsWhole f m × NoneBroken m
 
 -- it is none, or that is the least rule that it breaks
-abbrev pub RestRefused : ModuleHead → RestFault → Type 0
+abbrev pub RestRefused : ModuleHead → Refusal → Type 0
 RestRefused f Malformed = (m : ModuleShape) → IsWhole f m → ⊥
 RestRefused f (Rule k) = (m : ModuleShape) × IsWhole f m × LeastBroken m k
+RestRefused f TooLarge = ⊥
+RestRefused f (Body func c) = ⊥
+RestRefused f Memory = ⊥
 
 -- where an early rule is broken: that of the rule, or, since that goes before, that the front is that of no module
 abbrev pub IsEarlyRefusal : ModuleHead → ModuleFault → Refusal → Type 0
-IsEarlyRefusal f e refusal.Malformed = RestRefused f Malformed
-IsEarlyRefusal f e (refusal.Rule k) = (e ≡ rules.Rule k) × (m : ModuleShape) × IsWhole f m
-IsEarlyRefusal f e refusal.Memory = Unit {0}
-IsEarlyRefusal f e refusal.TooLarge = ⊥
-IsEarlyRefusal f e (refusal.Body func c) = ⊥
+IsEarlyRefusal f e Malformed = RestRefused f Malformed
+IsEarlyRefusal f e (Rule k) = (e ≡ rules.Rule k) × (m : ModuleShape) × IsWhole f m
+IsEarlyRefusal f e Memory = Unit {0}
+IsEarlyRefusal f e TooLarge = ⊥
+IsEarlyRefusal f e (Body func c) = ⊥
 
 -- what is known of a module that keeps all rules: the bytes spell it; and the laws by which its bodies are judged
 pub record Known (bytes : List ℕ) (m : ModuleShape) : Type 0 where
@@ -79,16 +80,28 @@ pub record Known (bytes : List ℕ) (m : ModuleShape) : Type 0 where
 kept : (f : ModuleHead) (k : ℕ) → UniqueWhole f → RestPasses f → RestRefused f (Rule k) → ⊥
 kept f k one p r = r.2.broken (subst (λ (m : ModuleShape). Keeps m k) (one p.0 r.0 p.1 r.1) (p.2 k))
 
-pub rest_passes_or_refused : (f : ModuleHead) (r : RestFault) → UniqueWhole f → RestPasses f → RestRefused f r → ⊥
+pub rest_passes_or_refused : (f : ModuleHead) (r : Refusal) → UniqueWhole f → RestPasses f → RestRefused f r → ⊥
 rest_passes_or_refused f Malformed one p r = r p.0 p.1
 rest_passes_or_refused f (Rule k) one p r = kept f k one p r
+rest_passes_or_refused f TooLarge one p r = r
+rest_passes_or_refused f (Body func c) one p r = r
+rest_passes_or_refused f Memory one p r = r
 
 not_sooner : (f : ModuleHead) (j k : ℕ) → UniqueWhole f → RestRefused f (Rule j) → RestRefused f (Rule k) → j < k → ⊥
 not_sooner f j k one r s lt = r.2.broken (subst (λ (m : ModuleShape). Keeps m j) (one s.0 r.0 s.1 r.1) (s.2.before j lt))
 
-pub one_rest : (f : ModuleHead) (r s : RestFault) → UniqueWhole f → RestRefused f r → RestRefused f s → r ≡ s
+pub one_rest : (f : ModuleHead) (r s : Refusal) → UniqueWhole f → RestRefused f r → RestRefused f s → r ≡ s
+one_rest f TooLarge t one r s = absurd r
+one_rest f (Body func c) t one r s = absurd r
+one_rest f Memory t one r s = absurd r
+one_rest f Malformed TooLarge one r s = absurd s
+one_rest f Malformed (Body func c) one r s = absurd s
+one_rest f Malformed Memory one r s = absurd s
 one_rest f Malformed Malformed one r s = refl
 one_rest f Malformed (Rule k) one r s = absurd (r s.0 s.1)
+one_rest f (Rule j) TooLarge one r s = absurd s
+one_rest f (Rule j) (Body func c) one r s = absurd s
+one_rest f (Rule j) Memory one r s = absurd s
 one_rest f (Rule j) Malformed one r s = absurd (s r.0 r.1)
 one_rest f (Rule j) (Rule k) one r s =
     elim (cases_lt j k) [

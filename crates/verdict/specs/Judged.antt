@@ -44,6 +44,14 @@ given_refusal C f (Some bytes) = body_refusal_of C f bytes
 abbrev pub body_refusal_at : Context → ℕ → List (List ℕ) → ℕ → Option BodyRefusal
 body_refusal_at C imported bodies place = given_refusal C (imported + place) (slice_get bodies place)
 
+-- that is the refusal of the body of function f, by why it is refused
+abbrev pub IsBodyRefusal : ℕ → Option BodyRefusal → Refusal → Type 0
+IsBodyRefusal f o (Body g c) = (g ≡ f) × (o ≡ Some c)
+IsBodyRefusal f o TooLarge = ⊥
+IsBodyRefusal f o refusal.Malformed = ⊥
+IsBodyRefusal f o (Rule k) = ⊥
+IsBodyRefusal f o Memory = ⊥
+
 -- the bodies before that place are accepted
 abbrev pub PassBefore : Context → ℕ → List (List ℕ) → ℕ → Type 0
 PassBefore C imported bodies place = (k : ℕ) → k < place → body_refusal_at C imported bodies k ≡ None

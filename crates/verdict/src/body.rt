@@ -1,12 +1,11 @@
-ghost use Rattle.std.specs.Prelude.{◌≡◌, ◌+◌, ◌<◌, Some, None, IfOk, MatchResult, length};
-ghost use Rattle.pieces.specs.Faults.{AllowsFault};
+ghost use Rattle.std.specs.Prelude.{◌≡◌, ◌+◌, ◌<◌, None, IfOk, MatchResult, length};
 ghost use Rattle.wsyntax.specs.Modules.{decoded_as};
-ghost use Rattle.verdict.specs.Judged.{body_refusal_of};
+ghost use Rattle.verdict.specs.Judged.{body_refusal_of, IsBodyRefusal};
+ghost use Rattle.verdict.specs.Refusals.{AllowsRefusal};
 ghost use Rattle.verdict.specs.WholeBodies.{AtEnd, GivesRefusal, GoesOn, Judges};
 
 use crate::passing::{Passing, Scratch};
-use crate::refusal::BodyRefusal;
-use pieces::JobFault;
+use crate::refusal::{BodyRefusal, Refusal};
 use smallvec::SmallVec;
 use std::alloc::{AllocError, Global};
 use wcheck::Checker;
@@ -115,17 +114,19 @@ fn whole_fault(
     tokens_fault(alloc, checker, targets, Known::Nothing, rest)
 }
 
-/// What a body is refused for, if it is; Malformed says that the bytes spell none. Where one loop stopped at a token, the
+/// Judges the bytes of the body of the function of that index, imported ones counted. Where one loop stopped at a token, the
 /// others are read to the end, and none is looked at twice.
-fn body_fault(
+pub(crate) fn judge_body(
     alloc: Global,
     scratch: &mut Scratch<'_, '_>,
     func: u32,
     bytes: &[u8],
-) -> Result<Option<BodyRefusal>, Fault>
+) -> Result<(), Refusal>
     requires { func < length scratch.old.checker.outside.functions }
     ensures outside { scratch.new.checker.outside ≡ scratch.old.checker.outside }
-    ensures verdict { GivesRefusal result (body_refusal_of scratch.old.checker.outside func bytes.now) }
+    ensures verdict { MatchResult result
+        (λ _. body_refusal_of scratch.old.checker.outside func bytes.now ≡ None)
+        (AllowsRefusal (IsBodyRefusal func (body_refusal_of scratch.old.checker.outside func bytes.now))) }
 {
     let passing = scratch.pass(alloc, func, bytes);
     let Scratch {
@@ -133,32 +134,18 @@ fn body_fault(
         targets,
         ..
     } = scratch;
-    match passing {
-        Passing::Passed => Ok(None),
+    let found = match passing {
+        Passing::Passed => return Ok(()),
         Passing::Stopped { tokens, left } => {
             tokens_fault(alloc, checker, targets, Known::Place(left), tokens)
         }
         Passing::Unknown => whole_fault(alloc, checker, targets, func, bytes),
-    }
-}
-
-/// Judges the bytes of the body of the function of that index, imported ones counted.
-pub(crate) fn judge_body(
-    alloc: Global,
-    scratch: &mut Scratch<'_, '_>,
-    func: u32,
-    bytes: &[u8],
-) -> Result<(), JobFault<BodyRefusal>>
-    requires { func < length scratch.old.checker.outside.functions }
-    ensures outside { scratch.new.checker.outside ≡ scratch.old.checker.outside }
-    ensures verdict { MatchResult result
-        (λ _. body_refusal_of scratch.old.checker.outside func bytes.now ≡ None)
-        (AllowsFault (λ refusal. body_refusal_of scratch.old.checker.outside func bytes.now ≡ Some refusal)) }
-{
-    match body_fault(alloc, scratch, func, bytes) {
-        Ok(None) => Ok(()),
-        Ok(Some(refusal)) => Err(JobFault::Refused(refusal)),
-        Err(Fault::Malformed) => Err(JobFault::Refused(BodyRefusal::Malformed)),
-        Err(Fault::Memory) => Err(JobFault::Memory),
-    }
+    };
+    let refusal = match found {
+        Ok(None) => return Ok(()),
+        Ok(Some(refusal)) => refusal,
+        Err(Fault::Malformed) => BodyRefusal::Malformed,
+        Err(Fault::Memory) => return Err(Refusal::Memory),
+    };
+    Err(Refusal::Body { func, refusal })
 }

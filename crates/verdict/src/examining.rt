@@ -1,17 +1,16 @@
 ghost use Rattle.std.specs.Prelude.{◌≡◌, MatchResult, IfOk, IfSome, All, vec_len};
 ghost use Rattle.wsyntax.specs.Validation.Verdict.{IsVerdict, Accepted};
-ghost use Rattle.verdict.specs.Heads.{EarlyRulesHold, IsHead};
-ghost use Rattle.verdict.specs.Parts.{HasRun, FitsIn, refusal_for};
+ghost use Rattle.verdict.specs.Heads.{EarlyRulesHold};
+ghost use Rattle.verdict.specs.Parts.{HasRun};
 ghost use Rattle.verdict.specs.Refusals.{verdict_of};
 
 use crate::grouping::groups_for;
 use crate::head::Head;
 use crate::jobs::{ModuleParts, judge_at};
-use crate::part_fault::{PartFault, RestFault};
 use crate::passing::Scratch;
 use crate::refusal::Refusal;
 use crate::rest::judge_rest;
-use pieces::{JobFault, Plan, TryFault, Watch, try_all};
+use pieces::{Plan, Watch, try_all};
 use std::alloc::{AllocError, Global};
 use std::sync::Wait;
 use std::thread::Threads;
@@ -47,7 +46,7 @@ fn judge_parts<R: Threads + Wait + Sync, W: Watch + Sync>(
     head: &Head<'_>,
     plan: Plan,
     watch: &W,
-) -> Result<(), JobFault<PartFault>>
+) -> Result<(), Refusal>
     requires { EarlyRulesHold head.now.front head.now.counts }
     ensures { HasRun head.now result }
 {
@@ -59,62 +58,22 @@ fn judge_parts<R: Threads + Wait + Sync, W: Watch + Sync>(
         size,
         watch,
     };
-    let Ok(scratches) = new_scratches(alloc, head, plan.workers()) else {
-        return Err(JobFault::Memory);
-    };
-    match try_all(rt, alloc, &parts, scratches, parts.count(), plan) {
-        Ok(_) => Ok(()),
-        Err(TryFault::Stopped { fault, .. }) => Err(JobFault::Refused(fault)),
-        Err(TryFault::Memory) => Err(JobFault::Memory),
-    }
+    let scratches = new_scratches(alloc, head, plan.workers())?;
+    try_all(rt, alloc, &parts, scratches, parts.count(), plan)?;
+    Ok(())
 }
 
 /// Does the same on the calling thread, one body after the other.
-fn judge_in_order(alloc: Global, head: &Head<'_>) -> Result<(), JobFault<PartFault>>
+fn judge_in_order(alloc: Global, head: &Head<'_>) -> Result<(), Refusal>
     requires { EarlyRulesHold head.now.front head.now.counts }
     ensures { HasRun head.now result }
 {
-    let Ok(mut scratch) = new_scratch(alloc, head) else {
-        return Err(JobFault::Memory);
-    };
+    let mut scratch = new_scratch(alloc, head)?;
     judge_rest(alloc, head, &mut scratch.names)?;
     for place in 0..head.front.module.bodies.len() as u32 {
         judge_at(alloc, head, &mut scratch, place)?;
     }
     Ok(())
-}
-
-/// The refusal of a part.
-fn refusal_of(fault: PartFault, imported: u32) -> Refusal
-    requires { FitsIn imported fault }
-    ensures { result ≡ refusal_for imported fault }
-{
-    match fault {
-        PartFault::Rest(RestFault::Malformed) => Refusal::Malformed,
-        PartFault::Rest(RestFault::Rule(rule)) => Refusal::Rule(rule),
-        PartFault::Body(body) => Refusal::Body {
-            func: imported + body.place,
-            refusal: body.refusal,
-        },
-    }
-}
-
-/// What a module is refused for, by what judging its parts found.
-fn examined(head: &Head<'_>, run: Result<(), JobFault<PartFault>>) -> Result<(), Refusal>
-    requires head { IsHead head.now.bytes.now head.now.front head.now.counts }
-    requires ran { HasRun head.now run }
-    ensures { MatchResult result
-        (λ _. IsVerdict head.now.bytes.now Accepted)
-        (λ r. IfSome (verdict_of r) (IsVerdict head.now.bytes.now)) }
-{
-    match run {
-        Ok(()) => Ok(()),
-        Err(JobFault::Refused(fault)) => {
-            let imported = head.context.imported_functions() as u32;
-            Err(refusal_of(fault, imported))
-        }
-        Err(JobFault::Memory) => Err(Refusal::Memory),
-    }
 }
 
 /// Judges a module and keeps nothing of it.
@@ -128,8 +87,7 @@ pub fn examine<R: Threads + Wait + Sync, W: Watch + Sync>(
     ensures { MatchResult result (λ _. IsVerdict bytes.now Accepted) (λ r. IfSome (verdict_of r) (IsVerdict bytes.now)) }
 {
     let head = Head::of(alloc, bytes)?;
-    let run = judge_parts(rt, alloc, &head, plan, watch);
-    examined(&head, run)
+    judge_parts(rt, alloc, &head, plan, watch)
 }
 
 /// Judges a module and keeps nothing of it, on the calling thread: it takes no right to start threads or to wait.
@@ -137,6 +95,5 @@ pub fn examine_alone(alloc: Global, bytes: &[u8]) -> Result<(), Refusal>
     ensures { MatchResult result (λ _. IsVerdict bytes.now Accepted) (λ r. IfSome (verdict_of r) (IsVerdict bytes.now)) }
 {
     let head = Head::of(alloc, bytes)?;
-    let run = judge_in_order(alloc, &head);
-    examined(&head, run)
+    judge_in_order(alloc, &head)
 }

@@ -1,15 +1,14 @@
-ghost use Rattle.std.specs.Prelude.{◌≡◌, ◌<◌, None, MatchResult, length};
-ghost use Rattle.pieces.specs.Faults.{AllowsFault};
-ghost use Rattle.verdict.specs.Judged.{body_refusal_of};
+ghost use Rattle.std.specs.Prelude.{◌≡◌, ◌+◌, ◌<◌, None, MatchResult, length};
+ghost use Rattle.verdict.specs.Judged.{IsBodyRefusal};
 ghost use Rattle.verdict.specs.Heads.{EarlyRulesHold};
-ghost use Rattle.verdict.specs.Parts.{bodies_of, body_refusal_in, parts_of, IsBodyAt};
+ghost use Rattle.verdict.specs.Parts.{bodies_of, body_refusal_in, parts_of};
+ghost use Rattle.verdict.specs.Refusals.{AllowsRefusal};
 
 use crate::body::judge_body;
 use crate::grouping::places_of;
 use crate::head::Head;
-use crate::part_fault::PartFault;
 use crate::passing::Scratch;
-use crate::refused_body::RefusedBody;
+use crate::refusal::Refusal;
 use crate::rest::judge_rest;
 use pieces::{Job, JobFault, Stage, Watch};
 use std::alloc::Global;
@@ -28,53 +27,23 @@ pub(crate) struct ModuleParts<'a, 'b, W> {
     ghost sized: { 0 < size },
 }
 
-/// Judges the bytes of the body at that place, which is that of the function of that index, imported ones counted.
-fn judge_bytes(
-    alloc: Global,
-    scratch: &mut Scratch<'_, '_>,
-    place: u32,
-    func: u32,
-    bytes: &[u8],
-) -> Result<(), JobFault<PartFault>>
-    requires { func < length scratch.old.checker.outside.functions }
-    ensures outside { scratch.new.checker.outside ≡ scratch.old.checker.outside }
-    ensures verdict { MatchResult result
-        (λ _. body_refusal_of scratch.old.checker.outside func bytes.now ≡ None)
-        (AllowsFault (IsBodyAt place (body_refusal_of scratch.old.checker.outside func bytes.now))) }
-{
-    match judge_body(alloc, scratch, func, bytes) {
-        Ok(()) => Ok(()),
-        Err(JobFault::Refused(refusal)) => {
-            let body = RefusedBody { place, refusal };
-            Err(JobFault::Refused(PartFault::Body(body)))
-        }
-        Err(JobFault::Memory) => Err(JobFault::Memory),
-    }
-}
-
 /// Judges the body at that place.
 pub(crate) fn judge_at(
     alloc: Global,
     head: &Head<'_>,
     scratch: &mut Scratch<'_, '_>,
     place: u32,
-) -> Result<(), JobFault<PartFault>>
+) -> Result<(), Refusal>
     requires place { place < length (bodies_of head.now) }
     requires outside { scratch.old.checker.outside ≡ head.now.context.context }
     ensures outside { scratch.new.checker.outside ≡ head.now.context.context }
     ensures verdict { MatchResult result
         (λ _. body_refusal_in head.now place ≡ None)
-        (AllowsFault (IsBodyAt place (body_refusal_in head.now place))) }
+        (AllowsRefusal (IsBodyRefusal (head.now.context.imported + place) (body_refusal_in head.now place))) }
 {
     let imported = head.context.imported_functions() as u32;
     let bodies = head.front.module.bodies.as_slice();
-    judge_bytes(
-        alloc,
-        scratch,
-        place,
-        imported + place,
-        bodies[place as usize],
-    )
+    judge_body(alloc, scratch, imported + place, bodies[place as usize])
 }
 
 impl<'a, 'b, W> ModuleParts<'a, 'b, W> {
@@ -91,7 +60,7 @@ impl<'a, 'b, W: Watch> Job for ModuleParts<'a, 'b, W> {
 
     type Out = ();
 
-    type Fault = PartFault;
+    type Fault = Refusal;
 
     ghost use Rattle.verdict.specs.Parts.{PartPasses, PartRefused, part_passes_or_refused, one_part};
 
@@ -110,9 +79,9 @@ impl<'a, 'b, W: Watch> Job for ModuleParts<'a, 'b, W> {
         _rt: &R,
         scratch: &mut Scratch<'a, 'b>,
         index: u32,
-    ) -> Result<(), JobFault<PartFault>> {
+    ) -> Result<(), JobFault<Refusal>> {
         if index == 0 {
-            return judge_rest(self.alloc, self.head, &mut scratch.names);
+            return Ok(judge_rest(self.alloc, self.head, &mut scratch.names)?);
         }
         let bodies = self.head.front.module.bodies.len() as u32;
         let (from, to) = places_of(index - 1, self.size, bodies);

@@ -1,4 +1,4 @@
-ghost use Rattle.std.specs.Prelude.{◌≡◌, ◌+◌, ◌<◌, ◌^◌, ℕ, MatchResult, IfOk, IfSome, All, length, map, vec_len};
+ghost use Rattle.std.specs.Prelude.{◌≡◌, ◌+◌, ◌<◌, ◌^◌, MatchResult, IfOk, IfSome, All, length, map, vec_len};
 ghost use Rattle.std.specs.List.{flat_map};
 ghost use Rattle.wsyntax.specs.Validation.Verdict.{IsVerdict, Accepted as accepted_verdict};
 ghost use Rattle.verdict.specs.Judged.{PassBefore, IsFirstBody};
@@ -6,16 +6,14 @@ ghost use Rattle.accepted_module.specs.Judgement.{AreChecked};
 ghost use Rattle.accepted_module.specs.Kept.{IsAcceptedFrom};
 ghost use Rattle.verdict.specs.Rules.{KeepsRules};
 ghost use Rattle.verdict.specs.Refusals.{verdict_of};
-ghost use Rattle.verdict.specs.declared.refusal.Refusal.TheVariants.{Body as refused_body};
 
 use crate::grouping::groups_for;
 use crate::keeping::checked_body;
 use crate::keeping_jobs::KeptBodies;
 use crate::refusal::Refusal;
-use crate::refused_body::RefusedBody;
 use accepted_module::Accepted;
 use checked_body::CheckedBody;
-use pieces::{JobFault, Plan, Quiet, Stage, TryFault, Watch, try_all};
+use pieces::{Plan, Quiet, Stage, Watch, try_all};
 use soundness::validation::{accepted_is_typed, refused_at_first_fault};
 use std::alloc::{AllocError, Global};
 use std::sync::Wait;
@@ -62,17 +60,6 @@ fn joined(
     Ok(all)
 }
 
-/// The refusal of a module for that of one of its bodies.
-pub(crate) fn refused(imported: u32, body: RefusedBody) -> Refusal
-    requires { imported + body.place < 2 ^ 32 }
-    ensures { result ≡ refused_body (imported + body.place) body.refusal }
-{
-    Refusal::Body {
-        func: imported + body.place,
-        refusal: body.refusal,
-    }
-}
-
 /// Judges the bodies of a module of `module_size` bytes, up to the first that is refused, and keeps them.
 fn judge_bodies<R: Threads + Wait + Sync, W: Watch + Sync>(
     rt: &R,
@@ -107,11 +94,8 @@ fn judge_bodies<R: Threads + Wait + Sync, W: Watch + Sync>(
         size,
         watch,
     };
-    match try_all(rt, alloc, &job, checkers, count.div_ceil(size), plan) {
-        Ok(groups) => Ok(joined(alloc, groups, bodies.len())?),
-        Err(TryFault::Stopped { fault, .. }) => Err(refused(imported, fault)),
-        Err(TryFault::Memory) => Err(Refusal::Memory),
-    }
+    let groups = try_all(rt, alloc, &job, checkers, count.div_ceil(size), plan)?;
+    Ok(joined(alloc, groups, bodies.len())?)
 }
 
 /// Does the same on the calling thread, one body after the other, so that the list of them is made but once.
@@ -138,15 +122,8 @@ fn judge_bodies_alone<W: Watch>(
     for place in 0..bodies.len() as u32 {
         let func = imported + place;
         watch.note(Stage::Body, place);
-        match checked_body(alloc, &mut checker, func, bodies[place as usize]) {
-            Ok(checked) => {
-                if kept.push(checked).is_err() {
-                    return Err(Refusal::Memory);
-                }
-            }
-            Err(JobFault::Refused(refusal)) => return Err(Refusal::Body { func, refusal }),
-            Err(JobFault::Memory) => return Err(Refusal::Memory),
-        }
+        let checked = checked_body(alloc, &mut checker, func, bodies[place as usize])?;
+        kept.push(checked)?;
     }
     Ok(kept)
 }

@@ -1,12 +1,11 @@
-ghost use Rattle.std.specs.Prelude.{◌≡◌, ◌+◌, ◌<◌, ◌^◌, Some, None, MatchResult, All, length, map};
-ghost use Rattle.pieces.specs.Faults.{AllowsFault};
+ghost use Rattle.std.specs.Prelude.{◌≡◌, ◌+◌, ◌<◌, ◌^◌, None, MatchResult, All, length, map};
 ghost use Rattle.accepted_module.specs.Judgement.{IsCheckedAt};
-ghost use Rattle.verdict.specs.Judged.{body_refusal_at};
+ghost use Rattle.verdict.specs.Judged.{body_refusal_at, IsBodyRefusal};
+ghost use Rattle.verdict.specs.Refusals.{AllowsRefusal};
 
 use crate::grouping::places_of;
 use crate::keeping::checked_body;
-use crate::refusal::BodyRefusal;
-use crate::refused_body::RefusedBody;
+use crate::refusal::Refusal;
 use checked_body::CheckedBody;
 use pieces::{Job, JobFault, Stage, Watch};
 use std::alloc::Global;
@@ -33,23 +32,15 @@ pub(crate) struct KeptBodies<'a, W> {
 
 impl<'a, W> KeptBodies<'a, W> {
     /// Judges the body at that place, and keeps it.
-    fn keep_at(
-        &self,
-        checker: &mut Checker<'a>,
-        place: u32,
-    ) -> Result<CheckedBody, JobFault<BodyRefusal>>
+    fn keep_at(&self, checker: &mut Checker<'a>, place: u32) -> Result<CheckedBody, Refusal>
         requires place { place < length self.now.bodies.now }
         requires outside { checker.old.outside ≡ self.now.context.now.context }
         ensures outside { checker.new.outside ≡ self.now.context.now.context }
         ensures verdict { MatchResult result
             (λ checked. (body_refusal_at self.now.context.now.context self.now.imported (map (λ b. b.now) self.now.bodies.now) place ≡ None)
             × IsCheckedAt self.now.context.now.context self.now.imported (map (λ b. b.now) self.now.bodies.now) place checked)
-            (AllowsFault (λ refusal. body_refusal_at
-            self.now.context.now.context
-            self.now.imported
-            (map (λ b. b.now) self.now.bodies.now)
-            place
-            ≡ Some refusal)) }
+            (AllowsRefusal (IsBodyRefusal (self.now.imported + place)
+            (body_refusal_at self.now.context.now.context self.now.imported (map (λ b. b.now) self.now.bodies.now) place))) }
     {
         let func = self.imported + place;
         checked_body(self.alloc, checker, func, self.bodies[place as usize])
@@ -61,10 +52,10 @@ impl<'a, W: Watch> Job for KeptBodies<'a, W> {
 
     type Out = Vec<CheckedBody>;
 
-    type Fault = RefusedBody;
+    type Fault = Refusal;
 
     ghost use Rattle.std.specs.Int.{div_ceil};
-    ghost use Rattle.verdict.specs.Groups.{GroupPasses, IsFirstOfGroup, AreOfGroup, passes_or_refused, one_first};
+    ghost use Rattle.verdict.specs.Groups.{GroupPasses, GroupRefused, AreOfGroup, passes_or_refused, one_first};
 
     ghost limit = { λ j. div_ceil (length j.bodies.now) j.size };
 
@@ -74,30 +65,23 @@ impl<'a, W: Watch> Job for KeptBodies<'a, W> {
 
     ghost gives = { λ j i out. AreOfGroup j.context.now.context j.imported (map (λ b. b.now) j.bodies.now) j.size i out.items };
 
-    ghost refuses = { λ j i r. IsFirstOfGroup j.context.now.context j.imported (map (λ b. b.now) j.bodies.now) j.size i r };
+    ghost refuses = { λ j i r. GroupRefused j.context.now.context j.imported (map (λ b. b.now) j.bodies.now) j.size i r };
 
     fn run<R: Wait>(
         &self,
         _rt: &R,
         checker: &mut Checker<'a>,
         index: u32,
-    ) -> Result<Vec<CheckedBody>, JobFault<RefusedBody>> {
+    ) -> Result<Vec<CheckedBody>, JobFault<Refusal>> {
         let (from, to) = places_of(index, self.size, self.bodies.len() as u32);
         let Ok(mut kept) = Vec::with_capacity(self.alloc, (to - from) as usize) else {
             return Err(JobFault::Memory);
         };
         for place in from..to {
             self.watch.note(Stage::Body, place);
-            match self.keep_at(checker, place) {
-                Ok(checked) => {
-                    if kept.push(checked).is_err() {
-                        return Err(JobFault::Memory);
-                    }
-                }
-                Err(JobFault::Refused(refusal)) => {
-                    return Err(JobFault::Refused(RefusedBody { place, refusal }));
-                }
-                Err(JobFault::Memory) => return Err(JobFault::Memory),
+            let checked = self.keep_at(checker, place)?;
+            if kept.push(checked).is_err() {
+                return Err(JobFault::Memory);
             }
         }
         Ok(kept)

@@ -31,7 +31,6 @@ mod keeping_jobs;
 mod keeping_pass;
 mod kept_body;
 mod laws;
-mod part_fault;
 mod passing;
 mod refusal;
 mod refused_body;

@@ -88,7 +88,7 @@ impl<'a, 'b> Scratch<'a, 'b> {
 }
 
 /// What became of the instruction at the front.
-enum FirstToken<'a> {
+pub(crate) enum FirstToken<'a> {
     /// It was taken, and these are the bytes after it.
     Taken(&'a [u8]),
     /// None is there, or it was not taken.

@@ -1,6 +1,7 @@
 ghost use Rattle.std.specs.Prelude.{◌≡◌};
 
-use std::alloc::AllocError;
+use pieces::{JobFault, TryFault};
+use std::alloc::{AllocError, AllocFailed};
 use thiserror::Error;
 use wcontext::ModuleFault;
 use wdecode::DecodeFault;
@@ -73,5 +74,42 @@ impl From<AllocError> for Refusal {
 
     fn from(_: AllocError) -> Refusal {
         Refusal::Memory
+    }
+}
+
+impl<T: Drop> From<AllocFailed<T>> for Refusal {
+    ghost use Rattle.verdict.specs.declared.refusal.Refusal.TheVariants.{Memory};
+
+    ghost from_gives = { λ _ r. r ≡ Memory };
+
+    fn from(_: AllocFailed<T>) -> Refusal {
+        Refusal::Memory
+    }
+}
+
+impl From<TryFault<Refusal>> for Refusal {
+    ghost use Rattle.verdict.specs.Refusals.{of_run};
+
+    ghost from_gives = { λ e r. r ≡ of_run e };
+
+    fn from(fault: TryFault<Refusal>) -> Refusal {
+        match fault {
+            TryFault::Stopped { fault, .. } => fault,
+            TryFault::Memory => Refusal::Memory,
+        }
+    }
+}
+
+/// What a job says for it: its fault, but where memory was refused.
+impl From<Refusal> for JobFault<Refusal> {
+    ghost use Rattle.verdict.specs.Refusals.{in_job};
+
+    ghost from_gives = { λ r e. e ≡ in_job r };
+
+    fn from(refusal: Refusal) -> JobFault<Refusal> {
+        match refusal {
+            Refusal::Memory => JobFault::Memory,
+            _ => JobFault::Refused(refusal),
+        }
     }
 }

@@ -1,15 +1,12 @@
 //! What is asked of a module beside its bodies, once these can be judged.
-ghost use Rattle.std.specs.Prelude.{◌≡◌, MatchResult};
-ghost use Rattle.pieces.specs.declared.job.JobFault.TheVariants.{Refused};
-ghost use Rattle.pieces.specs.Faults.{AllowsFault};
-ghost use Rattle.verdict.specs.Heads.{EarlyRulesHold, RestPasses};
-ghost use Rattle.verdict.specs.Parts.{IsRestFault};
+ghost use Rattle.std.specs.Prelude.{MatchResult};
+ghost use Rattle.verdict.specs.Heads.{EarlyRulesHold, RestPasses, RestRefused};
+ghost use Rattle.verdict.specs.Refusals.{AllowsRefusal};
 
 use crate::head::Head;
-use crate::part_fault::{PartFault, RestFault};
-use pieces::JobFault;
+use crate::refusal::Refusal;
 use std::alloc::Global;
-use wcontext::{ModuleFault, NameRoom, SEGMENTS_RULE, SpaceSizes, check_rules_after_code};
+use wcontext::{NameRoom, SEGMENTS_RULE, SpaceSizes, check_rules_after_code};
 use wdecode::{Fault, SegmentRule};
 use wsyntax::Data;
 
@@ -29,33 +26,26 @@ impl SegmentRule for ValidSegment<'_> {
     }
 }
 
-/// The rest is refused.
-fn refused(fault: RestFault) -> JobFault<PartFault>
-    ensures { result ≡ Refused (PartFault.Rest fault) }
-{
-    JobFault::Refused(PartFault::Rest(fault))
-}
-
 /// Judges what is left of a module that keeps the early rules: decodes its data segments, and asks the late rules. That
 /// the bytes spell no module goes before every rule. What the room for the names of exports held is gone.
 pub(crate) fn judge_rest<'a>(
     alloc: Global,
     head: &Head<'a>,
     names: &mut NameRoom<'a>,
-) -> Result<(), JobFault<PartFault>>
+) -> Result<(), Refusal>
     requires { EarlyRulesHold head.now.front head.now.counts }
-    ensures { MatchResult result (λ _. RestPasses head.now.front) (AllowsFault (IsRestFault head.now)) }
+    ensures { MatchResult result (λ _. RestPasses head.now.front) (AllowsRefusal (RestRefused head.now.front)) }
 {
     let counts = &head.counts;
     let segments = match head.front.segments_pass(alloc, &ValidSegment { counts }) {
         Ok(segments) => segments,
-        Err(Fault::Malformed) => return Err(refused(RestFault::Malformed)),
-        Err(Fault::Memory) => return Err(JobFault::Memory),
+        Err(Fault::Malformed) => return Err(Refusal::Malformed),
+        Err(Fault::Memory) => return Err(Refusal::Memory),
     };
-    match check_rules_after_code(names, &head.front.module, counts) {
-        Err(ModuleFault::Rule(rule)) => Err(refused(RestFault::Rule(rule))),
-        Err(ModuleFault::Memory) => Err(JobFault::Memory),
-        Ok(()) if segments => Ok(()),
-        Ok(()) => Err(refused(RestFault::Rule(SEGMENTS_RULE))),
+    check_rules_after_code(names, &head.front.module, counts)?;
+    if segments {
+        Ok(())
+    } else {
+        Err(Refusal::Rule(SEGMENTS_RULE))
     }
 }

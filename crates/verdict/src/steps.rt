@@ -8,14 +8,13 @@ ghost use Rattle.verdict.specs.Refusals.{verdict_of};
 ghost use Rattle.verdict.specs.Steps.{no_progress, IsValidShell, HasBodies, HasAll, IsChecker, JudgesAt, JudgesFrom, IsStanding};
 
 use crate::judged_bodies::JudgedBodies;
-use crate::judging::{decode_and_check, refused};
+use crate::judging::decode_and_check;
 use crate::keeping::checked_body;
 use crate::kept_body::KeptBody;
 use crate::refusal::Refusal;
 use crate::refused_body::RefusedBody;
 use crate::standing::Standing;
 use accepted_module::Accepted;
-use pieces::JobFault;
 use std::alloc::{AllocError, Global};
 use std::marker::Model;
 use wcheck::Checker;
@@ -108,11 +107,12 @@ impl<'a> Judging<'a> {
                 judged.keep(KeptBody { place, checked })?;
                 Ok(())
             }
-            Err(JobFault::Refused(refusal)) => {
+            Err(Refusal::Body { refusal, .. }) => {
                 judged.refuse(RefusedBody { place, refusal });
                 Err(Refusal::Body { func, refusal })
             }
-            Err(JobFault::Memory) => Err(Refusal::Memory),
+            // What refuses no body is that memory was refused.
+            Err(_) => Err(Refusal::Memory),
         }
     }
 
@@ -147,7 +147,10 @@ impl<'a> Judging<'a> {
         let count = self.body_count();
         let gap = judged.first_gap(alloc, count)?;
         match judged.refused_to(gap) {
-            Some(body) => Ok(Standing::Refused(refused(imported, body))),
+            Some(body) => Ok(Standing::Refused(Refusal::Body {
+                func: imported + body.place,
+                refusal: body.refusal,
+            })),
             None if gap < count => Ok(Standing::Open {
                 func: imported + gap,
             }),

@@ -1,8 +1,9 @@
 use Rattle.std.proofs.Common.{arith}
 use Rattle.std.proofs.lemmas.List.{length-map}
-use Rattle.verdict.specs.Parts.{bodies_of}
+use Rattle.verdict.specs.Parts.{bodies_of, IsFirstPart}
 use Rattle.verdict.proofs.Groups.{pass_more}
-use Rattle.verdict.proofs.Parts.{body_run}
+use Rattle.verdict.proofs.Parts.{rest_first, body_first}
+use Rattle.verdict.proofs.RefusalSteps.{handed_on}
 use Rattle.verdict.proofs.examining.judge_in_order.Goals as goal
 
 pub loop-place-preserved : goal.loop-place-preserved
@@ -13,11 +14,15 @@ loop-place-preserved c =
       passed = pass_more h.context.context h.context.imported (bodies_of h) c.loop-place.place c.loop-place.invariant.passed c.in_ok-judge_at.ensures.verdict;
     }
 
+pub returns-in_err-judge_rest : goal.returns-in_err-judge_rest
+returns-in_err-judge_rest c =
+    handed_on _ (IsFirstPart c.args.head.now) _ c.in_err-judge_rest.field-0.0 c.from_residual-in_err-judge_rest.ensures.1 (rest_first c.args.head.now c.in_err-judge_rest.field-0.0 c.in_err-judge_rest.ensures)
+
 pub returns-in_err-judge_at : goal.returns-in_err-judge_at
 returns-in_err-judge_at c =
     let count = length-map c.args.head.now.front.«module».bodies.items (λ b. b.now) in
-    body_run c.args.head.now c.loop-place.place c.from_residual-in_err-judge_at.result c.in_err-judge_at.field-0.0 c.from_residual-in_err-judge_at.ensures.1
-    (omega (arith, count, c.len-place-end.ensures, c.loop-place-test.true)) c.in_ok-judge_rest.ensures c.loop-place.invariant.passed c.in_err-judge_at.ensures.verdict
+    handed_on _ (IsFirstPart c.args.head.now) _ c.in_err-judge_at.field-0.0 c.from_residual-in_err-judge_at.ensures.1
+    (body_first c.args.head.now c.loop-place.place c.in_err-judge_at.field-0.0 (omega (arith, count, c.len-place-end.ensures, c.loop-place-test.true)) c.in_ok-judge_rest.ensures c.loop-place.invariant.passed c.in_err-judge_at.ensures.verdict)
 
 pub returns : goal.returns
 returns c =

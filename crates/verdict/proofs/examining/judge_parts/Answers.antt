@@ -1,12 +1,13 @@
-use Rattle.verdict.proofs.Parts.{all_passed, first_stop}
+use Rattle.verdict.specs.Parts.{IsFirstPart}
+use Rattle.verdict.specs.Refusals.{of_run}
+use Rattle.verdict.proofs.Parts.{all_passed, first_part}
+use Rattle.verdict.proofs.RefusalSteps.{handed_on}
 use Rattle.verdict.proofs.examining.judge_parts.Goals as goal
-use Rattle.verdict.proofs.examining.judge_parts.Goals.{in-Ok-try_all, in-Err-Stopped, in-Err-Memory}
+
+pub returns-in_err-try_all : goal.returns-in_err-try_all
+returns-in_err-try_all g c =
+    handed_on _ (IsFirstPart c.args.head.now) _ (of_run c.in_err-try_all.field-0.0) c.from_residual-in_err-try_all.ensures.1
+    (first_part c.args.head.now c.groups_for-size.result.0 _ c.in_err-try_all.field-0.0 c.groups_for-size.ensures.sized c.in_err-try_all.ensures)
 
 pub returns : goal.returns
-returns g c =
-    let size = c.groups_for-size.result.0 in
-    elim c.match-try_all.branch [
-      | in-Ok-try_all w ↦ rw w.result-is (all_passed c.args.head.now size _ _ _ c.groups_for-size.ensures.sized c.count.ensures w.in-Ok-try_all.ensures)
-      | in-Err-Stopped w ↦ rw w.result-is (first_stop c.args.head.now size _ _ w.in-Err-Stopped.field-0 _ c.groups_for-size.ensures.sized w.in-Err-Stopped.field-0-is w.in-Err-Stopped.ensures)
-      | in-Err-Memory w ↦ rw w.result-is tt
-    ]
+returns g c = all_passed c.args.head.now c.groups_for-size.result.0 _ _ _ c.groups_for-size.ensures.sized c.count.ensures c.in_ok-try_all.ensures

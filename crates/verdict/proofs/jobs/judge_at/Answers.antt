@@ -1,9 +1,8 @@
-use Rattle.std.proofs.Common.{Bor, ◌≡◌, ℕ, List, None, map, subst, arith}
+use Rattle.std.proofs.Common.{Bor, ◌≡◌, ◌+◌, ℕ, List, None, map, subst, arith}
 use Rattle.std.specs.Prelude.{MatchResult}
 use Rattle.std.proofs.lemmas.List.{length-map}
-use Rattle.pieces.specs.Faults.{AllowsFault}
-use Rattle.verdict.specs.Judged.{body_refusal_at}
-use Rattle.verdict.specs.Parts.{IsBodyAt}
+use Rattle.verdict.specs.Judged.{body_refusal_at, IsBodyRefusal}
+use Rattle.verdict.specs.Refusals.{AllowsRefusal}
 use Rattle.verdict.proofs.Parts.{body_there}
 use Rattle.verdict.proofs.jobs.judge_at.Goals as goal
 
@@ -12,7 +11,7 @@ returns-clause-verdict c =
     let x = c.args.head.now.context in
     let bodies = c.as_slice-bodies.result.now in
     let count = length-map c.args.head.now.front.«module».bodies.items (λ b. b.now) in
-    subst (λ (bs : List (Bor (List ℕ))). MatchResult c.judge_bytes.result
+    subst (λ (bs : List (Bor (List ℕ))). MatchResult c.judge_body.result
     (λ _. body_refusal_at x.context x.imported (map (λ b. b.now) bs) c.args.place ≡ None)
-    (AllowsFault (IsBodyAt c.args.place (body_refusal_at x.context x.imported (map (λ b. b.now) bs) c.args.place)))) c.as_slice-bodies.ensures.value
-    (body_there _ _ _ _ c.args.place bodies _ _ c.requires.outside c.imported_functions-imported.ensures.count (omega (arith, count, c.as_slice-bodies.ensures.len, c.requires.place)) c.judge_bytes.ensures.verdict)
+    (AllowsRefusal (IsBodyRefusal (x.imported + c.args.place) (body_refusal_at x.context x.imported (map (λ b. b.now) bs) c.args.place)))) c.as_slice-bodies.ensures.value
+    (body_there _ _ _ _ c.args.place bodies _ _ c.requires.outside c.imported_functions-imported.ensures.count (omega (arith, count, c.as_slice-bodies.ensures.len, c.requires.place)) c.judge_body.ensures.verdict)

@@ -1,4 +1,4 @@
-use Rattle.std.proofs.Common.{Err, ap, sym, subst, arith}
+use Rattle.std.proofs.Common.{Err, refl, ap, sym, subst, arith}
 use Rattle.std.proofs.lemmas.List.{length-map}
 use Rattle.wsyntax.specs.Modules.{BodyShape, body_shape, decoded_as}
 use Rattle.wsyntax.specs.Binary.Shell.{SpellsBody, FewLocals}
@@ -6,14 +6,7 @@ use Rattle.verdict.proofs.Bodies.{refusal_malformed, refusal_too_many}
 use Rattle.verdict.proofs.Checks.{typed_refusal, faulty_refusal, checked_from}
 use Rattle.verdict.proofs.TokenCounts.{tokens_fit}
 use Rattle.verdict.proofs.keeping.checked_apart.Goals as goal
-
-pub returns-in-Err-Malformed-clause-verdict : goal.returns-in-Err-Malformed-clause-verdict
-returns-in-Err-Malformed-clause-verdict c = refusal_malformed c.grammar_is_read.ensures.body _ _ _ (c.in-Err-Malformed.ensures.malformed (ap (λ e. Err e) c.in-Err-Malformed.field-0-is))
-
-pub returns-in-Err-TooManyLocals-clause-verdict : goal.returns-in-Err-TooManyLocals-clause-verdict
-returns-in-Err-TooManyLocals-clause-verdict c =
-    let b = c.in-Err-TooManyLocals.ensures.too_many (ap (λ e. Err e) c.in-Err-TooManyLocals.field-0-is) in
-    refusal_too_many c.grammar_is_read.ensures.body _ _ _ b.0 b.1 b.2
+use Rattle.verdict.proofs.keeping.checked_apart.Goals.{in-Ok+in-Err-IllTyped, in-Err-Malformed, in-Err-TooManyLocals}
 
 pub check_body-requires-clause-few : goal.check_body-requires-clause-few
 check_body-requires-clause-few c =
@@ -31,7 +24,14 @@ returns-in-Ok-check_body-clause-verdict c =
       checked_from c.args.checker.now.outside c.args.func c.args.bytes.now c.in-Ok-check_body.checked spelled few c.in-Ok-check_body.ensures.typed c.in-Ok-check_body.ensures.fits,
     )
 
-pub returns-in-Err-IllTyped-clause-verdict : goal.returns-in-Err-IllTyped-clause-verdict
-returns-in-Err-IllTyped-clause-verdict c =
-    faulty_refusal c.grammar_is_read.ensures.body c.refused_at_first_fault.ensures c.args.checker.now.outside c.args.func c.args.bytes.now c.in-Ok.body c.in-Err-IllTyped.at c.in-Ok.ensures.found.0 c.in-Ok.ensures.found.1
-    (rw c.in-Err-IllTyped.field-0-is at c.in-Err-IllTyped.ensures.refused)
+pub returns-clause-verdict : goal.returns-clause-verdict
+returns-clause-verdict c =
+    let read = c.grammar_is_read.ensures.body in (
+      refl,
+      elim c.match-decode_body.branch [
+        | in-Ok+in-Err-IllTyped w ↦ rw w.refusal-is (faulty_refusal read c.refused_at_first_fault.ensures c.args.checker.now.outside c.args.func c.args.bytes.now w.in-Ok.body w.in-Err-IllTyped.at w.in-Ok.ensures.found.0 w.in-Ok.ensures.found.1
+            (rw w.in-Err-IllTyped.field-0-is at w.in-Err-IllTyped.ensures.refused))
+        | in-Err-Malformed w ↦ rw w.refusal-is (refusal_malformed read _ _ _ (w.in-Err-Malformed.ensures.malformed (ap (λ e. Err e) w.in-Err-Malformed.field-0-is)))
+        | in-Err-TooManyLocals w ↦ rw w.refusal-is (let b = w.in-Err-TooManyLocals.ensures.too_many (ap (λ e. Err e) w.in-Err-TooManyLocals.field-0-is) in refusal_too_many read _ _ _ b.0 b.1 b.2)
+      ],
+    )

@@ -47,14 +47,15 @@ keep-requires c =
 
 pub refuse-requires : goal.refuse-requires
 refuse-requires c =
+    let why = rw c.in-Err-Body.field-0-is at c.in-Err-Body.ensures.verdict in
     let m = c.self.inside.module in
     let x = c.self.inside.context in
     let bodies = c.deref-bodies.result.now in
-    subst (λ (b : List ℕ). IsRefusedBody b record { place = c.args.place; refusal = c.in-Err-Refused.refusal }) (c.self.view_is ∙ sym c.requires.of)
-    (λ n shell. (body_is_refused c.shells_are_determined.ensures c.self.inside.bytes.now m x c.args.checker.now.outside c.imported_functions.result c.args.place bodies _ c.in-Err-Refused.refusal c.self.invariant c.deref-bodies.ensures.value
+    subst (λ (b : List ℕ). IsRefusedBody b record { place = c.args.place; refusal = c.in-Err-Body.refusal }) (c.self.view_is ∙ sym c.requires.of)
+    (λ n shell. (body_is_refused c.shells_are_determined.ensures c.self.inside.bytes.now m x c.args.checker.now.outside c.imported_functions.result c.args.place bodies _ c.in-Err-Body.refusal c.self.invariant c.deref-bodies.ensures.value
     (outside_there c.self.inside.bytes.now c.args.self.now m x c.args.checker.now c.self.invariant c.self.view_is c.requires.checker) c.imported_functions.ensures.count
     (place_there c.self.inside.bytes.now c.args.self.now m x c.args.place bodies c.self.invariant c.self.view_is c.deref-bodies.ensures.value c.requires.place)
-    (rw c.in-Err-Refused.field-0-is at c.in-Err-Refused.ensures.verdict) n shell).1)
+    why.1 n shell).1)
 
 pub returns-in_ok-keep-in-Ok-clause-judged : goal.returns-in_ok-keep-in-Ok-clause-judged
 returns-in_ok-keep-in-Ok-clause-judged c =
@@ -69,14 +70,15 @@ returns-in_ok-keep-in-Ok-clause-judged c =
           (place_there c.self.inside.bytes.now c.args.self.now m x c.args.place bodies c.self.invariant c.self.view_is c.deref-bodies.ensures.value c.requires.place) found.0 found.1) n shell).0,
     )
 
-pub returns-in-Err-Refused-clause-judged : goal.returns-in-Err-Refused-clause-judged
-returns-in-Err-Refused-clause-judged c =
+pub returns-in-Err-Body-clause-judged : goal.returns-in-Err-Body-clause-judged
+returns-in-Err-Body-clause-judged c =
+    let why = rw c.in-Err-Body.field-0-is at c.in-Err-Body.ensures.verdict in
     let m = c.self.inside.module in
     let x = c.self.inside.context in
     let bodies = c.deref-bodies.result.now in (
       c.refuse.ensures,
-      λ n shell. body_is_refused c.shells_are_determined.ensures c.self.inside.bytes.now m x c.args.checker.now.outside c.imported_functions.result c.args.place bodies _ c.in-Err-Refused.refusal c.self.invariant c.deref-bodies.ensures.value
+      λ n shell. body_is_refused c.shells_are_determined.ensures c.self.inside.bytes.now m x c.args.checker.now.outside c.imported_functions.result c.args.place bodies _ c.in-Err-Body.refusal c.self.invariant c.deref-bodies.ensures.value
           (outside_there c.self.inside.bytes.now c.args.self.now m x c.args.checker.now c.self.invariant c.self.view_is c.requires.checker) c.imported_functions.ensures.count
           (place_there c.self.inside.bytes.now c.args.self.now m x c.args.place bodies c.self.invariant c.self.view_is c.deref-bodies.ensures.value c.requires.place)
-          (rw c.in-Err-Refused.field-0-is at c.in-Err-Refused.ensures.verdict) n (subst (λ (b : List ℕ). Shell b n) (c.requires.of ∙ sym c.self.view_is) shell),
+          why.1 n (subst (λ (b : List ℕ). Shell b n) (c.requires.of ∙ sym c.self.view_is) shell),
     )
