@@ -50,7 +50,7 @@ START = '(func $start (drop (i32.add (i32.const 1) (i32.const 2)))) (start $star
 CALLS = 100_000
 # The function that holds the loop over the tokens, by a part of its name, and how many indirect jumps it has at least where
 # each token has its own.
-LOOP, FEWEST_JUMPS = '<interpreter::machine::run>', 50
+LOOP, FEWEST_JUMPS = '<interpreter::run::run>', 50
 # Newer compilers join the jumps that computed goto is there for, unless they are told not to; older ones know no such words.
 APART = ['-mllvm', '-tail-dup-pred-size=1000', '-mllvm', '-tail-dup-succ-size=1000']
 
