@@ -84,7 +84,8 @@ impl Rounds<'_> {
 
     /// Writes the last line of a report, and flushes it.
     fn end_report<O: Write>(&self, total: &Total, out: &mut O) -> Result<Status, StreamFault>
-        ensures written { EndsWith (total_text total.now.calls (tally total.now)) Status.Good (O.contents out.old) (O.contents out.new) result }
+        ensures written { EndsWith (total_text total.now.calls (tally total.now)) Status.Good
+            (O.contents out.old) (O.contents out.new) result }
         ensures status { IfOk result (λ s. s ≢ Status.ModuleRefused) }
     {
         let mut last = String::new(self.alloc);

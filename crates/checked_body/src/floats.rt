@@ -3,7 +3,8 @@ ghost use Rattle.std.specs.Prelude.{◌≡◌, List, ℕ};
 ghost use Rattle.wsyntax.specs.FuncTypes.{func_type_of};
 ghost use Rattle.wsyntax.specs.Table.{num_op};
 ghost use Rattle.wsyntax.specs.Modules.{decoded_as};
-ghost use Rattle.wsyntax.specs.Execution.Start.{any, is_float, is_float_operator, block_has_floats, token_has_floats, run_has_floats, type_has_floats};
+ghost use Rattle.wsyntax.specs.Execution.Start.{any, is_float, is_float_operator};
+ghost use Rattle.wsyntax.specs.Execution.Start.{block_has_floats, token_has_floats, run_has_floats, type_has_floats};
 
 use wsyntax::{BlockType, FuncType, LocalRun, Operator, Token, ValType};
 
