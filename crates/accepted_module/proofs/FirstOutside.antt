@@ -33,19 +33,19 @@ data_from ds i d is below = from_here data_segment data_shape ds i d is below
 
 -- The first outside.
 
-pub outside_here : (n place count i : ℕ) (s : Segment) (all from rest : List Segment) (b : Bool) → from ≡ s ∷ rest → place ≡ s.place → count ≡ length s.items → b ≡ leb (place + count) n → b ≡ false
+pub outside_here : (n offset count i : ℕ) (s : Segment) (all from rest : List Segment) (b : Bool) → from ≡ s ∷ rest → offset ≡ s.offset → count ≡ length s.items → b ≡ leb (offset + count) n → b ≡ false
     → first_outside 0 n all ≡ first_outside i n from → Some i ≡ first_outside 0 n all
-outside_here n place count i s all from rest b is at many test failed before =
-    let t : leb (place + count) n ≡ false = sym test ∙ failed in
-    let e : place + count ≡ s.place + length s.items = omega arith in
-    let out : nat_lt n (s.place + length s.items) ≡ true = ap (nat_lt n) (sym e) ∙ lt-ltb n (place + count) (leb-false (place + count) n t) in
+outside_here n offset count i s all from rest b is at many test failed before =
+    let t : leb (offset + count) n ≡ false = sym test ∙ failed in
+    let e : offset + count ≡ s.offset + length s.items = omega arith in
+    let out : nat_lt n (s.offset + length s.items) ≡ true = ap (nat_lt n) (sym e) ∙ lt-ltb n (offset + count) (leb-false (offset + count) n t) in
     sym (before ∙ ap (first_outside i n) is ∙ ap (λ x. cond x (Some i) (first_outside (suc i) n rest)) out)
 
-pub inside_here : (n place count i : ℕ) (s : Segment) (all from rest : List Segment) (b : Bool) → from ≡ s ∷ rest → place ≡ s.place → count ≡ length s.items → b ≡ leb (place + count) n → b ≡ true
+pub inside_here : (n offset count i : ℕ) (s : Segment) (all from rest : List Segment) (b : Bool) → from ≡ s ∷ rest → offset ≡ s.offset → count ≡ length s.items → b ≡ leb (offset + count) n → b ≡ true
     → first_outside 0 n all ≡ first_outside i n from → first_outside 0 n all ≡ first_outside (i + 1) n rest
-inside_here n place count i s all from rest b is at many test holds before =
-    let t : leb (place + count) n ≡ true = sym test ∙ holds in
-    let e : place + count ≡ s.place + length s.items = omega arith in
-    let in' : nat_lt n (s.place + length s.items) ≡ false = ap (nat_lt n) (sym e) ∙ le-ltb n (place + count) (leb-true (place + count) n t) in
+inside_here n offset count i s all from rest b is at many test holds before =
+    let t : leb (offset + count) n ≡ true = sym test ∙ holds in
+    let e : offset + count ≡ s.offset + length s.items = omega arith in
+    let in' : nat_lt n (s.offset + length s.items) ≡ false = ap (nat_lt n) (sym e) ∙ le-ltb n (offset + count) (leb-true (offset + count) n t) in
     let next : suc i ≡ i + 1 = omega arith in
     before ∙ ap (first_outside i n) is ∙ ap (λ x. cond x (Some i) (first_outside (suc i) n rest)) in' ∙ ap (λ k. first_outside k n rest) next

@@ -46,10 +46,10 @@ none p xs never = alike p (λ x. false) xs never ∙ no_test xs
 -- The declarations.
 
 -- rule 8 is kept
-globals_tell : (m : ModuleShape) → GlobalsConstant m → any (λ g. is_float g.content.content || any token_has_floats g.init) m.globals ≡ any global_has_floats m.globals
+globals_tell : (m : ModuleShape) → GlobalsConstant m → any (λ g. is_float g.global_type.val_type || any token_has_floats g.init) m.globals ≡ any global_has_floats m.globals
 globals_tell m constant =
-    alike (λ (g : GlobalShape). is_float g.content.content || any token_has_floats g.init) global_has_floats m.globals
-    (All-weaker (λ (g : GlobalShape). ConstantOf (imported_globals m) g.content.content g.init) _ (λ g h. told (imported_globals m) g.content.content g.init h) m.globals constant)
+    alike (λ (g : GlobalShape). is_float g.global_type.val_type || any token_has_floats g.init) global_has_floats m.globals
+    (All-weaker (λ (g : GlobalShape). ConstantOf (imported_globals m) g.global_type.val_type g.init) _ (λ g h. told (imported_globals m) g.global_type.val_type g.init h) m.globals constant)
 
 -- rule 12 is kept
 elements_have_none : (m : ModuleShape) → ElementsValid m → any (λ e. any token_has_floats e.offset) m.elements ≡ false

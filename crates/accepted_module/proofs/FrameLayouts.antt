@@ -12,25 +12,25 @@ use Rattle.checked_body.specs.declared.frame_layout.FrameLayout.{FrameLayout}
 use Rattle.checked_body.specs.declared.body.CheckedBody.{CheckedBody}
 use Rattle.accepted_module.specs.FrameLayouts.{frame_layout, frame_layouts}
 use Rattle.accepted_module.specs.Judgement.{IsJudged}
-use Rattle.accepted_module.specs.Kept.{body_at, place_of}
+use Rattle.accepted_module.specs.Kept.{body_at, body_index}
 
 -- one more function
-next : (types : List FuncType) (numbers functions : List ℕ) (all : List CheckedBody) (i : ℕ) (b : CheckedBody) → i < length functions → i < length all → get_or all i b ≡ b → frame_layouts types numbers (take (suc i) functions) all ≡ frame_layouts types numbers (take i functions) all ++ frame_layout (type_at types (get_or functions i 0)) (slice_index numbers (get_or functions i 0)) b ∷ []
-next types numbers [] all i b lt within is = absurd (omega arith)
-next types numbers (y ∷ ys) [] i b lt within is = absurd (omega arith)
-next types numbers (y ∷ ys) (x ∷ xs) zero b lt within is = ap (λ (c : CheckedBody). frame_layout (type_at types y) (slice_index numbers y) c ∷ []) is
-next types numbers (y ∷ ys) (x ∷ xs) (suc i) b lt within is = ap (λ (ss : List FrameLayout). frame_layout (type_at types y) (slice_index numbers y) x ∷ ss) (next types numbers ys xs i b (omega arith) (omega arith) is)
+next : (types : List FuncType) (type_ids functions : List ℕ) (all : List CheckedBody) (i : ℕ) (b : CheckedBody) → i < length functions → i < length all → get_or all i b ≡ b → frame_layouts types type_ids (take (suc i) functions) all ≡ frame_layouts types type_ids (take i functions) all ++ frame_layout (type_at types (get_or functions i 0)) (slice_index type_ids (get_or functions i 0)) b ∷ []
+next types type_ids [] all i b lt within is = absurd (omega arith)
+next types type_ids (y ∷ ys) [] i b lt within is = absurd (omega arith)
+next types type_ids (y ∷ ys) (x ∷ xs) zero b lt within is = ap (λ (c : CheckedBody). frame_layout (type_at types y) (slice_index type_ids y) c ∷ []) is
+next types type_ids (y ∷ ys) (x ∷ xs) (suc i) b lt within is = ap (λ (ss : List FrameLayout). frame_layout (type_at types y) (slice_index type_ids y) x ∷ ss) (next types type_ids ys xs i b (omega arith) (omega arith) is)
 
-pub shapes_more : (types : List FuncType) (numbers functions : List ℕ) (all : List CheckedBody) (i : ℕ) (b : CheckedBody) → i < length functions → i < length all → get_or all i b ≡ b → frame_layouts types numbers (take (i + 1) functions) all ≡ frame_layouts types numbers (take i functions) all ++ frame_layout (type_at types (get_or functions i 0)) (slice_index numbers (get_or functions i 0)) b ∷ []
-shapes_more types numbers functions all i b lt within is = rw add-one (next types numbers functions all i b lt within is)
+pub shapes_more : (types : List FuncType) (type_ids functions : List ℕ) (all : List CheckedBody) (i : ℕ) (b : CheckedBody) → i < length functions → i < length all → get_or all i b ≡ b → frame_layouts types type_ids (take (i + 1) functions) all ≡ frame_layouts types type_ids (take i functions) all ++ frame_layout (type_at types (get_or functions i 0)) (slice_index type_ids (get_or functions i 0)) b ∷ []
+shapes_more types type_ids functions all i b lt within is = rw add-one (next types type_ids functions all i b lt within is)
 
 -- What they say of declared locals.
 
-declares : (types : List FuncType) (numbers functions : List ℕ) (all : List CheckedBody) → length functions ≡ length all → map (λ (s : FrameLayout). s.declared) (frame_layouts types numbers functions all) ≡ map (λ (b : CheckedBody). locals_of b.body.runs.items) all
-declares types numbers [] [] e = refl
-declares types numbers [] (x ∷ xs) e = absurd (omega arith)
-declares types numbers (y ∷ ys) [] e = absurd (omega arith)
-declares types numbers (y ∷ ys) (x ∷ xs) e = ap (λ (ns : List ℕ). locals_of x.body.runs.items ∷ ns) (declares types numbers ys xs (omega arith))
+declares : (types : List FuncType) (type_ids functions : List ℕ) (all : List CheckedBody) → length functions ≡ length all → map (λ (s : FrameLayout). s.declared) (frame_layouts types type_ids functions all) ≡ map (λ (b : CheckedBody). locals_of b.body.runs.items) all
+declares types type_ids [] [] e = refl
+declares types type_ids [] (x ∷ xs) e = absurd (omega arith)
+declares types type_ids (y ∷ ys) [] e = absurd (omega arith)
+declares types type_ids (y ∷ ys) (x ∷ xs) e = ap (λ (ns : List ℕ). locals_of x.body.runs.items ∷ ns) (declares types type_ids ys xs (omega arith))
 
 chosen : {A : Type 0} (t : Bool) (k p : ℕ) (get : ℕ → Option A) → cond t None (Some k) ≡ Some p → cond t None (get k) ≡ get p
 chosen true k p get e = absurd cc
@@ -41,10 +41,10 @@ paired : (m : ModuleShape) (x : IndexedContext) (all : List CheckedBody) → IsJ
 paired m x all j = j.paired ∙ sym j.bodies.count
 
 -- of the function at a place
-pub declared_at : (m : ModuleShape) (x : IndexedContext) (numbers : List ℕ) (all : List CheckedBody) (imported f place : ℕ) → ∥ IsJudged m x all ∥₁ → place_of imported f ≡ Some place → option_map (λ b. locals_of b.body.runs.items) (body_at imported all f) ≡ option_map (λ s. s.declared) (slice_get (frame_layouts m.types numbers m.functions all) place)
-declared_at m x numbers all imported f place judged e =
+pub declared_at : (m : ModuleShape) (x : IndexedContext) (type_ids : List ℕ) (all : List CheckedBody) (imported f position : ℕ) → ∥ IsJudged m x all ∥₁ → body_index imported f ≡ Some position → option_map (λ b. locals_of b.body.runs.items) (body_at imported all f) ≡ option_map (λ s. s.declared) (slice_get (frame_layouts m.types type_ids m.functions all) position)
+declared_at m x type_ids all imported f position judged e =
     let same : length m.functions ≡ length all = ∥∥₁_elim judged (search props) (λ j. paired m x all j) in
-    ap (option_map (λ (b : CheckedBody). locals_of b.body.runs.items)) (chosen (nat_lt f imported) (f - imported) place (slice_get all) e)
-    ∙ sym (slice_get-map (λ (b : CheckedBody). locals_of b.body.runs.items) all place)
-    ∙ ap (λ (ns : List ℕ). slice_get ns place) (sym (declares m.types numbers m.functions all same))
-    ∙ slice_get-map (λ (s : FrameLayout). s.declared) (frame_layouts m.types numbers m.functions all) place
+    ap (option_map (λ (b : CheckedBody). locals_of b.body.runs.items)) (chosen (nat_lt f imported) (f - imported) position (slice_get all) e)
+    ∙ sym (slice_get-map (λ (b : CheckedBody). locals_of b.body.runs.items) all position)
+    ∙ ap (λ (ns : List ℕ). slice_get ns position) (sym (declares m.types type_ids m.functions all same))
+    ∙ slice_get-map (λ (s : FrameLayout). s.declared) (frame_layouts m.types type_ids m.functions all) position

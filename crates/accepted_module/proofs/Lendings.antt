@@ -16,20 +16,20 @@ use Rattle.accepted_module.proofs.CheckedBodies.{all_few}
 pub looked_same : (t : Bool) (m : ModuleShape) (lent all : List CheckedBody) → lent ≡ all → t ≡ has_floats m (shapes_of lent) → t ≡ has_floats m (shapes_of all)
 looked_same t m lent all is h = h ∙ ap (λ (bs : List CheckedBody). has_floats m (shapes_of bs)) is
 
-pub shaped_same : (shapes : List FrameLayout) (types : List FuncType) (numbers numbers' functions functions' : List ℕ) (lent all : List CheckedBody) → numbers ≡ numbers' → functions ≡ functions' → lent ≡ all → shapes ≡ frame_layouts types numbers functions lent → shapes ≡ frame_layouts types numbers' functions' all
-shaped_same shapes types numbers numbers' functions functions' lent all n f is h =
+pub shaped_same : (shapes : List FrameLayout) (types : List FuncType) (type_ids type_ids' functions functions' : List ℕ) (lent all : List CheckedBody) → type_ids ≡ type_ids' → functions ≡ functions' → lent ≡ all → shapes ≡ frame_layouts types type_ids functions lent → shapes ≡ frame_layouts types type_ids' functions' all
+shaped_same shapes types type_ids type_ids' functions functions' lent all n f is h =
     h
     ∙ ap (λ (ns : List ℕ). frame_layouts types ns functions lent) n
-    ∙ ap (λ (fs : List ℕ). frame_layouts types numbers' fs lent) f
-    ∙ ap (frame_layouts types numbers' functions') is
+    ∙ ap (λ (fs : List ℕ). frame_layouts types type_ids' fs lent) f
+    ∙ ap (frame_layouts types type_ids' functions') is
 
 -- What is asked of lists that are lent.
 
 pub typed_same : (types : List FuncType) (functions functions' : List ℕ) → functions ≡ functions' → All (λ y. y < length types) functions' → All (λ y. y < length types) functions
 typed_same types functions functions' f h = rw f h
 
-pub numbered_same : (types : List FuncType) (numbers numbers' : List ℕ) → numbers ≡ numbers' → AreTypeIds types numbers' → length numbers ≡ length types
-numbered_same types numbers numbers' n h = omega (arith, h.count, ap length n)
+pub identified_same : (types : List FuncType) (type_ids type_ids' : List ℕ) → type_ids ≡ type_ids' → AreTypeIds types type_ids' → length type_ids ≡ length types
+identified_same types type_ids type_ids' n h = omega (arith, h.count, ap length n)
 
 pub paired_same : (functions : List ℕ) (lent all : List CheckedBody) (m : ModuleShape) (x : IndexedContext) → functions ≡ m.functions → lent ≡ all → IsJudged m x all → length functions ≡ length lent
 paired_same functions lent all m x f is judged = omega (arith, judged.paired, judged.bodies.count, ap length f, ap length is)

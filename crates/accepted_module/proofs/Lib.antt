@@ -3,7 +3,7 @@ pub mod FirstOutside
 pub mod Words
 pub mod Numbers
 pub mod SearchedNames
-pub mod ExportNumbers
+pub mod ExportPositions
 pub mod PlainStarts
 pub mod Mentions
 pub mod Floating
@@ -11,4 +11,4 @@ pub mod FrameLayouts
 pub mod CheckedBodies
 pub mod Lendings
 pub mod TypeOrder
-pub mod Numbering
+pub mod GivenIds

@@ -29,10 +29,10 @@ its_type : (globals : List GlobalType) (t : ValType) (n : ℕ) (tokens : List To
 its_type globals t n _ (one_const m) is = cc
 its_type globals t n _ (one_get x there) is = cc
 
-pub no_place : (e : ConstExpr) → IsOffset e → ((m : ℤ) → e ≡ initial.I32Const m → ⊥) → 0 ≡ constant_in (initial_tokens e)
-no_place (initial.I32Const m) constant other = absurd (other m refl)
-no_place (initial.I64Const m) constant other = let same : I64 ≡ I32 = its_type constant.0 I64 _ _ constant.1 refl in cc
-no_place (initial.F32Const bytes) constant other = let same : F32 ≡ I32 = its_type constant.0 F32 _ _ constant.1 refl in cc
-no_place (initial.F64Const bytes) constant other = let same : F64 ≡ I32 = its_type constant.0 F64 _ _ constant.1 refl in cc
-no_place (initial.GlobalGet x) constant other = refl
-no_place (initial.Other x) constant other = no_form (tokens_read x.bytes.now) x.other
+pub other_offset : (e : ConstExpr) → IsOffset e → ((m : ℤ) → e ≡ initial.I32Const m → ⊥) → 0 ≡ constant_in (initial_tokens e)
+other_offset (initial.I32Const m) constant other = absurd (other m refl)
+other_offset (initial.I64Const m) constant other = let same : I64 ≡ I32 = its_type constant.0 I64 _ _ constant.1 refl in cc
+other_offset (initial.F32Const bytes) constant other = let same : F32 ≡ I32 = its_type constant.0 F32 _ _ constant.1 refl in cc
+other_offset (initial.F64Const bytes) constant other = let same : F64 ≡ I32 = its_type constant.0 F64 _ _ constant.1 refl in cc
+other_offset (initial.GlobalGet x) constant other = refl
+other_offset (initial.Other x) constant other = no_form (tokens_read x.bytes.now) x.other

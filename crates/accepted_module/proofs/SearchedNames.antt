@@ -19,10 +19,10 @@ apart : (o : Ordering) (xs ys : List ℕ) → slice_cmp nat_cmp xs ys ≡ o → 
 apart o xs ys e differ same = differ (sym e ∙ ap (slice_cmp nat_cmp xs) (sym same) ∙ tied_itself nat_list_cmp_total xs)
 
 -- no number has the name where the search ends between those below it and those above
-pub none_named : (name_at : ℕ → List ℕ) (numbers : List ℕ) (name : List ℕ) (i : ℕ) → IsSortedByKey name_at (slice_cmp nat_cmp) numbers → (IsNonDecreasingBy (λ y. ordering_index (slice_cmp nat_cmp (name_at y) name)) numbers → IsPartitionPoint (λ y. slice_cmp nat_cmp (name_at y) name ≡ Less) (λ y. slice_cmp nat_cmp (name_at y) name ≡ Greater) numbers i) → All (λ k. name_at k ≢ name) numbers
-none_named name_at numbers name i up found k d within =
-    let parted = found (searchable_from_sorted nat_list_cmp_total name_at numbers name up) in
+pub none_named : (name_at : ℕ → List ℕ) (positions : List ℕ) (name : List ℕ) (i : ℕ) → IsSortedByKey name_at (slice_cmp nat_cmp) positions → (IsNonDecreasingBy (λ y. ordering_index (slice_cmp nat_cmp (name_at y) name)) positions → IsPartitionPoint (λ y. slice_cmp nat_cmp (name_at y) name ≡ Less) (λ y. slice_cmp nat_cmp (name_at y) name ≡ Greater) positions i) → All (λ k. name_at k ≢ name) positions
+none_named name_at positions name i up found k d within =
+    let parted = found (searchable_from_sorted nat_list_cmp_total name_at positions name up) in
     elim (cases_lt k i) [
-      | inl below ↦ apart Less (name_at (get_or numbers k d)) name (parted.0 k d (omega arith) below) (λ e. cc)
-      | inr above ↦ apart Greater (name_at (get_or numbers k d)) name (parted.1 k d above within) (λ e. cc)
+      | inl below ↦ apart Less (name_at (get_or positions k d)) name (parted.0 k d (omega arith) below) (λ e. cc)
+      | inr above ↦ apart Greater (name_at (get_or positions k d)) name (parted.1 k d above within) (λ e. cc)
     ]

@@ -11,7 +11,7 @@ use Rattle.wsyntax.specs.Modules.{global_shape, element_shape, data_shape}
 use Rattle.wsyntax.specs.Execution.Allocation.{Segment}
 use Rattle.wsyntax.specs.Execution.Start.{first_value, element_segment, data_segment}
 use Rattle.soundness.specs.Slots.{bits, slots}
-use Rattle.accepted_module.specs.Segments.{element_segments, data_segments, element_place, data_place, places_of}
+use Rattle.accepted_module.specs.Segments.{element_segments, data_segments, element_offset, data_offset, offsets_of}
 
 -- one more number
 pub one_more : {A : Type 0} (f : A → ℕ) (xs : List A) (i : ℕ) (x : A) (was new : List ℕ) (n : ℕ) → x ≡ get_or xs i x → i < length xs → was ≡ map f (take i xs) → n ≡ f x → new ≡ was ++ n ∷ [] → new ≡ map f (take (i + 1) xs)
@@ -28,8 +28,8 @@ pub words_of : (gs : List Global) → map (λ (g : Global). bits (first_value (g
 words_of gs = sym (ap (map bits) (map-map first_value global_shape gs) ∙ map-map bits (λ (g : Global). first_value (global_shape g)) gs)
 
 -- the places of the segments
-pub element_places_of : (es : List HeldElement) → map element_place es ≡ places_of (element_segments es)
-element_places_of es = sym (ap (map (λ (s : Segment). s.place)) (map-map element_segment element_shape es) ∙ map-map (λ (s : Segment). s.place) (λ (e : HeldElement). element_segment (element_shape e)) es)
+pub element_offsets_of : (es : List HeldElement) → map element_offset es ≡ offsets_of (element_segments es)
+element_offsets_of es = sym (ap (map (λ (s : Segment). s.offset)) (map-map element_segment element_shape es) ∙ map-map (λ (s : Segment). s.offset) (λ (e : HeldElement). element_segment (element_shape e)) es)
 
-pub data_places_of : (ds : List Data) → map data_place ds ≡ places_of (data_segments ds)
-data_places_of ds = sym (ap (map (λ (s : Segment). s.place)) (map-map data_segment data_shape ds) ∙ map-map (λ (s : Segment). s.place) (λ (d : Data). data_segment (data_shape d)) ds)
+pub data_offsets_of : (ds : List Data) → map data_offset ds ≡ offsets_of (data_segments ds)
+data_offsets_of ds = sym (ap (map (λ (s : Segment). s.offset)) (map-map data_segment data_shape ds) ∙ map-map (λ (s : Segment). s.offset) (λ (d : Data). data_segment (data_shape d)) ds)

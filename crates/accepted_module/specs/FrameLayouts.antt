@@ -9,9 +9,9 @@ use Rattle.checked_body.specs.declared.body.CheckedBody.{CheckedBody}
 
 -- a function of this type, whose type has that number, with this body
 abbrev pub frame_layout : FuncType → ℕ → CheckedBody → FrameLayout
-frame_layout t number b = record { params = length t.params; declared = locals_of b.body.runs.items; results = length t.results; type_id = number }
+frame_layout t type_id b = record { params = length t.params; declared = locals_of b.body.runs.items; results = length t.results; type_id = type_id }
 
 -- the functions, each by the index of its type, with their bodies
 abbrev pub frame_layouts : List FuncType → List ℕ → List ℕ → List CheckedBody → List FrameLayout
-frame_layouts types numbers (y ∷ ys) (b ∷ bs) = frame_layout (type_at types y) (slice_index numbers y) b ∷ frame_layouts types numbers ys bs
-frame_layouts types numbers _ _ = []
+frame_layouts types type_ids (y ∷ ys) (b ∷ bs) = frame_layout (type_at types y) (slice_index type_ids y) b ∷ frame_layouts types type_ids ys bs
+frame_layouts types type_ids _ _ = []

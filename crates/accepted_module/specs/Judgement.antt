@@ -24,8 +24,8 @@ pub record IsCheckedFrom (C : Context) (f : ℕ) (bytes : List ℕ) (checked : C
 
 -- it is that of the bytes at that place, after `imported` imported functions
 abbrev pub IsCheckedAt : Context → ℕ → List (List ℕ) → ℕ → CheckedBody → Type 0
-IsCheckedAt C imported bodies place checked =
-    (bytes : List ℕ) × (slice_get bodies place ≡ Some bytes) × IsCheckedFrom C (imported + place) bytes checked
+IsCheckedAt C imported bodies position checked =
+    (bytes : List ℕ) × (slice_get bodies position ≡ Some bytes) × IsCheckedFrom C (imported + position) bytes checked
 
 -- All bodies.
 

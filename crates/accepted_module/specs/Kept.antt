@@ -19,5 +19,5 @@ abbrev pub body_at : ℕ → List CheckedBody → ℕ → Option CheckedBody
 body_at imported bodies f = if nat_lt f imported then None else slice_get bodies (f - imported)
 
 -- the place of the body of a function, imported ones counted
-abbrev pub place_of : ℕ → ℕ → Option ℕ
-place_of imported f = if nat_lt f imported then None else Some (f - imported)
+abbrev pub body_index : ℕ → ℕ → Option ℕ
+body_index imported f = if nat_lt f imported then None else Some (f - imported)

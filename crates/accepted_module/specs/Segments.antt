@@ -23,13 +23,13 @@ abbrev pub data_segments : List Data → List Segment
 data_segments all = map data_segment (map data_shape all)
 
 -- where a segment begins
-abbrev pub element_place : HeldElement → ℕ
-element_place e = (element_segment (element_shape e)).place
+abbrev pub element_offset : HeldElement → ℕ
+element_offset e = (element_segment (element_shape e)).offset
 
 -- 4.5.4 the address of the first byte of a data segment
-abbrev pub data_place : Data → ℕ
-data_place d = (data_segment (data_shape d)).place
+abbrev pub data_offset : Data → ℕ
+data_offset d = (data_segment (data_shape d)).offset
 
 -- where each of the segments begins
-abbrev pub places_of : List Segment → List ℕ
-places_of all = map (λ s. s.place) all
+abbrev pub offsets_of : List Segment → List ℕ
+offsets_of all = map (λ s. s.offset) all

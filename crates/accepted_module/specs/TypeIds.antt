@@ -10,15 +10,15 @@ use Rattle.wsyntax.specs.Types.{FuncType, same_func_type}
 use Rattle.wsyntax.specs.Validation.ModuleContext.{type_at}
 
 -- of each type a number below the count of types; two are equal exactly where the types are the same
-pub record AreTypeIds (types : List FuncType) (numbers : List ℕ) : Type 0 where
-  pub count : length numbers ≡ length types
-  pub below : All (λ n. n < length types) numbers
-  pub same : (y z : ℕ) (s t : FuncType) → slice_get types y ≡ Some s → slice_get types z ≡ Some t → (slice_get numbers y ≡ slice_get numbers z) ↔ IsTrue (same_func_type s t)
+pub record AreTypeIds (types : List FuncType) (type_ids : List ℕ) : Type 0 where
+  pub count : length type_ids ≡ length types
+  pub below : All (λ n. n < length types) type_ids
+  pub same : (y z : ℕ) (s t : FuncType) → slice_get types y ≡ Some s → slice_get types z ≡ Some t → (slice_get type_ids y ≡ slice_get type_ids z) ↔ IsTrue (same_func_type s t)
 
 -- the number of the type of that index, if there is an index
-abbrev pub function_number : List ℕ → Option ℕ → Option ℕ
-function_number numbers None = None
-function_number numbers (Some y) = slice_get numbers y
+abbrev pub function_type_id : List ℕ → Option ℕ → Option ℕ
+function_type_id type_ids None = None
+function_type_id type_ids (Some y) = slice_get type_ids y
 
 -- How they are found.
 

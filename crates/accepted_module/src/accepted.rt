@@ -13,7 +13,7 @@ ghost use Rattle.accepted_module.specs.Small.{IsSmall};
 ghost use Rattle.accepted_module.specs.InitialStates.{IsLayoutOf};
 ghost use Rattle.soundness.specs.Instances.{SegmentsAreBytes};
 
-use crate::exports::number_of;
+use crate::exports::position_of;
 use crate::initial_state::InitialState;
 use checked_body::{CheckedBody, FrameLayout};
 use soundness::instances::start_is_plain;
@@ -38,7 +38,7 @@ pub struct Accepted<'a> {
     pub(crate) layout: InitialState,
     pub(crate) ghost judged: { ∥ IsJudged (module_shape «module») context bodies.items ∥₁ },
     pub(crate) ghost looked: { uses_floats ≡ has_floats (module_shape «module») (shapes_of bodies.items) },
-    pub(crate) ghost numbered: { ∥ AreTypeIds (module_shape «module»).types type_ids.items ∥₁ },
+    pub(crate) ghost identified: { ∥ AreTypeIds (module_shape «module»).types type_ids.items ∥₁ },
     pub(crate) ghost shaped: { shapes.items
         ≡ frame_layouts (module_shape «module»).types type_ids.items (module_shape «module»).functions bodies.items },
     pub(crate) ghost laid: { IsLayoutOf (module_shape «module») layout } by { Prim.hlevel props },
@@ -56,8 +56,8 @@ impl<'a> Accepted<'a> {
     ghost use Rattle.wsyntax.specs.Texts.Answer.{IsMissing};
     ghost use Rattle.accepted_module.specs.Exports.{IsExported};
     ghost use Rattle.wsyntax.specs.Binary.Sections.{locals_of};
-    ghost use Rattle.accepted_module.specs.TypeIds.{function_number};
-    ghost use Rattle.accepted_module.specs.Kept.{body_at, place_of};
+    ghost use Rattle.accepted_module.specs.TypeIds.{function_type_id};
+    ghost use Rattle.accepted_module.specs.Kept.{body_at, body_index};
 
     /// What holds of every accepted module, for a proof that is handed one: no rule is broken, the context is that of the
     /// module, and of each function there is the checked body, which declares few locals, is typed under that context,
@@ -67,7 +67,7 @@ impl<'a> Accepted<'a> {
     {}
 
     /// What holds of the ids of types: each is below the count of types, and two are equal exactly where the types are the same.
-    pub fn types_are_numbered(&self)
+    pub fn types_have_ids(&self)
         ensures { ∥ AreTypeIds (module_shape self.now.module).types self.now.type_ids.items ∥₁ }
     {}
 
@@ -123,13 +123,13 @@ impl<'a> Accepted<'a> {
     pub fn body(&self, func: u32) -> Option<&CheckedBody>
         ensures { option_map (λ b. b.now) result ≡ body_at self.now.context.imported self.now.bodies.items func }
     {
-        self.bodies.get(self.place_of(func)?)
+        self.bodies.get(self.body_index(func)?)
     }
 
     /// The place of the body of the function of that index among the bodies; `None` where it is imported.
     #[inline]
-    fn place_of(&self, func: u32) -> Option<usize>
-        ensures { result ≡ place_of self.now.context.imported func }
+    fn body_index(&self, func: u32) -> Option<usize>
+        ensures { result ≡ body_index self.now.context.imported func }
     {
         (func as usize).checked_sub(self.context.imported_functions())
     }
@@ -172,7 +172,7 @@ impl<'a> Accepted<'a> {
     pub fn declared_locals(&self, func: u32) -> Option<u32>
         ensures { result ≡ option_map (λ b. locals_of b.body.runs.items) (body_at self.now.context.imported self.now.bodies.items func) }
     {
-        let shape = self.shapes.get(self.place_of(func)?)?;
+        let shape = self.shapes.get(self.body_index(func)?)?;
         Some(shape.declared)
     }
 
@@ -194,7 +194,7 @@ impl<'a> Accepted<'a> {
     /// The id of the type of the function of that index, imported ones counted; `None` where the module has no such function.
     #[inline]
     pub fn function_type_id(&self, func: u32) -> Option<u32>
-        ensures { result ≡ function_number self.now.type_ids.items (slice_get self.now.context.function_types func) }
+        ensures { result ≡ function_type_id self.now.type_ids.items (slice_get self.now.context.function_types func) }
     {
         let type_index = self.context.type_of(func)?;
         self.type_id(type_index)
@@ -207,8 +207,8 @@ impl<'a> Accepted<'a> {
             (result ≡ Some (kind, index)) ↔ IsExported (module_shape self.now.module) name.now kind index }
         ensures none { IsNone result ↔ IsMissing (module_shape self.now.module) name.now }
     {
-        let number = number_of(&self.module.exports, &self.by_name, name)?;
-        let export = &self.module.exports[number];
+        let position = position_of(&self.module.exports, &self.by_name, name)?;
+        let export = &self.module.exports[position];
         Some((export.kind, export.index))
     }
 }

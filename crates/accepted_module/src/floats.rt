@@ -28,7 +28,7 @@ fn globals_have_floats(globals: &[Global<'_>]) -> bool
 {
     globals
         .iter()
-        .any(|global| is_float(global.content.content))
+        .any(|global| is_float(global.global_type.val_type))
 }
 
 /// Whether a function type, a global or a segment of a valid module is of a float type, or an instruction there. The

@@ -14,7 +14,7 @@ fn first_word(global: &Global<'_>) -> u64
     ensures { result ≡ bits (first_value (global_shape global.now)) }
 {
     let number = constant(&global.init);
-    match global.content.content {
+    match global.global_type.val_type {
         ValType::I32 => u64::from(wrap(number)),
         ValType::I64 => number,
         ValType::F32 | ValType::F64 => 0,

@@ -1,5 +1,5 @@
 use crate::globals::first_words;
-use crate::places::{data_places, element_places};
+use crate::offsets::{data_offsets, element_offsets};
 use crate::segments::{first_data_outside, first_element_outside};
 use crate::sizes::{memory_pages, table_size};
 use std::alloc::{AllocError, Global};
@@ -10,8 +10,8 @@ use wsyntax::{Module, PAGE};
 #[derive(Debug, Drop)]
 pub struct InitialState {
     globals: Vec<u64>,
-    element_places: Vec<u32>,
-    data_places: Vec<u32>,
+    element_offsets: Vec<u32>,
+    data_offsets: Vec<u32>,
     first_out_of_bounds_elem: Option<u32>,
     data_outside: Option<u32>,
 }
@@ -36,8 +36,8 @@ impl InitialState {
         let bytes = memory_pages(module) as usize * PAGE;
         Ok(InitialState {
             globals: first_words(alloc, &module.globals)?,
-            element_places: element_places(alloc, elements)?,
-            data_places: data_places(alloc, segments)?,
+            element_offsets: element_offsets(alloc, elements)?,
+            data_offsets: data_offsets(alloc, segments)?,
             first_out_of_bounds_elem: first_element_outside(entries, elements),
             data_outside: first_data_outside(bytes, segments),
         })
@@ -51,17 +51,17 @@ impl InitialState {
     }
 
     /// Of each element segment the index of the entry that it begins with.
-    pub fn element_places(&self) -> &[u32]
-        ensures { result.now ≡ self.now.element_places.items }
+    pub fn element_offsets(&self) -> &[u32]
+        ensures { result.now ≡ self.now.element_offsets.items }
     {
-        &self.element_places
+        &self.element_offsets
     }
 
     /// Of each data segment the address of the byte that it begins with.
-    pub fn data_places(&self) -> &[u32]
-        ensures { result.now ≡ self.now.data_places.items }
+    pub fn data_offsets(&self) -> &[u32]
+        ensures { result.now ≡ self.now.data_offsets.items }
     {
-        &self.data_places
+        &self.data_offsets
     }
 
     /// The number of the first element segment that does not end within the table's minimum.

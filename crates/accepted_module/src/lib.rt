@@ -15,7 +15,7 @@ mod floats;
 mod globals;
 mod initial_state;
 mod making;
-mod places;
+mod offsets;
 mod segments;
 mod shapes;
 mod sizes;

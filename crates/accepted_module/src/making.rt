@@ -5,7 +5,7 @@ ghost use Rattle.accepted_module.specs.Small.{IsSmall};
 ghost use Rattle.soundness.specs.Instances.{SegmentsAreBytes};
 
 use crate::accepted::Accepted;
-use crate::exports::numbers_by_name;
+use crate::exports::positions_by_name;
 use crate::floats::has_floats;
 use crate::initial_state::InitialState;
 use crate::shapes::frame_layouts;
@@ -28,7 +28,7 @@ impl<'a> Accepted<'a> {
         requires small { IsSmall (module_shape «module») bodies.items }
         ensures { IfOk result (λ a. (a.«module» ≡ «module».entry) × (a.context ≡ context) × (a.bodies ≡ bodies)) }
     {
-        let by_name = numbers_by_name(alloc, &module.exports)?;
+        let by_name = positions_by_name(alloc, &module.exports)?;
         let type_ids = type_ids(alloc, &module.types)?;
         let shapes = frame_layouts(alloc, &module.types, &type_ids, &module.functions, &bodies)?;
         let layout = InitialState::of(alloc, &module)?;

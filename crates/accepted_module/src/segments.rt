@@ -4,14 +4,14 @@ ghost use Rattle.std.specs.Prelude.{◌≡◌, ◌+◌, ◌<◌, ◌^◌, nat_le
 ghost use Rattle.wsyntax.specs.Execution.Start.{first_outside};
 ghost use Rattle.accepted_module.specs.Segments.{IsOffset, element_segments, data_segments};
 
-use crate::places::place_of;
+use crate::offsets::offset_of;
 use wsyntax::{Data, Elements};
 
-/// Whether `count` items from `place` on end within `size`. Nothing wraps.
-fn ends_within(place: u32, count: usize, size: usize) -> bool
-    ensures { result ≡ nat_le (place + count) size }
+/// Whether `count` items from `offset` on end within `size`. Nothing wraps.
+fn ends_within(offset: u32, count: usize, size: usize) -> bool
+    ensures { result ≡ nat_le (offset + count) size }
 {
-    count <= size && place as usize <= size - count
+    count <= size && offset as usize <= size - count
 }
 
 /// The number of the first element segment that does not end within a table of that size.
@@ -20,12 +20,12 @@ pub(crate) fn first_element_outside(size: usize, segments: &Elements<'_>) -> Opt
     requires offsets { All (λ s. IsOffset s.offset) segments.now }
     ensures { result ≡ first_outside 0 size (element_segments segments.now) }
 {
-    for number in 0..segments.len() {
-        let Some(segment) = segments.get(number) else {
+    for index in 0..segments.len() {
+        let Some(segment) = segments.get(index) else {
             unreachable!()
         };
-        if !ends_within(place_of(segment.offset), segment.functions.len(), size) {
-            return Some(number as u32);
+        if !ends_within(offset_of(segment.offset), segment.functions.len(), size) {
+            return Some(index as u32);
         }
     }
     None
@@ -37,9 +37,9 @@ pub(crate) fn first_data_outside(size: usize, segments: &[Data<'_>]) -> Option<u
     requires offsets { All (λ s. IsOffset s.offset) segments.now }
     ensures { result ≡ first_outside 0 size (data_segments segments.now) }
 {
-    for (number, segment) in segments.iter().enumerate() {
-        if !ends_within(place_of(&segment.offset), segment.bytes.len(), size) {
-            return Some(number as u32);
+    for (index, segment) in segments.iter().enumerate() {
+        if !ends_within(offset_of(&segment.offset), segment.bytes.len(), size) {
+            return Some(index as u32);
         }
     }
     None

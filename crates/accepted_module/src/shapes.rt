@@ -18,16 +18,16 @@ fn count_locals(runs: &[LocalRun]) -> u32
 }
 
 /// What the entry of a function of that type, which has that id, needs to know.
-fn frame_layout(of_type: FuncType<'_>, number: u32, body: &CheckedBody) -> FrameLayout
+fn frame_layout(of_type: FuncType<'_>, type_id: u32, body: &CheckedBody) -> FrameLayout
     requires short { IsShort of_type }
     requires few { FewLocals (body_shape body.now.body) }
-    ensures { result ≡ frame_layout (func_type_of of_type.entry) number body.now }
+    ensures { result ≡ frame_layout (func_type_of of_type.entry) type_id body.now }
 {
     FrameLayout {
         params: of_type.params.len() as u32,
         declared: count_locals(body.locals()),
         results: of_type.results.len() as u32,
-        type_id: number,
+        type_id: type_id,
     }
 }
 
@@ -35,23 +35,23 @@ fn frame_layout(of_type: FuncType<'_>, number: u32, body: &CheckedBody) -> Frame
 pub(crate) fn frame_layouts(
     alloc: Global,
     types: &FuncTypes,
-    numbers: &[u32],
+    type_ids: &[u32],
     functions: &[u32],
     bodies: &[CheckedBody],
 ) -> Result<Vec<FrameLayout>, AllocError>
     requires typed { All (λ y. y < length types.now) functions.now }
-    requires numbered { length numbers.now ≡ length types.now }
+    requires identified { length type_ids.now ≡ length types.now }
     requires paired { length functions.now ≡ length bodies.now }
     requires few { All (λ b. FewLocals (body_shape b.body)) bodies.now }
-    ensures { IfOk result (λ v. v.items ≡ frame_layouts types.now numbers.now functions.now bodies.now) }
+    ensures { IfOk result (λ v. v.items ≡ frame_layouts types.now type_ids.now functions.now bodies.now) }
 {
     let mut shapes = Vec::new(alloc);
-    for (place, type_index) in functions.iter().enumerate() {
+    for (position, type_index) in functions.iter().enumerate() {
         let at = *type_index as usize;
         let Some(of_type) = types.get(at) else {
             unreachable!()
         };
-        shapes.push(frame_layout(of_type, numbers[at], &bodies[place]))?;
+        shapes.push(frame_layout(of_type, type_ids[at], &bodies[position]))?;
     }
     Ok(shapes)
 }

@@ -76,11 +76,11 @@ pub(crate) fn type_ids(alloc: Global, types: &FuncTypes) -> Result<Vec<u32>, All
     let indices = sorted_indices(alloc, types)?;
     let mut ids = vec![in alloc; 0u32; types.len()]?;
     let mut first = 0;
-    for place in 0..indices.len() {
-        if compare(types, indices[first], indices[place]).is_ne() {
-            first = place;
+    for position in 0..indices.len() {
+        if compare(types, indices[first], indices[position]).is_ne() {
+            first = position;
         }
-        ids[indices[place] as usize] = first as u32;
+        ids[indices[position] as usize] = first as u32;
     }
     Ok(ids)
 }

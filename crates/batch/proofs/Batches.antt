@@ -41,7 +41,7 @@ first_given a s c cs line (d, at, h) =
     let same : d ≡ c = sym (same_Some c d at) in
     subst (λ (x : Call). GivesLine a s x line) same h
 
--- a line at each place
+-- a line at each position
 lines_given : (a : Accepted) (s : Settings) (calls : List Call) (lines : List Line) → length lines ≡ length calls
     → ((i : ℕ) (line : Line) → slice_get lines i ≡ Some line → GivesLineAt a s calls i line) → GiveLines a s calls lines
 lines_given a s [] [] count each = tt
@@ -60,7 +60,7 @@ from_zero i = omega arith
 plus_suc : (n i : ℕ) → suc n + i ≡ n + suc i
 plus_suc n i = omega arith
 
--- the calls from number n on, of which all have these lines
+-- the calls from index n on, of which all have these lines
 ends_from : (a : Accepted) (s : Settings) (all : List Line) (n : ℕ) (calls : List Call) (lines : List Line) → GiveLines a s calls lines → ((i : ℕ) → slice_get all (n + i) ≡ slice_get lines i)
     → EndsOf (module_shape a.«module») (shapes_of a.bodies.items) (limits_of s) (λ n. IsTrue (is_short (slice_get all n))) n (calls_of calls) (ends_of lines)
 ends_from a s all n [] [] h at = tt

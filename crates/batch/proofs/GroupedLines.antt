@@ -65,7 +65,7 @@ pub adds_both : (n m : ℕ) (calls others : List Call) (old groups new : List Gr
 adds_both n m calls others old groups new (front, added, are) at (more, then', others') =
     (front ++ more, then' ∙ ap (λ (l : List Group). l ++ more) added ∙ append_assoc old front more, are_both n m calls others front more are at others')
 
--- one group more, of the calls from one place to another
+-- one group more, of the calls from one position to another
 pub adds_one : (n : ℕ) (calls : List Call) (from to : ℕ) (old groups : List Group) (g : Group) → from < to → to ≤ length calls → AddsGroups n (take from calls) old groups → g.first ≡ n + from → g.calls.now ≡ take (to - from) (drop from calls)
     → AddsGroups n (take to calls) old (groups ++ g ∷ [])
 adds_one n calls from to old groups g order within h first is =
@@ -92,7 +92,7 @@ slice_more slices i calls below at =
     let front : take (i + 1) slices ≡ take i slices ++ calls ∷ [] = take_more slices i calls below ∙ ap (λ (c : Vec Call Global). take i slices ++ c ∷ []) (sym at) in
     ap joined_calls front ∙ flat_map-append (λ (c : Vec Call Global). c.items) (take i slices) (calls ∷ []) ∙ ap (λ (l : List Call). joined_calls (take i slices) ++ l) (append-nil calls.items)
 
--- there is room for the numbers of the calls of the next slice
+-- there is room for the indices of the calls of the next slice
 pub slice_fits : (slices : List (Vec Call Global)) (i : ℕ) (calls : Vec Call Global) → i < length slices → calls ≡ get_or slices i calls → length (joined_calls slices) < 2 ^ 32 → length (joined_calls (take i slices)) + length calls.items < 2 ^ 32
 slice_fits slices i calls below at few =
     let both : joined_calls slices ≡ joined_calls (take (i + 1) slices) ++ joined_calls (drop (i + 1) slices) =

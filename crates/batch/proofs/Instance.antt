@@ -29,8 +29,8 @@ functions_are types (y ∷ ys) (b ∷ bs) count trees =
     let fn : Function = record { func_type = type_at types y; locals = declared b.runs; body = code } in
     (fn ∷ fns, (refl, refl, tree, each))
 
-has_tree : (m : ModuleShape) (place : ℕ) (b : BodyShape) → TypedAt m place b → HasTree b.code
-has_tree m place b t = (t.code, t.tree)
+has_tree : (m : ModuleShape) (position : ℕ) (b : BodyShape) → TypedAt m position b → HasTree b.code
+has_tree m position b t = (t.code, t.tree)
 
 pub instance_of : (m : ModuleShape) (bodies : List BodyShape) → ∥ Judged m bodies ∥₁ → (i : Module) × InstanceOf m bodies i
 instance_of m bodies judged =

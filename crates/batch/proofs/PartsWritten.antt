@@ -40,7 +40,7 @@ front_behind old mid new whole done text more is before (front, rest, split, som
   Appends-trans old mid new done front before now,
 )
 
--- the part at a place stands between those before it and those after it
+-- the part at a position stands between those before it and those after it
 texts_around : (parts : List Part) (i : ℕ) (p : Part) (last : List ℕ) → i < length parts → p ≡ get_or parts i p
     → parts_text parts ++ last ≡ parts_text (take i parts) ++ (string_bytes p.text ++ (parts_text (drop (i + 1) parts) ++ last))
 texts_around parts i p last below at =

@@ -50,19 +50,19 @@ as_many [] (x ∷ xs) h = absurd h
 as_many (s ∷ ss) [] h = absurd h
 as_many (s ∷ ss) (x ∷ xs) h = ap suc (as_many ss xs h.1)
 
-typed_as : Laws → (m : ModuleShape) (place : ℕ) (s : List ℕ) (b : BodyShape) → IsAccepted (module_context m) (function_at m place) s → SpellsBody s b → TypedAt m place b
-typed_as laws m place s b a spelled =
+typed_as : Laws → (m : ModuleShape) (position : ℕ) (s : List ℕ) (b : BodyShape) → IsAccepted (module_context m) (function_at m position) s → SpellsBody s b → TypedAt m position b
+typed_as laws m position s b a spelled =
     let same : a.body ≡ b = laws.one_body s a.body b a.spelled spelled in
     record {
       code = a.code;
       tree = a.tree ∙ ap (λ (x : BodyShape). x.code) same;
-      typed = subst (λ (x : BodyShape). BodyTyped (function_context (module_context m) (function_at m place) x.runs) (result_of (module_context m) (function_at m place)) a.code) same a.typed;
+      typed = subst (λ (x : BodyShape). BodyTyped (function_context (module_context m) (function_at m position) x.runs) (result_of (module_context m) (function_at m position)) a.code) same a.typed;
     }
 
-typed_at : Laws → (m : ModuleShape) (bodies : List BodyShape) → AcceptedBefore m (length m.bodies) → SpellsBodies m.bodies bodies → (place : ℕ) (b : BodyShape) → slice_get bodies place ≡ Some b → TypedAt m place b
-typed_at laws m bodies before spelled place b e =
-    let (s, at, spells) = spelled_at m.bodies bodies place b spelled e in
-    typed_as laws m place s b (before place s (slice_get_within m.bodies place s at) at) spells
+typed_at : Laws → (m : ModuleShape) (bodies : List BodyShape) → AcceptedBefore m (length m.bodies) → SpellsBodies m.bodies bodies → (position : ℕ) (b : BodyShape) → slice_get bodies position ≡ Some b → TypedAt m position b
+typed_at laws m bodies before spelled position b e =
+    let (s, at, spells) = spelled_at m.bodies bodies position b spelled e in
+    typed_as laws m position s b (before position s (slice_get_within m.bodies position s at) at) spells
 
 judged : Laws → (bytes : List ℕ) (m : ModuleShape) (bodies : List BodyShape) → IsVerdict bytes Accepted → Spells bytes m bodies → Judged m bodies
 unfolding IsVerdict
@@ -117,7 +117,7 @@ call_not_stuck : Laws → (bytes text : List ℕ) (l : Limits) → ((k : ℕ) �
 call_not_stuck laws bytes text l below m i c f s k r started kinds config chain =
     let h = run_instance laws bytes text l m i c f below r in
     let (sig, names, same) = r.callee in
-    let args : ValuesTyped c.args sig.params = record { typed = same; words = words_at (lines_of text) r.calls r.number c (say_all text r.calls r.read) r.said } in
+    let args : ValuesTyped c.args sig.params = record { typed = same; words = words_at (lines_of text) r.calls r.position c (say_all text r.calls r.read) r.said } in
     laws.safe.never_stuck m r.bodies l i s k f c.args sig h started names.typed args kinds config chain
 
 -- ---- values are typed

@@ -58,7 +58,7 @@ plus_zero n = omega arith
 plus_suc : (n i : ℕ) → suc n + i ≡ n + suc i
 plus_suc n i = omega arith
 
--- the calls from number n on, of which all have these lines
+-- the calls from index n on, of which all have these lines
 each_from : (a : Accepted) (l : Limits) (all : List Line) (n : ℕ) (calls : List Call) (lines : List Line) → EndsOf (module_shape a.«module») (shapes_of a.bodies.items) l (λ n. IsTrue (is_short (slice_get all n))) n calls (ends_of lines)
     → ((i : ℕ) → slice_get all (n + i) ≡ slice_get lines i) → EndEach a l calls (ends_of lines)
 each_from a l all n [] [] h at = tt
@@ -77,7 +77,7 @@ both_end a l [] others (e ∷ ends) more h g = absurd h
 both_end a l (c ∷ calls) others [] more h g = absurd h
 both_end a l (c ∷ calls) others (e ∷ ends) more h g = (h.0, both_end a l calls others ends more h.1 g)
 
--- the call of that number ran out of memory
+-- the call of that index ran out of memory
 none_at : Option CallEnd → Bool
 none_at None = false
 none_at (Some e) = is_none e
@@ -155,7 +155,7 @@ both_fall a l front more from mid old between new h g = record {
 
 -- ---- round after round
 
--- there is room for the numbers of the calls
+-- there is room for the indices of the calls
 pub round_room : (a : Accepted) (l : Limits) (text done rest first behind : List ℕ) (from to : Tally) (old new : Option (List ℕ)) (calls given : List Given) → text ≡ done ++ rest → rest ≡ first ++ behind → Advances a l done from to old new
     → given ≡ calls → IsSaid first (calls_of calls) → from.calls + length text < 2 ^ 64 → to.calls + length given < 2 ^ 64
 round_room a l text done rest first behind from to old new calls given split split' h same said few =
@@ -281,7 +281,7 @@ nothing_streamed a l from old_in old = record {
   answered = nothing_answered a l from old;
 }
 
--- the numbers have room
+-- the indices have room
 pub stream_room : (a : Accepted) (l : Limits) (from to : Tally) (count : ℕ) (held : List ℕ) (old_in new_in old new : Option (List ℕ)) → IsStreaming a l from to count held old_in new_in old new → from.calls ≡ 0 → count < 35184372088832 → to.calls + length held ≤ count * 262144
 stream_room a l from to count held old_in new_in old new h start below =
     omega (
@@ -338,7 +338,7 @@ refusal a l text front rest line others from to old new start split at bad h =
     let whole : lines_of text ≡ lines_of front ++ line ∷ others = ap lines_of split ∙ h.said.whole rest ∙ ap (λ (t : List TextLine). lines_of front ++ t) at in
     let number : to.calls + 1 ≡ suc (length (lines_of front)) = omega (arith, h.counted.calls, start.calls, as_many a l h.calls h.ends h.ended, said_many (lines_of front) h.calls h.said.said) in
     record {
-      place = length (lines_of front);
+      position = length (lines_of front);
       line = line;
       stands = ap (λ (t : List TextLine). slice_get t (length (lines_of front))) whole ∙ get_behind (lines_of front) line others;
       bad = bad;

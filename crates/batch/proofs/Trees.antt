@@ -6,7 +6,7 @@ use Rattle.wsyntax.specs.Instructions.{Code, Stop, Plain, Block, Loop, If, IfEls
 
 -- ---- reading
 
--- a sequence that is read, and whether an else stands after it, in place of an end
+-- a sequence that is read, and whether an else stands after it, instead of an end
 abbrev Part : Type 0
 Part = Bool × Code
 

@@ -10,13 +10,13 @@ use Rattle.wstore.specs.declared.settings.Settings.{Settings}
 use Rattle.batch.specs.Ends.{GivesLine}
 use Rattle.batch.specs.declared.group.Group.{Group}
 
--- the groups have these calls, from number n on: the first group has those in front, one at least, and the others have the rest
+-- the groups have these calls, from index n on: the first group has those in front, one at least, and the others have the rest
 abbrev pub AreGroups : ℕ → List Call → List Group → Type 0
 AreGroups n calls [] = calls ≡ []
 AreGroups n calls (g ∷ gs) =
     (g.first ≡ n) × (0 < length g.calls.now) × ((rest : List Call) × (calls ≡ g.calls.now ++ rest) × AreGroups (n + length g.calls.now) rest gs)
 
--- groups of these calls, from number n on, stand after the old ones
+-- groups of these calls, from index n on, stand after the old ones
 abbrev pub AddsGroups : ℕ → List Call → List Group → List Group → Type 0
 AddsGroups n calls old new = (more : List Group) × (new ≡ old ++ more) × AreGroups n calls more
 
@@ -30,7 +30,7 @@ GiveLines a s _ _ = ⊥
 abbrev pub GivesPart : Accepted → Settings → Group → Part → Type 0
 GivesPart a s g part = (lines : List Line) × GiveLines a s g.calls.now lines × IsPart g.first (ends_of lines) part
 
--- of the group at that place
+-- of the group at that position
 abbrev pub GivesPartAt : Accepted → Settings → List Group → ℕ → Part → Type 0
 GivesPartAt a s groups i part = (g : Group) × (slice_get groups i ≡ Some g) × GivesPart a s g part
 

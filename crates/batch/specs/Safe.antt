@@ -26,8 +26,8 @@ pub record IsRun (bytes text : List ℕ) (l : Limits) (m : ModuleShape) (i : Mod
   pub spelled : Spells bytes m bodies
   pub calls : List Call
   pub read : IsCalls text (Good calls)
-  pub number : ℕ
-  pub said : slice_get calls number ≡ Some c
+  pub position : ℕ
+  pub said : slice_get calls position ≡ Some c
   pub callee : IsCallee m c f
   pub not_refused : start_refusal l.pages m bodies ≡ None
   pub instance : InstanceOf m bodies i

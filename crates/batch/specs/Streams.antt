@@ -54,15 +54,15 @@ pub record IsReport (a : Accepted) (l : Limits) (text out : List ℕ) : Type 0 w
 
 -- the lines of the calls before the first bad line, and that this one is refused; lines are counted from 1
 pub record IsRefusal (a : Accepted) (l : Limits) (text out : List ℕ) : Type 0 where
-  pub place : ℕ
+  pub position : ℕ
   pub line : TextLine
-  pub stands : slice_get (lines_of text) place ≡ Some line
+  pub stands : slice_get (lines_of text) position ≡ Some line
   pub bad : (c : Call) → SaysShort line c → ⊥
   pub calls : List Call
   pub ends : List CallEnd
-  pub said : SayEach (take place (lines_of text)) calls
+  pub said : SayEach (take position (lines_of text)) calls
   pub ended : HaveEnds a l calls ends
-  pub is : out ≡ call_lines 0 ends ++ calls_line (BadLine (suc place))
+  pub is : out ≡ call_lines 0 ends ++ calls_line (BadLine (suc position))
 
 -- the lines of the first calls of the text
 pub record AreLines (a : Accepted) (l : Limits) (text out : List ℕ) : Type 0 where

@@ -6,7 +6,7 @@ use batch_text::Call;
 #[derive(Clone, Copy)]
 pub(crate) struct Group<'s, 't> {
     pub(crate) calls: &'s [Call<'t>],
-    /// The number of the first of them.
+    /// The index of the first of them.
     pub(crate) first: u32,
     pub(crate) ghost few: { first + length calls.now < 2 ^ 32 },
 }

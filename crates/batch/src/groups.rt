@@ -12,7 +12,7 @@ use pieces::{Job, JobFault, Stage, Watch};
 use std::alloc::{AllocError, Global};
 use std::sync::Wait;
 
-/// Pushes `calls`, of which the first has number `first`, in groups of `size`. The last may have fewer.
+/// Pushes `calls`, of which the first has index `first`, in groups of `size`. The last may have fewer.
 fn push_groups<'s, 't>(
     groups: &mut Vec<Group<'s, 't>>,
     calls: &'s [Call<'t>],
@@ -90,12 +90,12 @@ impl<'a, 's, 't, 'w, W: Watch> Job for GroupedCalls<'a, 's, 't, 'w, W> {
             return Err(JobFault::Memory);
         };
         let mut clean = self.runner.lend(rt, ticket);
-        for (place, call) in group.calls.iter().enumerate() {
-            let number = group.first + place as u32;
-            self.watch.note(Stage::Call, number);
+        for (position, call) in group.calls.iter().enumerate() {
+            let call_index = group.first + position as u32;
+            self.watch.note(Stage::Call, call_index);
             let line = match self.runner.callee(call) {
                 Ok(function) => {
-                    self.watch.lent(number, clean.len());
+                    self.watch.lent(call_index, clean.len());
                     let (line, back) = self.runner.line(call, function, clean);
                     clean = back;
                     line

@@ -123,8 +123,8 @@ fn reported<R: AllocGlobal + Threads + Wait + Abort + Sync>(
 /// Calls of every kind, that many of them.
 fn calls_text<R: AllocGlobal>(rt: &R, count: u32) -> Result<Vec<u8>, Fail> {
     let mut text = Vec::new(rt.alloc());
-    for number in 0..count {
-        let line: &[u8] = match number % 5 {
+    for index in 0..count {
+        let line: &[u8] = match index % 5 {
             0 => b"add\ti32:1\ti32:2\n",
             1 => b"add\ti32:7\n",
             2 => b"\n",

@@ -97,7 +97,7 @@ least_bad text rest calls line others h at bad =
     let whole = h.lines ∙ ap (λ l. h.done ++ l) at in
     let count = same_length h.done calls h.say in
     record {
-      place = length calls;
+      position = length calls;
       line = line;
       number = refl;
       stands = ap (λ l. slice_get l (length calls)) whole ∙ ap (λ n. slice_get (h.done ++ line ∷ others) n) (sym count) ∙ stands_behind h.done line others;

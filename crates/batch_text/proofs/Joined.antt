@@ -16,7 +16,7 @@ two_parts (Err f) new mid old a b e h = tt
 
 -- Values.
 
--- what stands in front of the value at a place
+-- what stands in front of the value at a position
 abbrev pub separator : ℕ → List ℕ
 separator zero = codes " "
 separator (suc i) = codes ","
@@ -38,7 +38,7 @@ separator_is zero text (inr h) = absurd (h.0 refl)
 separator_is (suc i) text (inl h) = absurd (omega (arith, h.0))
 separator_is (suc i) text (inr h) = h.1
 
--- the values up to a place and the next one
+-- the values up to a position and the next one
 pub values_more : (vs : List Value) (i : ℕ) (v : Value) (text old : List ℕ) → i < length vs → text ≡ old ++ spaced_values (take i vs)
     → (text ++ separator i) ++ value_text (get_or vs i v) ≡ old ++ spaced_values (take (i + 1) vs)
 values_more vs i v text old l e =
@@ -59,7 +59,7 @@ ends_more : (lines : List Line) (i : ℕ) (line : Line) → i < length lines →
 ends_more lines i line l e =
     ap ends_of (take_more lines i line l) ∙ map-append end_of (take i lines) (get_or lines i line ∷ []) ∙ ap (λ x. ends_of (take i lines) ++ end_of x ∷ []) (sym e)
 
--- the lines from a number on, up to a place and the next one
+-- the lines from an index on, up to a position and the next one
 pub lines_more : (n : ℕ) (lines : List Line) (i : ℕ) (line : Line) → i < length lines → line ≡ get_or lines i line
     → call_lines n (ends_of (take i lines)) ++ call_line (n + i) (end_of line) ≡ call_lines n (ends_of (take (i + 1) lines))
 lines_more n lines i line l e =
@@ -86,7 +86,7 @@ total_behind : (es : List CallEnd) (e : CallEnd) → total_of (es ++ e ∷ []) �
 total_behind [] e = same_tally _ _ (omega arith) (omega arith) (omega arith) (omega arith) (omega arith) (omega arith)
 total_behind (d ∷ es) e = ap (plus (tally_of d)) (total_behind es e) ∙ same_tally _ _ (omega arith) (omega arith) (omega arith) (omega arith) (omega arith) (omega arith)
 
--- the total up to a number and the next call
+-- the total up to an index and the next call
 pub total_more : (lines : List Line) (i : ℕ) (line : Line) → i < length lines → line ≡ get_or lines i line → plus (total_of (ends_of (take i lines))) (tally_of (end_of line)) ≡ total_of (ends_of (take (i + 1) lines))
 total_more lines i line l e = sym (ap total_of (ends_more lines i line l e) ∙ total_behind (ends_of (take i lines)) (end_of line))
 

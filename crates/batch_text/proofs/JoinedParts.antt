@@ -27,7 +27,7 @@ part_whole n lines i p all text counts calls within =
 
 -- Parts one after another.
 
--- the parts up to a place are joined, and the others have the calls that are left
+-- the parts up to a position are joined, and the others have the calls that are left
 pub record Joined (parts : List Part) (i : ℕ) (text : List ℕ) (total : Total) (ends : List CallEnd) : Type 0 where
   pub done : List CallEnd
   pub left : List CallEnd
@@ -37,7 +37,7 @@ pub record Joined (parts : List Part) (i : ℕ) (text : List ℕ) (total : Total
   pub calls : total.calls ≡ length done
   pub others : AreParts (length done) left (drop i parts)
 
--- the part at a place, and the others after it
+-- the part at a position, and the others after it
 pub record Next (parts : List Part) (i n : ℕ) (left : List CallEnd) (p : Part) : Type 0 where
   pub front : List CallEnd
   pub rest : List CallEnd

@@ -17,15 +17,15 @@ pub struct Part {
 }
 
 impl Part {
-    /// The part with these lines, of which the first has that number.
+    /// The part with these lines, of which the first has that index.
     pub fn of(alloc: Global, first: usize, lines: &[Line]) -> Result<Part, AllocError>
         requires { first + length lines.now < 2 ^ 64 }
         ensures { IfOk result (IsPart first (ends_of lines.now)) }
     {
         let mut text = String::with_capacity(alloc, lines.len().saturating_mul(USUAL_LINE))?;
         let mut total = Total::new();
-        for (place, line) in lines.iter().enumerate() {
-            let number = first + place;
+        for (position, line) in lines.iter().enumerate() {
+            let number = first + position;
             write!(text, "{number} ")?;
             push_end(&mut text, line)?;
             text.push_str("\n")?;

@@ -53,8 +53,8 @@ fn push_outcome(text: &mut String, outcome: &Outcome) -> Result<(), AllocError>
 fn push_values(text: &mut String, values: &[Value]) -> Result<(), AllocError>
     ensures { OnOk result (string_bytes text.new ≡ string_bytes text.old ++ spaced_values values.now) }
 {
-    for (place, value) in values.iter().enumerate() {
-        text.push_str(if place == 0 { " " } else { "," })?;
+    for (position, value) in values.iter().enumerate() {
+        text.push_str(if position == 0 { " " } else { "," })?;
         push_value(text, *value)?;
     }
     Ok(())

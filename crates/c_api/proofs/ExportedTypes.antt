@@ -16,7 +16,7 @@ use Rattle.accepted_module.specs.Judgement.{IsJudged}
 use Rattle.accepted_module.specs.Exports.{IsExported}
 use Rattle.accepted_module.specs.declared.accepted.Accepted.{Accepted}
 use Rattle.c_api.specs.declared.exported.GateExport.{GateExport}
-use Rattle.c_api.specs.Exported.{IsTyped, exports_of, TellsExport, TellsOf, LeavesExport, export_numbers}
+use Rattle.c_api.specs.Exported.{IsTyped, exports_of, TellsExport, TellsOf, LeavesExport, export_fields}
 use Rattle.c_api.specs.Exported as told
 
 within_all : (m : ModuleShape) (name : List ℕ) (f : ℕ) → NoneBroken m → IsExported m name Function f → f < length (module_context m).functions
@@ -55,9 +55,9 @@ contained_at : (xs : List ExportShape) (k : ℕ) (x : ExportShape) → slice_get
 contained_at xs k x h = subst (Contains xs) (get_or_from_slice_get xs k x x h) (Contains-get_or xs k x (slice_get_within xs k x h))
 
 -- its numbers tell it
-pub tells : (a : Accepted) (number : ℕ) (x : Export) (old new : GateExport) → ∥ IsJudged (module_shape a.«module») a.context a.bodies.items ∥₁
-    → slice_get a.«module».exports.items number ≡ Some x → new ≡ export_numbers (told.functions_of a) x.kind x.index → TellsExport a number old new 0
-tells a number x old new judged at same =
-    let there : slice_get (exports_of a) number ≡ Some (export_shape x) = shaped_at a.«module».exports.items number x at in
-    let typed = is_typed a x.name.now x.kind x.index judged (contained_at (exports_of a) number (export_shape x) there) in
+pub tells : (a : Accepted) (position : ℕ) (x : Export) (old new : GateExport) → ∥ IsJudged (module_shape a.«module») a.context a.bodies.items ∥₁
+    → slice_get a.«module».exports.items position ≡ Some x → new ≡ export_fields (told.functions_of a) x.kind x.index → TellsExport a position old new 0
+tells a position x old new judged at same =
+    let there : slice_get (exports_of a) position ≡ Some (export_shape x) = shaped_at a.«module».exports.items position x at in
+    let typed = is_typed a x.name.now x.kind x.index judged (contained_at (exports_of a) position (export_shape x) there) in
     subst (λ (o : Option ExportShape). MatchOption o (LeavesExport old new 0) (TellsOf a new 0)) (sym there) (refl, same, typed)

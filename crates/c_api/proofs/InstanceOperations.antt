@@ -23,13 +23,13 @@ use Rattle.wstore.specs.Views as views
 use Rattle.wstore.specs.declared.detached.Detached.{Detached}
 use Rattle.wstore.specs.declared.instance.Instance.{Instance}
 use Rattle.wstore.specs.declared.settings.Settings.{Settings}
-use Rattle.c_api.specs.Beginnings.{Begins, begun_numbers}
+use Rattle.c_api.specs.Beginnings.{Begins, begun_fields}
 use Rattle.c_api.specs.CallsOn.{EndsExport}
-use Rattle.c_api.specs.Ends.{end_numbers, values_of}
+use Rattle.c_api.specs.Ends.{end_fields, values_of}
 use Rattle.c_api.specs.Instances.{KeepsModule, AnswersWrite, AnswersGlobal, AnswersCallOn, store_in, memory_in, failed_in, module_of}
 use Rattle.c_api.specs.Made.{IsMade, MakesInstance}
 use Rattle.c_api.specs.Runs.{limits_of, in_range}
-use Rattle.c_api.specs.Values.{value_numbers, overlay}
+use Rattle.c_api.specs.Values.{value_fields, overlay}
 use Rattle.c_api.specs.declared.ending.GateCall.{GateCall}
 use Rattle.c_api.specs.declared.instance.InstanceSlot.{InstanceSlot}
 use Rattle.c_api.specs.declared.live.Live.{Live}
@@ -78,7 +78,7 @@ puts old new i j d e at bytes was is keeps from to failed h =
         put.0,
         put.1,
         put.2,
-        ap (all_tagged (map (λ (g : GlobalType). g.content) C.globals)) put.3,
+        ap (all_tagged (map (λ (g : GlobalType). g.val_type) C.globals)) put.3,
       ),
       keeps,
       failed_then old new d e was is (to.2 ∙ failed ∙ sym from.2),
@@ -109,7 +109,7 @@ global_in l i d name r of parts h =
 
 -- a global that is found
 pub found : (l : Live) (i : Instance) (d : Detached) (name : List ℕ) (v : Value) (old new : GateValue) → l.state ≡ Some d → i.accepted.now ≡ l.accepted.value → d.parts ≡ i.parts
-    → IsGlobalOf (views.module_in i) (views.store_in i) name (Some v) → new ≡ value_numbers v → AnswersGlobal l name old new 0
+    → IsGlobalOf (views.module_in i) (views.store_in i) name (Some v) → new ≡ value_fields v → AnswersGlobal l name old new 0
 found l i d name v old new is of parts h e = inl (refl, (store_as l.accepted.value d, v, store_is l d is, global_in l i d name (Some v) of parts h, e))
 
 -- one that is not
@@ -119,10 +119,10 @@ lacks l i d name old of parts h = inr (refl, refl, λ (s : Store) (is : store_in
 
 -- a call that is made
 pub called_on : (old new : Live) (name : List ℕ) (numbers : List GateValue) (s : GateSettings) (before after : List GateValue) (was ended : GateCall) (line : Line) (args : List Value)
-    (i j : Instance) (d e : Detached) (l : Limits) → in_range s ≡ true → l ≡ limits_of s → AreWords args → map value_numbers args ≡ numbers
+    (i j : Instance) (d e : Detached) (l : Limits) → in_range s ≡ true → l ≡ limits_of s → AreWords args → map value_fields args ≡ numbers
     → old.state ≡ Some d → new.state ≡ Some e → KeepsModule old new → i.accepted.now ≡ old.accepted.value → IsDetached i d → j.accepted.now ≡ i.accepted.now → IsDetached j e
     → EndsExport i.accepted.now l name args (views.store_in i) i.failed line (views.store_in j) j.failed
-    → ended ≡ end_numbers line → after ≡ overlay (values_of line) before → AnswersCallOn old name numbers s before after was ended new 0
+    → ended ≡ end_fields line → after ≡ overlay (values_of line) before → AnswersCallOn old name numbers s before after was ended new 0
 called_on old new name numbers s before after was ended line args i j d e l range within words same there here keeps of from still to ends told written =
     let a = old.accepted.value in
     let E : Accepted → Limits → Store → Bool → Store → Bool → Type 0 = λ x y t b t' b'. EndsExport x y name args t b line t' b' in
@@ -136,7 +136,7 @@ called_on old new name numbers s before after was ended line args i j d e l rang
 
 -- an instance that is made
 pub made : (a : Accepted) (s : GateSettings) (old new : InstanceSlot) (was ended : GateCall) (l : Settings) (live : Live) (d : Detached) (k : ℕ) → in_range s ≡ true → limits.limits_of l ≡ limits_of s
-    → live.accepted.value ≡ a → live.settings ≡ l → live.state ≡ Some d → Begins a (limits.limits_of l) d k → new.value ≡ Some live → ended ≡ begun_numbers k → MakesInstance a s old new was ended 0
+    → live.accepted.value ≡ a → live.settings ≡ l → live.state ≡ Some d → Begins a (limits.limits_of l) d k → new.value ≡ Some live → ended ≡ begun_fields k → MakesInstance a s old new was ended 0
 made a s old new was ended l live d k range within of set is begins given told =
     let kept : IsMade a s k live = (of, ap limits.limits_of set ∙ within, d, is, subst (λ (x : Limits). Begins a x d k) within begins) in
     inr (inr (refl, range, k, subst (λ (o : Option Live). IsSomeAnd o (IsMade a s k)) (sym given) kept, told))

@@ -37,8 +37,8 @@ FailsToBegin a l NotAFunction = ⊥
 FailsToBegin a l BadArguments = ⊥
 
 -- the numbers of a start that ends well, at the cost of so much fuel
-abbrev pub begun_numbers : ℕ → GateCall
-begun_numbers k = record { end = 0; reason = 0; place = 0; fuel = k; results = 0 }
+abbrev pub begun_fields : ℕ → GateCall
+begun_fields k = record { end = 0; reason = 0; place = 0; fuel = k; results = 0 }
 
 -- the line says why there is no instance
 abbrev pub IsLineOf : StartFault → Line → Type 0

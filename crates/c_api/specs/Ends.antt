@@ -12,23 +12,23 @@ use Rattle.batch_text.specs.declared.line.Line.{Line}
 use Rattle.batch_text.specs.declared.line.Line.TheVariants.{Ran, NoExport, NotAFunction, BadArguments, NotStarted, NoMemory}
 use Rattle.c_api.specs.declared.ending.GateCall.{GateCall}
 
-abbrev pub trap_number : Trap → ℕ
-trap_number Unreachable = 0
-trap_number OutOfBounds = 1
-trap_number UndefinedElement = 2
-trap_number UninitializedElement = 3
-trap_number TypeMismatch = 4
-trap_number (ByOperator DivideByZero) = 5
-trap_number (ByOperator IntegerOverflow) = 6
+abbrev pub trap_code : Trap → ℕ
+trap_code Unreachable = 0
+trap_code OutOfBounds = 1
+trap_code UndefinedElement = 2
+trap_code UninitializedElement = 3
+trap_code TypeMismatch = 4
+trap_code (ByOperator DivideByZero) = 5
+trap_code (ByOperator IntegerOverflow) = 6
 
 -- why there is no instance, and the segment that lies outside
-abbrev pub refusal_number : StartRefusal → ℕ
-refusal_number HasImports = 0
-refusal_number HasFloats = 1
-refusal_number TableLimit = 2
-refusal_number MemoryLimit = 3
-refusal_number (ElementOutside k) = 4
-refusal_number (DataOutside k) = 5
+abbrev pub refusal_code : StartRefusal → ℕ
+refusal_code HasImports = 0
+refusal_code HasFloats = 1
+refusal_code TableLimit = 2
+refusal_code MemoryLimit = 3
+refusal_code (ElementOutside k) = 4
+refusal_code (DataOutside k) = 5
 
 abbrev pub segment_of : StartRefusal → ℕ
 segment_of (ElementOutside k) = k
@@ -40,20 +40,20 @@ abbrev pub plain : ℕ → GateCall
 plain end = record { end = end; reason = 0; place = 0; fuel = 0; results = 0 }
 
 -- how a call that ran came to its end, at the cost of so much fuel
-abbrev pub outcome_numbers : Outcome → ℕ → GateCall
-outcome_numbers (Values vs) fuel = record { end = 0; reason = 0; place = 0; fuel = fuel; results = length vs.items }
-outcome_numbers (Trapped trap) fuel = record { end = 1; reason = trap_number trap; place = 0; fuel = fuel; results = 0 }
-outcome_numbers OutOfFuel fuel = record { end = 2; reason = 0; place = 0; fuel = fuel; results = 0 }
-outcome_numbers OutOfFrames fuel = record { end = 3; reason = 0; place = 0; fuel = fuel; results = 0 }
+abbrev pub outcome_fields : Outcome → ℕ → GateCall
+outcome_fields (Values vs) fuel = record { end = 0; reason = 0; place = 0; fuel = fuel; results = length vs.items }
+outcome_fields (Trapped trap) fuel = record { end = 1; reason = trap_code trap; place = 0; fuel = fuel; results = 0 }
+outcome_fields OutOfFuel fuel = record { end = 2; reason = 0; place = 0; fuel = fuel; results = 0 }
+outcome_fields OutOfFrames fuel = record { end = 3; reason = 0; place = 0; fuel = fuel; results = 0 }
 
 -- how a call ended; numbers that do not belong to the end are 0
-abbrev pub end_numbers : Line → GateCall
-end_numbers (Ran o fuel) = outcome_numbers o fuel
-end_numbers NoExport = plain 4
-end_numbers NotAFunction = plain 5
-end_numbers BadArguments = plain 6
-end_numbers (NotStarted r) = record { end = 7; reason = refusal_number r; place = segment_of r; fuel = 0; results = 0 }
-end_numbers NoMemory = plain 8
+abbrev pub end_fields : Line → GateCall
+end_fields (Ran o fuel) = outcome_fields o fuel
+end_fields NoExport = plain 4
+end_fields NotAFunction = plain 5
+end_fields BadArguments = plain 6
+end_fields (NotStarted r) = record { end = 7; reason = refusal_code r; place = segment_of r; fuel = 0; results = 0 }
+end_fields NoMemory = plain 8
 
 -- the values that it ended in, if any
 abbrev pub values_of : Line → List Value

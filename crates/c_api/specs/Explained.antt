@@ -3,36 +3,36 @@ use Rattle.std.specs.Prelude.{◌≡◌, ◌⊎◌, ℕ, List, Option, Some, Non
 use Rattle.wsyntax.specs.Validation.Verdict.{Verdict, IsVerdict}
 use Rattle.wsyntax.specs.Texts.Lines.{verdict_line}
 use Rattle.explain.specs.declared.explanation.Explanation.{Explanation}
-use Rattle.explain.specs.declared.numbers.ExplanationKind.{ExplanationKind}
-use Rattle.explain.specs.declared.numbers.ExplanationKind.TheVariants as kind
-use Rattle.explain.specs.Numbers.{body_told, item_told, kind_told, opcode_told, place_told, section_told}
+use Rattle.explain.specs.declared.fields.ExplanationKind.{ExplanationKind}
+use Rattle.explain.specs.declared.fields.ExplanationKind.TheVariants as kind
+use Rattle.explain.specs.Fields.{body_told, item_told, kind_told, opcode_told, span_told, section_told}
 use Rattle.explain.specs.Placed.{AreSo}
 use Rattle.explain.specs.Texts.{BeginsWith}
 use Rattle.explain.specs.Told.{verdict_told}
 use Rattle.c_api.specs.declared.explained.GateExplanation.{GateExplanation}
 use Rattle.c_api.specs.Texts.{AreKept, Hands}
-use Rattle.c_api.specs.Verdicts.{numbers_of, status_of}
+use Rattle.c_api.specs.Verdicts.{fields_of, status_of}
 
 -- the hundreds are the kind of the verdict
-abbrev pub kind_number : ExplanationKind → ℕ
-kind_number kind.Accepted = 0
-kind_number kind.TooLarge = 100
-kind_number kind.Text = 201
-kind_number kind.Gzip = 202
-kind_number kind.ShortHeader = 203
-kind_number kind.Magic = 204
-kind_number kind.Version = 205
-kind_number kind.Sections = 206
-kind_number kind.Rule = 300
-kind_number kind.BodyMalformed = 400
-kind_number kind.Locals = 401
-kind_number kind.Token = 402
-kind_number kind.Else = 403
-kind_number kind.Left = 404
-kind_number kind.ShortBody = 405
-kind_number kind.TooManyLocals = 500
-kind_number kind.IllTyped = 600
-kind_number kind.Memory = 0
+abbrev pub kind_code : ExplanationKind → ℕ
+kind_code kind.Accepted = 0
+kind_code kind.TooLarge = 100
+kind_code kind.Text = 201
+kind_code kind.Gzip = 202
+kind_code kind.ShortHeader = 203
+kind_code kind.Magic = 204
+kind_code kind.Version = 205
+kind_code kind.Sections = 206
+kind_code kind.Rule = 300
+kind_code kind.BodyMalformed = 400
+kind_code kind.Locals = 401
+kind_code kind.Token = 402
+kind_code kind.Else = 403
+kind_code kind.Left = 404
+kind_code kind.ShortBody = 405
+kind_code kind.TooManyLocals = 500
+kind_code kind.IllTyped = 600
+kind_code kind.Memory = 0
 
 -- a number of 64 bits, and one of 32 bits; what is not told is the greatest
 abbrev pub wide : Option ℕ → ℕ
@@ -44,17 +44,17 @@ short (Some n) = n
 short None = 0xFFFFFFFF
 
 -- those of an explanation that tells that verdict
-abbrev pub numbers_with : Explanation → Verdict → GateExplanation
-numbers_with e v = record {
-  verdict = numbers_of v;
-  why = kind_number (kind_told e);
+abbrev pub fields_with : Explanation → Verdict → GateExplanation
+fields_with e v = record {
+  verdict = fields_of v;
+  why = kind_code (kind_told e);
   section = short (section_told e);
   opcode = short (opcode_told e);
   item = wide (item_told e);
   body_from = wide (option_map (λ s. s.from) (body_told e));
   body_to = wide (option_map (λ s. s.to) (body_told e));
-  from = wide (option_map (λ s. s.from) (place_told e));
-  to = wide (option_map (λ s. s.to) (place_told e));
+  from = wide (option_map (λ s. s.from) (span_told e));
+  to = wide (option_map (λ s. s.to) (span_told e));
 }
 
 -- the bytes have the verdict that the explanation tells, and what it tells beside that is so
@@ -67,7 +67,7 @@ pub record IsExplanation (bytes : List ℕ) (e : Explanation) (v : Verdict) : Ty
 abbrev pub Explains : List ℕ → GateExplanation → GateExplanation → ℕ → Type 0
 Explains bytes old new status =
     ((status ≡ 70) × (new ≡ old))
-    ⊎ ((e : Explanation) × (v : Verdict) × IsExplanation bytes e v × (new ≡ numbers_with e v) × (status ≡ status_of v))
+    ⊎ ((e : Explanation) × (v : Verdict) × IsExplanation bytes e v × (new ≡ fields_with e v) × (status ≡ status_of v))
 
 -- a text whose first line is that of the verdict is handed out; or memory was refused, and nothing is written
 abbrev pub HandsText : List ℕ → List ℕ → List ℕ → ℕ → ℕ → ℕ → Type 0

@@ -20,11 +20,11 @@ abbrev pub functions_of : AcceptedModule → List FuncType
 functions_of a = a.context.context.functions
 
 -- 2.5.10 the number of a kind
-abbrev pub kind_number : ExportKind → ℕ
-kind_number Function = 0
-kind_number Table = 1
-kind_number Memory = 2
-kind_number Global = 3
+abbrev pub kind_code : ExportKind → ℕ
+kind_code Function = 0
+kind_code Table = 1
+kind_code Memory = 2
+kind_code Global = 3
 
 -- 2.5.3 the type of what is exported, where it is a function
 abbrev pub function_type : List FuncType → ExportKind → ℕ → Option FuncType
@@ -43,9 +43,9 @@ results_of None = 0
 results_of (Some t) = length t.results
 
 -- the numbers of what is exported, where these are the types of the functions
-abbrev pub export_numbers : List FuncType → ExportKind → ℕ → GateExport
-export_numbers functions kind index = record {
-  kind = kind_number kind;
+abbrev pub export_fields : List FuncType → ExportKind → ℕ → GateExport
+export_fields functions kind index = record {
+  kind = kind_code kind;
   index = index;
   params = params_of (function_type functions kind index);
   results = results_of (function_type functions kind index);
@@ -60,7 +60,7 @@ IsTyped functions Global x = Unit {0}
 
 -- the numbers of an export are written, and it has a type, where it is a function
 abbrev pub TellsOf : AcceptedModule → GateExport → ℕ → ExportShape → Type 0
-TellsOf a new answered e = (answered ≡ 0) × (new ≡ export_numbers (functions_of a) e.kind e.index) × IsTyped (functions_of a) e.kind e.index
+TellsOf a new answered e = (answered ≡ 0) × (new ≡ export_fields (functions_of a) e.kind e.index) × IsTyped (functions_of a) e.kind e.index
 
 -- there is none, and nothing is written
 abbrev pub LeavesExport : GateExport → GateExport → ℕ → Type 0
@@ -68,7 +68,7 @@ LeavesExport old new answered = (answered ≡ 4) × (new ≡ old)
 
 -- the numbers of the export of that number are written; or there is none
 abbrev pub TellsExport : AcceptedModule → ℕ → GateExport → GateExport → ℕ → Type 0
-TellsExport a number old new answered = MatchOption (slice_get (exports_of a) number) (LeavesExport old new answered) (TellsOf a new answered)
+TellsExport a position old new answered = MatchOption (slice_get (exports_of a) position) (LeavesExport old new answered) (TellsOf a new answered)
 
 -- the numbers of the export of that name are written; or there is none
 abbrev pub FindsExport : AcceptedModule → List ℕ → GateExport → GateExport → ℕ → Type 0
@@ -78,8 +78,8 @@ FindsExport a name old new answered =
 
 -- the name of the export of that number is written, and its length, or the buffer is short; or there is no such export, and nothing is written
 abbrev pub TellsName : AcceptedModule → ℕ → List ℕ → List ℕ → ℕ → ℕ → ℕ → Type 0
-TellsName a number old new was now answered =
-    MatchOption (slice_get (exports_of a) number) ((answered ≡ 4) × AreKept old new was now) (λ e. Hands e.item_name 0 old new now answered)
+TellsName a position old new was now answered =
+    MatchOption (slice_get (exports_of a) position) ((answered ≡ 4) × AreKept old new was now) (λ e. Hands e.item_name 0 old new now answered)
 
 -- 5.3.1 the byte of a value type
 abbrev pub type_byte : ValType → ℕ

@@ -5,7 +5,7 @@ use Rattle.batch.specs.declared.status.Status.{Status}
 use Rattle.c_api.specs.declared.kept.Kept.{Kept}
 use Rattle.c_api.specs.declared.module.ModuleSlot.{ModuleSlot}
 use Rattle.c_api.specs.declared.report.ReportSlot.{ReportSlot}
-use Rattle.c_api.specs.Statuses.{number_of}
+use Rattle.c_api.specs.Statuses.{code_of}
 use Rattle.c_api.specs.Texts.{IsWritten, Misses}
 
 -- the handle that is written owns a module with P; or the place is as it was
@@ -19,5 +19,5 @@ IsOfText text status kept = (string_bytes kept.answer.text ≡ text) × (kept.an
 -- the text is written, and its length; or the buffer is short, only the length is written, and the handle that is written owns the answer
 abbrev pub HandsOrKeeps : List ℕ → Status → List ℕ → List ℕ → ℕ → ReportSlot → ReportSlot → ℕ → Type 0
 HandsOrKeeps text status old new now was kept answered =
-    (now ≡ length text) × (((answered ≡ number_of status) × IsWritten text old new × (kept ≡ was))
+    (now ≡ length text) × (((answered ≡ code_of status) × IsWritten text old new × (kept ≡ was))
     ⊎ ((answered ≡ 75) × Misses text old new × IsSomeAnd kept.value (IsOfText text status)))

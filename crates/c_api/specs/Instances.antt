@@ -10,12 +10,12 @@ use Rattle.wstore.specs.Detached.{store_as}
 use Rattle.wstore.specs.ExportedGlobals.{IsGlobalOf}
 use Rattle.wstore.specs.declared.detached.Detached.{Detached}
 use Rattle.batch_text.specs.declared.line.Line.{Line}
-use Rattle.c_api.specs.Beginnings.{Begins, FailsToBegin, begun_numbers}
+use Rattle.c_api.specs.Beginnings.{Begins, FailsToBegin, begun_fields}
 use Rattle.c_api.specs.Calls.{RefusesCall, TellsCall}
 use Rattle.c_api.specs.CallsOn.{EndsExport}
-use Rattle.c_api.specs.Ends.{end_numbers}
+use Rattle.c_api.specs.Ends.{end_fields}
 use Rattle.c_api.specs.Runs as runs
-use Rattle.c_api.specs.Values.{value_numbers}
+use Rattle.c_api.specs.Values.{value_fields}
 use Rattle.c_api.specs.declared.ending.GateCall.{GateCall}
 use Rattle.c_api.specs.declared.live.Live.{Live}
 use Rattle.c_api.specs.declared.settings.GateSettings.{GateSettings}
@@ -69,13 +69,13 @@ AnswersWrite old at bytes new status =
 -- 4.2.10 the value of the global of that name is written; or no global has it
 abbrev pub AnswersGlobal : Live → List ℕ → GateValue → GateValue → ℕ → Type 0
 AnswersGlobal l name old new status =
-    ((status ≡ 0) × ((s : Store) × (v : Value) × (store_in l ≡ Some s) × IsGlobalOf (module_of l) s name (Some v) × (new ≡ value_numbers v)))
+    ((status ≡ 0) × ((s : Store) × (v : Value) × (store_in l ≡ Some s) × IsGlobalOf (module_of l) s name (Some v) × (new ≡ value_fields v)))
     ⊎ ((status ≡ 82) × (new ≡ old) × ((s : Store) → store_in l ≡ Some s → IsGlobalOf (module_of l) s name None))
 
 -- 4.5.5 the line says how the call of this name with the arguments of these numbers ends, which are words, on the instance as it was
 abbrev pub EndsOnLive : Live → List ℕ → List GateValue → GateSettings → Live → Line → Type 0
 EndsOnLive old name numbers s new line =
-    (args : List Value) × (d : Detached) × (d' : Detached) × AreWords args × (map value_numbers args ≡ numbers)
+    (args : List Value) × (d : Detached) × (d' : Detached) × AreWords args × (map value_fields args ≡ numbers)
     × (old.state ≡ Some d) × (new.state ≡ Some d')
     × EndsExport old.accepted.value (runs.limits_of s) name args (store_as old.accepted.value d) d.failed line (store_as old.accepted.value d') d'.failed
 
@@ -90,5 +90,5 @@ AnswersCallOn old name numbers s before after was ended new answered =
 abbrev pub AnswersReset : Live → GateCall → Live → ℕ → Type 0
 AnswersReset old ended new answered =
     KeepsModule old new
-    × (((answered ≡ 0) × (d : Detached) × (k : ℕ) × (new.state ≡ Some d) × Begins old.accepted.value (limits_of old.settings) d k × (ended ≡ begun_numbers k))
-    ⊎ ((answered ≡ 81) × (line : Line) × (new.state ≡ None) × FailsToBegin old.accepted.value (limits_of old.settings) line × (ended ≡ end_numbers line)))
+    × (((answered ≡ 0) × (d : Detached) × (k : ℕ) × (new.state ≡ Some d) × Begins old.accepted.value (limits_of old.settings) d k × (ended ≡ begun_fields k))
+    ⊎ ((answered ≡ 81) × (line : Line) × (new.state ≡ None) × FailsToBegin old.accepted.value (limits_of old.settings) line × (ended ≡ end_fields line)))

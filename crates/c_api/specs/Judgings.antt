@@ -13,7 +13,7 @@ use Rattle.c_api.specs.declared.judged.GateVerdict.{GateVerdict}
 use Rattle.c_api.specs.declared.judging.JudgingSlot.{JudgingSlot}
 use Rattle.c_api.specs.declared.module.ModuleSlot.{ModuleSlot}
 use Rattle.c_api.specs.declared.pending.Pending.{Pending}
-use Rattle.c_api.specs.Verdicts.{numbers_of, status_of, TellsRefusal}
+use Rattle.c_api.specs.Verdicts.{fields_of, status_of, TellsRefusal}
 
 -- what was judged of the bodies of which module, where the handle still has one
 abbrev pub progress_in : Pending → Option Progress
@@ -25,7 +25,7 @@ IsFresh bytes p = progress_in p ≡ Some (no_progress bytes)
 
 -- the module of these bytes is refused, and its verdict is written
 abbrev pub RefusesModule : List ℕ → GateVerdict → Type 0
-RefusesModule bytes after = (v : Verdict) × IsVerdict bytes v × (status_of v ≡ 2) × (after ≡ numbers_of v)
+RefusesModule bytes after = (v : Verdict) × IsVerdict bytes v × (status_of v ≡ 2) × (after ≡ fields_of v)
 
 -- Beginning.
 
@@ -67,7 +67,7 @@ TellsJudged (Err r) before after answered = TellsRefusal (verdict_of r) before a
 abbrev pub AnswersBodies : ℕ → ℕ → Pending → Pending → GateVerdict → GateVerdict → ℕ → Type 0
 AnswersBodies first count old new before after answered =
     ((answered ≡ 0) × (after ≡ before) × Goes old new (JudgesSome first count (Ok tt)))
-    ⊎ (((answered ≡ 2) × ((f : ℕ) × (c : BodyRefusal) × (after ≡ numbers_of (BodyRefused f (fault_of c)))
+    ⊎ (((answered ≡ 2) × ((f : ℕ) × (c : BodyRefusal) × (after ≡ fields_of (BodyRefused f (fault_of c)))
     × Goes old new (JudgesSome first count (Err (refusal.Body f c)))))
     ⊎ ((answered ≡ 70) × (after ≡ before) × (HasNone old new ⊎ Goes old new (JudgesSome first count (Err refusal.Memory)))))
 
@@ -88,7 +88,7 @@ StaysOpen old left was slot = IsSomeAnd left (λ p. progress_in p ≡ progress_i
 -- all bodies were judged, and the module is accepted; the handle that is written owns it, and that of the check is gone
 abbrev pub Accepts : Progress → GateVerdict → ModuleSlot → Option Pending → Type 0
 Accepts p after slot left =
-    HasAll p × IsVerdict p.bytes Accepted × (after ≡ numbers_of Accepted)
+    HasAll p × IsVerdict p.bytes Accepted × (after ≡ fields_of Accepted)
     × IsSomeAnd slot.value (λ h. IsAcceptedFrom p.bytes h.accepted.value) × (left ≡ None)
 
 -- so it is where all bodies pass; or another handle has the module too; or memory was refused, and this one has no module any more
@@ -101,7 +101,7 @@ EndsAccepted p left before after was slot answered =
 -- the handle that is written owns this accepted module; or memory was refused
 abbrev pub HandsAccepted : AcceptedModule → Option Pending → GateVerdict → GateVerdict → ModuleSlot → ModuleSlot → ℕ → Type 0
 HandsAccepted a left before after was slot answered =
-    ((answered ≡ 0) × (after ≡ numbers_of Accepted) × IsSomeAnd slot.value (λ h. h.accepted.value ≡ a) × (left ≡ None))
+    ((answered ≡ 0) × (after ≡ fields_of Accepted) × IsSomeAnd slot.value (λ h. h.accepted.value ≡ a) × (left ≡ None))
     ⊎ ((answered ≡ 70) × (after ≡ before) × (slot ≡ was) × IsSomeAnd left (λ q. progress_in q ≡ None))
 
 -- accepted; or refused; or a body was not judged; or all were, and another handle has the module too; or memory was refused

@@ -4,8 +4,8 @@ use Rattle.accepted_module.specs.declared.accepted.Accepted.{Accepted as Accepte
 use Rattle.batch_text.specs.declared.line.Line.{Line}
 use Rattle.wstore.specs.CallLimits as limits
 use Rattle.wstore.specs.declared.detached.Detached.{Detached}
-use Rattle.c_api.specs.Beginnings.{Begins, FailsToBegin, begun_numbers}
-use Rattle.c_api.specs.Ends.{end_numbers}
+use Rattle.c_api.specs.Beginnings.{Begins, FailsToBegin, begun_fields}
+use Rattle.c_api.specs.Ends.{end_fields}
 use Rattle.c_api.specs.Runs.{limits_of, in_range}
 use Rattle.c_api.specs.declared.ending.GateCall.{GateCall}
 use Rattle.c_api.specs.declared.instance.InstanceSlot.{InstanceSlot}
@@ -21,5 +21,5 @@ IsMade a s k l =
 abbrev pub MakesInstance : AcceptedModule → GateSettings → InstanceSlot → InstanceSlot → GateCall → GateCall → ℕ → Type 0
 MakesInstance a s old new was ended answered =
     ((((answered ≡ 64) × (in_range s ≡ false)) ⊎ ((answered ≡ 70) × (in_range s ≡ true))) × (new ≡ old) × (ended ≡ was))
-    ⊎ (((answered ≡ 81) × (in_range s ≡ true) × (new ≡ old) × (line : Line) × FailsToBegin a (limits_of s) line × (ended ≡ end_numbers line))
-    ⊎ ((answered ≡ 0) × (in_range s ≡ true) × (k : ℕ) × IsSomeAnd new.value (IsMade a s k) × (ended ≡ begun_numbers k)))
+    ⊎ (((answered ≡ 81) × (in_range s ≡ true) × (new ≡ old) × (line : Line) × FailsToBegin a (limits_of s) line × (ended ≡ end_fields line))
+    ⊎ ((answered ≡ 0) × (in_range s ≡ true) × (k : ℕ) × IsSomeAnd new.value (IsMade a s k) × (ended ≡ begun_fields k)))

@@ -34,16 +34,16 @@ element_bytes e = 4 * length e.functions
 abbrev pub elements_bytes : List HeldElement → ℕ
 elements_bytes es = 32 * length es + sum_by element_bytes es
 
--- what instances start from: first values of globals, and places of segments
+-- what instances start from: first values of globals, and offsets of segments
 abbrev pub layout_bytes : InitialState → ℕ
-layout_bytes l = 8 * length l.globals.items + 4 * length l.element_places.items + 4 * length l.data_places.items
+layout_bytes l = 8 * length l.globals.items + 4 * length l.element_offsets.items + 4 * length l.data_offsets.items
 
 -- 2.5 the module's imports, functions, tables, memories and globals
 abbrev pub space_bytes : Module → ℕ
 space_bytes m = 48 * length m.imports.items + 4 * length m.functions.items + 12 * length m.tables.items
     + 12 * length m.memories.items + 32 * length m.globals.items
 
--- 2.5 its exports, with the place of each in the order of names, the places of its bodies, and its segments
+-- 2.5 its exports, with the position of each in the order of names, the slices of its bodies, and its segments
 abbrev pub named_bytes : Module → ℕ
 named_bytes m = 24 * length m.exports.items + 8 * length m.exports.items + 16 * length m.bodies.items + 48 * length m.«data».items + elements_bytes m.elements
 

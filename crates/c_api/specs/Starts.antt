@@ -10,7 +10,7 @@ use Rattle.accepted_module.specs.Judgement.{shapes_of}
 use Rattle.accepted_module.specs.declared.accepted.Accepted.{Accepted as AcceptedModule}
 use Rattle.c_api.specs.declared.ending.GateCall.{GateCall}
 use Rattle.c_api.specs.declared.settings.GateSettings.{GateSettings}
-use Rattle.c_api.specs.Ends.{end_numbers}
+use Rattle.c_api.specs.Ends.{end_fields}
 use Rattle.c_api.specs.Runs.{in_range}
 
 -- 4.5.4 why the module has no instance of at most so many pages
@@ -28,4 +28,4 @@ SaysStart pages a line = ⊥
 abbrev pub AnswersStart : GateSettings → AcceptedModule → GateCall → GateCall → ℕ → Type 0
 AnswersStart s a old new answered =
     ((answered ≡ 64) × (in_range s ≡ false) × (new ≡ old))
-    ⊎ ((answered ≡ 0) × (in_range s ≡ true) × ((line : Line) × SaysStart s.pages a line × (new ≡ end_numbers line)))
+    ⊎ ((answered ≡ 0) × (in_range s ≡ true) × ((line : Line) × SaysStart s.pages a line × (new ≡ end_fields line)))

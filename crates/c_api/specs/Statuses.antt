@@ -4,7 +4,7 @@ use Rattle.batch.specs.declared.status.Status.{Status}
 use Rattle.batch.specs.declared.status.Status.TheVariants.{Good, ModuleRefused, CallsRefused}
 
 -- of an answer
-abbrev pub number_of : Status → ℕ
-number_of Good = 0
-number_of ModuleRefused = 2
-number_of CallsRefused = 3
+abbrev pub code_of : Status → ℕ
+code_of Good = 0
+code_of ModuleRefused = 2
+code_of CallsRefused = 3

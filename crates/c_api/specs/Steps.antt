@@ -15,10 +15,10 @@ Joins p r q (Err OtherBytes) = (r.bytes ≡ p.bytes → ⊥) × (q ≡ p)
 Joins p r q (Err Memory) = q ≡ p
 
 -- the status
-abbrev pub joined_number : Result (Unit {0}) JoinFault → ℕ
-joined_number (Ok _) = 0
-joined_number (Err OtherBytes) = 64
-joined_number (Err Memory) = 70
+abbrev pub joined_code : Result (Unit {0}) JoinFault → ℕ
+joined_code (Ok _) = 0
+joined_code (Err OtherBytes) = 64
+joined_code (Err Memory) = 70
 
 -- the module of these bytes is accepted; or it has other owners, and nothing changes; or memory was refused
 abbrev pub Ends : Progress → EndedCheck → Type 0

@@ -14,14 +14,14 @@ abbrev pub of_body : ℕ → ℕ → ℕ → GateVerdict
 of_body kind f token = record { kind = kind; rule = 0; function = f; token = token }
 
 -- the numbers of a verdict; those that do not belong to its kind are 0
-abbrev pub numbers_of : Verdict → GateVerdict
-numbers_of Accepted = plain 0
-numbers_of TooLarge = plain 1
-numbers_of Malformed = plain 2
-numbers_of (RuleBroken k) = record { kind = 3; rule = k; function = 0; token = 0 }
-numbers_of (BodyRefused f BodyMalformed) = of_body 4 f 0
-numbers_of (BodyRefused f TooManyLocals) = of_body 5 f 0
-numbers_of (BodyRefused f (IllTyped at)) = of_body 6 f at
+abbrev pub fields_of : Verdict → GateVerdict
+fields_of Accepted = plain 0
+fields_of TooLarge = plain 1
+fields_of Malformed = plain 2
+fields_of (RuleBroken k) = record { kind = 3; rule = k; function = 0; token = 0 }
+fields_of (BodyRefused f BodyMalformed) = of_body 4 f 0
+fields_of (BodyRefused f TooManyLocals) = of_body 5 f 0
+fields_of (BodyRefused f (IllTyped at)) = of_body 6 f at
 
 -- the status that goes with it
 abbrev pub status_of : Verdict → ℕ
@@ -30,7 +30,7 @@ status_of v = 2
 
 -- the bytes have this verdict, its numbers are written, and the status is its status
 abbrev pub Tells : List ℕ → GateVerdict → ℕ → Type 0
-Tells bytes new status = (v : Verdict) × IsVerdict bytes v × (new ≡ numbers_of v) × (status ≡ status_of v)
+Tells bytes new status = (v : Verdict) × IsVerdict bytes v × (new ≡ fields_of v) × (status ≡ status_of v)
 
 -- or memory was refused, and nothing is written
 abbrev pub Answers : List ℕ → GateVerdict → GateVerdict → ℕ → Type 0
@@ -38,7 +38,7 @@ Answers bytes old new status = ((status ≡ 70) × (new ≡ old)) ⊎ Tells byte
 
 -- the numbers of the verdict of a refusal are written; or memory was refused, and nothing is
 abbrev pub TellsRefusal : Option Verdict → GateVerdict → GateVerdict → ℕ → Type 0
-TellsRefusal (Some v) old new status = (status ≡ 2) × (new ≡ numbers_of v)
+TellsRefusal (Some v) old new status = (status ≡ 2) × (new ≡ fields_of v)
 TellsRefusal None old new status = (status ≡ 70) × (new ≡ old)
 
 -- a rule has a number from 2 to 13
@@ -48,14 +48,14 @@ IsNamed v = Unit {0}
 
 -- the numbers of no verdict
 abbrev pub IsNoVerdict : GateVerdict → Type 0
-IsNoVerdict numbers = (v : Verdict) → IsNamed v → numbers ≡ numbers_of v → ⊥
+IsNoVerdict fields = (v : Verdict) → IsNamed v → fields ≡ fields_of v → ⊥
 
 -- the line of the verdict with these numbers, whose rule has a number from 2 to 13
 abbrev pub IsLineOf : GateVerdict → List ℕ → Type 0
-IsLineOf numbers line = (v : Verdict) × IsNamed v × (numbers ≡ numbers_of v) × (line ≡ verdict_line v)
+IsLineOf fields line = (v : Verdict) × IsNamed v × (fields ≡ fields_of v) × (line ≡ verdict_line v)
 
 -- the numbers are of no verdict, or memory was refused, and nothing is written; or that line is handed out
 abbrev pub HandsLine : GateVerdict → List ℕ → List ℕ → ℕ → ℕ → ℕ → Type 0
-HandsLine numbers old new was now answered =
-    (((answered ≡ 64) × IsNoVerdict numbers × AreKept old new was now) ⊎ ((answered ≡ 70) × AreKept old new was now))
-    ⊎ ((line : List ℕ) × IsLineOf numbers line × Hands line 0 old new now answered)
+HandsLine fields old new was now answered =
+    (((answered ≡ 64) × IsNoVerdict fields × AreKept old new was now) ⊎ ((answered ≡ 70) × AreKept old new was now))
+    ⊎ ((line : List ℕ) × IsLineOf fields line × Hands line 0 old new now answered)

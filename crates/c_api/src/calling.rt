@@ -3,8 +3,8 @@
 ghost use Rattle.std.specs.Prelude.{◌≡◌, true, IfOk, IfErr, IsErrOf, OnOk, map};
 ghost use Rattle.wsyntax.specs.Execution.Values.{AreWords};
 ghost use Rattle.batch_text.specs.Args.{args_of};
-ghost use Rattle.c_api.specs.Values.{value_numbers, AreNoArguments, overlay};
-ghost use Rattle.c_api.specs.Ends.{end_numbers, values_of};
+ghost use Rattle.c_api.specs.Values.{value_fields, AreNoArguments, overlay};
+ghost use Rattle.c_api.specs.Ends.{end_fields, values_of};
 ghost use Rattle.c_api.specs.Calls.{EndsCall, RefusesCall};
 ghost use Rattle.c_api.specs.Runs.{in_range};
 
@@ -30,7 +30,7 @@ pub(crate) enum ArgsFault {
 
 /// The arguments that these are the numbers of.
 pub(crate) fn arguments(alloc: Global, numbers: &[GateValue]) -> Result<Args, ArgsFault>
-    ensures ok { IfOk result (λ args. map value_numbers (args_of args) ≡ numbers.now) }
+    ensures ok { IfOk result (λ args. map value_fields (args_of args) ≡ numbers.now) }
     ensures words { IfOk result (λ args. AreWords (args_of args)) }
     ensures no_value { IsErrOf result ArgsFault.NoValue → AreNoArguments numbers.now }
 {
@@ -52,8 +52,8 @@ pub(crate) fn arguments(alloc: Global, numbers: &[GateValue]) -> Result<Args, Ar
 fn put_values(values: &[Value], results: &mut [GateValue])
     ensures { results.new ≡ overlay values.now results.old }
 {
-    for place in 0..values.len().min(results.len()) {
-        results[place] = GateValue::of(values[place]);
+    for position in 0..values.len().min(results.len()) {
+        results[position] = GateValue::of(values[position]);
     }
 }
 
@@ -84,7 +84,7 @@ pub(crate) fn call(
 
 /// Writes how a call ended, and the values that there is room for.
 pub(crate) fn tell_end(line: &Line, results: &mut [GateValue], ended: &mut GateCall)
-    ensures ended { ended.new ≡ end_numbers line.now }
+    ensures ended { ended.new ≡ end_fields line.now }
     ensures results { results.new ≡ overlay (values_of line.now) results.old }
 {
     *ended = GateCall::of(line);

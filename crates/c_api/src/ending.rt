@@ -2,7 +2,7 @@
 
 ghost use Rattle.std.specs.Prelude.{◌≡◌};
 ghost use Rattle.batch_text.specs.declared.line.Line.TheVariants.{NotStarted};
-ghost use Rattle.c_api.specs.Ends.{trap_number, refusal_number, segment_of, outcome_numbers, end_numbers};
+ghost use Rattle.c_api.specs.Ends.{trap_code, refusal_code, segment_of, outcome_fields, end_fields};
 
 use batch_text::{Line, Outcome, StartRefusal};
 use wnum::NumTrap;
@@ -28,8 +28,8 @@ pub struct GateCall {
 const _: () = prove!(size_of::<GateCall>() == 24 && align_of::<GateCall>() == 8);
 
 /// The number of a trap, as `gate_trap` of gate.h has it.
-fn number_of_trap(trap: Trap) -> u32
-    ensures { result ≡ trap_number trap }
+fn code_of_trap(trap: Trap) -> u32
+    ensures { result ≡ trap_code trap }
 {
     match trap {
         Trap::Unreachable => 0,
@@ -43,8 +43,8 @@ fn number_of_trap(trap: Trap) -> u32
 }
 
 /// The number of a refusal, as `gate_not_started` of gate.h has it, and the segment that lies outside, else 0.
-fn numbers_of_refusal(refusal: StartRefusal) -> (u32, u32)
-    ensures reason { result.0 ≡ refusal_number refusal }
+fn fields_of_refusal(refusal: StartRefusal) -> (u32, u32)
+    ensures reason { result.0 ≡ refusal_code refusal }
     ensures place { result.1 ≡ segment_of refusal }
 {
     match refusal {
@@ -58,7 +58,7 @@ fn numbers_of_refusal(refusal: StartRefusal) -> (u32, u32)
 }
 
 impl GateCall {
-    ghost use Rattle.c_api.specs.Beginnings.{begun_numbers};
+    ghost use Rattle.c_api.specs.Beginnings.{begun_fields};
 
     /// An end of which only the number is told.
     fn plain(end: u32) -> GateCall
@@ -96,18 +96,18 @@ impl GateCall {
 
     /// A start function that ended well, or that there is none.
     pub(crate) fn begun(fuel: u32) -> GateCall
-        ensures { result ≡ begun_numbers fuel }
+        ensures { result ≡ begun_fields fuel }
     {
         GateCall::ran(0, 0, fuel, 0)
     }
 
     /// The end of a call that ran and came to this.
     fn of_outcome(outcome: &Outcome, fuel: u32) -> GateCall
-        ensures { result ≡ outcome_numbers outcome.now fuel }
+        ensures { result ≡ outcome_fields outcome.now fuel }
     {
         match outcome {
             Outcome::Values(values) => GateCall::ran(0, 0, fuel, values.len() as u64),
-            Outcome::Trapped(trap) => GateCall::ran(1, number_of_trap(*trap), fuel, 0),
+            Outcome::Trapped(trap) => GateCall::ran(1, code_of_trap(*trap), fuel, 0),
             Outcome::OutOfFuel => GateCall::ran(2, 0, fuel, 0),
             Outcome::OutOfFrames => GateCall::ran(3, 0, fuel, 0),
         }
@@ -115,9 +115,9 @@ impl GateCall {
 
     /// The end of a call for which no instance was made.
     fn not_started(refusal: StartRefusal) -> GateCall
-        ensures { result ≡ end_numbers (NotStarted refusal) }
+        ensures { result ≡ end_fields (NotStarted refusal) }
     {
-        let (reason, place) = numbers_of_refusal(refusal);
+        let (reason, place) = fields_of_refusal(refusal);
         GateCall {
             end: 7,
             reason,
@@ -129,7 +129,7 @@ impl GateCall {
 
     /// How a call ended.
     pub(crate) fn of(line: &Line) -> GateCall
-        ensures { result ≡ end_numbers line.now }
+        ensures { result ≡ end_fields line.now }
     {
         match line {
             Line::Ran { outcome, fuel } => GateCall::of_outcome(outcome, *fuel),

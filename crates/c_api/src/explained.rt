@@ -1,10 +1,10 @@
 //! An explanation as numbers: `gate_explanation` of gate.h.
 
 ghost use Rattle.std.specs.Prelude.{◌≡◌, IfSome, option_map};
-ghost use Rattle.explain.specs.Numbers.{body_told, item_told, kind_told, opcode_told, place_told, section_told};
+ghost use Rattle.explain.specs.Fields.{body_told, item_told, kind_told, opcode_told, span_told, section_told};
 ghost use Rattle.explain.specs.Told.{verdict_told};
-ghost use Rattle.c_api.specs.Explained.{kind_number, numbers_with, short, wide};
-ghost use Rattle.c_api.specs.Verdicts.{numbers_of, status_of};
+ghost use Rattle.c_api.specs.Explained.{kind_code, fields_with, short, wide};
+ghost use Rattle.c_api.specs.Verdicts.{fields_of, status_of};
 
 use crate::judged::GateVerdict;
 use crate::status::{MODULE_REFUSED, OK};
@@ -34,8 +34,8 @@ pub struct GateExplanation {
 const _: () = prove!(size_of::<GateExplanation>() == 80 && align_of::<GateExplanation>() == 8);
 
 /// The number of a kind, as `gate_why` of gate.h has it.
-fn number_of_kind(kind: ExplanationKind) -> u32
-    ensures { result ≡ kind_number kind }
+fn code_of_kind(kind: ExplanationKind) -> u32
+    ensures { result ≡ kind_code kind }
 {
     match kind {
         ExplanationKind::Accepted | ExplanationKind::Memory => 0,
@@ -80,7 +80,7 @@ fn short_number(told: Option<u8>) -> u32
 
 /// The numbers of the verdict; `None` where memory was refused.
 fn verdict_of(found: &Explanation<'_>) -> Option<GateVerdict>
-    ensures { result ≡ option_map numbers_of (verdict_told found.now) }
+    ensures { result ≡ option_map fields_of (verdict_told found.now) }
 {
     match found.judged() {
         Ok(()) => Some(GateVerdict::accepted()),
@@ -100,9 +100,9 @@ pub(crate) fn status_with(found: &Explanation<'_>) -> u32
 
 /// The number of what is said.
 fn why(found: &Explanation<'_>) -> u32
-    ensures { result ≡ kind_number (kind_told found.now) }
+    ensures { result ≡ kind_code (kind_told found.now) }
 {
-    number_of_kind(found.kind())
+    code_of_kind(found.kind())
 }
 
 /// The number of the section.
@@ -162,22 +162,22 @@ fn body_to(found: &Explanation<'_>) -> u64
 
 /// The first byte of what is refused.
 fn from(found: &Explanation<'_>) -> u64
-    ensures { result ≡ wide (option_map (λ s. s.from) (place_told found.now)) }
+    ensures { result ≡ wide (option_map (λ s. s.from) (span_told found.now)) }
 {
-    first_of(found.place())
+    first_of(found.span())
 }
 
 /// The end of what is refused.
 fn to(found: &Explanation<'_>) -> u64
-    ensures { result ≡ wide (option_map (λ s. s.to) (place_told found.now)) }
+    ensures { result ≡ wide (option_map (λ s. s.to) (span_told found.now)) }
 {
-    last_of(found.place())
+    last_of(found.span())
 }
 
 impl GateExplanation {
     /// The numbers of an explanation; `None` where memory was refused.
     pub(crate) fn of(found: &Explanation<'_>) -> Option<GateExplanation>
-        ensures { result ≡ option_map (numbers_with found.now) (verdict_told found.now) }
+        ensures { result ≡ option_map (fields_with found.now) (verdict_told found.now) }
     {
         Some(GateExplanation {
             verdict: verdict_of(found)?,

@@ -17,14 +17,14 @@ pub extern "C" fn gate_explain(
     bytes: &[u8],
     explanation: &mut GateExplanation,
 ) -> u32
-    ensures numbers { Explains bytes.now explanation.old explanation.new result }
+    ensures fields { Explains bytes.now explanation.old explanation.new result }
     ensures verdict { Answers bytes.now explanation.old.verdict explanation.new.verdict result }
 {
     let found = explain(alloc, bytes);
-    let Some(numbers) = GateExplanation::of(&found) else {
+    let Some(fields) = GateExplanation::of(&found) else {
         return NO_MEMORY;
     };
-    *explanation = numbers;
+    *explanation = fields;
     status_with(&found)
 }
 

@@ -3,7 +3,7 @@
 ghost use Rattle.std.specs.Prelude.{◌≡◌, ◌≤◌, Some, length, map, slice_get};
 ghost use Rattle.wsyntax.specs.Binary.Types.{val_type_of};
 ghost use Rattle.c_api.specs.Texts.{IsWritten};
-ghost use Rattle.c_api.specs.Exported.{kind_number, params_of, results_of, export_numbers, type_byte};
+ghost use Rattle.c_api.specs.Exported.{kind_code, params_of, results_of, export_fields, type_byte};
 ghost use Rattle.c_api.specs.Exported.{TellsExport, FindsExport, TellsName, TellsTypes};
 
 use crate::status::{NOTHING, OK, SHORT_BUFFER};
@@ -29,8 +29,8 @@ pub struct GateExport {
 const _: () = prove!(size_of::<GateExport>() == 16 && align_of::<GateExport>() == 4);
 
 /// The number of a kind, as `gate_export_kind` of gate.h has it.
-fn number_of_kind(kind: ExportKind) -> u32
-    ensures { result ≡ kind_number kind }
+fn code_of_kind(kind: ExportKind) -> u32
+    ensures { result ≡ kind_code kind }
 {
     match kind {
         ExportKind::Function => 0,
@@ -57,14 +57,14 @@ fn counts_of(context: &Context, function: u32) -> (u32, u32)
 impl GateExport {
     /// The numbers of what is exported under this context.
     fn of(context: &Context, kind: ExportKind, index: u32) -> GateExport
-        ensures { result ≡ export_numbers context.now.context.functions kind index }
+        ensures { result ≡ export_fields context.now.context.functions kind index }
     {
         let (params, results) = match kind {
             ExportKind::Function => counts_of(context, index),
             ExportKind::Table | ExportKind::Memory | ExportKind::Global => (0, 0),
         };
         GateExport {
-            kind: number_of_kind(kind),
+            kind: code_of_kind(kind),
             index,
             params,
             results,
@@ -73,11 +73,11 @@ impl GateExport {
 }
 
 /// Writes the export of that number. 0: it is written; 4: there is none.
-pub(crate) fn tell_export(accepted: &Accepted<'_>, number: u64, export: &mut GateExport) -> u32
-    ensures { TellsExport accepted.now number export.old export.new result }
+pub(crate) fn tell_export(accepted: &Accepted<'_>, position: u64, export: &mut GateExport) -> u32
+    ensures { TellsExport accepted.now position export.old export.new result }
 {
     accepted.accepted_holds();
-    let Some(found) = accepted.module().exports.get(number as usize) else {
+    let Some(found) = accepted.module().exports.get(position as usize) else {
         return NOTHING;
     };
     *export = GateExport::of(accepted.context(), found.kind, found.index);
@@ -102,13 +102,13 @@ pub(crate) fn find(accepted: &Accepted<'_>, name: &[u8], export: &mut GateExport
 /// export; 75: there is no room.
 pub(crate) fn tell_name(
     accepted: &Accepted<'_>,
-    number: u64,
+    position: u64,
     out: &mut [u8],
     length: &mut usize,
 ) -> u32
-    ensures { TellsName accepted.now number out.old out.new length.old length.new result }
+    ensures { TellsName accepted.now position out.old out.new length.old length.new result }
 {
-    let Some(found) = accepted.module().exports.get(number as usize) else {
+    let Some(found) = accepted.module().exports.get(position as usize) else {
         return NOTHING;
     };
     hand_text(found.name, OK, out, length)
@@ -132,8 +132,8 @@ fn put_types(types: &[ValType], out: &mut [u8])
     requires { length types.now ≤ length out.old }
     ensures { IsWritten (map type_byte types.now) out.old out.new }
 {
-    for place in 0..types.len() {
-        out[place] = byte_of(types[place]);
+    for position in 0..types.len() {
+        out[position] = byte_of(types[position]);
     }
 }
 

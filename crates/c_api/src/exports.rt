@@ -8,7 +8,7 @@ ghost use Rattle.c_api.specs.Calls.{AnswersCall, EndsCall};
 ghost use Rattle.c_api.specs.Handed.{HandsModule};
 ghost use Rattle.c_api.specs.Handles.{IsAnswered};
 ghost use Rattle.c_api.specs.Runs.{HandsAnswer, IsAnswerOf, IsAnswerTo};
-ghost use Rattle.c_api.specs.Statuses.{number_of};
+ghost use Rattle.c_api.specs.Statuses.{code_of};
 ghost use Rattle.c_api.specs.Texts.{Hands};
 ghost use Rattle.c_api.specs.Verdicts.{Answers, HandsLine, TellsRefusal};
 
@@ -52,13 +52,13 @@ pub extern "C" fn gate_check(alloc: Global, bytes: &[u8], verdict: &mut GateVerd
 /// Writes the verdict of a refusal.
 pub(crate) fn refuse(refusal: Refusal, verdict: &mut GateVerdict) -> u32
     ensures told { TellsRefusal (verdict_of refusal) verdict.old verdict.new result }
-    ensures numbers { (bytes : List ℕ) → IfSome (verdict_of refusal) (IsVerdict bytes) → Answers bytes verdict.old verdict.new result }
+    ensures fields { (bytes : List ℕ) → IfSome (verdict_of refusal) (IsVerdict bytes) → Answers bytes verdict.old verdict.new result }
     ensures refused { result ≢ 0 }
 {
-    let Some(numbers) = GateVerdict::of_refusal(refusal) else {
+    let Some(fields) = GateVerdict::of_refusal(refusal) else {
         return NO_MEMORY;
     };
-    *verdict = numbers;
+    *verdict = fields;
     MODULE_REFUSED
 }
 
@@ -115,7 +115,7 @@ pub extern "C" fn gate_report_read(
     out: &mut [u8],
     length: &mut usize,
 ) -> ReportStatus
-    ensures text { Hands (string_bytes report.value.answer.text) (number_of report.value.answer.status)
+    ensures text { Hands (string_bytes report.value.answer.text) (code_of report.value.answer.status)
         out.old out.new length.new result.status }
     ensures answered { ∥ IsAnswered (string_bytes report.value.answer.text) report.value.answer.status ∥₁ }
     ensures handle { result.at ≡ report.at }

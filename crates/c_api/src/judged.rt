@@ -4,7 +4,7 @@ ghost use Rattle.std.specs.Prelude.{◌≡◌, ◌≢◌, ◌⊎◌, Some, IfSom
 ghost use Rattle.wsyntax.specs.Validation.Verdict.{Verdict, Accepted, BodyRefused};
 ghost use Rattle.verdict.specs.Refusals.{fault_of, verdict_of};
 ghost use Rattle.batch.specs.Report.{given_verdict};
-ghost use Rattle.c_api.specs.Verdicts.{numbers_of, IsNamed, IsNoVerdict};
+ghost use Rattle.c_api.specs.Verdicts.{fields_of, IsNamed, IsNoVerdict};
 
 use verdict::{BodyRefusal, Refusal};
 
@@ -58,7 +58,7 @@ impl GateVerdict {
 
     /// The verdict that a body is refused.
     fn of_body(function: u32, refusal: BodyRefusal) -> GateVerdict
-        ensures { result ≡ numbers_of (BodyRefused function (fault_of refusal)) }
+        ensures { result ≡ fields_of (BodyRefused function (fault_of refusal)) }
     {
         match refusal {
             BodyRefusal::Malformed => GateVerdict::on_body(4, function, 0),
@@ -69,14 +69,14 @@ impl GateVerdict {
 
     /// The verdict that a module is accepted.
     pub(crate) fn accepted() -> GateVerdict
-        ensures { result ≡ numbers_of Accepted }
+        ensures { result ≡ fields_of Accepted }
     {
         GateVerdict::plain(0)
     }
 
     /// The verdict of a refusal; `None` where memory was refused.
     pub(crate) fn of_refusal(refusal: Refusal) -> Option<GateVerdict>
-        ensures { result ≡ option_map numbers_of (verdict_of refusal) }
+        ensures { result ≡ option_map fields_of (verdict_of refusal) }
     {
         match refusal {
             Refusal::TooLarge => Some(GateVerdict::plain(1)),
@@ -95,7 +95,7 @@ impl GateVerdict {
     /// The refusal of that kind with these numbers, of which those that do not belong to the kind are not read. `None` where there
     /// is none, as where a rule has no such number.
     fn refusal(&self) -> Option<Refusal>
-        ensures found { (v : Verdict) → IsNamed v → self.now ≡ numbers_of v → v ≢ Accepted →
+        ensures found { (v : Verdict) → IsNamed v → self.now ≡ fields_of v → v ≢ Accepted →
             IsSomeAnd result (λ r. verdict_of r ≡ Some v) }
         ensures named { IfSome result (λ r. IfSome (verdict_of r) IsNamed) }
     {
@@ -118,7 +118,7 @@ impl GateVerdict {
 
     /// What the judge found that these are the numbers of; `None` where they are of no verdict.
     pub(crate) fn judged(&self) -> Option<Result<(), Refusal>>
-        ensures some { IfSome result (λ judged. IsSomeAnd (given_verdict judged) (λ v. IsNamed v × (self.now ≡ numbers_of v))) }
+        ensures some { IfSome result (λ judged. IsSomeAnd (given_verdict judged) (λ v. IsNamed v × (self.now ≡ fields_of v))) }
         ensures none { IfNone result (IsNoVerdict self.now) }
     {
         if *self == GateVerdict::accepted() {

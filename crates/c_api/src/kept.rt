@@ -3,7 +3,7 @@
 ghost use Rattle.std.specs.Prelude.{string_bytes};
 ghost use Rattle.c_api.specs.Handles.{IsAnswered};
 
-use crate::status::status_number;
+use crate::status::status_code;
 use crate::text::hand_text;
 use batch::Answer;
 
@@ -16,7 +16,7 @@ pub struct Kept {
 
 impl Kept {
     ghost use Rattle.std.specs.Prelude.{◌≡◌, nat_le, length};
-    ghost use Rattle.c_api.specs.Statuses.{number_of};
+    ghost use Rattle.c_api.specs.Statuses.{code_of};
     ghost use Rattle.c_api.specs.Texts.{Hands};
 
     /// Whether a buffer has room for the text.
@@ -28,9 +28,9 @@ impl Kept {
 
     /// Writes the text, where there is room for it, and its length; the status of the answer, or that the buffer is short.
     pub(crate) fn read(&self, out: &mut [u8], length: &mut usize) -> u32
-        ensures { Hands (string_bytes self.now.answer.text) (number_of self.now.answer.status) out.old out.new length.new result }
+        ensures { Hands (string_bytes self.now.answer.text) (code_of self.now.answer.status) out.old out.new length.new result }
     {
-        let status = status_number(self.answer.status);
+        let status = status_code(self.answer.status);
         hand_text(self.answer.text.as_bytes(), status, out, length)
     }
 }

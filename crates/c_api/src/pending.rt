@@ -4,7 +4,7 @@ ghost use Rattle.std.specs.Prelude.{◌≡◌};
 ghost use Rattle.verdict.specs.Steps.{HasAll};
 ghost use Rattle.c_api.specs.Handles.{IsOfBytes};
 ghost use Rattle.c_api.specs.Judgings.{TellsJudged, EndsSteps, EndsAccepted, HandsAccepted};
-ghost use Rattle.c_api.specs.Steps.{joined_number};
+ghost use Rattle.c_api.specs.Steps.{joined_code};
 
 use crate::exports::refuse;
 use crate::held::Held;
@@ -125,7 +125,7 @@ fn tell_judged(judged: Result<(), Refusal>, verdict: &mut GateVerdict) -> u32
 
 /// The status of what was to be joined.
 fn tell_joined(joined: Result<(), JoinFault>) -> u32
-    ensures { result ≡ joined_number joined }
+    ensures { result ≡ joined_code joined }
 {
     match joined {
         Ok(()) => OK,

@@ -50,15 +50,15 @@ pub extern "C" fn gate_module_size(module: GateModule) -> ModuleCount
 #[unsafe(no_mangle)]
 pub extern "C" fn gate_module_export(
     module: GateModule,
-    number: u64,
+    position: u64,
     export: &mut GateExport,
 ) -> ModuleStatus
-    ensures answer { TellsExport «module».value.accepted.value number export.old export.new result.status }
+    ensures answer { TellsExport «module».value.accepted.value position export.old export.new result.status }
     ensures handle { result.at ≡ «module».at }
     ensures alive { result.value ≡ «module».value }
 {
     let held = module.loose();
-    let status = tell_export(&held.as_ref().accepted, number, export);
+    let status = tell_export(&held.as_ref().accepted, position, export);
     ModuleStatus::of(status, held)
 }
 
@@ -67,16 +67,16 @@ pub extern "C" fn gate_module_export(
 #[unsafe(no_mangle)]
 pub extern "C" fn gate_module_export_name(
     module: GateModule,
-    number: u64,
+    position: u64,
     out: &mut [u8],
     length: &mut usize,
 ) -> ModuleStatus
-    ensures answer { TellsName «module».value.accepted.value number out.old out.new length.old length.new result.status }
+    ensures answer { TellsName «module».value.accepted.value position out.old out.new length.old length.new result.status }
     ensures handle { result.at ≡ «module».at }
     ensures alive { result.value ≡ «module».value }
 {
     let held = module.loose();
-    let status = tell_name(&held.as_ref().accepted, number, out, length);
+    let status = tell_name(&held.as_ref().accepted, position, out, length);
     ModuleStatus::of(status, held)
 }
 

@@ -87,8 +87,8 @@ fn with_elements(total: u64, elements: &Elements<'_>) -> u64
     ensures { result ≡ capped (total + elements_bytes elements.now) }
 {
     let mut sum = with_list(total, elements.len(), 32);
-    for number in 0..elements.len() {
-        let Some(element) = elements.get(number) else {
+    for position in 0..elements.len() {
+        let Some(element) = elements.get(position) else {
             unreachable!()
         };
         sum = with_list(sum, element.functions.len(), 4);
@@ -101,8 +101,8 @@ fn with_layout(total: u64, layout: &InitialState) -> u64
     ensures { result ≡ capped (total + layout_bytes layout.now) }
 {
     let total = with_list(total, layout.globals().len(), 8);
-    let total = with_list(total, layout.element_places().len(), 4);
-    with_list(total, layout.data_places().len(), 4)
+    let total = with_list(total, layout.element_offsets().len(), 4);
+    with_list(total, layout.data_offsets().len(), 4)
 }
 
 /// These bytes and those of the module's spaces.

@@ -1,7 +1,7 @@
 //! What the functions answer: `gate_status` of gate.h.
 
 ghost use Rattle.std.specs.Prelude.{◌≡◌};
-ghost use Rattle.c_api.specs.Statuses.{number_of};
+ghost use Rattle.c_api.specs.Statuses.{code_of};
 
 use batch::Status;
 
@@ -31,8 +31,8 @@ pub(crate) const NOT_JUDGED: u32 = 83;
 pub(crate) const SHARED: u32 = 84;
 
 /// The number of the status of an answer.
-pub(crate) fn status_number(status: Status) -> u32
-    ensures { result ≡ number_of status }
+pub(crate) fn status_code(status: Status) -> u32
+    ensures { result ≡ code_of status }
 {
     match status {
         Status::Good => OK,

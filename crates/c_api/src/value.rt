@@ -2,7 +2,7 @@
 
 ghost use Rattle.std.specs.Prelude.{◌≡◌, IfSome, IfNone};
 ghost use Rattle.wsyntax.specs.Execution.Values.{IsWord};
-ghost use Rattle.c_api.specs.Values.{value_numbers, IsNoValue};
+ghost use Rattle.c_api.specs.Values.{value_fields, IsNoValue};
 
 use wsyntax::Value;
 
@@ -21,7 +21,7 @@ const _: () = prove!(size_of::<GateValue>() == 16 && align_of::<GateValue>() == 
 impl GateValue {
     /// The numbers of a value.
     pub(crate) fn of(value: Value) -> GateValue
-        ensures { result ≡ value_numbers value }
+        ensures { result ≡ value_fields value }
     {
         match value {
             Value::I32(bits) => GateValue {
@@ -34,7 +34,7 @@ impl GateValue {
 
     /// The value that these are the numbers of; `None` where there is none.
     pub(crate) fn value(self) -> Option<Value>
-        ensures some { IfSome result (λ v. value_numbers v ≡ self) }
+        ensures some { IfSome result (λ v. value_fields v ≡ self) }
         ensures word { IfSome result IsWord }
         ensures none { IfNone result (IsNoValue self) }
     {

@@ -91,7 +91,7 @@ pub fn token_has_floats(token: Token) -> bool
 fn run_has_floats(run: LocalRun) -> bool
     ensures { result ≡ run_has_floats run }
 {
-    run.count > 0 && is_float(run.content)
+    run.count > 0 && is_float(run.val_type)
 }
 
 /// Whether a run declares a local of a float type.

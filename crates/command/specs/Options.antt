@@ -24,21 +24,21 @@ GivesText words option k text =
     ⊎ ((slice_index_or words k [] ≡ option) × (k + 1 < length words) × (slice_index_or words (k + 1) [] ≡ text))
 
 -- the first word that begins with the option gives the text; or no word begins with it, and the text is the default
-abbrev pub SaysText : List (List ℕ) → List ℕ → List ℕ → List ℕ → Type 0
-SaysText words option default text =
+abbrev pub IsOptionText : List (List ℕ) → List ℕ → List ℕ → List ℕ → Type 0
+IsOptionText words option default text =
     ((k : ℕ) × (k < length words) × AllWithin (LacksOption option) words 0 k × GivesText words option k text)
     ⊎ (All (LacksOption option) words × (text ≡ default))
 
 -- the words say this number of the option with this name and default
-abbrev pub SaysNumber : List (List ℕ) → List ℕ → List ℕ → ℕ → Type 0
-SaysNumber words name default n = (text : List ℕ) × SaysText (option_words words) (codes "--" ++ name) default text × IsDecimal n text
+abbrev pub IsOptionNumber : List (List ℕ) → List ℕ → List ℕ → ℕ → Type 0
+IsOptionNumber words name default n = (text : List ℕ) × IsOptionText (option_words words) (codes "--" ++ name) default text × IsDecimal n text
 
 -- the words say these limits of a call
 abbrev pub SaysLimits : List (List ℕ) → ℕ → ℕ → ℕ → Type 0
 SaysLimits words fuel frames pages =
-    SaysNumber words (codes "fuel") (codes "1000000") fuel
-    × (SaysNumber words (codes "frames") (codes "1024") frames × SaysNumber words (codes "pages") (codes "256") pages)
+    IsOptionNumber words (codes "fuel") (codes "1000000") fuel
+    × (IsOptionNumber words (codes "frames") (codes "1024") frames × IsOptionNumber words (codes "pages") (codes "256") pages)
 
 -- the words say how many threads work, and how much each takes at once
 abbrev pub SaysPlan : List (List ℕ) → ℕ → ℕ → Type 0
-SaysPlan words workers piece = SaysNumber words (codes "workers") (codes "4") workers × SaysNumber words (codes "piece") (codes "16") piece
+SaysPlan words workers piece = IsOptionNumber words (codes "workers") (codes "4") workers × IsOptionNumber words (codes "piece") (codes "16") piece

@@ -25,9 +25,9 @@ AsksHelp words = (first_word words ≡ codes "help") ⊎ (Contains (option_words
 abbrev pub AsksVersion : List (List ℕ) → Type 0
 AsksVersion words = (first_word words ≡ codes "--version") ⊎ BeginsWith (codes "-V") (first_word words)
 
--- the word at this place is the text
+-- the word at this position is the text
 abbrev pub StandsAt : List (List ℕ) → ℕ → List ℕ → Type 0
-StandsAt words place text = (place < length words) × (slice_index_or words place [] ≡ text)
+StandsAt words position text = (position < length words) × (slice_index_or words position [] ≡ text)
 
 -- the text is a word after the first one, the command's name
 abbrev pub IsOperand : List (List ℕ) → List ℕ → Type 0

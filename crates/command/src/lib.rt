@@ -11,7 +11,7 @@ mod matched;
 mod names;
 mod reading;
 mod request;
-mod said;
+mod option_values;
 mod words;
 
 pub use commands::help_names_limits;

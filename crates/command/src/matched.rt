@@ -9,7 +9,7 @@ use crate::commands::{
 use crate::fault::{WordsFault, usage};
 use crate::names::{file_names, input_path, is_list, says_flag};
 use crate::request::Request;
-use crate::said::said_number;
+use crate::option_values::option_number;
 use crate::words::{contains_word, find_word};
 use clap::ArgMatches;
 use pieces::Plan;
@@ -145,8 +145,8 @@ pub fn stream_of<'a>(words: &'a [&'a str], matches: &ArgMatches<'a>) -> Option<R
 fn plan_of(words: &[&str]) -> Option<Plan>
     ensures { IfSome result (λ p. SaysPlan (map (λ w. w.now) words.now) p.workers p.piece) }
 {
-    let workers = said_number(words, "workers", WORKERS_DEFAULT)?;
-    let piece = said_number(words, "piece", PIECE_DEFAULT)?;
+    let workers = option_number(words, "workers", WORKERS_DEFAULT)?;
+    let piece = option_number(words, "piece", PIECE_DEFAULT)?;
     Plan::new(workers, piece)
 }
 
@@ -154,8 +154,8 @@ fn plan_of(words: &[&str]) -> Option<Plan>
 fn settings_of(words: &[&str]) -> Option<Settings>
     ensures { IfSome result (λ s. SaysLimits (map (λ w. w.now) words.now) s.fuel s.frames s.pages) }
 {
-    let fuel = said_number(words, "fuel", FUEL_DEFAULT)?;
-    let frames = said_number(words, "frames", FRAMES_DEFAULT)?;
-    let pages = said_number(words, "pages", PAGES_DEFAULT)?;
+    let fuel = option_number(words, "fuel", FUEL_DEFAULT)?;
+    let frames = option_number(words, "frames", FRAMES_DEFAULT)?;
+    let pages = option_number(words, "pages", PAGES_DEFAULT)?;
     Settings::new(fuel, frames, pages)
 }

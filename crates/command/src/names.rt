@@ -5,7 +5,7 @@ ghost use Rattle.command.specs.Options.{option_words};
 ghost use Rattle.command.specs.Names.{file_names, flag_letter, is_flag as flag_meant, name_next, name_stands};
 ghost use Rattle.command.specs.Names.{input_path as path_meant, is_option as option_meant, takes_number as number_meant};
 
-use crate::said::option_words;
+use crate::option_values::option_words;
 use std::alloc::{AllocError, Global};
 
 /// What the next word may be.

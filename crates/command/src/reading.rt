@@ -6,7 +6,7 @@ use crate::commands::gate_command;
 use crate::fault::{WordsFault, usage};
 use crate::matched::{check_all_of, check_of, explain_of, exports_of, run_of, stream_of};
 use crate::request::Request;
-use crate::said::option_words;
+use crate::option_values::option_words;
 use crate::words::{begins_with, contains_front, contains_word, first_word};
 use clap::error::ErrorKind;
 use clap::{ArgMatches, Error};

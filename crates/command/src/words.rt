@@ -19,7 +19,7 @@ pub fn begins_with(word: &str, front: &str) -> bool
     word.strip_prefix(front).is_some()
 }
 
-/// The first place from `start` on where the word is this text.
+/// The first position from `start` on where the word is this text.
 pub fn find_word(words: &[&str], start: usize, text: &str) -> Option<usize>
     ensures from { IfSome result (λ i. start ≤ i) }
     ensures within { IfSome result (λ i. i < length words.now) }

@@ -9,14 +9,14 @@ use Rattle.explain.specs.declared.broken_item.Initial.{Initial}
 use Rattle.explain.specs.declared.broken_item.Initial.TheVariants.{Constant, Get, Other}
 use Rattle.explain.specs.Rules.{IsInitial, constant_type}
 
-immutable_is : (u t : ValType) (m : Bool) → (if m then None else Some u) ≡ Some t → let g : GlobalType = record { content = u; mutable = m } in g ≡ record { content = t; mutable = false }
+immutable_is : (u t : ValType) (m : Bool) → (if m then None else Some u) ≡ Some t → let g : GlobalType = record { val_type = u; mutable = m } in g ≡ record { val_type = t; mutable = false }
 immutable_is u t true e = cc
-immutable_is u t false e = let same : u ≡ t = cc in ap (λ v. let g : GlobalType = record { content = v; mutable = false } in g) same
+immutable_is u t false e = let same : u ≡ t = cc in ap (λ v. let g : GlobalType = record { val_type = v; mutable = false } in g) same
 
 -- a global.get of an immutable global
-global_is : (o : Option GlobalType) (t : ValType) → option_and_then immutable_type o ≡ Some t → o ≡ Some record { content = t; mutable = false }
+global_is : (o : Option GlobalType) (t : ValType) → option_and_then immutable_type o ≡ Some t → o ≡ Some record { val_type = t; mutable = false }
 global_is None t e = cc
-global_is (Some g) t e = ap Some (immutable_is g.content t g.mutable e)
+global_is (Some g) t e = ap Some (immutable_is g.val_type t g.mutable e)
 
 const_holds : (globals : List GlobalType) (u t : ValType) (n : ℕ) → u ≡ t → ConstantOf globals t (Do (Const u n) ∷ End ∷ [])
 const_holds globals u t n same = rw same (one_const n)
@@ -33,7 +33,7 @@ same_const globals t n (Constant u) told = let e = told.1 in cc
 same_const globals t n (Get x imported gets) told = let e = told.0 in cc
 same_const globals t n Other told = cc
 
-same_get : (globals : List GlobalType) (t : ValType) (x : ℕ) (i : Initial) → slice_get globals x ≡ Some record { content = t; mutable = false }
+same_get : (globals : List GlobalType) (t : ValType) (x : ℕ) (i : Initial) → slice_get globals x ≡ Some record { val_type = t; mutable = false }
     → IsInitial globals (Do (GlobalGet x) ∷ End ∷ []) i → constant_type i ≡ Some t
 same_get globals t x (Constant u) is told = let e = told.1 in cc
 same_get globals t x (Get y imported gets) is told =

@@ -7,7 +7,7 @@ use Rattle.wsyntax.specs.Modules.{decoded_as}
 use Rattle.wsyntax.specs.Binary.Nesting.{token_at}
 use Rattle.wdecode.specs.Gives.{rest_of}
 use Rattle.explain.specs.declared.stops.Halt.{Halt}
-use Rattle.explain.specs.Places.{left_after, after_one, CannotGoOn, IsHaltIn}
+use Rattle.explain.specs.Locations.{left_after, after_one, CannotGoOn, IsHaltIn}
 
 -- one token more
 pub one_more : (n : ℕ) (bytes rest after : List ℕ) → left_after n bytes ≡ Some rest → rest_of (token_at rest) ≡ Some after → left_after (n + 1) bytes ≡ Some after

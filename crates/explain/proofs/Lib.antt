@@ -12,5 +12,5 @@ pub mod RuleFaults
 pub mod Positions
 pub mod Refusals
 pub mod CallsTold
-pub mod FloatPlaces
+pub mod FloatLocations
 pub mod ExportLines

@@ -22,8 +22,8 @@ use Rattle.explain.specs.Typed.{pops, topmost}
 use Rattle.explain.specs.Causes.{IsAlignedTo, IsCause, IsMisfit, Names, TakesAt, UsesMemory, HasJust, operand_at}
 
 -- the place from the other end
-pub reversed_place : {A : Type 0} (xs : List A) (k i : ℕ) (x d : A) → k < length xs → i ≡ length xs - 1 - k → x ≡ get_or xs i d → slice_get (reverse xs) k ≡ Some x
-reversed_place xs k i x d lt e h =
+pub reversed_position : {A : Type 0} (xs : List A) (k i : ℕ) (x d : A) → k < length xs → i ≡ length xs - 1 - k → x ≡ get_or xs i d → slice_get (reverse xs) k ≡ Some x
+reversed_position xs k i x d lt e h =
     slice_get-get_or (reverse xs) k d (omega (arith, length-reverse xs, lt)) ∙ ap Some (get_or-reverse xs k d lt ∙ ap (λ z. get_or xs z d) (sym e) ∙ sym h)
 
 -- the first frame has these operands
@@ -65,21 +65,21 @@ within [] k x e = absurd cc
 within (y ∷ xs) zero x e = omega arith
 within (y ∷ xs) (suc k) x e = let h = within xs k x e in omega (arith, h)
 
-just_so_many : (C : Context) (t : Token) (fs : List Frame) (ps : List (Option ValType)) (n place : ℕ) → Some ps ≡ pops C t fs → place < n → length (topmost n fs) ≡ place → HasJust fs place
-just_so_many C t [] ps n place e lt h = absurd (let q = e ∙ no_pops C t in cc)
-just_so_many C t (f ∷ fs) ps n place e lt h =
+just_so_many : (C : Context) (t : Token) (fs : List Frame) (ps : List (Option ValType)) (n position : ℕ) → Some ps ≡ pops C t fs → position < n → length (topmost n fs) ≡ position → HasJust fs position
+just_so_many C t [] ps n position e lt h = absurd (let q = e ∙ no_pops C t in cc)
+just_so_many C t (f ∷ fs) ps n position e lt h =
     let q = all_known n f.operands.known f.operands.is_dead f fs (omega (arith, lt, h)) in (q.0 ∙ h, q.1)
 
-takes_at : (C : Context) (t : Token) (fs : List Frame) (ps : List (Option ValType)) (place : ℕ) (w : Option ValType) → Some ps ≡ pops C t fs → slice_get ps place ≡ Some w → TakesAt C t fs place w
-takes_at C t fs ps place w e h = subst (λ z. IsSomeAnd z (λ qs. slice_get qs place ≡ Some w)) e h
+takes_at : (C : Context) (t : Token) (fs : List Frame) (ps : List (Option ValType)) (position : ℕ) (w : Option ValType) → Some ps ≡ pops C t fs → slice_get ps position ≡ Some w → TakesAt C t fs position w
+takes_at C t fs ps position w e h = subst (λ z. IsSomeAnd z (λ qs. slice_get qs position ≡ Some w)) e h
 
 -- what differs is a cause
 pub misfit_causes : (C : Context) (t : Token) (fs : List Frame) (ps xs : List (Option ValType)) (n : ℕ) (c : Cause) → Some ps ≡ pops C t fs → xs ≡ topmost n fs → length ps ≤ n → IsMisfit ps xs c → IsCause C t fs c
-misfit_causes C t fs ps xs n (cause.Operand place wanted found) e k le h =
-    (takes_at C t fs ps place (Some wanted) e h.0, found_at n place found fs (ap (λ z. slice_get z place) (sym k) ∙ h.1), h.2)
-misfit_causes C t fs ps xs n (cause.Missing place wanted) e k le h =
-    let lt : place < n = let w = within ps place wanted h.0 in omega (arith, w, le) in
-    (takes_at C t fs ps place wanted e h.0, just_so_many C t fs ps n place e lt (ap length (sym k) ∙ h.1))
+misfit_causes C t fs ps xs n (cause.Operand position wanted found) e k le h =
+    (takes_at C t fs ps position (Some wanted) e h.0, found_at n position found fs (ap (λ z. slice_get z position) (sym k) ∙ h.1), h.2)
+misfit_causes C t fs ps xs n (cause.Missing position wanted) e k le h =
+    let lt : position < n = let w = within ps position wanted h.0 in omega (arith, w, le) in
+    (takes_at C t fs ps position wanted e h.0, just_so_many C t fs ps n position e lt (ap length (sym k) ∙ h.1))
 misfit_causes C t fs ps xs n (cause.LeftOver count) e k le h = absurd h
 misfit_causes C t fs ps xs n (cause.NoElse signature) e k le h = absurd h
 misfit_causes C t fs ps xs n (cause.NoIndex space index count) e k le h = absurd h

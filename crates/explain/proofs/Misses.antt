@@ -58,19 +58,19 @@ wrong_fits : (x : Option ValType) (t w u : ValType) → t ≡ w → x ≡ Some u
 wrong_fits x t w u e h n = ap (λ z. fits z t) h ∙ ap (same_type u) e ∙ n
 
 -- one is of another type
-wrong_taken : (ts : Stack) (place : ℕ) (w u : ValType) (known : List (Option ValType)) (d : Bool) → slice_get (map Some ts) place ≡ Some (Some w) → slice_get known place ≡ Some (Some u) → same_type u w ≡ false
+wrong_taken : (ts : Stack) (position : ℕ) (w u : ValType) (known : List (Option ValType)) (d : Bool) → slice_get (map Some ts) position ≡ Some (Some w) → slice_get known position ≡ Some (Some u) → same_type u w ≡ false
     → pop_all ts (these known d) ≡ None
-wrong_taken [] place w u known d e h n = absurd cc
-wrong_taken (t ∷ ts) place w u [] d e h n = absurd cc
+wrong_taken [] position w u known d e h n = absurd cc
+wrong_taken (t ∷ ts) position w u [] d e h n = absurd cc
 wrong_taken (t ∷ ts) zero w u (x ∷ xs) d e h n =
     let et : t ≡ w = cc in let ex : x ≡ Some u = cc in
     ap (λ b. on (when b (Some (these xs d))) (pop_all ts)) (wrong_fits x t w u et ex n)
 wrong_taken (t ∷ ts) (suc k) w u (x ∷ xs) d e h n = on_when (fits x t) (these xs d) (pop_all ts) (wrong_taken ts k w u xs d e h n)
 
 -- one is missing
-missing_taken : (ts : Stack) (place : ℕ) (w : Option ValType) (known : List (Option ValType)) → slice_get (map Some ts) place ≡ Some w → length known ≡ place → pop_all ts (these known false) ≡ None
-missing_taken [] place w known e h = absurd cc
-missing_taken (t ∷ ts) place w [] e h = refl
+missing_taken : (ts : Stack) (position : ℕ) (w : Option ValType) (known : List (Option ValType)) → slice_get (map Some ts) position ≡ Some w → length known ≡ position → pop_all ts (these known false) ≡ None
+missing_taken [] position w known e h = absurd cc
+missing_taken (t ∷ ts) position w [] e h = refl
 missing_taken (t ∷ ts) zero w (x ∷ xs) e h = absurd (omega (arith, h))
 missing_taken (t ∷ ts) (suc k) w (x ∷ xs) e h = on_when (fits x t) (these xs false) (pop_all ts) (missing_taken ts k w xs e (omega (arith, h)))
 
@@ -83,7 +83,7 @@ record Refuses (ps : List (Option ValType)) (o : Operands) : Type 0 where
 abbrev selected : List (Option ValType)
 selected = Some I32 ∷ None ∷ None ∷ []
 
-none_wrong : (place : ℕ) (w : ValType) → slice_get (None ∷ []) place ≡ Some (Some w) → ⊥
+none_wrong : (position : ℕ) (w : ValType) → slice_get (None ∷ []) position ≡ Some (Some w) → ⊥
 none_wrong zero w e = cc
 none_wrong (suc k) w e = cc
 
@@ -91,36 +91,36 @@ one_none : (x : Option Operands) → on x (pop_all []) ≡ None → x ≡ None
 one_none None e = refl
 one_none (Some o) e = absurd cc
 
-wrong_select : (place : ℕ) (w u : ValType) (known : List (Option ValType)) (d : Bool) → slice_get selected place ≡ Some (Some w) → slice_get known place ≡ Some (Some u) → same_type u w ≡ false → apply Selects (these known d) ≡ None
+wrong_select : (position : ℕ) (w u : ValType) (known : List (Option ValType)) (d : Bool) → slice_get selected position ≡ Some (Some w) → slice_get known position ≡ Some (Some u) → same_type u w ≡ false → apply Selects (these known d) ≡ None
 wrong_select zero w u known d e h n =
     on_none (pop_one I32 (these known d)) _ (one_none (pop_one I32 (these known d)) (wrong_taken (I32 ∷ []) zero w u known d e h n))
 wrong_select (suc zero) w u known d e h n = absurd cc
 wrong_select (suc (suc zero)) w u known d e h n = absurd cc
 wrong_select (suc (suc (suc k))) w u known d e h n = absurd cc
 
-missing_select : (place : ℕ) (w : Option ValType) (known : List (Option ValType)) → slice_get selected place ≡ Some w → length known ≡ place → apply Selects (these known false) ≡ None
-missing_select place w [] e h = refl
-missing_select place w (x ∷ []) e h = on_when (fits x I32) (these [] false) _ refl
-missing_select place w (x ∷ y ∷ []) e h = on_when (fits x I32) (these (y ∷ []) false) _ refl
-missing_select place w (x ∷ y ∷ z ∷ r) e h = let q : slice_get selected (length (x ∷ y ∷ z ∷ r)) ≡ Some w = ap (slice_get selected) h ∙ e in absurd cc
+missing_select : (position : ℕ) (w : Option ValType) (known : List (Option ValType)) → slice_get selected position ≡ Some w → length known ≡ position → apply Selects (these known false) ≡ None
+missing_select position w [] e h = refl
+missing_select position w (x ∷ []) e h = on_when (fits x I32) (these [] false) _ refl
+missing_select position w (x ∷ y ∷ []) e h = on_when (fits x I32) (these (y ∷ []) false) _ refl
+missing_select position w (x ∷ y ∷ z ∷ r) e h = let q : slice_get selected (length (x ∷ y ∷ z ∷ r)) ≡ Some w = ap (slice_get selected) h ∙ e in absurd cc
 
-missing_drop : (place : ℕ) (w : Option ValType) (known : List (Option ValType)) → slice_get (None ∷ []) place ≡ Some w → length known ≡ place → pop_any (these known false) ≡ None
-missing_drop place w [] e h = refl
-missing_drop place w (x ∷ xs) e h = let q : slice_get (None ∷ []) (length (x ∷ xs)) ≡ Some w = ap (slice_get (None ∷ [])) h ∙ e in absurd cc
+missing_drop : (position : ℕ) (w : Option ValType) (known : List (Option ValType)) → slice_get (None ∷ []) position ≡ Some w → length known ≡ position → pop_any (these known false) ≡ None
+missing_drop position w [] e h = refl
+missing_drop position w (x ∷ xs) e h = let q : slice_get (None ∷ []) (length (x ∷ xs)) ≡ Some w = ap (slice_get (None ∷ [])) h ∙ e in absurd cc
 
-wrong_refuses : (ps : List (Option ValType)) (place : ℕ) (w u : ValType) (o : Operands) → slice_get ps place ≡ Some (Some w) → slice_get o.known place ≡ Some (Some u) → same_type u w ≡ false → Refuses ps o
-wrong_refuses ps place w u o e h n = record {
-  lists = λ ts q. wrong_taken ts place w u o.known o.is_dead (ap (λ z. slice_get z place) q ∙ e) h n;
-  drops = λ q. absurd (none_wrong place w (ap (λ z. slice_get z place) q ∙ e));
-  selects = λ q. wrong_select place w u o.known o.is_dead (ap (λ z. slice_get z place) q ∙ e) h n;
+wrong_refuses : (ps : List (Option ValType)) (position : ℕ) (w u : ValType) (o : Operands) → slice_get ps position ≡ Some (Some w) → slice_get o.known position ≡ Some (Some u) → same_type u w ≡ false → Refuses ps o
+wrong_refuses ps position w u o e h n = record {
+  lists = λ ts q. wrong_taken ts position w u o.known o.is_dead (ap (λ z. slice_get z position) q ∙ e) h n;
+  drops = λ q. absurd (none_wrong position w (ap (λ z. slice_get z position) q ∙ e));
+  selects = λ q. wrong_select position w u o.known o.is_dead (ap (λ z. slice_get z position) q ∙ e) h n;
 }
 
-missing_refuses : (ps : List (Option ValType)) (place : ℕ) (w : Option ValType) (o : Operands) → slice_get ps place ≡ Some w → length o.known ≡ place → o.is_dead ≡ false → Refuses ps o
-missing_refuses ps place w o e h d =
+missing_refuses : (ps : List (Option ValType)) (position : ℕ) (w : Option ValType) (o : Operands) → slice_get ps position ≡ Some w → length o.known ≡ position → o.is_dead ≡ false → Refuses ps o
+missing_refuses ps position w o e h d =
     subst (λ b. Refuses ps (these o.known b)) (sym d) record {
-      lists = λ ts q. missing_taken ts place w o.known (ap (λ z. slice_get z place) q ∙ e) h;
-      drops = λ q. missing_drop place w o.known (ap (λ z. slice_get z place) q ∙ e) h;
-      selects = λ q. missing_select place w o.known (ap (λ z. slice_get z place) q ∙ e) h;
+      lists = λ ts q. missing_taken ts position w o.known (ap (λ z. slice_get z position) q ∙ e) h;
+      drops = λ q. missing_drop position w o.known (ap (λ z. slice_get z position) q ∙ e) h;
+      selects = λ q. missing_select position w o.known (ap (λ z. slice_get z position) q ∙ e) h;
     }
 
 -- ---- a token that cannot take them
@@ -248,8 +248,8 @@ name_refused C t fs Labels x n (inl e) k le =
     subst (λ z. step C z fs ≡ None) (sym e) (unruled C (Br x) fs (on_none (slice_get (labels_of fs) x) _ (past (labels_of fs) x n k le)))
 name_refused C t fs Labels x n (inr (inl e)) k le =
     subst (λ z. step C z fs ≡ None) (sym e) (unruled C (BrIf x) fs (on_none (slice_get (labels_of fs) x) _ (past (labels_of fs) x n k le)))
-name_refused C t fs Labels x n (inr (inr (ls, d, place, e, h))) k le =
-    subst (λ z. step C z fs ≡ None) (sym e) (table_unknown C fs ls d place x h (past (labels_of fs) x n k le))
+name_refused C t fs Labels x n (inr (inr (ls, d, position, e, h))) k le =
+    subst (λ z. step C z fs ≡ None) (sym e) (table_unknown C fs ls d position x h (past (labels_of fs) x n k le))
 
 -- ---- labels that differ
 
@@ -313,9 +313,9 @@ table_differs C fs ls d k l a b e ha hb ne =
 
 -- ---- the rest
 
-immutable : (x : Option GlobalType) → IsSomeAnd x (λ g. g.mutable ≡ false) → on x (λ g. when g.mutable (Some (Takes (g.content ∷ []) []))) ≡ None
+immutable : (x : Option GlobalType) → IsSomeAnd x (λ g. g.mutable ≡ false) → on x (λ g. when g.mutable (Some (Takes (g.val_type ∷ []) []))) ≡ None
 immutable None h = absurd h
-immutable (Some g) h = when_false g.mutable (Some (Takes (g.content ∷ []) [])) h
+immutable (Some g) h = when_false g.mutable (Some (Takes (g.val_type ∷ []) [])) h
 
 unaligned : (m : Access) (a n : ℕ) → m.align ≡ a → m.width ≡ 2 ^ n → n < a → nat_le (2 ^ m.align) m.width ≡ false
 unaligned m a n ea en lt = ap (λ z. nat_le (2 ^ z) m.width) ea ∙ ap (nat_le (2 ^ a)) en ∙ lt-leb (2 ^ a) (2 ^ n) (pow-lt lt)
@@ -373,14 +373,14 @@ lacks g fs s is_end e th ne p q i =
 
 -- each cause alone refuses the token
 pub refused : (C : Context) (t : Token) (fs : List Frame) (c : Cause) → IsCause C t fs c → step C t fs ≡ None
-refused C t [] (cause.Operand place wanted found) h = absurd (let e = h.1 in cc)
-refused C t (f ∷ fs) (cause.Operand place wanted found) h =
-    let s = some_and (pops C t (f ∷ fs)) (λ ps. slice_get ps place ≡ Some (Some wanted)) h.0 in
-    step_refused C t f fs s.0 s.1 (wrong_refuses s.0 place wanted found f.operands s.2 h.1 h.2)
-refused C t [] (cause.Missing place wanted) h = absurd h.1
-refused C t (f ∷ fs) (cause.Missing place wanted) h =
-    let s = some_and (pops C t (f ∷ fs)) (λ ps. slice_get ps place ≡ Some wanted) h.0 in
-    step_refused C t f fs s.0 s.1 (missing_refuses s.0 place wanted f.operands s.2 h.1.0 h.1.1)
+refused C t [] (cause.Operand position wanted found) h = absurd (let e = h.1 in cc)
+refused C t (f ∷ fs) (cause.Operand position wanted found) h =
+    let s = some_and (pops C t (f ∷ fs)) (λ ps. slice_get ps position ≡ Some (Some wanted)) h.0 in
+    step_refused C t f fs s.0 s.1 (wrong_refuses s.0 position wanted found f.operands s.2 h.1 h.2)
+refused C t [] (cause.Missing position wanted) h = absurd h.1
+refused C t (f ∷ fs) (cause.Missing position wanted) h =
+    let s = some_and (pops C t (f ∷ fs)) (λ ps. slice_get ps position ≡ Some wanted) h.0 in
+    step_refused C t f fs s.0 s.1 (missing_refuses s.0 position wanted f.operands s.2 h.1.0 h.1.1)
 refused C t fs (cause.LeftOver count) (inl e, h, lt) = subst (λ z. step C z fs ≡ None) (sym e) (else_left C fs count h lt)
 refused C t fs (cause.LeftOver count) (inr e, h, lt) = subst (λ z. step C z fs ≡ None) (sym e) (end_left C fs count h lt)
 refused C t [] (cause.NoElse signature) h = absurd h.1

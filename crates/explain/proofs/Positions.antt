@@ -14,25 +14,25 @@ step p xs i x l is =
     ∙ ap (λ y. cond (p y) (Some i) (position_from p (i + 1) (drop (i + 1) xs))) (get_or_from_slice_get xs i x x is)
 
 -- this one
-pub place_here : {X : Type 0} (p : X → Bool) (xs : List X) (i : ℕ) (x : X) → i < length xs → slice_get xs i ≡ Some x → p x ≡ true → position_from p i (drop i xs) ≡ Some i
-place_here p xs i x l is here = step p xs i x l is ∙ ap (λ b. cond b (Some i) (position_from p (i + 1) (drop (i + 1) xs))) here
+pub position_here : {X : Type 0} (p : X → Bool) (xs : List X) (i : ℕ) (x : X) → i < length xs → slice_get xs i ≡ Some x → p x ≡ true → position_from p i (drop i xs) ≡ Some i
+position_here p xs i x l is here = step p xs i x l is ∙ ap (λ b. cond b (Some i) (position_from p (i + 1) (drop (i + 1) xs))) here
 
 -- a later one
-pub place_later : {X : Type 0} (p : X → Bool) (xs : List X) (i : ℕ) (x : X) → i < length xs → slice_get xs i ≡ Some x → p x ≡ false → position_from p i (drop i xs) ≡ position_from p (i + 1) (drop (i + 1) xs)
-place_later p xs i x l is here = step p xs i x l is ∙ ap (λ b. cond b (Some i) (position_from p (i + 1) (drop (i + 1) xs))) here
+pub position_later : {X : Type 0} (p : X → Bool) (xs : List X) (i : ℕ) (x : X) → i < length xs → slice_get xs i ≡ Some x → p x ≡ false → position_from p i (drop i xs) ≡ position_from p (i + 1) (drop (i + 1) xs)
+position_later p xs i x l is here = step p xs i x l is ∙ ap (λ b. cond b (Some i) (position_from p (i + 1) (drop (i + 1) xs))) here
 
 -- none is left
-pub no_place : {X : Type 0} (p : X → Bool) (xs : List X) (n : ℕ) → length xs ≤ n → position_from p n (drop n xs) ≡ None
-no_place p xs n l = ap (position_from p n) (drop_all n xs l)
+pub no_position : {X : Type 0} (p : X → Bool) (xs : List X) (n : ℕ) → length xs ≤ n → position_from p n (drop n xs) ≡ None
+no_position p xs n l = ap (position_from p n) (drop_all n xs l)
 
 -- counted from the front
-pub place_from_front : {X : Type 0} (p : X → Bool) (xs : List X) → position p xs ≡ position_from p 0 xs
-place_from_front p xs = position_from-zero p xs
+pub position_from_front : {X : Type 0} (p : X → Bool) (xs : List X) → position p xs ≡ position_from p 0 xs
+position_from_front p xs = position_from-zero p xs
 
 from_shown : {A B : Type 0} (shows : A → B) (p : B → Bool) (i : ℕ) (xs : List A) → position_from (λ x. p (shows x)) i xs ≡ position_from p i (map shows xs)
 from_shown shows p i [] = refl
 from_shown shows p i (x ∷ xs) = ap (λ o. cond (p (shows x)) (Some i) o) (from_shown shows p (i + 1) xs)
 
 -- of what the list stands for
-pub place_shown : {A B : Type 0} (shows : A → B) (p : B → Bool) (xs : List A) → position (λ x. p (shows x)) xs ≡ position p (map shows xs)
-place_shown shows p xs = place_from_front (λ x. p (shows x)) xs ∙ from_shown shows p 0 xs ∙ sym (place_from_front p (map shows xs))
+pub position_shown : {A B : Type 0} (shows : A → B) (p : B → Bool) (xs : List A) → position (λ x. p (shows x)) xs ≡ position p (map shows xs)
+position_shown shows p xs = position_from_front (λ x. p (shows x)) xs ∙ from_shown shows p 0 xs ∙ sym (position_from_front p (map shows xs))

@@ -17,11 +17,11 @@ shown_name : (es : List Export) (k : ℕ) (name : List ℕ) → name_at es k ≡
 shown_name es k name is = ap (option_map (λ e. e.item_name)) (slice_get-map export_shape es k) ∙ option_twice (slice_get es k) ∙ is
 
 -- the export of that number has the name of an earlier one, and those before it have different names
-pub repeated_told : (fs short items : List Export) (number earlier : ℕ) (name : List ℕ) → fs ≡ items → short ≡ take number items → AllPairs (λ a b. a.item_name ≢ b.item_name) (map export_shape short)
-    → (earlier < number) × (name_at fs number ≡ Some name) × (name_at fs earlier ≡ Some name) → IsRepeated (map export_shape items) number name earlier
-repeated_told fs short items number earlier name same cut distinct told = record {
+pub repeated_told : (fs short items : List Export) (position earlier : ℕ) (name : List ℕ) → fs ≡ items → short ≡ take position items → AllPairs (λ a b. a.item_name ≢ b.item_name) (map export_shape short)
+    → (earlier < position) × (name_at fs position ≡ Some name) × (name_at fs earlier ≡ Some name) → IsRepeated (map export_shape items) position name earlier
+repeated_told fs short items position earlier name same cut distinct told = record {
   order = told.0;
-  there = shown_name items number name (ap (λ (l : List Export). name_at l number) (sym same) ∙ told.1);
+  there = shown_name items position name (ap (λ (l : List Export). name_at l position) (sym same) ∙ told.1);
   first = shown_name items earlier name (ap (λ (l : List Export). name_at l earlier) (sym same) ∙ told.2);
-  before = subst (AllPairs (λ a b. a.item_name ≢ b.item_name)) (ap (map export_shape) cut ∙ sym (take-map export_shape number items)) distinct;
+  before = subst (AllPairs (λ a b. a.item_name ≢ b.item_name)) (ap (map export_shape) cut ∙ sym (take-map export_shape position items)) distinct;
 }

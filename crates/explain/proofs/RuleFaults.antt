@@ -39,7 +39,7 @@ count_is are Global = ap length are.globals
 -- the imported globals stand first
 pub globals_are : {m : ModuleShape} {s : Spaces} (are : AreSpacesOf m s) → take s.imported_globals s.globals.items ≡ imported_globals m
 globals_are {m} {s} are =
-    rw (are.imported_globals, are.globals) (take-append_seam (imported_globals m) (map (λ g. g.content) m.globals))
+    rw (are.imported_globals, are.globals) (take-append_seam (imported_globals m) (map (λ g. g.global_type) m.globals))
 
 -- the imported functions stand first
 pub functions_are : {m : ModuleShape} {s : Spaces} (are : AreSpacesOf m s) → take s.imported_functions s.functions.items ≡ imported_functions m
@@ -54,31 +54,31 @@ first_export {m} {s} are es i e first = first_map export_shape (λ x. x.index < 
 
 -- rule 8
 pub global_wrong : (imported : List GlobalType) (gs : List HeldGlobal) (i : ℕ) (x : HeldGlobal) (initial : Initial) (b : Bool) → x ≡ get_or gs i x → i < length gs
-    → IsInitial imported (initial_tokens x.init) initial → (IsTrue b ↔ (constant_type initial ≡ Some x.content.content)) → b ≡ false
-    → All (λ g. ConstantOf imported g.content.content (initial_tokens g.init)) (take i gs) → TellsGlobal imported (map global_shape gs) i x.content.content initial
+    → IsInitial imported (initial_tokens x.init) initial → (IsTrue b ↔ (constant_type initial ≡ Some x.global_type.val_type)) → b ≡ false
+    → All (λ g. ConstantOf imported g.global_type.val_type (initial_tokens g.init)) (take i gs) → TellsGlobal imported (map global_shape gs) i x.global_type.val_type initial
 global_wrong imported gs i x initial b is below told test failed before = (
   global_shape x,
-  first_map global_shape (λ h. ConstantOf imported h.content.content h.init) gs i x
-      (first_failing (λ g. ConstantOf imported g.content.content (initial_tokens g.init)) gs i x b is below (decides imported x.content.content (initial_tokens x.init) initial b told test) failed before),
+  first_map global_shape (λ h. ConstantOf imported h.global_type.val_type h.init) gs i x
+      (first_failing (λ g. ConstantOf imported g.global_type.val_type (initial_tokens g.init)) gs i x b is below (decides imported x.global_type.val_type (initial_tokens x.init) initial b told test) failed before),
   refl,
   told,
 )
 
 pub global_right : (imported : List GlobalType) (gs : List HeldGlobal) (i : ℕ) (x : HeldGlobal) (initial : Initial) (b : Bool) → x ≡ get_or gs i x → i < length gs
-    → IsInitial imported (initial_tokens x.init) initial → (IsTrue b ↔ (constant_type initial ≡ Some x.content.content)) → b ≡ true
-    → All (λ g. ConstantOf imported g.content.content (initial_tokens g.init)) (take i gs) → All (λ g. ConstantOf imported g.content.content (initial_tokens g.init)) (take (i + 1) gs)
+    → IsInitial imported (initial_tokens x.init) initial → (IsTrue b ↔ (constant_type initial ≡ Some x.global_type.val_type)) → b ≡ true
+    → All (λ g. ConstantOf imported g.global_type.val_type (initial_tokens g.init)) (take i gs) → All (λ g. ConstantOf imported g.global_type.val_type (initial_tokens g.init)) (take (i + 1) gs)
 global_right imported gs i x initial b is below told test passed before =
-    right_here (λ g. ConstantOf imported g.content.content (initial_tokens g.init)) gs i x is below ((decides imported x.content.content (initial_tokens x.init) initial b told test).0 passed) before
+    right_here (λ g. ConstantOf imported g.global_type.val_type (initial_tokens g.init)) gs i x is below ((decides imported x.global_type.val_type (initial_tokens x.init) initial b told test).0 passed) before
 
 -- rule 12
-unknown_wrong : (functions place x : ℕ) (xs : List ℕ) → IsFirst (λ g. g < functions) xs place x → All (λ g. g < functions) xs → ⊥
-unknown_wrong functions place x xs first all =
-    first.wrong (subst (λ y. y < functions) (get_or_from_slice_get xs place x x first.there) (All-get_or (λ g. g < functions) xs place x (slice_get_within xs place x first.there) all))
+unknown_wrong : (functions entry x : ℕ) (xs : List ℕ) → IsFirst (λ g. g < functions) xs entry x → All (λ g. g < functions) xs → ⊥
+unknown_wrong functions entry x xs first all =
+    first.wrong (subst (λ y. y < functions) (get_or_from_slice_get xs entry x x first.there) (All-get_or (λ g. g < functions) xs entry x (slice_get_within xs entry x first.there) all))
 
 element_wrong : (tables functions : ℕ) (globals : List GlobalType) (e : HeldElement) (fault : ItemFault) → IsElementFault tables functions globals (element_shape e) fault → IsElementValid tables functions globals e → ⊥
 element_wrong tables functions globals e (ElementTable table count) told is = omega (arith, told.0, told.1, told.2, is.0)
 element_wrong tables functions globals e (ElementOffset offset) told is = told.1 is.1
-element_wrong tables functions globals e (ElementFunction place f count) told is = unknown_wrong functions place f e.functions told.0 is.2
+element_wrong tables functions globals e (ElementFunction entry f count) told is = unknown_wrong functions entry f e.functions told.0 is.2
 element_wrong tables functions globals e _ told is = told
 
 pub first_element : (tables functions : ℕ) (globals : List GlobalType) (es : List HeldElement) (i : ℕ) (e : HeldElement) (fault : ItemFault) → slice_get es i ≡ Some e
@@ -92,26 +92,26 @@ held_valid m e is = record { in_table = is.0; constant = is.1; functions = is.2 
 valid_held : (m : ModuleShape) (e : HeldElement) → ElementValid m (element_shape e) → IsElementValid (length (tables_of m)) (length (functions_of m)) (imported_globals m) e
 valid_held m e is = (is.in_table, is.constant, is.functions)
 
-pub element_told : (m : ModuleShape) (es : List HeldElement) (tables functions : ℕ) (globals : List GlobalType) (number : ℕ) (fault : ItemFault)
+pub element_told : (m : ModuleShape) (es : List HeldElement) (tables functions : ℕ) (globals : List GlobalType) (position : ℕ) (fault : ItemFault)
     → tables ≡ length (tables_of m) → functions ≡ length (functions_of m) → globals ≡ imported_globals m → map element_shape es ≡ m.elements
-    → IsFirstElement tables functions globals es number fault → TellsElement m number fault
-element_told m es tables functions globals number fault t f g same told =
-    let P : ℕ → ℕ → List GlobalType → Type 0 = λ a b c. IsFirstElement a b c es number fault in
+    → IsFirstElement tables functions globals es position fault → TellsElement m position fault
+element_told m es tables functions globals position fault t f g same told =
+    let P : ℕ → ℕ → List GlobalType → Type 0 = λ a b c. IsFirstElement a b c es position fault in
     let one : P (length (tables_of m)) functions globals = subst (λ a. P a functions globals) t told in
     let two : P (length (tables_of m)) (length (functions_of m)) globals = subst (λ b. P (length (tables_of m)) b globals) f one in
     let all : P (length (tables_of m)) (length (functions_of m)) (imported_globals m) = subst (λ c. P (length (tables_of m)) (length (functions_of m)) c) g two in (
       element_shape all.0,
-      first_along (ElementValid m) (map element_shape es) m.elements number (element_shape all.0) same
-          (first_map element_shape (ElementValid m) es number all.0
-          (first_by (λ e. ElementValid m (element_shape e)) (IsElementValid (length (tables_of m)) (length (functions_of m)) (imported_globals m)) es number all.0 (held_valid m) (valid_held m) all.1)),
+      first_along (ElementValid m) (map element_shape es) m.elements position (element_shape all.0) same
+          (first_map element_shape (ElementValid m) es position all.0
+          (first_by (λ e. ElementValid m (element_shape e)) (IsElementValid (length (tables_of m)) (length (functions_of m)) (imported_globals m)) es position all.0 (held_valid m) (valid_held m) all.1)),
       all.2,
     )
 
-pub breaks_elements : (m : ModuleShape) (number : ℕ) (fault : ItemFault) → TellsElement m number fault → (rule_of fault ≡ 12) × TellsFault m number fault
-breaks_elements m number (ElementTable table count) told = (refl, told)
-breaks_elements m number (ElementOffset offset) told = (refl, told)
-breaks_elements m number (ElementFunction place f count) told = (refl, told)
-breaks_elements m number _ told = absurd told.2
+pub breaks_elements : (m : ModuleShape) (position : ℕ) (fault : ItemFault) → TellsElement m position fault → (rule_of fault ≡ 12) × TellsFault m position fault
+breaks_elements m position (ElementTable table count) told = (refl, told)
+breaks_elements m position (ElementOffset offset) told = (refl, told)
+breaks_elements m position (ElementFunction entry f count) told = (refl, told)
+breaks_elements m position _ told = absurd told.2
 
 -- rule 13
 data_wrong : (memories : ℕ) (globals : List GlobalType) (d : DataShape) (fault : ItemFault) → IsDataFault memories globals d fault → IsDataValid memories globals d → ⊥
@@ -130,23 +130,23 @@ held_data m d is = record { in_memory = is.0; constant = is.1 }
 data_held : (m : ModuleShape) (d : DataShape) → DataValid m d → IsDataValid (length (memories_of m)) (imported_globals m) d
 data_held m d is = (is.in_memory, is.constant)
 
-pub data_told : (m : ModuleShape) (ds : List Data) (memories : ℕ) (globals : List GlobalType) (number : ℕ) (fault : ItemFault)
-    → memories ≡ length (memories_of m) → globals ≡ imported_globals m → map data_shape ds ≡ m.segments → IsFirstData memories globals ds number fault → TellsData m number fault
-data_told m ds memories globals number fault t g same told =
-    let P : ℕ → List GlobalType → Type 0 = λ a c. IsFirstData a c ds number fault in
+pub data_told : (m : ModuleShape) (ds : List Data) (memories : ℕ) (globals : List GlobalType) (position : ℕ) (fault : ItemFault)
+    → memories ≡ length (memories_of m) → globals ≡ imported_globals m → map data_shape ds ≡ m.segments → IsFirstData memories globals ds position fault → TellsData m position fault
+data_told m ds memories globals position fault t g same told =
+    let P : ℕ → List GlobalType → Type 0 = λ a c. IsFirstData a c ds position fault in
     let one : P (length (memories_of m)) globals = subst (λ a. P a globals) t told in
     let all : P (length (memories_of m)) (imported_globals m) = subst (λ c. P (length (memories_of m)) c) g one in (
       data_shape all.0,
-      first_along (DataValid m) (map data_shape ds) m.segments number (data_shape all.0) same
-          (first_map data_shape (DataValid m) ds number all.0
-          (first_by (λ s. DataValid m (data_shape s)) (λ s. IsDataValid (length (memories_of m)) (imported_globals m) (data_shape s)) ds number all.0 (λ s. held_data m (data_shape s)) (λ s. data_held m (data_shape s)) all.1)),
+      first_along (DataValid m) (map data_shape ds) m.segments position (data_shape all.0) same
+          (first_map data_shape (DataValid m) ds position all.0
+          (first_by (λ s. DataValid m (data_shape s)) (λ s. IsDataValid (length (memories_of m)) (imported_globals m) (data_shape s)) ds position all.0 (λ s. held_data m (data_shape s)) (λ s. data_held m (data_shape s)) all.1)),
       all.2,
     )
 
-pub breaks_data : (m : ModuleShape) (number : ℕ) (fault : ItemFault) → TellsData m number fault → (rule_of fault ≡ 13) × TellsFault m number fault
-breaks_data m number (DataMemory memory count) told = (refl, told)
-breaks_data m number (DataOffset offset) told = (refl, told)
-breaks_data m number _ told = absurd told.2
+pub breaks_data : (m : ModuleShape) (position : ℕ) (fault : ItemFault) → TellsData m position fault → (rule_of fault ≡ 13) × TellsFault m position fault
+breaks_data m position (DataMemory memory count) told = (refl, told)
+breaks_data m position (DataOffset offset) told = (refl, told)
+breaks_data m position _ told = absurd told.2
 
 -- what is so of the module that was decoded is so of each that the bytes spell
 pub breaks_each : (bytes : List ℕ) (m : Module) (rule : ℕ) (r : Result (Option BrokenItem) AllocError) → ((other : ModuleShape) → Shell bytes other → module_shape m ≡ other)

@@ -7,8 +7,8 @@ use Rattle.wnum.specs.Reading.{◌>>=◌}
 use Rattle.wsyntax.specs.Binary.Production.{times_at}
 use Rattle.wsyntax.specs.Binary.Values.{u32, name}
 use Rattle.wdecode.specs.Gives.{rest_of}
-use Rattle.explain.specs.declared.shell_place.SectionPart.{SectionPart}
-use Rattle.explain.specs.declared.shell_place.SectionPart.TheVariants as part
+use Rattle.explain.specs.declared.shell_location.SectionPart.{SectionPart}
+use Rattle.explain.specs.declared.shell_location.SectionPart.TheVariants as part
 use Rattle.explain.specs.declared.shell.primitives.Stuck.{Stuck}
 use Rattle.explain.specs.declared.shell.items.Items.{Items}
 use Rattle.explain.specs.declared.shell.contents.ContentsEnd.{ContentsEnd}

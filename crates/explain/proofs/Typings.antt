@@ -18,7 +18,7 @@ use Rattle.wcheck.specs.Inspected.{IsInnermost, TakesOperand}
 use Rattle.wcheck.specs.declared.checker.inspect.OpenFrame.{OpenFrame}
 use Rattle.wcheck.specs.OperandRules.{indexed}
 use Rattle.wcheck.specs.Views.{token_rule}
-use Rattle.explain.specs.Places.{left_after}
+use Rattle.explain.specs.Locations.{left_after}
 use Rattle.explain.specs.Typed.{asked, pops, first_tokens, PassesTo, StepsTo, topmost, and_others, frame_type, block_types}
 
 -- ---- the tokens before

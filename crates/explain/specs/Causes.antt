@@ -16,19 +16,19 @@ use Rattle.explain.specs.declared.cause.Space.{Space}
 use Rattle.explain.specs.declared.cause.Space.TheVariants.{Types, Functions, Globals, Locals, Labels}
 use Rattle.explain.specs.declared.cause.Cause.{Cause}
 use Rattle.explain.specs.declared.cause.Cause.TheVariants as cause
-use Rattle.explain.specs.Places.{left_after}
+use Rattle.explain.specs.Locations.{left_after}
 use Rattle.explain.specs.Typed.{PassesTo, pops}
 
 -- ---- the operands
 
 -- 7.3 at that place from the top the token takes an operand of that type; None is one of any type
 abbrev pub TakesAt : Context → Token → List Frame → ℕ → Option ValType → Type 0
-TakesAt C t fs place wanted = IsSomeAnd (pops C t fs) (λ ps. slice_get ps place ≡ Some wanted)
+TakesAt C t fs position wanted = IsSomeAnd (pops C t fs) (λ ps. slice_get ps position ≡ Some wanted)
 
 -- the operand at that place from the top of the first frame
 abbrev pub operand_at : List Frame → ℕ → Option (Option ValType)
-operand_at [] place = None
-operand_at (f ∷ fs) place = slice_get f.operands.known place
+operand_at [] position = None
+operand_at (f ∷ fs) position = slice_get f.operands.known position
 
 -- the first frame has just so many operands, and what follows in it is reached
 abbrev pub HasJust : List Frame → ℕ → Type 0
@@ -83,9 +83,9 @@ UsesMemory t = ((m : Access) × IsAccess t m) ⊎ ((t ≡ Do MemorySize) ⊎ (t 
 
 -- why the token is refused in these frames
 abbrev pub IsCause : Context → Token → List Frame → Cause → Type 0
-IsCause C t fs (cause.Operand place wanted found) =
-    TakesAt C t fs place (Some wanted) × (operand_at fs place ≡ Some (Some found)) × (same_type found wanted ≡ false)
-IsCause C t fs (cause.Missing place wanted) = TakesAt C t fs place wanted × HasJust fs place
+IsCause C t fs (cause.Operand position wanted found) =
+    TakesAt C t fs position (Some wanted) × (operand_at fs position ≡ Some (Some found)) × (same_type found wanted ≡ false)
+IsCause C t fs (cause.Missing position wanted) = TakesAt C t fs position wanted × HasJust fs position
 IsCause C t fs (cause.LeftOver count) = ((t ≡ Else) ⊎ (t ≡ End)) × (count ≡ left_over fs) × (0 < count)
 IsCause C t fs (cause.NoElse signature) = (t ≡ End) × LacksElse signature fs
 IsCause C t fs (cause.NoIndex space index count) = Names t space index × (count ≡ size_of space C fs) × (count ≤ index)
@@ -102,14 +102,14 @@ IsCause C t fs (cause.Select above below) =
 
 -- why the token of that number in the body of function f is refused: the frames are those after the tokens before it, and the cause
 -- alone refuses it
-pub record IsCauseOf (C : Context) (f : ℕ) (body : List ℕ) (number : ℕ) (why : Cause) : Type 0 where
+pub record IsCauseOf (C : Context) (f : ℕ) (body : List ℕ) (position : ℕ) (why : Cause) : Type 0 where
   pub runs : List LocalRun
   pub code : List ℕ
   pub declared : locals.read body ≡ Some (runs, code)
   pub now : Checking
-  pub before : PassesTo (begun C f runs) code number now
+  pub before : PassesTo (begun C f runs) code position now
   pub left : List ℕ
-  pub rest : left_after number code ≡ Some left
+  pub rest : left_after position code ≡ Some left
   pub token : Token
   pub after : List ℕ
   pub next : ◌≡◌ {A = Option (Token × List ℕ)} (token_at left) (Some (token, after))
@@ -120,7 +120,7 @@ pub record IsCauseOf (C : Context) (f : ℕ) (body : List ℕ) (number : ℕ) (w
 
 -- the operands that are taken differ from those that are found, each the topmost first; these are fewer where they end
 abbrev pub IsMisfit : List (Option ValType) → List (Option ValType) → Cause → Type 0
-IsMisfit ps xs (cause.Operand place wanted found) =
-    (slice_get ps place ≡ Some (Some wanted)) × (slice_get xs place ≡ Some (Some found)) × (same_type found wanted ≡ false)
-IsMisfit ps xs (cause.Missing place wanted) = (slice_get ps place ≡ Some wanted) × (length xs ≡ place)
+IsMisfit ps xs (cause.Operand position wanted found) =
+    (slice_get ps position ≡ Some (Some wanted)) × (slice_get xs position ≡ Some (Some found)) × (same_type found wanted ≡ false)
+IsMisfit ps xs (cause.Missing position wanted) = (slice_get ps position ≡ Some wanted) × (length xs ≡ position)
 IsMisfit ps xs _ = ⊥

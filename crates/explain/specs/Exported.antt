@@ -4,4 +4,4 @@ use Rattle.wsyntax.specs.declared.module.Export.{Export}
 
 -- the name of the export of that number
 abbrev pub name_at : List Export → ℕ → Option (List ℕ)
-name_at es number = option_map (λ e. e.name.now) (slice_get es number)
+name_at es position = option_map (λ e. e.name.now) (slice_get es position)

@@ -5,7 +5,7 @@ use Rattle.explain.specs.declared.explanation.Form.{Form}
 use Rattle.explain.specs.declared.explanation.Form.TheVariants.{Component, Xz, Zstd, Elf, Objects, Bitcode}
 use Rattle.explain.specs.declared.explanation.NoModule.{NoModule}
 use Rattle.explain.specs.declared.explanation.NoModule.TheVariants.{Text, Gzip, Short, Magic, Version, Sections}
-use Rattle.explain.specs.Shells.{TellsPlace}
+use Rattle.explain.specs.Shells.{TellsLocation}
 use Rattle.explain.specs.Texts.{BeginsWith}
 
 -- the first bytes of another form: of a component its magic, version and layer, of the others what their tools ask for
@@ -32,4 +32,4 @@ TellsHeader bytes Gzip = BeginsWith (0x1F ∷ 0x8B ∷ []) bytes
 TellsHeader bytes Short = length bytes < 8
 TellsHeader bytes (Magic at found form) = (at < 4) × IsOther bytes at found × IfSome form (HasForm bytes)
 TellsHeader bytes (Version at found form) = (4 ≤ at) × IsOther bytes at found × IfSome form (HasForm bytes)
-TellsHeader bytes (Sections place) = IfSome place (TellsPlace bytes)
+TellsHeader bytes (Sections location) = IfSome location (TellsLocation bytes)

@@ -1,8 +1,8 @@
 pub mod Exported
 pub mod Headers
-pub mod Numbers
+pub mod Fields
 pub mod Placed
-pub mod Places
+pub mod Locations
 pub mod Shells
 pub mod Rules
 pub mod Segments

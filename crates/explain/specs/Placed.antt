@@ -16,7 +16,7 @@ use Rattle.explain.specs.declared.explanation.RefusedFunction.{RefusedFunction}
 use Rattle.explain.specs.declared.explanation.Explanation.{Explanation}
 use Rattle.explain.specs.declared.explanation.Explanation.TheVariants as told
 use Rattle.explain.specs.Headers.{TellsHeader}
-use Rattle.explain.specs.Places.{IsStopOf, IsTokenAt}
+use Rattle.explain.specs.Locations.{IsStopOf, IsTokenAt}
 use Rattle.explain.specs.Typed.{IsTypingOf, type_told}
 use Rattle.explain.specs.Causes.{IsCauseOf}
 use Rattle.explain.specs.Rules.{Breaks}
@@ -38,37 +38,37 @@ first_name f (e ∷ es) = if is_function e.kind && e.index == f then Some e.item
 
 -- 2.5.1 these bytes are the body of the function of that index: the imported ones come first
 abbrev pub IsBodyOf : ℕ → List (List ℕ) → ℕ → List ℕ → Type 0
-IsBodyOf imported bodies f body = (place : ℕ) × (f ≡ imported + place) × (slice_get bodies place ≡ Some body)
+IsBodyOf imported bodies f body = (position : ℕ) × (f ≡ imported + position) × (slice_get bodies position ≡ Some body)
 
 -- 5.5.13 so many locals are declared
 abbrev pub Declares : List ℕ → ℕ → Type 0
 Declares body count = (runs : List LocalRun) × (code : List ℕ) × (locals.read body ≡ Some (runs, code)) × (count ≡ locals_of runs)
 
 -- the places that a fault tells are those of the body of function f, which begins at offset `start`
-abbrev pub TellsPlaces : Context → ℕ → List ℕ → ℕ → BodyExplanation → Type 0
-TellsPlaces C f body start (Malformed stop) = IfSome stop (IsStopOf body start)
-TellsPlaces C f body start (TooManyLocals count) = IfSome count (Declares body)
-TellsPlaces C f body start (IllTyped number found typing cause) =
-    IfSome found (IsTokenAt body start number) × IfSome typing (IsTypingOf C f body number) × IfSome cause (IsCauseOf C f body number)
+abbrev pub TellsLocations : Context → ℕ → List ℕ → ℕ → BodyExplanation → Type 0
+TellsLocations C f body start (Malformed stop) = IfSome stop (IsStopOf body start)
+TellsLocations C f body start (TooManyLocals count) = IfSome count (Declares body)
+TellsLocations C f body start (IllTyped position found typing cause) =
+    IfSome found (IsTokenAt body start position) × IfSome typing (IsTypingOf C f body position) × IfSome cause (IsCauseOf C f body position)
 
 -- it tells none
-abbrev pub TellsNoPlaces : BodyExplanation → Type 0
-TellsNoPlaces (Malformed stop) = stop ≡ None
-TellsNoPlaces (TooManyLocals count) = count ≡ None
-TellsNoPlaces (IllTyped number found typing cause) = (found ≡ None) × (typing ≡ None) × (cause ≡ None)
+abbrev pub TellsNoLocations : BodyExplanation → Type 0
+TellsNoLocations (Malformed stop) = stop ≡ None
+TellsNoLocations (TooManyLocals count) = count ≡ None
+TellsNoLocations (IllTyped position found typing cause) = (found ≡ None) × (typing ≡ None) × (cause ≡ None)
 
 -- the bytes of the module in the span are the body of the function; without a span no place is told
 abbrev pub TellsBody : List ℕ → Context → ℕ → List (List ℕ) → ℕ → Option Span → BodyExplanation → Type 0
-TellsBody bytes C imported bodies f None fault = TellsNoPlaces fault
+TellsBody bytes C imported bodies f None fault = TellsNoLocations fault
 TellsBody bytes C imported bodies f (Some s) fault =
-    IsBodyOf imported bodies f (between s.from s.to bytes) × TellsPlaces C f (between s.from s.to bytes) s.from fault
+    IsBodyOf imported bodies f (between s.from s.to bytes) × TellsLocations C f (between s.from s.to bytes) s.from fault
 
 -- no more is told than the verdict
 pub record KnowsNothing (r : RefusedFunction) : Type 0 where
   pub «export» : r.«export» ≡ None
   pub signature : r.signature ≡ None
   pub span : r.span ≡ None
-  pub places : TellsNoPlaces r.fault
+  pub locations : TellsNoLocations r.fault
 
 -- what is told of the function and its body is so in that module, which the bytes spell
 pub record IsSoIn (bytes : List ℕ) (m : ModuleShape) (r : RefusedFunction) : Type 0 where

@@ -37,25 +37,25 @@ constant_type Other = None
 
 -- rules 2 and 3: the type at that place of a list of functions is none of so many
 abbrev pub TellsType : ModuleShape → List ℕ → ℕ → ℕ → ℕ → Type 0
-TellsType m functions place y types = IsFirst (λ z. z < length m.types) functions place y × (types ≡ length m.types)
+TellsType m functions entry y types = IsFirst (λ z. z < length m.types) functions entry y × (types ≡ length m.types)
 
 -- rule 8: the first value of a global
 abbrev pub TellsGlobal : List GlobalType → List GlobalShape → ℕ → ValType → Initial → Type 0
-TellsGlobal globals gs number t initial =
-    (g : GlobalShape) × IsFirst (λ h. ConstantOf globals h.content.content h.init) gs number g × (g.content.content ≡ t) × IsInitial globals g.init initial
+TellsGlobal globals gs position t initial =
+    (g : GlobalShape) × IsFirst (λ h. ConstantOf globals h.global_type.val_type h.init) gs position g × (g.global_type.val_type ≡ t) × IsInitial globals g.init initial
 
 -- rule 10: the export of that number has the name of an earlier one, and those before it have different names
-pub record IsRepeated (es : List ExportShape) (number : ℕ) (name : List ℕ) (earlier : ℕ) : Type 0 where
-  pub order : earlier < number
-  pub there : option_map (λ e. e.item_name) (slice_get es number) ≡ Some name
+pub record IsRepeated (es : List ExportShape) (position : ℕ) (name : List ℕ) (earlier : ℕ) : Type 0 where
+  pub order : earlier < position
+  pub there : option_map (λ e. e.item_name) (slice_get es position) ≡ Some name
   pub first : option_map (λ e. e.item_name) (slice_get es earlier) ≡ Some name
-  pub before : AllPairs (λ a b. a.item_name ≢ b.item_name) (take number es)
+  pub before : AllPairs (λ a b. a.item_name ≢ b.item_name) (take position es)
 
 -- rule 12: what is wrong with an element segment, where there are so many tables and functions and these imported globals
 abbrev pub IsElementFault : ℕ → ℕ → List GlobalType → ElementShape → ItemFault → Type 0
 IsElementFault tables functions globals e (ElementTable table count) = (table ≡ e.table) × (count ≡ tables) × (count ≤ table)
 IsElementFault tables functions globals e (ElementOffset offset) = IsInitial globals e.offset offset × (ConstantOf globals I32 e.offset → ⊥)
-IsElementFault tables functions globals e (ElementFunction place f count) = IsFirst (λ g. g < functions) e.functions place f × (count ≡ functions)
+IsElementFault tables functions globals e (ElementFunction entry f count) = IsFirst (λ g. g < functions) e.functions entry f × (count ≡ functions)
 IsElementFault tables functions globals e _ = ⊥
 
 -- rule 13: what is wrong with a data segment, where there are so many memories and these imported globals
@@ -66,34 +66,34 @@ IsDataFault memories globals d _ = ⊥
 
 -- 3.4.5 the first element segment that is not valid, and what is wrong with it
 abbrev pub TellsElement : ModuleShape → ℕ → ItemFault → Type 0
-TellsElement m number fault =
-    (e : ElementShape) × IsFirst (ElementValid m) m.elements number e × IsElementFault (length (tables_of m)) (length (functions_of m)) (imported_globals m) e fault
+TellsElement m position fault =
+    (e : ElementShape) × IsFirst (ElementValid m) m.elements position e × IsElementFault (length (tables_of m)) (length (functions_of m)) (imported_globals m) e fault
 
 -- 3.4.6 the first data segment that is not valid, and what is wrong with it
 abbrev pub TellsData : ModuleShape → ℕ → ItemFault → Type 0
-TellsData m number fault =
-    (d : DataShape) × IsFirst (DataValid m) m.segments number d × IsDataFault (length (memories_of m)) (imported_globals m) d fault
+TellsData m position fault =
+    (d : DataShape) × IsFirst (DataValid m) m.segments position d × IsDataFault (length (memories_of m)) (imported_globals m) d fault
 
 -- the item of that number of its section is the first that breaks the rule, for that
 abbrev pub TellsFault : ModuleShape → ℕ → ItemFault → Type 0
-TellsFault m number (ImportedType func y types) = TellsType m (imported_functions m) func y types
-TellsFault m number (DefinedType func y types) = TellsType m m.functions number y types × (func ≡ length (imported_functions m) + number)
-TellsFault m number (TableLimits table limits) = IsFirst (λ t. InOrder t.limits) (tables_of m) table (record { limits = limits })
-TellsFault m number (MemoryLimits memory limits) = IsFirst (WithinRange page_range) (memories_of m) memory limits
-TellsFault m number (SecondTable tables) = (tables ≡ length (tables_of m)) × (1 < tables)
-TellsFault m number (SecondMemory memories) = (memories ≡ length (memories_of m)) × (1 < memories)
-TellsFault m number (GlobalValue global t initial) = TellsGlobal (imported_globals m) m.globals number t initial × (global ≡ length (imported_globals m) + number)
-TellsFault m number (ExportedIndex name kind index count) =
-    IsFirst (λ e. e.index < count_of m e.kind) m.exports number (record { item_name = name.now; kind = kind; index = index }) × (count ≡ count_of m kind)
-TellsFault m number (ExportedName name earlier) = IsRepeated m.exports number name.now earlier
-TellsFault m number (StartMissing func functions) = (m.start ≡ Some func) × (functions ≡ length (functions_of m)) × (functions ≤ func)
-TellsFault m number (StartTyped func s) =
+TellsFault m position (ImportedType func y types) = TellsType m (imported_functions m) func y types
+TellsFault m position (DefinedType func y types) = TellsType m m.functions position y types × (func ≡ length (imported_functions m) + position)
+TellsFault m position (TableLimits table limits) = IsFirst (λ t. InOrder t.limits) (tables_of m) table (record { limits = limits })
+TellsFault m position (MemoryLimits memory limits) = IsFirst (WithinRange page_range) (memories_of m) memory limits
+TellsFault m position (SecondTable tables) = (tables ≡ length (tables_of m)) × (1 < tables)
+TellsFault m position (SecondMemory memories) = (memories ≡ length (memories_of m)) × (1 < memories)
+TellsFault m position (GlobalValue global t initial) = TellsGlobal (imported_globals m) m.globals position t initial × (global ≡ length (imported_globals m) + position)
+TellsFault m position (ExportedIndex name kind index count) =
+    IsFirst (λ e. e.index < count_of m e.kind) m.exports position (record { item_name = name.now; kind = kind; index = index }) × (count ≡ count_of m kind)
+TellsFault m position (ExportedName name earlier) = IsRepeated m.exports position name.now earlier
+TellsFault m position (StartMissing func functions) = (m.start ≡ Some func) × (functions ≡ length (functions_of m)) × (functions ≤ func)
+TellsFault m position (StartTyped func s) =
     (m.start ≡ Some func) × HasType m (record { params = s.params.items; results = s.results.items }) func × (HasType m empty_type func → ⊥)
-TellsFault m number (ElementTable table count) = TellsElement m number (ElementTable table count)
-TellsFault m number (ElementOffset offset) = TellsElement m number (ElementOffset offset)
-TellsFault m number (ElementFunction place f count) = TellsElement m number (ElementFunction place f count)
-TellsFault m number (DataMemory memory count) = TellsData m number (DataMemory memory count)
-TellsFault m number (DataOffset offset) = TellsData m number (DataOffset offset)
+TellsFault m position (ElementTable table count) = TellsElement m position (ElementTable table count)
+TellsFault m position (ElementOffset offset) = TellsElement m position (ElementOffset offset)
+TellsFault m position (ElementFunction entry f count) = TellsElement m position (ElementFunction entry f count)
+TellsFault m position (DataMemory memory count) = TellsData m position (DataMemory memory count)
+TellsFault m position (DataOffset offset) = TellsData m position (DataOffset offset)
 
 -- the rule that is broken so
 abbrev pub rule_of : ItemFault → ℕ
@@ -110,13 +110,13 @@ rule_of (StartMissing func functions) = 11
 rule_of (StartTyped func s) = 11
 rule_of (ElementTable table count) = 12
 rule_of (ElementOffset offset) = 12
-rule_of (ElementFunction place f count) = 12
+rule_of (ElementFunction entry f count) = 12
 rule_of (DataMemory memory count) = 13
 rule_of (DataOffset offset) = 13
 
 -- in that module the item is the first that breaks that rule, for what is told
 abbrev pub BreaksIn : ModuleShape → ℕ → BrokenItem → Type 0
-BreaksIn m rule item = (rule_of item.fault ≡ rule) × TellsFault m item.number item.fault
+BreaksIn m rule item = (rule_of item.fault ≡ rule) × TellsFault m item.position item.fault
 
 -- it is so in each module that the bytes spell
 abbrev pub Breaks : List ℕ → ℕ → BrokenItem → Type 0

@@ -16,10 +16,10 @@ IsDataValid memories globals d = (d.memory < memories) × ConstantOf globals I32
 
 -- the first element segment that is not valid, and what is wrong with it
 abbrev pub IsFirstElement : ℕ → ℕ → List GlobalType → List HeldElement → ℕ → ItemFault → Type 0
-IsFirstElement tables functions globals es number fault =
-    (e : HeldElement) × IsFirst (IsElementValid tables functions globals) es number e × IsElementFault tables functions globals (element_shape e) fault
+IsFirstElement tables functions globals es position fault =
+    (e : HeldElement) × IsFirst (IsElementValid tables functions globals) es position e × IsElementFault tables functions globals (element_shape e) fault
 
 -- the first data segment that is not valid, and what is wrong with it
 abbrev pub IsFirstData : ℕ → List GlobalType → List Data → ℕ → ItemFault → Type 0
-IsFirstData memories globals ds number fault =
-    (d : Data) × IsFirst (λ s. IsDataValid memories globals (data_shape s)) ds number d × IsDataFault memories globals (data_shape d) fault
+IsFirstData memories globals ds position fault =
+    (d : Data) × IsFirst (λ s. IsDataValid memories globals (data_shape s)) ds position d × IsDataFault memories globals (data_shape d) fault

@@ -8,17 +8,17 @@ use Rattle.wsyntax.specs.Binary.Types.{val_type_of, func_type, limits, table_typ
 use Rattle.wsyntax.specs.Binary.Nesting.{expression, token_at}
 use Rattle.wsyntax.specs.Binary.Sections.{an_import, global, an_export, element, data_segment}
 use Rattle.wdecode.specs.Gives.{rest_of}
-use Rattle.explain.specs.declared.shell_place.Wanted.{Wanted}
-use Rattle.explain.specs.declared.shell_place.Wanted.TheVariants as wanted
-use Rattle.explain.specs.declared.shell_place.Wrong.{Wrong}
-use Rattle.explain.specs.declared.shell_place.Wrong.TheVariants as wrong
-use Rattle.explain.specs.declared.shell_place.SectionPart.{SectionPart}
-use Rattle.explain.specs.declared.shell_place.SectionPart.TheVariants as part
-use Rattle.explain.specs.declared.shell_place.FoundSection.{FoundSection}
-use Rattle.explain.specs.declared.shell_place.Place.{Place}
+use Rattle.explain.specs.declared.shell_location.Wanted.{Wanted}
+use Rattle.explain.specs.declared.shell_location.Wanted.TheVariants as wanted
+use Rattle.explain.specs.declared.shell_location.Wrong.{Wrong}
+use Rattle.explain.specs.declared.shell_location.Wrong.TheVariants as wrong
+use Rattle.explain.specs.declared.shell_location.SectionPart.{SectionPart}
+use Rattle.explain.specs.declared.shell_location.SectionPart.TheVariants as part
+use Rattle.explain.specs.declared.shell_location.FoundSection.{FoundSection}
+use Rattle.explain.specs.declared.shell_location.Location.{Location}
 use Rattle.explain.specs.declared.misreads.Misread.{Misread}
-use Rattle.explain.specs.declared.shell.places.Step.{Step}
-use Rattle.explain.specs.declared.shell.places.Step.TheVariants as step
+use Rattle.explain.specs.declared.shell.locations.Step.{Step}
+use Rattle.explain.specs.declared.shell.locations.Step.TheVariants as step
 use Rattle.explain.specs.declared.shell.primitives.Stuck.{Stuck}
 use Rattle.explain.specs.declared.shell.primitives.Stuck.TheVariants as stuck
 use Rattle.explain.specs.declared.shell.items.Items.{Items}
@@ -78,7 +78,7 @@ IsStuck stuck.Memory = Unit {0}
 
 -- something is wrong at the front of these bytes from that place on
 abbrev pub IsMisread : List ℕ → Misread → Type 0
-IsMisread bytes m = Stands m.wrong (between m.place (length bytes) bytes)
+IsMisread bytes m = Stands m.wrong (between m.offset (length bytes) bytes)
 
 -- the bytes that are left, or none: then something is wrong at the front of those where reading stopped
 abbrev pub Passes : Option (List ℕ) → Result (Bor (List ℕ)) Stuck → Type 0
@@ -199,21 +199,21 @@ abbrev pub IsWrong : ℕ → List ℕ → Wrong → Type 0
 IsWrong id bytes w = Stands w bytes ⊎ Otherwise id w bytes
 
 -- the section begins with its id; reading stopped before its end, within the module, and what is wrong there is so
-pub record TellsIn (bytes : List ℕ) (s : FoundSection) (p : Place) : Type 0 where
+pub record TellsIn (bytes : List ℕ) (s : FoundSection) (p : Location) : Type 0 where
   pub id : slice_get bytes s.span.from ≡ Some s.id
   pub within : s.span.to ≤ length bytes
   pub at : p.at ≤ s.span.to
   pub wrong : IsWrong s.id (between p.at s.span.to bytes) p.wrong
 
 -- the same, or reading stopped at the end of the module
-abbrev pub TellsOf : List ℕ → Option FoundSection → Place → Type 0
+abbrev pub TellsOf : List ℕ → Option FoundSection → Location → Type 0
 TellsOf bytes (Some s) p = TellsIn bytes s p
 TellsOf bytes None p = p.at ≡ length bytes
 
-abbrev pub TellsPlace : List ℕ → Place → Type 0
-TellsPlace bytes p = TellsOf bytes p.section p
+abbrev pub TellsLocation : List ℕ → Location → Type 0
+TellsLocation bytes p = TellsOf bytes p.section p
 
 -- what is told of one section more
 abbrev pub TellsStep : List ℕ → Step → Type 0
 TellsStep bytes (step.After w) = Unit {0}
-TellsStep bytes (step.Stopped p) = IfSome p (TellsPlace bytes)
+TellsStep bytes (step.Stopped p) = IfSome p (TellsLocation bytes)

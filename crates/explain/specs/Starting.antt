@@ -8,11 +8,11 @@ use Rattle.wsyntax.specs.Texts.Report.{refusal_text}
 use Rattle.wsyntax.specs.Texts.Words.{newline}
 use Rattle.accepted_module.specs.Floats.{global_has_floats}
 use Rattle.accepted_module.specs.Sizes.{table_size, memory_pages}
-use Rattle.explain.specs.Places.{IsTokenAt}
+use Rattle.explain.specs.Locations.{IsTokenAt}
 use Rattle.explain.specs.Texts.{BeginsWith}
 use Rattle.explain.specs.declared.explanation.FoundToken.{FoundToken}
-use Rattle.explain.specs.declared.starting.FloatPlace.{FloatPlace}
-use Rattle.explain.specs.declared.starting.FloatPlace.TheVariants as place
+use Rattle.explain.specs.declared.starting.FloatLocation.{FloatLocation}
+use Rattle.explain.specs.declared.starting.FloatLocation.TheVariants as location
 use Rattle.explain.specs.declared.starting.NotStarting.{NotStarting}
 use Rattle.explain.specs.declared.starting.NotStarting.TheVariants.{Import, Floats, TableLimit, MemoryLimit, ElementOutside, DataOutside}
 
@@ -26,24 +26,24 @@ refusal_named (ElementOutside k) = meant.ElementOutside k
 refusal_named (DataOutside k) = meant.DataOutside k
 
 -- where floats stand first in the body of function f: in a run of locals, else in a token
-abbrev pub place_in : ℕ → Option ℕ → ℕ → FloatPlace
-place_in f (Some run) number = place.Local f run
-place_in f None number = place.Token f number
+abbrev pub location_in : ℕ → Option ℕ → ℕ → FloatLocation
+location_in f (Some run) token_position = location.Local f run
+location_in f None token_position = location.Token f token_position
 
 -- 2.5.3 where floats stand first in the body of function f, which has some
-abbrev pub float_in : ℕ → BodyShape → FloatPlace
-float_in f b = place_in f (position run_has_floats b.runs) (unwrap_or (position token_has_floats b.code) 0)
+abbrev pub float_in : ℕ → BodyShape → FloatLocation
+float_in f b = location_in f (position run_has_floats b.runs) (unwrap_or (position token_has_floats b.code) 0)
 
 -- 2.5.3 the same in the first body that has some; these are the bodies from function f on
-abbrev pub first_in : ℕ → List BodyShape → Option FloatPlace
+abbrev pub first_in : ℕ → List BodyShape → Option FloatLocation
 first_in f [] = None
 first_in f (b ∷ bs) = if body_has_floats b then Some (float_in f b) else first_in (suc f) bs
 
 -- the first function type with floats, else the first global of a float type, else the first place in a body: in a valid module no float stands elsewhere
-abbrev pub first_float : ModuleShape → List BodyShape → Option FloatPlace
+abbrev pub first_float : ModuleShape → List BodyShape → Option FloatLocation
 first_float m bodies =
-    or_else (option_map place.Type (position type_has_floats m.types))
-    (or_else (option_map place.Global (position global_has_floats m.globals)) (first_in 0 bodies))
+    or_else (option_map location.Type (position type_has_floats m.types))
+    (or_else (option_map location.Global (position global_has_floats m.globals)) (first_in 0 bodies))
 
 -- what is named is the first that hinders the start
 abbrev pub IsNamed : ModuleShape → List BodyShape → NotStarting → Type 0
@@ -64,5 +64,5 @@ IsStartLine (Some r) line = BeginsWith (reason_text r) line
 
 -- the bytes in some span are the body of function f, and its token of that number is this one
 abbrev pub IsTokenOf : List ℕ → List (List ℕ) → ℕ → ℕ → FoundToken → Type 0
-IsTokenOf bytes bodies f number token =
-    (from : ℕ) × (to : ℕ) × (slice_get bodies f ≡ Some (between from to bytes)) × IsTokenAt (between from to bytes) from number token
+IsTokenOf bytes bodies f token_position token =
+    (from : ℕ) × (to : ℕ) × (slice_get bodies f ≡ Some (between from to bytes)) × IsTokenAt (between from to bytes) from token_position token

@@ -15,7 +15,7 @@ use Rattle.explain.specs.declared.explanation.Explanation.TheVariants.{Accepted,
 abbrev pub refusal_told : BodyExplanation → BodyRefusal
 refusal_told (fault.Malformed stop) = refusal.Malformed
 refusal_told (fault.TooManyLocals count) = refusal.TooManyLocals
-refusal_told (fault.IllTyped number found typing cause) = refusal.IllTyped number
+refusal_told (fault.IllTyped position found typing cause) = refusal.IllTyped position
 
 -- the verdict; out of memory gives none
 abbrev pub verdict_told : Explanation → Option Verdict

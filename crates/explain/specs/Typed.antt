@@ -13,7 +13,7 @@ use Rattle.wcheck.specs.Checking.{Checking, begun, with_frames}
 use Rattle.wcheck.specs.Inspected.{take_top}
 use Rattle.explain.specs.declared.explanation.FunctionSignature.{FunctionSignature}
 use Rattle.explain.specs.declared.typing.Typing.{Typing}
-use Rattle.explain.specs.Places.{left_after}
+use Rattle.explain.specs.Locations.{left_after}
 
 -- 2.3.3 the type that a signature says
 abbrev pub type_told : FunctionSignature → FuncType
@@ -106,9 +106,9 @@ pub record IsTypingIn (C : Context) (t : Token) (fs : List Frame) (told : Typing
   pub within : map (λ b. type_told b.signature) told.within.items ≡ take 8 (block_types fs)
 
 -- the checker goes on by the first so many tokens that bytes spell
-pub record PassesTo (old : Checking) (code : List ℕ) (number : ℕ) (now : Checking) : Type 0 where
+pub record PassesTo (old : Checking) (code : List ℕ) (position : ℕ) (now : Checking) : Type 0 where
   pub tokens : List Token
-  pub read : first_tokens number code ≡ Some tokens
+  pub read : first_tokens position code ≡ Some tokens
   pub reached : run old.inside tokens old.frames ≡ Some now.frames
   pub same : now ≡ with_frames old now.frames
 
@@ -120,14 +120,14 @@ pub record StepsTo (bytes : List ℕ) (old : Checking) (after : List ℕ) (new :
   pub same : new ≡ with_frames old new.frames
 
 -- of the token of that number in the body of function f: the frames are those after the tokens before it
-pub record IsTypingOf (C : Context) (f : ℕ) (body : List ℕ) (number : ℕ) (told : Typing) : Type 0 where
+pub record IsTypingOf (C : Context) (f : ℕ) (body : List ℕ) (position : ℕ) (told : Typing) : Type 0 where
   pub runs : List LocalRun
   pub code : List ℕ
   pub declared : locals.read body ≡ Some (runs, code)
   pub now : Checking
-  pub before : PassesTo (begun C f runs) code number now
+  pub before : PassesTo (begun C f runs) code position now
   pub left : List ℕ
-  pub rest : left_after number code ≡ Some left
+  pub rest : left_after position code ≡ Some left
   pub token : Token
   pub after : List ℕ
   pub next : ◌≡◌ {A = Option (Token × List ℕ)} (token_at left) (Some (token, after))

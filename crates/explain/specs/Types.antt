@@ -35,4 +35,4 @@ func_type_text t = lists_text t.params t.results
 
 -- 2.3.7 a global type: what the global holds, and whether it may be set
 abbrev pub global_type_text : GlobalType → List ℕ
-global_type_text g = if g.mutable then type_word g.content ++ codes " mut" else type_word g.content
+global_type_text g = if g.mutable then type_word g.val_type ++ codes " mut" else type_word g.val_type

@@ -25,21 +25,21 @@ fn code_section(bytes: &[u8]) -> Option<Span> {
 }
 
 /// Where the body at that place of the section of bodies may stand.
-fn proposed(bytes: &[u8], place: usize) -> Option<Span> {
+fn proposed(bytes: &[u8], position: usize) -> Option<Span> {
     let section = code_section(bytes)?;
     let (_count, first) = number_at(bytes, section.from)?;
     let mut at = first;
-    for _ in 0..place {
+    for _ in 0..position {
         at = sized_at(bytes, at)?.to;
     }
     sized_at(bytes, at)
 }
 
 /// Where the body stands in the module, whose place among the bodies that is; `None` where other bytes stand there.
-pub(crate) fn body_span(bytes: &[u8], place: usize, body: &[u8]) -> Option<Span>
+pub(crate) fn body_span(bytes: &[u8], position: usize, body: &[u8]) -> Option<Span>
     ensures { IfSome result (λ s. between s.from s.to bytes.now ≡ body.now) }
 {
-    let span = proposed(bytes, place)?;
+    let span = proposed(bytes, position)?;
     let found = bytes.get(span.from..span.to)?;
     if found == body { Some(span) } else { None }
 }

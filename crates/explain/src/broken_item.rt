@@ -89,7 +89,7 @@ pub enum ItemFault<'a> {
     ElementOffset(Initial),
     /// The function at that place of an element segment is none of so many.
     ElementFunction {
-        place: usize,
+        position: usize,
         func: u32,
         functions: usize,
     },
@@ -108,7 +108,7 @@ pub struct BrokenItem<'a> {
     /// The id of the section in which it stands (5.5.2).
     pub section: u8,
     /// Its number in the section, from 0.
-    pub number: usize,
+    pub position: usize,
     /// The offset of its first byte in the module.
     pub at: Option<usize>,
     pub fault: ItemFault<'a>,

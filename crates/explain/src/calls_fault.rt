@@ -124,14 +124,14 @@ fn line_fault(line: &[u8]) -> LineFault<'_> {
         return LineFault::Return;
     }
     let (_name, mut rest) = split_at_mark(line, b'\t');
-    for place in 0..line.len() {
+    for position in 0..line.len() {
         let Some(after) = rest.get(1..) else {
             return LineFault::Bad;
         };
         let (word, behind) = split_at_mark(after, b'\t');
         if let Some(fault) = word_fault(word) {
             return LineFault::Word {
-                number: place + 2,
+                number: position + 2,
                 word,
                 fault,
             };
@@ -142,9 +142,9 @@ fn line_fault(line: &[u8]) -> LineFault<'_> {
 }
 
 /// The text from the line of that place on, the first being 0.
-fn from_line(text: &[u8], place: usize) -> Option<&[u8]> {
+fn from_line(text: &[u8], position: usize) -> Option<&[u8]> {
     let mut rest = text;
-    for _ in 0..place {
+    for _ in 0..position {
         let (_line, after) = split_at_mark(rest, b'\n');
         rest = after.get(1..)?;
     }
@@ -152,11 +152,11 @@ fn from_line(text: &[u8], place: usize) -> Option<&[u8]> {
 }
 
 /// What is wrong with the line of that place, the first being 0.
-fn fault_at(text: &[u8], place: usize) -> LineFault<'_> {
-    if place >= LINE_LIMIT {
+fn fault_at(text: &[u8], position: usize) -> LineFault<'_> {
+    if position >= LINE_LIMIT {
         return LineFault::TooMany;
     }
-    let Some(rest) = from_line(text, place) else {
+    let Some(rest) = from_line(text, position) else {
         return LineFault::Bad;
     };
     let (line, after) = split_at_mark(rest, b'\n');

@@ -21,7 +21,7 @@ pub(crate) enum Misfit {
 /// The first call that does not fit, by its place, and why.
 #[derive(Drop)]
 pub(crate) struct CallMisfit {
-    pub(crate) place: usize,
+    pub(crate) position: usize,
     pub(crate) why: Misfit,
 }
 
@@ -70,9 +70,9 @@ pub(crate) fn first_misfit(
     accepted: &Accepted<'_>,
     calls: &[Call<'_>],
 ) -> Result<Option<CallMisfit>, AllocError> {
-    for (place, call) in calls.iter().enumerate() {
+    for (position, call) in calls.iter().enumerate() {
         if let Some(why) = misfit_of(alloc, accepted, call)? {
-            return Ok(Some(CallMisfit { place, why }));
+            return Ok(Some(CallMisfit { position, why }));
         }
     }
     Ok(None)

@@ -99,10 +99,10 @@ pub(crate) fn push_misfit(
     calls: &[Call<'_>],
     misfit: &CallMisfit,
 ) -> Result<(), AllocError> {
-    let Some(call) = calls.get(misfit.place) else {
+    let Some(call) = calls.get(misfit.position) else {
         return Ok(());
     };
-    let line = misfit.place.saturating_add(1);
+    let line = misfit.position.saturating_add(1);
     write!(text, "calls     line {line}")?;
     match &misfit.why {
         Misfit::NoExport => push_named(text, call.name, ", and there is none")?,

@@ -18,13 +18,13 @@ pub enum Space {
 pub enum Cause {
     /// It takes an operand of one type, and finds one of another.
     Operand {
-        place: usize,
+        position: usize,
         wanted: ValType,
         found: ValType,
     },
     /// It takes an operand, of any type where `wanted` is `None`, and the innermost block has fewer.
     Missing {
-        place: usize,
+        position: usize,
         wanted: Option<ValType>,
     },
     /// So many operands are left where a block ends.

@@ -34,8 +34,8 @@ fn push_taken(
 }
 
 /// A place from the top.
-fn push_place(text: &mut String, place: usize) -> Result<(), AllocError> {
-    match place {
+fn push_position(text: &mut String, position: usize) -> Result<(), AllocError> {
+    match position {
         0 => text.push_str(" on top"),
         1 => text.push_str(" below the top"),
         _ => write!(text, " below {place} others"),
@@ -43,8 +43,8 @@ fn push_place(text: &mut String, place: usize) -> Result<(), AllocError> {
 }
 
 /// The place of an operand that is missing, which is the height of the stack.
-fn push_missing(text: &mut String, place: usize) -> Result<(), AllocError> {
-    match place {
+fn push_missing(text: &mut String, position: usize) -> Result<(), AllocError> {
+    match position {
         0 => text.push_str(", and the stack of the block is empty"),
         1 => text.push_str(" below the top, and the block has 1 operand"),
         _ => write!(
@@ -108,10 +108,10 @@ fn push_left_over(text: &mut String, found: &FoundToken, count: usize) -> Result
 /// A label of a branch table, and the first place at which it names it, from 0.
 fn push_label(text: &mut String, found: &FoundToken, label: u32) -> Result<(), AllocError> {
     write!(text, "label {label} of the branch table")?;
-    let place = found.targets.iter().position(|target| *target == label);
-    match place {
-        Some(place) if place + 1 == found.targets.len() => text.push_str(", its default,"),
-        Some(place) => write!(text, ", at place {place},"),
+    let position = found.targets.iter().position(|target| *target == label);
+    match position {
+        Some(position) if position + 1 == found.targets.len() => text.push_str(", its default,"),
+        Some(position) => write!(text, ", at place {place},"),
         None => Ok(()),
     }
 }
@@ -133,18 +133,18 @@ fn push_name(
 fn push_sentence(text: &mut String, found: &FoundToken, cause: &Cause) -> Result<(), AllocError> {
     match cause {
         Cause::Operand {
-            place,
+            position,
             wanted,
             found: other,
         } => {
             push_taken(text, found, Some(*wanted))?;
-            push_place(text, *place)?;
+            push_position(text, *position)?;
             text.push_str(", and finds ")?;
             text.push_str(wanted_words(Some(*other)))
         }
-        Cause::Missing { place, wanted } => {
+        Cause::Missing { position, wanted } => {
             push_taken(text, found, *wanted)?;
-            push_missing(text, *place)
+            push_missing(text, *position)
         }
         Cause::LeftOver { count } => push_left_over(text, found, *count),
         Cause::NoElse(signature) => {

@@ -21,15 +21,15 @@ use wsyntax::{BlockType, Token, ValType};
 fn misfit(takes: &[Option<ValType>], finds: &[Option<ValType>]) -> Option<Cause>
     ensures { IfSome result (IsMisfit (reverse takes.now) (reverse finds.now)) }
 {
-    for place in 0..takes.len() {
-        let wanted = takes[takes.len() - 1 - place];
-        if place >= finds.len() {
-            return Some(Cause::Missing { place, wanted });
+    for position in 0..takes.len() {
+        let wanted = takes[takes.len() - 1 - position];
+        if position >= finds.len() {
+            return Some(Cause::Missing { position, wanted });
         }
-        if let (Some(wanted), Some(found)) = (wanted, finds[finds.len() - 1 - place]) {
+        if let (Some(wanted), Some(found)) = (wanted, finds[finds.len() - 1 - position]) {
             if found != wanted {
                 return Some(Cause::Operand {
-                    place,
+                    position,
                     wanted,
                     found,
                 });
@@ -40,13 +40,13 @@ fn misfit(takes: &[Option<ValType>], finds: &[Option<ValType>]) -> Option<Cause>
 }
 
 /// The type of the operand at a place from the top, where it is known. The lowest comes first.
-fn type_at(finds: &[Option<ValType>], place: usize) -> Option<ValType>
-    ensures { IfSome result (λ t. slice_get (reverse finds.now) place ≡ Some (Some t)) }
+fn type_at(finds: &[Option<ValType>], position: usize) -> Option<ValType>
+    ensures { IfSome result (λ t. slice_get (reverse finds.now) position ≡ Some (Some t)) }
 {
-    if place >= finds.len() {
+    if position >= finds.len() {
         return None;
     }
-    finds[finds.len() - 1 - place]
+    finds[finds.len() - 1 - position]
 }
 
 /// The two operands of a select, if they are of different types.
@@ -73,8 +73,8 @@ fn differ(one: &[ValType], other: &[ValType]) -> bool
     if one.len() != other.len() {
         return true;
     }
-    for place in 0..one.len() {
-        if one[place] != other[place] {
+    for position in 0..one.len() {
+        if one[position] != other[position] {
             return true;
         }
     }

@@ -12,7 +12,7 @@ use crate::functions::{first_export, signature_of};
 use crate::headers::no_module;
 use crate::names::name_of;
 use crate::rules::broken_item;
-use crate::shell::places::place_of;
+use crate::shell::locations::location_of;
 use std::alloc::{AllocError, Global};
 use verdict::{BodyRefusal, Refusal, examine_alone};
 use wcontext::{ModuleFault, check_rules_before_code};
@@ -94,8 +94,8 @@ fn not_spelled(alloc: Global, bytes: &[u8]) -> Result<NoModule, AllocError>
 {
     match no_module(bytes) {
         NoModule::Sections(_) => {
-            let place = place_of(alloc, bytes)?;
-            Ok(NoModule::Sections(place))
+            let location = location_of(alloc, bytes)?;
+            Ok(NoModule::Sections(location))
         }
         other => Ok(other),
     }

@@ -2,7 +2,7 @@
 
 use crate::broken_item::BrokenItem;
 use crate::cause::Cause;
-use crate::shell_place::Place;
+use crate::shell_location::Location;
 use crate::typing::Typing;
 use verdict::{BodyRefusal, Refusal};
 use wsyntax::{Token, ValType};
@@ -60,7 +60,7 @@ pub enum NoModule {
         form: Option<Form>,
     },
     /// Magic and version are right, and what follows are not the sections of a module; and where reading stopped.
-    Sections(Option<Place>),
+    Sections(Option<Location>),
 }
 
 /// Why reading a body stopped.
@@ -80,7 +80,7 @@ pub enum Stopped {
 
 /// Where reading a malformed body stopped.
 #[derive(Clone, Copy, Debug)]
-pub struct StopPlace<'a> {
+pub struct StopLocation<'a> {
     pub why: Stopped,
     /// How many tokens stand before.
     pub tokens: usize,
@@ -107,16 +107,16 @@ pub struct FoundToken {
 pub enum BodyExplanation<'a> {
     /// Its bytes spell no body.
     Malformed {
-        stop: Option<StopPlace<'a>>,
+        stop: Option<StopLocation<'a>>,
     },
     /// It declares more than 100,000 locals, parameters aside: so many.
     TooManyLocals {
         count: Option<u64>,
     },
-    /// It has no type. `number` is that of the first token that no completion can save, from 0; where the body ends before
+    /// It has no type. `position` is that of the first token that no completion can save, from 0; where the body ends before
     /// it, there is no such token.
     IllTyped {
-        number: usize,
+        position: usize,
         found: Option<FoundToken>,
         typing: Option<Typing>,
         cause: Option<Cause>,
@@ -170,7 +170,7 @@ impl BodyExplanation<'_> {
         match self {
             BodyExplanation::Malformed { .. } => BodyRefusal::Malformed,
             BodyExplanation::TooManyLocals { .. } => BodyRefusal::TooManyLocals,
-            BodyExplanation::IllTyped { number, .. } => BodyRefusal::IllTyped { at: *number },
+            BodyExplanation::IllTyped { position, .. } => BodyRefusal::IllTyped { at: *position },
         }
     }
 }

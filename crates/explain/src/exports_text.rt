@@ -44,7 +44,7 @@ fn push_global_type(text: &mut String, of_type: GlobalType) -> Result<(), AllocE
     ensures { OnOk result (string_bytes text.new ≡ string_bytes text.old ++ global_text of_type) }
 {
     text.push_str(" ")?;
-    text.push_str(type_name(of_type.content))?;
+    text.push_str(type_name(of_type.val_type))?;
     if of_type.mutable {
         text.push_str(" mut")?;
     }

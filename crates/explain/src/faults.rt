@@ -3,7 +3,7 @@ ghost use Rattle.std.specs.Prelude.{◌≡◌, IfOk, IfSome, Some, None, map, sl
 ghost use Rattle.wsyntax.specs.Binary.Sections.{locals_of};
 ghost use Rattle.verdict.specs.declared.refusal.BodyRefusal.TheVariants as refusal;
 ghost use Rattle.explain.specs.Told.{refusal_told};
-ghost use Rattle.explain.specs.Placed.{Declares, TellsBody, TellsNoPlaces, TellsPlaces};
+ghost use Rattle.explain.specs.Placed.{Declares, TellsBody, TellsNoLocations, TellsLocations};
 
 use crate::bodies::body_span;
 use crate::explanation::{BodyExplanation, Span};
@@ -18,13 +18,13 @@ use wsyntax::LocalRun;
 /// What is known of a refused body by its verdict alone.
 fn bare_fault<'a>(refusal: BodyRefusal) -> BodyExplanation<'a>
     ensures refusal { refusal_told result ≡ refusal }
-    ensures places { TellsNoPlaces result }
+    ensures locations { TellsNoLocations result }
 {
     match refusal {
         BodyRefusal::Malformed => BodyExplanation::Malformed { stop: None },
         BodyRefusal::TooManyLocals => BodyExplanation::TooManyLocals { count: None },
         BodyRefusal::IllTyped { at } => BodyExplanation::IllTyped {
-            number: at,
+            position: at,
             found: None,
             typing: None,
             cause: None,
@@ -61,12 +61,12 @@ fn placed_token<'a>(
     func: u32,
     body: &[u8],
     start: usize,
-    number: usize,
+    position: usize,
 ) -> Result<BodyExplanation<'a>, AllocError>
-    ensures refusal { IfOk result (λ f. refusal_told f ≡ refusal.IllTyped number) }
-    ensures places { IfOk result (TellsPlaces context.now.context func body.now start) }
+    ensures refusal { IfOk result (λ f. refusal_told f ≡ refusal.IllTyped position) }
+    ensures locations { IfOk result (TellsLocations context.now.context func body.now start) }
 {
-    match find_told(alloc, context, func, body, start, number) {
+    match find_told(alloc, context, func, body, start, position) {
         Ok(
             Told {
                 found,
@@ -74,12 +74,12 @@ fn placed_token<'a>(
                 cause,
             },
         ) => Ok(BodyExplanation::IllTyped {
-            number,
+            position,
             found: Some(found),
             typing: Some(typing),
             cause,
         }),
-        Err(Fault::Malformed) => Ok(bare_fault(BodyRefusal::IllTyped { at: number })),
+        Err(Fault::Malformed) => Ok(bare_fault(BodyRefusal::IllTyped { at: position })),
         Err(Fault::Memory) => Err(AllocError),
     }
 }
@@ -94,7 +94,7 @@ fn placed_fault<'a>(
     refusal: BodyRefusal,
 ) -> Result<BodyExplanation<'a>, AllocError>
     ensures refusal { IfOk result (λ f. refusal_told f ≡ refusal) }
-    ensures places { IfOk result (TellsPlaces context.now.context func body.now start) }
+    ensures locations { IfOk result (TellsLocations context.now.context func body.now start) }
 {
     match refusal {
         BodyRefusal::Malformed => {
@@ -119,7 +119,7 @@ pub(crate) struct Located<'a> {
 /// A body whose place is not known.
 pub(crate) fn not_located<'a>(refusal: BodyRefusal) -> Located<'a>
     ensures refusal { refusal_told result.fault ≡ refusal }
-    ensures places { (result.span ≡ None) × TellsNoPlaces result.fault }
+    ensures locations { (result.span ≡ None) × TellsNoLocations result.fault }
 {
     Located {
         span: None,
@@ -128,10 +128,10 @@ pub(crate) fn not_located<'a>(refusal: BodyRefusal) -> Located<'a>
 }
 
 /// The body at that place of the bodies of a module.
-fn body_at<'a>(bodies: &Vec<&'a [u8]>, place: usize) -> Option<&'a [u8]>
-    ensures { IfSome result (λ body. slice_get (map (λ s. s.now) bodies.now.items) place ≡ Some body.now) }
+fn body_at<'a>(bodies: &Vec<&'a [u8]>, position: usize) -> Option<&'a [u8]>
+    ensures { IfSome result (λ body. slice_get (map (λ s. s.now) bodies.now.items) position ≡ Some body.now) }
 {
-    bodies.get(place).copied()
+    bodies.get(position).copied()
 }
 
 /// Why the body of the function of that index is refused, and where it stands among the bytes of its module.
@@ -145,16 +145,16 @@ pub(crate) fn locate<'a>(
     refusal: BodyRefusal,
 ) -> Result<Located<'a>, AllocError>
     ensures refusal { IfOk result (λ l. refusal_told l.fault ≡ refusal) }
-    ensures places { IfOk result (λ l.
+    ensures locations { IfOk result (λ l.
         TellsBody bytes.now context.now.context imported (map (λ s. s.now) bodies.now.items) func l.span l.fault) }
 {
-    let Some(place) = (func as usize).checked_sub(imported) else {
+    let Some(position) = (func as usize).checked_sub(imported) else {
         return Ok(not_located(refusal));
     };
-    let Some(body) = body_at(bodies, place) else {
+    let Some(body) = body_at(bodies, position) else {
         return Ok(not_located(refusal));
     };
-    let Some(span) = body_span(bytes, place, body) else {
+    let Some(span) = body_span(bytes, position, body) else {
         return Ok(not_located(refusal));
     };
     let fault = placed_fault(alloc, context, func, body, span.from, refusal)?;

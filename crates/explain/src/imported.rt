@@ -15,10 +15,10 @@ fn is_of_kind(import: ImportKind, kind: ExportKind) -> bool {
 /// The number of the import that adds the item of that index to the space of that kind.
 pub(crate) fn import_of(imports: &[Import<'_>], kind: ExportKind, index: usize) -> Option<usize> {
     let mut left = index;
-    for (number, import) in imports.iter().enumerate() {
+    for (position, import) in imports.iter().enumerate() {
         if is_of_kind(import.kind, kind) {
             if left == 0 {
-                return Some(number);
+                return Some(position);
             }
             left -= 1;
         }

@@ -17,20 +17,20 @@ mod faults;
 mod functions;
 mod headers;
 mod imported;
-mod item_places;
+mod item_offsets;
 mod misreads;
 mod names;
-mod numbers;
+mod fields;
 mod opcode_names;
 mod operands;
-mod places;
+mod locations;
 mod quoting;
 mod recheck;
 mod rule_text;
 mod rules;
 mod sections;
 mod shell;
-mod shell_place;
+mod shell_location;
 mod shell_text;
 mod shell_words;
 mod starting;
@@ -51,11 +51,11 @@ pub use explaining::explain;
 pub use explaining_calls::{CallsExplanation, Refused, explain_calls};
 pub use explanation::{
     BodyExplanation, Explanation, Form, FoundToken, FunctionSignature, NoModule, RefusedFunction,
-    Span, StopPlace, Stopped,
+    Span, StopLocation, Stopped,
 };
 pub use exports_text::text_of_exports;
-pub use numbers::ExplanationKind;
-pub use shell_place::{FoundSection, OtherSegment, Place, SectionPart, Wanted, Wrong};
-pub use starting::{FloatPlace, NotStarting, not_starting};
+pub use fields::ExplanationKind;
+pub use shell_location::{FoundSection, OtherSegment, Location, SectionPart, Wanted, Wrong};
+pub use starting::{FloatLocation, NotStarting, not_starting};
 pub use text::explanation_text;
 pub use typing::{BlockKind, Giver, OpenBlock, Opening, Typing};

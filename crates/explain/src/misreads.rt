@@ -1,11 +1,11 @@
 //! What is wrong with the immediates of a token (5.4), or with the locals of a body (5.5.13), that cannot be read.
 ghost use Rattle.std.specs.Prelude.{◌≡◌, ◌⊎◌, IfErr, IfSome};
-ghost use Rattle.explain.specs.declared.shell_place.Wanted.TheVariants.{MemoryByte, TableByte};
+ghost use Rattle.explain.specs.declared.shell_location.Wanted.TheVariants.{MemoryByte, TableByte};
 ghost use Rattle.explain.specs.Shells.{IsMisread, IsNoConstant, IsStuck, Stands};
 
 use crate::shell::primitives::{Stuck, after_index, number_at, wrong_byte};
 use crate::shell::type_items::after_val_type;
-use crate::shell_place::{Wanted, Wrong};
+use crate::shell_location::{Wanted, Wrong};
 
 /// The most bytes of a number s32, and of a number s64 (5.2.2).
 const MOST_OF_I32: usize = 5;
@@ -15,7 +15,7 @@ const MOST_OF_I64: usize = 10;
 /// What is wrong, and the place of the first byte of it.
 #[derive(Clone, Copy)]
 pub(crate) struct Misread {
-    pub(crate) place: usize,
+    pub(crate) offset: usize,
     pub(crate) wrong: Wrong,
 }
 
@@ -200,12 +200,12 @@ fn placed(bytes: &[u8], stuck: Stuck<'_>) -> Option<Misread>
         return None;
     };
     let end = bytes.len();
-    let place = end.saturating_sub(rest.len());
-    let found = bytes.get(place..end)?;
+    let offset = end.saturating_sub(rest.len());
+    let found = bytes.get(offset..end)?;
     if found != rest {
         return None;
     }
-    Some(Misread { place, wrong })
+    Some(Misread { offset, wrong })
 }
 
 /// Why the immediates cannot be read of the token that the bytes begin with; `None` where they can.

@@ -44,9 +44,9 @@ fn asked_by(alloc: Global, context: &Context, rule: OperandRule) -> Result<Opera
             takes,
             gives: _,
         }
-        | OperandRule::Ends { has_index, takes } => listed(alloc, context.list(takes), has_index),
-        OperandRule::Drops => Vec::from_slice(alloc, &[None]),
-        OperandRule::Selects => Vec::from_slice(alloc, &[None, None, Some(ValType::I32)]),
+        | OperandRule::Terminates { has_index, takes } => listed(alloc, context.list(takes), has_index),
+        OperandRule::Drop => Vec::from_slice(alloc, &[None]),
+        OperandRule::Select => Vec::from_slice(alloc, &[None, None, Some(ValType::I32)]),
     }
 }
 

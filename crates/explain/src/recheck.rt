@@ -4,7 +4,7 @@ ghost use Rattle.std.specs.Prelude.{◌≡◌, ℕ, List, [], true, false, IfOk,
 ghost use Rattle.wsyntax.specs.Modules.{decoded_as};
 ghost use Rattle.wsyntax.specs.Validation.Algorithm.{step, when};
 ghost use Rattle.wcheck.specs.Checking.{with_frames};
-ghost use Rattle.explain.specs.Places.{IsTokenAt, left_after};
+ghost use Rattle.explain.specs.Locations.{IsTokenAt, left_after};
 ghost use Rattle.explain.specs.Causes.{IsCause, IsCauseOf};
 ghost use Rattle.explain.specs.Typed.{IsTypingIn, IsTypingOf, PassesTo, StepsTo, block_types, type_told};
 
@@ -12,7 +12,7 @@ use crate::cause::Cause;
 use crate::causes::{name_cause, operand_cause};
 use crate::explanation::{FoundToken, FunctionSignature, Span};
 use crate::operands::{Operands, takes_of};
-use crate::places::offset_of;
+use crate::locations::offset_of;
 use crate::trail::{Trail, puts};
 use crate::typing::{OpenBlock, Typing};
 use std::alloc::{AllocError, Global};
@@ -110,7 +110,7 @@ fn pass_tokens<'a>(
 {
     let mut targets = Vec::new(alloc);
     let mut rest = code;
-    for number in 0..count {
+    for position in 0..count {
         rest = pass_token(checker, trail, &mut targets, rest)?;
     }
     Ok(rest)
@@ -226,11 +226,11 @@ pub(crate) fn find_told(
     func: u32,
     body: &[u8],
     start: usize,
-    number: usize,
+    position: usize,
 ) -> Result<Told, Fault>
-    ensures found { IfOk result (λ t. IsTokenAt body.now start number t.found) }
-    ensures typing { IfOk result (λ t. IsTypingOf context.now.context func body.now number t.typing) }
-    ensures cause { IfOk result (λ t. IfSome t.cause (IsCauseOf context.now.context func body.now number)) }
+    ensures found { IfOk result (λ t. IsTokenAt body.now start position t.found) }
+    ensures typing { IfOk result (λ t. IsTypingOf context.now.context func body.now position t.typing) }
+    ensures cause { IfOk result (λ t. IfSome t.cause (IsCauseOf context.now.context func body.now position)) }
 {
     if func as usize >= context.function_count() {
         return Err(Fault::Malformed);
@@ -243,7 +243,7 @@ pub(crate) fn find_told(
         code,
         start.saturating_add(body.len().saturating_sub(code.len())),
     );
-    let rest = pass_tokens(alloc, &mut checker, &mut trail, code, number)?;
+    let rest = pass_tokens(alloc, &mut checker, &mut trail, code, position)?;
     let [opcode, ..] = rest else {
         return Err(Fault::Malformed);
     };

@@ -1,14 +1,14 @@
 //! An item that breaks a module rule, in words.
 
 use crate::broken_item::{BrokenItem, Initial, ItemFault};
-use crate::item_places::{DATA, ELEMENT, EXPORT, IMPORT, START};
+use crate::item_offsets::{DATA, ELEMENT, EXPORT, IMPORT, START};
 use crate::quoting::push_name;
 use crate::type_text::{push_signature, type_name};
 use std::alloc::AllocError;
 use wsyntax::{ExportKind, GlobalType, Limits, PAGE_RANGE, ValType};
 
 /// An item of a section, by its number there.
-fn push_numbered(text: &mut String, section: u8, number: usize) -> Result<(), AllocError> {
+fn push_by_position(text: &mut String, section: u8, position: usize) -> Result<(), AllocError> {
     match section {
         IMPORT => write!(text, "import {number}"),
         EXPORT => write!(text, "export {number}"),
@@ -22,7 +22,7 @@ fn push_numbered(text: &mut String, section: u8, number: usize) -> Result<(), Al
 /// An item: by its index where the module defines it, or else by its number in its section.
 fn push_item(text: &mut String, item: &BrokenItem<'_>) -> Result<(), AllocError> {
     if item.section == IMPORT {
-        return push_numbered(text, item.section, item.number);
+        return push_by_position(text, item.section, item.position);
     }
     match &item.fault {
         ItemFault::DefinedType { func, .. } => write!(text, "function {func}"),
@@ -31,7 +31,7 @@ fn push_item(text: &mut String, item: &BrokenItem<'_>) -> Result<(), AllocError>
         ItemFault::SecondTable { .. } => text.push_str("table 1"),
         ItemFault::SecondMemory { .. } => text.push_str("memory 1"),
         ItemFault::GlobalValue { global, .. } => write!(text, "global {global}"),
-        _ => push_numbered(text, item.section, item.number),
+        _ => push_by_position(text, item.section, item.position),
     }
 }
 
@@ -71,7 +71,7 @@ fn push_get(
         None => write!(text, ", and {imported} globals are imported"),
         Some(found) if found.mutable => text.push_str(", which is mutable"),
         Some(found) => {
-            let found = type_name(found.content);
+            let found = type_name(found.val_type);
             write!(text, " of type {found}, {} is wanted", type_name(wanted))
         }
     }
@@ -153,7 +153,7 @@ fn push_space_fault(text: &mut String, fault: &ItemFault<'_>) -> Result<(), Allo
 
 /// What is wrong with an export or the start function.
 fn push_outer_fault(text: &mut String, item: &BrokenItem<'_>) -> Result<(), AllocError> {
-    let number = item.number;
+    let position = item.position;
     match &item.fault {
         ItemFault::ExportedIndex {
             name,
@@ -186,7 +186,7 @@ fn push_outer_fault(text: &mut String, item: &BrokenItem<'_>) -> Result<(), Allo
 
 /// What is wrong with an item.
 fn push_fault(text: &mut String, item: &BrokenItem<'_>) -> Result<(), AllocError> {
-    let number = item.number;
+    let position = item.position;
     match &item.fault {
         ItemFault::ElementTable { table, tables } => {
             write!(text, "element segment {number} is of table {table}")?;
@@ -197,7 +197,7 @@ fn push_fault(text: &mut String, item: &BrokenItem<'_>) -> Result<(), AllocError
             push_initial(text, *offset, ValType::I32)
         }
         ItemFault::ElementFunction {
-            place,
+            position,
             func,
             functions,
         } => {

@@ -13,7 +13,7 @@ mod segments;
 mod start;
 
 use crate::broken_item::BrokenItem;
-use crate::item_places::place_of;
+use crate::item_offsets::item_offset;
 use std::alloc::{AllocError, Global};
 use wcontext::Spaces;
 use wdecode::{DecodeFault, decode_module};
@@ -71,7 +71,7 @@ fn placed_item<'a>(
     match item_in(alloc, module, rule)? {
         None => Ok(None),
         Some(item) => {
-            let at = place_of(alloc, bytes, item.section, item.number)?;
+            let at = item_offset(alloc, bytes, item.section, item.position)?;
             Ok(Some(BrokenItem { at, ..item }))
         }
     }

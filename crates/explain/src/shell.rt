@@ -3,6 +3,6 @@
 pub(crate) mod contents;
 pub(crate) mod expressions;
 pub(crate) mod items;
-pub(crate) mod places;
+pub(crate) mod locations;
 pub(crate) mod primitives;
 pub(crate) mod type_items;

@@ -2,7 +2,7 @@
 
 use crate::opcode_names::{feature_of_byte, name_of_later, named_after_fc};
 use crate::quoting::push_hex;
-use crate::shell_place::{FoundSection, OtherSegment, Place, SectionPart, Wanted, Wrong};
+use crate::shell_location::{FoundSection, OtherSegment, Location, SectionPart, Wanted, Wrong};
 use crate::shell_words::{
     Origin, is_plural, item_name, later_byte, later_section, later_segment, section_name,
     wanted_bytes, wanted_words,
@@ -40,11 +40,11 @@ fn push_part(text: &mut String, part: SectionPart, id: u8) -> Result<(), AllocEr
 }
 
 /// The line on what could not be read.
-fn push_item(text: &mut String, place: Place) -> Result<(), AllocError> {
-    let at = place.at;
+fn push_item(text: &mut String, location: Location) -> Result<(), AllocError> {
+    let at = location.at;
     text.push_str("item      ")?;
-    match place.section {
-        Some(section) => push_part(text, place.part, section.id)?,
+    match location.section {
+        Some(section) => push_part(text, location.part, section.id)?,
         None => text.push_str("after the sections")?,
     }
     write!(text, ", byte {at} (0x{at:x})\n")
@@ -234,8 +234,8 @@ fn push_other_size(text: &mut String, id: u8, says: usize, takes: usize) -> Resu
 }
 
 /// What is wrong.
-fn push_wrong(text: &mut String, place: Place, id: u8) -> Result<(), AllocError> {
-    match place.wrong {
+fn push_wrong(text: &mut String, location: Location, id: u8) -> Result<(), AllocError> {
+    match location.wrong {
         Wrong::Byte { wanted, found } => push_byte(text, wanted, found),
         Wrong::NoText { size } => write!(text, "the name there, of size {size}, is not UTF-8\n"),
         Wrong::Id => push_id(text, id, None),
@@ -251,7 +251,7 @@ fn push_wrong(text: &mut String, place: Place, id: u8) -> Result<(), AllocError>
         wrong => push_number(
             text,
             wrong,
-            if place.part == SectionPart::Size {
+            if location.part == SectionPart::Size {
                 "the module ends"
             } else {
                 "the section ends"
@@ -277,18 +277,18 @@ fn push_segment(text: &mut String, id: u8, segment: OtherSegment) -> Result<bool
 }
 
 /// The lines on where and why reading stopped.
-pub(crate) fn push_place(text: &mut String, place: Place) -> Result<(), AllocError> {
+pub(crate) fn push_location(text: &mut String, location: Location) -> Result<(), AllocError> {
     let mut id = 0;
-    if let Some(section) = place.section {
+    if let Some(section) = location.section {
         id = section.id;
         push_section(text, section)?;
     }
-    if let Some(segment) = place.segment
+    if let Some(segment) = location.segment
         && push_segment(text, id, segment)?
     {
         return Ok(());
     }
-    push_item(text, place)?;
+    push_item(text, location)?;
     text.push_str("because   ")?;
-    push_wrong(text, place, id)
+    push_wrong(text, location, id)
 }

@@ -1,7 +1,7 @@
 //! What stands in the shell of a module, in words, and what of it is of later standards.
 
 use crate::opcode_names::Feature;
-use crate::shell_place::Wanted;
+use crate::shell_location::Wanted;
 
 /// What something of a later standard is of.
 #[derive(Clone, Copy, PartialEq, Eq)]

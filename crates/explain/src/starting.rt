@@ -14,7 +14,7 @@ use wsyntax::{FuncTypes, Global, Import, LocalRun, Module, TABLE_LIMIT, Token};
 
 /// Where f32 or f64 stands first in a module without imports, in which the index of a function is the place of its body.
 #[derive(Clone, Copy)]
-pub enum FloatPlace {
+pub enum FloatLocation {
     /// In the function type of that index.
     Type(usize),
     /// In the type of the global of that index.
@@ -22,7 +22,7 @@ pub enum FloatPlace {
     /// In that run of the declared locals of that function.
     Local { func: usize, run: usize },
     /// In the token of that number of the body of that function.
-    Token { func: usize, number: usize },
+    Token { func: usize, position: usize },
 }
 
 /// Why no instance of a module starts.
@@ -31,7 +31,7 @@ pub enum NotStarting<'a> {
     /// It has imports: the first.
     Import(Import<'a>),
     /// It mentions floats: first there.
-    Floats(Option<FloatPlace>),
+    Floats(Option<FloatLocation>),
     /// Its table has at least so many entries.
     TableLimit(u32),
     /// Its memory has at least so many pages.
@@ -63,7 +63,7 @@ fn float_global(globals: &[Global<'_>]) -> Option<usize>
 {
     globals
         .iter()
-        .position(|global| is_float(global.content.content))
+        .position(|global| is_float(global.global_type.val_type))
 }
 
 /// The number of the first run of locals that are floats.
@@ -71,7 +71,7 @@ fn float_run(runs: &[LocalRun]) -> Option<usize>
     ensures { result ≡ position run_has_floats runs.now }
 {
     runs.iter()
-        .position(|run| run.count > 0 && is_float(run.content))
+        .position(|run| run.count > 0 && is_float(run.val_type))
 }
 
 /// The number of the first token that has floats.
@@ -82,20 +82,20 @@ fn float_token(tokens: &[Token]) -> Option<usize>
 }
 
 /// Where floats stand first in the body of that function.
-fn float_in_body(func: usize, body: &CheckedBody) -> FloatPlace
+fn float_in_body(func: usize, body: &CheckedBody) -> FloatLocation
     ensures { result ≡ float_in func (body_shape body.now.body) }
 {
     match float_run(body.locals()) {
-        Some(run) => FloatPlace::Local { func, run },
-        None => FloatPlace::Token {
+        Some(run) => FloatLocation::Local { func, run },
+        None => FloatLocation::Token {
             func,
-            number: float_token(body.tokens()).unwrap_or(0),
+            position: float_token(body.tokens()).unwrap_or(0),
         },
     }
 }
 
 /// Where floats stand first in these bodies.
-fn float_in_bodies(bodies: &[CheckedBody]) -> Option<FloatPlace>
+fn float_in_bodies(bodies: &[CheckedBody]) -> Option<FloatLocation>
     ensures { result ≡ first_in 0 (shapes_of bodies.now) }
 {
     for (func, body) in bodies.iter().enumerate() {
@@ -107,14 +107,14 @@ fn float_in_bodies(bodies: &[CheckedBody]) -> Option<FloatPlace>
 }
 
 /// Where floats stand first in a module with these bodies.
-fn float_place(module: &Module<'_>, bodies: &[CheckedBody]) -> Option<FloatPlace>
+fn float_location(module: &Module<'_>, bodies: &[CheckedBody]) -> Option<FloatLocation>
     ensures { result ≡ first_float (module_shape «module».now) (shapes_of bodies.now) }
 {
     if let Some(index) = float_type(&module.types) {
-        return Some(FloatPlace::Type(index));
+        return Some(FloatLocation::Type(index));
     }
     if let Some(index) = float_global(&module.globals) {
-        return Some(FloatPlace::Global(index));
+        return Some(FloatLocation::Global(index));
     }
     float_in_bodies(bodies)
 }
@@ -136,7 +136,7 @@ fn reason_of<'a>(
         return Some(NotStarting::Import(*import));
     }
     if uses_floats {
-        return Some(NotStarting::Floats(float_place(module, bodies)));
+        return Some(NotStarting::Floats(float_location(module, bodies)));
     }
     if table_size(module) > TABLE_LIMIT {
         return Some(NotStarting::TableLimit(table_size(module)));

@@ -10,9 +10,9 @@ use crate::bodies::body_span;
 use crate::explanation::FoundToken;
 use crate::functions::first_export;
 use crate::names::name_of;
-use crate::places::find_token;
+use crate::locations::find_token;
 use crate::quoting::push_name;
-use crate::starting::{FloatPlace, NotStarting, not_starting};
+use crate::starting::{FloatLocation, NotStarting, not_starting};
 use crate::token_text::push_token;
 use crate::type_text::{push_lists, type_name};
 use accepted_module::{Accepted, memory_pages, table_size};
@@ -26,9 +26,9 @@ fn token_of(
     bytes: &[u8],
     module: &Module<'_>,
     func: usize,
-    number: usize,
+    position: usize,
 ) -> Result<Option<FoundToken>, AllocError>
-    ensures { IfOk result (λ found. IfSome found (IsTokenOf bytes.now (module_shape «module».now).bodies func number)) }
+    ensures { IfOk result (λ found. IfSome found (IsTokenOf bytes.now (module_shape «module».now).bodies func position)) }
 {
     let Some(body) = module.bodies.get(func) else {
         return Ok(None);
@@ -36,7 +36,7 @@ fn token_of(
     let Some(span) = body_span(bytes, func, body) else {
         return Ok(None);
     };
-    match find_token(alloc, body, span.from, number) {
+    match find_token(alloc, body, span.from, position) {
         Ok(found) => Ok(Some(found)),
         Err(Fault::Malformed) => Ok(None),
         Err(Fault::Memory) => Err(AllocError),
@@ -107,11 +107,11 @@ fn push_float_token(
     bytes: &[u8],
     module: &Module<'_>,
     func: usize,
-    number: usize,
+    position: usize,
 ) -> Result<(), AllocError> {
     push_named(text, bytes, module, func)?;
     write!(text, " token {number}")?;
-    if let Some(found) = token_of(alloc, bytes, module, func, number)? {
+    if let Some(found) = token_of(alloc, bytes, module, func, position)? {
         text.push_str(" ")?;
         push_token(text, &found)?;
         let at = found.span.from;
@@ -139,7 +139,7 @@ fn push_float_global(
     write!(text, ": global {index}")?;
     if let Some(global) = module.globals.get(index) {
         text.push_str(" is ")?;
-        text.push_str(type_name(global.content.content))?;
+        text.push_str(type_name(global.global_type.val_type))?;
     }
     Ok(())
 }
@@ -157,7 +157,7 @@ fn push_float_locals(
     if let Some(body) = accepted.bodies().get(func) {
         if let Some(run) = body.locals().get(run) {
             text.push_str(" of type ")?;
-            text.push_str(type_name(run.content))?;
+            text.push_str(type_name(run.val_type))?;
         }
     }
     Ok(())
@@ -169,17 +169,17 @@ fn push_floats(
     alloc: Global,
     bytes: &[u8],
     accepted: &Accepted<'_>,
-    place: Option<FloatPlace>,
+    offset: Option<FloatLocation>,
 ) -> Result<(), AllocError> {
     let module = accepted.module();
-    match place {
-        Some(FloatPlace::Type(index)) => push_float_type(text, module, index),
-        Some(FloatPlace::Global(index)) => push_float_global(text, module, index),
-        Some(FloatPlace::Local { func, run }) => push_float_locals(
+    match offset {
+        Some(FloatLocation::Type(index)) => push_float_type(text, module, index),
+        Some(FloatLocation::Global(index)) => push_float_global(text, module, index),
+        Some(FloatLocation::Local { func, run }) => push_float_locals(
             text, bytes, accepted, func, run,
         ),
-        Some(FloatPlace::Token { func, number }) => push_float_token(
-            text, alloc, bytes, module, func, number,
+        Some(FloatLocation::Token { func, position }) => push_float_token(
+            text, alloc, bytes, module, func, position,
         ),
         None => Ok(()),
     }
@@ -193,8 +193,8 @@ fn push_element(
 ) -> Result<(), AllocError> {
     let module = accepted.module();
     let size = table_size(module);
-    let place = accepted.layout().element_places().get(segment as usize);
-    if let (Some(found), Some(from)) = (module.elements.get(segment as usize), place) {
+    let offset = accepted.layout().element_offsets().get(segment as usize);
+    if let (Some(found), Some(from)) = (module.elements.get(segment as usize), offset) {
         let count = found.functions.len();
         let entries = if count == 1 { "entry" } else { "entries" };
         write!(
@@ -209,8 +209,8 @@ fn push_element(
 fn push_data(text: &mut String, accepted: &Accepted<'_>, segment: u32) -> Result<(), AllocError> {
     let module = accepted.module();
     let size = u64::from(memory_pages(module)) * PAGE as u64;
-    let place = accepted.layout().data_places().get(segment as usize);
-    if let (Some(found), Some(from)) = (module.data.get(segment as usize), place) {
+    let offset = accepted.layout().data_offsets().get(segment as usize);
+    if let (Some(found), Some(from)) = (module.data.get(segment as usize), offset) {
         let count = found.bytes.len();
         let bytes = if count == 1 { "byte" } else { "bytes" };
         write!(
@@ -232,7 +232,7 @@ fn push_named_reason(
 ) -> Result<(), AllocError> {
     match why {
         NotStarting::Import(import) => push_import(text, import),
-        NotStarting::Floats(place) => push_floats(text, alloc, bytes, accepted, *place),
+        NotStarting::Floats(offset) => push_floats(text, alloc, bytes, accepted, *offset),
         NotStarting::TableLimit(entries) => {
             write!(
                 text,

@@ -1,6 +1,6 @@
 //! Why reading a malformed body stopped, in words.
 
-use crate::explanation::{StopPlace, Stopped};
+use crate::explanation::{StopLocation, Stopped};
 use crate::misreads::{Misread, misread_locals, misread_token};
 use crate::opcode_names::{Feature, feature_of_byte, name_of_byte, name_of_later, named_after_fc};
 use crate::quoting::push_hex;
@@ -55,8 +55,8 @@ fn later_at<'a>(bytes: &'a [u8]) -> Option<Later<'a>> {
 
 /// Bytes as digits of base 16, with blanks between them.
 fn push_opcode(text: &mut String, opcode: &[u8]) -> Result<(), AllocError> {
-    for (place, byte) in opcode.iter().enumerate() {
-        text.push_str(if place == 0 { "" } else { " " })?;
+    for (offset, byte) in opcode.iter().enumerate() {
+        text.push_str(if offset == 0 { "" } else { " " })?;
         push_hex(text, *byte)?;
     }
     Ok(())
@@ -77,7 +77,7 @@ fn push_later(text: &mut String, later: Later<'_>) -> Result<(), AllocError> {
 
 /// What is wrong within bytes that begin at that offset.
 fn push_misread_at(text: &mut String, at: usize, misread: Misread) -> Result<(), AllocError> {
-    let place = at.saturating_add(misread.place);
+    let offset = at.saturating_add(misread.offset);
     write!(text, "; byte {place} (0x{place:x}): ")?;
     push_misread(text, misread.wrong)
 }
@@ -126,7 +126,7 @@ fn push_no_locals(text: &mut String, at: usize, body: &[u8]) -> Result<(), Alloc
 }
 
 /// Why reading a malformed body stopped.
-pub(crate) fn push_stop(text: &mut String, stop: StopPlace<'_>) -> Result<(), AllocError> {
+pub(crate) fn push_stop(text: &mut String, stop: StopLocation<'_>) -> Result<(), AllocError> {
     if stop.why != Stopped::Locals {
         let at = stop.at;
         let tokens = stop.tokens;

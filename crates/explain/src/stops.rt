@@ -1,9 +1,9 @@
 //! Where reading a malformed body stops, and why.
 ghost use Rattle.std.specs.Prelude.{◌≡◌, ◌+◌, ◌-◌, IfOk, IfSome, length};
-ghost use Rattle.explain.specs.Places.{CannotGoOn, GoesFurther, IsHaltIn, IsStopOf};
+ghost use Rattle.explain.specs.Locations.{CannotGoOn, GoesFurther, IsHaltIn, IsStopOf};
 
-use crate::explanation::{StopPlace, Stopped};
-use crate::places::offset_of;
+use crate::explanation::{StopLocation, Stopped};
+use crate::locations::offset_of;
 use smallvec::SmallVec;
 use std::alloc::{AllocError, Global};
 use wdecode::{FEW_BLOCKS, Fault, enter, locals_at, token_at};
@@ -89,12 +89,12 @@ pub(crate) fn halt_in<'a>(alloc: Global, code: &'a [u8]) -> Result<Option<Halt<'
 }
 
 /// The same with its offset, in a body that begins at offset `start`.
-fn placed<'a>(body: &[u8], start: usize, halt: Halt<'a>) -> Option<StopPlace<'a>>
+fn placed<'a>(body: &[u8], start: usize, halt: Halt<'a>) -> Option<StopLocation<'a>>
     ensures { IfSome result (λ s. (s.why ≡ halt.entry.why) × (s.tokens ≡ halt.entry.tokens) × (s.rest.now ≡ halt.entry.rest.now)
         × (s.at ≡ start + (length body.now - length halt.entry.rest.now))) }
 {
     let at = offset_of(start, body, halt.rest)?;
-    Some(StopPlace {
+    Some(StopLocation {
         why: halt.why,
         tokens: halt.tokens,
         at,
@@ -107,7 +107,7 @@ pub(crate) fn stop_of<'a>(
     alloc: Global,
     body: &'a [u8],
     start: usize,
-) -> Result<Option<StopPlace<'a>>, AllocError>
+) -> Result<Option<StopLocation<'a>>, AllocError>
     ensures { IfOk result (λ s. IfSome s (IsStopOf body.now start)) }
 {
     match locals_at(alloc, body) {

@@ -12,7 +12,7 @@ use crate::explanation::{
 };
 use crate::quoting::{push_hex, push_name};
 use crate::rule_text::push_broken_item;
-use crate::shell_text::push_place;
+use crate::shell_text::push_location;
 use crate::stop_text::push_stop;
 use crate::token_text::push_token;
 use crate::type_text::push_signature;
@@ -70,7 +70,7 @@ fn push_function(text: &mut String, body: &RefusedFunction<'_>) -> Result<(), Al
 }
 
 /// The line on the token that is refused.
-fn push_found(text: &mut String, number: usize, found: &FoundToken) -> Result<(), AllocError> {
+fn push_found(text: &mut String, position: usize, found: &FoundToken) -> Result<(), AllocError> {
     write!(text, "token     {number} ")?;
     push_token(text, found)?;
     let from = found.span.from;
@@ -89,12 +89,12 @@ fn push_fault(text: &mut String, fault: &BodyExplanation<'_>) -> Result<(), Allo
             )
         }
         BodyExplanation::IllTyped {
-            number,
+            position,
             found: Some(found),
             typing,
             cause,
         } => {
-            push_found(text, *number, found)?;
+            push_found(text, *position, found)?;
             if let Some(typing) = typing {
                 push_typing(text, typing)?;
             }
@@ -173,7 +173,7 @@ fn push_no_module(text: &mut String, no_module: NoModule) -> Result<(), AllocErr
             "the version is 01 00 00 00",
             form,
         ),
-        NoModule::Sections(Some(place)) => push_place(text, place),
+        NoModule::Sections(Some(location)) => push_location(text, location),
         NoModule::Sections(None) => text.push_str(
             "because   after its first eight bytes, which are right, it has no sections of a module\n",
         ),

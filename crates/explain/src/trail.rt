@@ -15,7 +15,7 @@ struct GivenRun {
     /// How many operands lie below them, of all open blocks.
     below: usize,
     /// The number of the token.
-    number: u32,
+    position: u32,
     /// Where it begins in the code.
     at: u32,
 }
@@ -81,9 +81,9 @@ fn kind_of(opcode: u8) -> Option<BlockKind> {
 }
 
 /// Whether the last of these tokens is that one.
-fn ends_with(givers: &Vec<Giver>, number: u32) -> bool {
+fn ends_with(givers: &Vec<Giver>, position: u32) -> bool {
     match givers.as_slice() {
-        [.., last] => last.number == number as usize,
+        [.., last] => last.position == position as usize,
         _ => false,
     }
 }
@@ -122,7 +122,7 @@ impl<'a> Trail<'a> {
         if height > self.height {
             self.held.push(GivenRun {
                 below: self.height,
-                number: self.passed,
+                position: self.passed,
                 at,
             })?;
             self.height = height;
@@ -178,8 +178,8 @@ impl<'a> Trail<'a> {
 
     /// The token that opened the block which that many blocks lie in.
     pub(crate) fn opening(&self, inner: usize) -> Option<Opening> {
-        let place = self.opened.len().checked_sub(inner)?.checked_sub(1)?;
-        let at = *self.opened.get(place)? as usize;
+        let position = self.opened.len().checked_sub(inner)?.checked_sub(1)?;
+        let at = *self.opened.get(position)? as usize;
         let opcode = self.code.get(at)?;
         Some(Opening {
             kind: kind_of(*opcode)?,
@@ -216,7 +216,7 @@ impl<'a> Trail<'a> {
         let mut targets = Vec::new(alloc);
         match token_at(&mut targets, bytes) {
             Ok((token, _after)) => Ok(Some(Giver {
-                number: held.number as usize,
+                position: held.position as usize,
                 opcode: *opcode,
                 token,
             })),
@@ -234,12 +234,12 @@ impl<'a> Trail<'a> {
         let lowest = self.height.saturating_sub(operands.len());
         let mut run = self.first_run(lowest);
         let mut givers = Vec::new(alloc);
-        for (place, operand) in operands.iter().enumerate() {
-            run = self.run_from(run, lowest.saturating_add(place));
+        for (position, operand) in operands.iter().enumerate() {
+            run = self.run_from(run, lowest.saturating_add(position));
             let Some(held) = self.held.get(run) else {
                 return Ok(givers);
             };
-            if operand.is_some() && !ends_with(&givers, held.number) {
+            if operand.is_some() && !ends_with(&givers, held.position) {
                 if let Some(giver) = self.giver(alloc, *held)? {
                     givers.push(giver)?;
                 }

@@ -29,7 +29,7 @@ pub struct OpenBlock {
 /// A token that gave an operand: its number, and the first of its bytes.
 #[derive(Clone, Copy)]
 pub struct Giver {
-    pub number: usize,
+    pub position: usize,
     pub opcode: u8,
     pub token: Token,
 }

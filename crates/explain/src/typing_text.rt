@@ -46,9 +46,9 @@ fn push_givers(text: &mut String, givers: &[Giver]) -> Result<(), AllocError> {
     }
     text.push_str("given by ")?;
     text.push_str(if givers.len() > SHOWN { " ..," } else { "" })?;
-    for (place, giver) in last_shown(givers).iter().enumerate() {
-        text.push_str(if place == 0 { "" } else { "," })?;
-        write!(text, " token {} ", giver.number)?;
+    for (position, giver) in last_shown(givers).iter().enumerate() {
+        text.push_str(if position == 0 { "" } else { "," })?;
+        write!(text, " token {} ", giver.position)?;
         push_instruction(text, giver.opcode, giver.token, &[])?;
     }
     text.push_str("\n")

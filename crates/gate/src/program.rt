@@ -56,7 +56,7 @@ pub fn run<R: Threads + Wait + Sync, S: Source, O: Write, E: Write>(
         Err(fault) => return end(&ProgramFault::from(fault), err),
     };
     match obey(rt, alloc, request, source, out) {
-        Ok(status) => number(status),
+        Ok(status) => exit_code(status),
         Err(fault) => end(&fault, err),
     }
 }
@@ -105,7 +105,7 @@ fn obey<'a, R: Threads + Wait + Sync, S: Source, O: Write>(
 }
 
 //// The status of an answer.
-fn number(status: Status) -> u8
+fn exit_code(status: Status) -> u8
     ensures { result ≡ answer_status status }
 {
     match status {

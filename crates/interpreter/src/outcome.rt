@@ -41,8 +41,8 @@ fn give(given: &mut [Value], types: &[ValType], slots: &[u64])
     requires slots { length slots.now ≡ length given.old }
     ensures { AreTagged types.now slots.now given.new }
 {
-    for (place, of_type) in types.iter().enumerate() {
-        given[place] = tagged(*of_type, slots[place]);
+    for (position, of_type) in types.iter().enumerate() {
+        given[position] = tagged(*of_type, slots[position]);
     }
 }
 

@@ -21,69 +21,69 @@ legal-snoc : (kept : List ℕ) (log : List PoolEntry) (e : PoolEntry) → IsLega
 legal-snoc kept [] e is can = (can, tt)
 legal-snoc kept (d ∷ ds) e is can = (is.0, legal-snoc (after_step kept d.step) ds e is.1 can)
 
-made_by-append : (number : ℕ) (log more : List PoolEntry) → made_by number (log ++ more) ≡ made_by number log ++ made_by number more
-made_by-append number [] more = refl
-made_by-append number (d ∷ ds) more =
-    ap (λ ss. if_same (nat_eq d.ticket number) d.step ++ ss) (made_by-append number ds more)
-    ∙ sym (append_assoc (if_same (nat_eq d.ticket number) d.step) (made_by number ds) (made_by number more))
+made_by-append : (index : ℕ) (log more : List PoolEntry) → made_by index (log ++ more) ≡ made_by index log ++ made_by index more
+made_by-append index [] more = refl
+made_by-append index (d ∷ ds) more =
+    ap (λ ss. if_same (nat_eq d.ticket index) d.step ++ ss) (made_by-append index ds more)
+    ∙ sym (append_assoc (if_same (nat_eq d.ticket index) d.step) (made_by index ds) (made_by index more))
 
 -- a step of one's own, and of another
-made_by-own : (number : ℕ) (log : List PoolEntry) (step : PoolStep) → made_by number (log ++ entry number step ∷ []) ≡ made_by number log ++ step ∷ []
-made_by-own number log step =
-    made_by-append number log (entry number step ∷ [])
-    ∙ ap (λ b. made_by number log ++ (if_same b step ++ [])) (eq-eqb number number refl)
+made_by-own : (index : ℕ) (log : List PoolEntry) (step : PoolStep) → made_by index (log ++ entry index step ∷ []) ≡ made_by index log ++ step ∷ []
+made_by-own index log step =
+    made_by-append index log (entry index step ∷ [])
+    ∙ ap (λ b. made_by index log ++ (if_same b step ++ [])) (eq-eqb index index refl)
 
-made_by-other : (number other : ℕ) (log : List PoolEntry) (step : PoolStep) → other ≢ number → made_by number (log ++ entry other step ∷ []) ≡ made_by number log
-made_by-other number other log step ne =
-    made_by-append number log (entry other step ∷ [])
-    ∙ ap (λ b. made_by number log ++ (if_same b step ++ [])) (ne_eqb other number ne)
-    ∙ append-nil (made_by number log)
+made_by-other : (index other : ℕ) (log : List PoolEntry) (step : PoolStep) → other ≢ index → made_by index (log ++ entry other step ∷ []) ≡ made_by index log
+made_by-other index other log step ne =
+    made_by-append index log (entry other step ∷ [])
+    ∙ ap (λ b. made_by index log ++ (if_same b step ++ [])) (ne_eqb other index ne)
+    ∙ append-nil (made_by index log)
 
 -- a longer history begins with what a shorter one begins with
 longer : (log seen : List PoolEntry) (e : PoolEntry) → Begins seen log → Begins seen (log ++ e ∷ [])
 longer log seen e p = (p.0 ++ e ∷ [], ap (λ (l : List PoolEntry). l ++ e ∷ []) p.1 ∙ append_assoc seen p.0 (e ∷ []))
 
 -- what is there lies below the length
-below : (views : List TicketView) (number : ℕ) (v : TicketView) → get_elem? views number ≡ some v → number < length views
-below [] number v at = absurd (some-ne-none v (sym at))
+below : (views : List TicketView) (index : ℕ) (v : TicketView) → get_elem? views index ≡ some v → index < length views
+below [] index v at = absurd (some-ne-none v (sym at))
 below (u ∷ us) zero v at = omega arith
-below (u ∷ us) (suc number) v at = let h = below us number v at in omega arith
+below (u ∷ us) (suc index) v at = let h = below us index v at in omega arith
 
 -- what a list with one more at its end has at a place
-at_end : (views : List TicketView) (last : TicketView) (number : ℕ) (v : TicketView) → get_elem? (views ++ last ∷ []) number ≡ some v
-    → (get_elem? views number ≡ some v) ⊎ ((number ≡ length views) × (last ≡ v))
+at_end : (views : List TicketView) (last : TicketView) (index : ℕ) (v : TicketView) → get_elem? (views ++ last ∷ []) index ≡ some v
+    → (get_elem? views index ≡ some v) ⊎ ((index ≡ length views) × (last ≡ v))
 at_end [] last zero v at = inr (refl, some-injective last v at)
-at_end [] last (suc number) v at = absurd (some-ne-none v (sym at))
+at_end [] last (suc index) v at = absurd (some-ne-none v (sym at))
 at_end (u ∷ us) last zero v at = inl at
-at_end (u ∷ us) last (suc number) v at =
-    ⊎_elim inl (λ (x : (number ≡ length us) × (last ≡ v)). inr (ap suc x.0, x.1)) (at_end us last number v at)
+at_end (u ∷ us) last (suc index) v at =
+    ⊎_elim inl (λ (x : (index ≡ length us) × (last ≡ v)). inr (ap suc x.0, x.1)) (at_end us last index v at)
 
 -- what the others know of a history with one more step
-knows_longer : (log : List PoolEntry) (count number other : ℕ) (step : PoolStep) (u : TicketView) → other ≢ number → Knows log count number u
-    → Knows (log ++ entry other step ∷ []) count number u
-knows_longer log count number other step u ne k = record {
-  number' = k.number';
+knows_longer : (log : List PoolEntry) (count index other : ℕ) (step : PoolStep) (u : TicketView) → other ≢ index → Knows log count index u
+    → Knows (log ++ entry other step ∷ []) count index u
+knows_longer log count index other step u ne k = record {
+  index' = k.index';
   newest = k.newest;
   begins = longer log u.seen (entry other step) k.begins;
-  own = made_by-other number other log step ne ∙ k.own;
+  own = made_by-other index other log step ne ∙ k.own;
 }
 
 -- one step
-goes_on : (kept : List ℕ) (views : List TicketView) (number : ℕ) (v : TicketView) (step : PoolStep) (h : IsInOrder kept views) → get_elem? views number ≡ some v → CanMake kept step
-    → (w : TicketView) × IsInOrder (after_step kept step) (set views number w) × Extends v step w
-goes_on kept views number v step h at can =
-    let mine = h.fits number v at in
+goes_on : (kept : List ℕ) (views : List TicketView) (index : ℕ) (v : TicketView) (step : PoolStep) (h : IsInOrder kept views) → get_elem? views index ≡ some v → CanMake kept step
+    → (w : TicketView) × IsInOrder (after_step kept step) (set views index w) × Extends v step w
+goes_on kept views index v step h at can =
+    let mine = h.fits index v at in
     let e : PoolEntry = entry v.ticket step in
     let log : List PoolEntry = h.log ++ e ∷ [] in
     let w : TicketView = ticket_view v.ticket v.newest log (v.made ++ step ∷ []) in
-    let here : number < length views = below views number v at in
-    let same : v.ticket ≡ number = mine.number' in
-    let as_long : length (set views number w) ≡ length views = length-set views number w in
+    let here : index < length views = below views index v at in
+    let same : v.ticket ≡ index = mine.index' in
+    let as_long : length (set views index w) ≡ length views = length-set views index w in
     let legal : IsLegal [] log = legal-snoc [] h.log e h.legal (subst (λ ks. CanMake ks step) (sym h.leaves) can) in
     let own : made_by v.ticket log ≡ v.made ++ step ∷ [] =
     made_by-own v.ticket h.log step ∙ ap (λ ss. ss ++ step ∷ []) (ap (λ n. made_by n h.log) same ∙ mine.own) in
-    let known : Knows log (length views) number w = record {
-      number' = same;
+    let known : Knows log (length views) index w = record {
+      index' = same;
       newest = mine.newest;
       begins = ([], sym (append-nil log));
       own = ap (λ n. made_by n log) (sym same) ∙ own;
@@ -94,10 +94,10 @@ goes_on kept views number v step h at can =
         legal = legal;
         leaves = after-snoc [] h.log e ∙ ap (λ ks. after_step ks step) h.leaves;
         fits = λ j u there. subst (λ n. Knows log n j u) (sym as_long) (⊎_elim
-            (λ (x : (j ≡ number) × (w ≡ u)). subst (λ (y : ℕ × TicketView). Knows log (length views) y.0 y.1) (λ i. (sym x.0 i, x.1 i)) known)
-            (λ (x : (j ≢ number) × (get_elem? views j ≡ some u)).
+            (λ (x : (j ≡ index) × (w ≡ u)). subst (λ (y : ℕ × TicketView). Knows log (length views) y.0 y.1) (λ i. (sym x.0 i, x.1 i)) known)
+            (λ (x : (j ≢ index) × (get_elem? views j ≡ some u)).
             knows_longer h.log (length views) j v.ticket step u (λ is. x.0 (sym is ∙ same)) (h.fits j u x.1))
-            (at_set views number j w u there));
+            (at_set views index j w u there));
         none = λ j above. made_by-other j v.ticket h.log step (λ is. absurd (omega arith)) ∙ h.none j (omega arith);
       },
       record {
@@ -112,57 +112,57 @@ goes_on kept views number v step h at can =
     )
 
 -- a memory is given
-pub pushes : (capacity number : ℕ) (v : TicketView) (n : ℕ) → Pushes IsInOrder capacity number v n (λ w. Extends v (Gave n) w)
-pushes capacity number v n kept views room h at = goes_on kept views number v (Gave n) h at tt
+pub pushes : (capacity index : ℕ) (v : TicketView) (n : ℕ) → Pushes IsInOrder capacity index v n (λ w. Extends v (Gave n) w)
+pushes capacity index v n kept views room h at = goes_on kept views index v (Gave n) h at tt
 
 -- a memory is lent
-pub pops : (number : ℕ) (v : TicketView) → Pops IsInOrder number v (λ n w. Extends v (Lent n) w)
-pops number v n kept views h at = goes_on (n ∷ kept) views number v (Lent n) h at refl
+pub pops : (index : ℕ) (v : TicketView) → Pops IsInOrder index v (λ n w. Extends v (Lent n) w)
+pops index v n kept views h at = goes_on (n ∷ kept) views index v (Lent n) h at refl
 
 -- what a ticket learns of one moment
-pub learns : (number : ℕ) (v : TicketView) → Learns IsInOrder number v (Finds v)
-learns number v kept views h at =
-    let mine = h.fits number v at in
-    let same : v.ticket ≡ number = mine.number' in
+pub learns : (index : ℕ) (v : TicketView) → Learns IsInOrder index v (Finds v)
+learns index v kept views h at =
+    let mine = h.fits index v at in
+    let same : v.ticket ≡ index = mine.index' in
     record {
       log = h.log;
       begins = mine.begins;
       legal = h.legal;
       leaves = h.leaves;
       own = ap (λ n. made_by n h.log) same ∙ mine.own;
-      above = λ new other more. let count : suc number ≡ length views = mine.newest new in h.none other (omega arith);
+      above = λ new other more. let count : suc index ≡ length views = mine.newest new in h.none other (omega arith);
     }
 
 -- the newest ticket makes the next
-pub forks : (number : ℕ) (v : TicketView) → v.newest ≡ true → Forks IsInOrder number v (ticket_view v.ticket false v.seen v.made) (ticket_view (v.ticket + 1) true [] [])
-forks number v new kept views h at =
-    let mine = h.fits number v at in
+pub forks : (index : ℕ) (v : TicketView) → v.newest ≡ true → Forks IsInOrder index v (ticket_view v.ticket false v.seen v.made) (ticket_view (v.ticket + 1) true [] [])
+forks index v new kept views h at =
+    let mine = h.fits index v at in
     let left : TicketView = ticket_view v.ticket false v.seen v.made in
     let right : TicketView = ticket_view (v.ticket + 1) true [] [] in
-    let same : v.ticket ≡ number = mine.number' in
-    let count : suc number ≡ length views = mine.newest new in
-    let vs : List TicketView = set views number left in
-    let as_long : length vs ≡ length views = length-set views number left in
+    let same : v.ticket ≡ index = mine.index' in
+    let count : suc index ≡ length views = mine.newest new in
+    let vs : List TicketView = set views index left in
+    let as_long : length vs ≡ length views = length-set views index left in
     let longer' : length (vs ++ right ∷ []) ≡ suc (length views) = length-append vs (right ∷ []) ∙ omega arith in
-    let known : Knows h.log (suc (length views)) number left = record {
-      number' = same;
+    let known : Knows h.log (suc (length views)) index left = record {
+      index' = same;
       newest = λ no. cc;
       begins = mine.begins;
       own = mine.own;
     } in
-    let others : (j : ℕ) (u : TicketView) → j ≢ number → get_elem? views j ≡ some u → Knows h.log (suc (length views)) j u = λ j u ne there.
+    let others : (j : ℕ) (u : TicketView) → j ≢ index → get_elem? views j ≡ some u → Knows h.log (suc (length views)) j u = λ j u ne there.
     let k = h.fits j u there in record {
-      number' = k.number';
+      index' = k.index';
       newest = λ yes. let c : suc j ≡ length views = k.newest yes in absurd (ne (omega arith));
       begins = k.begins;
       own = k.own;
     } in
     let first : (j : ℕ) (u : TicketView) → get_elem? vs j ≡ some u → Knows h.log (suc (length views)) j u = λ j u there. ⊎_elim
-    (λ (x : (j ≡ number) × (left ≡ u)). subst (λ (y : ℕ × TicketView). Knows h.log (suc (length views)) y.0 y.1) (λ i. (sym x.0 i, x.1 i)) known)
-    (λ (x : (j ≢ number) × (get_elem? views j ≡ some u)). others j u x.0 x.1)
-    (at_set views number j left u there) in
+    (λ (x : (j ≡ index) × (left ≡ u)). subst (λ (y : ℕ × TicketView). Knows h.log (suc (length views)) y.0 y.1) (λ i. (sym x.0 i, x.1 i)) known)
+    (λ (x : (j ≢ index) × (get_elem? views j ≡ some u)). others j u x.0 x.1)
+    (at_set views index j left u there) in
     let last : Knows h.log (suc (length views)) (length views) right = record {
-      number' = omega arith;
+      index' = omega arith;
       newest = λ yes. refl;
       begins = (h.log, refl);
       own = h.none (length views) (omega arith);

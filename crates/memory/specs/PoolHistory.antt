@@ -51,19 +51,19 @@ abbrev pub Begins : List PoolEntry → List PoolEntry → Type 0
 Begins seen log = (more : List PoolEntry) × (log ≡ seen ++ more)
 
 -- what a ticket knows of the history: its number, the beginning that it has seen, and that its steps are those that it made
-pub record Knows (log : List PoolEntry) (count number : ℕ) (v : TicketView) : Type 0 where
-  pub number' : v.ticket ≡ number
-  pub newest : v.newest ≡ true → suc number ≡ count
+pub record Knows (log : List PoolEntry) (count index : ℕ) (v : TicketView) : Type 0 where
+  pub index' : v.ticket ≡ index
+  pub newest : v.newest ≡ true → suc index ≡ count
   pub begins : Begins v.seen log
-  pub own : made_by number log ≡ v.made
+  pub own : made_by index log ≡ v.made
 
 -- The rule of the queue: there is one legal history of the steps of all tickets, which leaves what the queue holds.
 pub record IsInOrder (kept : List ℕ) (views : List TicketView) : Type 0 where
   pub log : List PoolEntry
   pub legal : IsLegal [] log
   pub leaves : after [] log ≡ kept
-  pub fits : (number : ℕ) (v : TicketView) → get_elem? views number ≡ some v → Knows log (length views) number v
-  pub none : (number : ℕ) → length views ≤ number → made_by number log ≡ []
+  pub fits : (index : ℕ) (v : TicketView) → get_elem? views index ≡ some v → Knows log (length views) index v
+  pub none : (index : ℕ) → length views ≤ index → made_by index log ≡ []
 
 -- After a step the ticket has seen a legal history that begins with all that it had seen before, and ends with the step.
 -- Of this ticket it has the steps that it made and no others.
@@ -86,4 +86,4 @@ pub record Finds (v : TicketView) (kept : List ℕ) : Type 0 where
   pub legal : IsLegal [] log
   pub leaves : after [] log ≡ kept
   pub own : made_by v.ticket log ≡ v.made
-  pub above : v.newest ≡ true → (number : ℕ) → v.ticket < number → made_by number log ≡ []
+  pub above : v.newest ≡ true → (index : ℕ) → v.ticket < index → made_by index log ≡ []

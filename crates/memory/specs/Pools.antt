@@ -23,9 +23,9 @@ abbrev pub IsTicketOf : Pool → Ticket → Type 0
 IsTicketOf p t = IsPassOf p.queue t.pass
 
 -- the numbers below n
-abbrev pub numbers : ℕ → List ℕ
-numbers zero = []
-numbers (suc n) = numbers n ++ n ∷ []
+abbrev pub indices_below : ℕ → List ℕ
+indices_below zero = []
+indices_below (suc n) = indices_below n ++ n ∷ []
 
 -- a ticket of this pool that has made no step
 pub record IsNew (p : Pool) (t : Ticket) : Type 0 where
@@ -36,7 +36,7 @@ pub record IsNew (p : Pool) (t : Ticket) : Type 0 where
 -- all tickets of a new pool: one for each number, in order
 pub record AreIssued (p : Pool) (tickets : List Ticket) : Type 0 where
   pub each : All (IsNew p) tickets
-  pub numbered : map (λ (t : Ticket). (view_of t).ticket) tickets ≡ numbers (length tickets)
+  pub indexed : map (λ (t : Ticket). (view_of t).ticket) tickets ≡ indices_below (length tickets)
 
 -- a number of steps, one after another
 abbrev pub Repeats : (TicketView → TicketView → Type 0) → ℕ → TicketView → TicketView → Type 0

@@ -7,7 +7,7 @@ use lib.ListN.{get_elem?}
 use Rattle.crossbeam_deque.specs.Tasks.{Pushes, Takes, Forks, Merges, Learns}
 use Rattle.crossbeam_deque.proofs.Lists.{at_set, at_snoc}
 use Rattle.pieces.specs.declared.task.Task.{Task}
-use Rattle.pieces.specs.declared.task.Task.TheVariants.{Numbered, End}
+use Rattle.pieces.specs.declared.task.Task.TheVariants.{Piece, End}
 use Rattle.pieces.specs.declared.views.BagView.{BagView}
 use Rattle.pieces.specs.Counting.{total, times, once_below}
 use Rattle.pieces.specs.Deque.{bag_view, ends, tasks, FitsDeque, IsInOrder, Adds, AddsEnd, Took, kept_bag_view, given_bag_view, joined_bag_view, KnowsPieces}
@@ -23,15 +23,15 @@ all_set F views port w mine others j u e =
 tasks-end : (k n e : ℕ) → tasks k n e ++ End ∷ [] ≡ tasks k n (suc e)
 tasks-end k zero zero = refl
 tasks-end k zero (suc e) = ap (λ (l : List Task). End ∷ l) (tasks-end k zero e)
-tasks-end k (suc n) e = ap (λ (l : List Task). Numbered k ∷ l) (tasks-end (suc k) n e)
+tasks-end k (suc n) e = ap (λ (l : List Task). Piece k ∷ l) (tasks-end (suc k) n e)
 
-tasks-piece : (k n m : ℕ) → m ≡ k + n → tasks k n 0 ++ Numbered m ∷ [] ≡ tasks k (suc n) 0
-tasks-piece k zero m is = ap (λ (j : ℕ). Numbered j ∷ []) (omega arith)
-tasks-piece k (suc n) m is = ap (λ (l : List Task). Numbered k ∷ l) (tasks-piece (suc k) n m (omega arith))
+tasks-piece : (k n m : ℕ) → m ≡ k + n → tasks k n 0 ++ Piece m ∷ [] ≡ tasks k (suc n) 0
+tasks-piece k zero m is = ap (λ (j : ℕ). Piece j ∷ []) (omega arith)
+tasks-piece k (suc n) m is = ap (λ (l : List Task). Piece k ∷ l) (tasks-piece (suc k) n m (omega arith))
 
 -- the first task of such a list
 data First (t : Task) (items : List Task) (k n e : ℕ) : Type 0 where
-  a_piece : (m : ℕ) → n ≡ suc m → t ≡ Numbered k → items ≡ tasks (suc k) m e → First t items k n e
+  a_piece : (m : ℕ) → n ≡ suc m → t ≡ Piece k → items ≡ tasks (suc k) m e → First t items k n e
   an_end : (m : ℕ) → n ≡ 0 → e ≡ suc m → t ≡ End → items ≡ ends m → First t items k n e
 
 first_of_tasks : (t : Task) (items : List Task) (k n e : ℕ) → t ∷ items ≡ tasks k n e → First t items k n e
@@ -74,7 +74,7 @@ others_idle (x ∷ xs) (suc port) v at all (suc j) u apart there =
     let le = le-total (λ (y : BagView). y.parts) xs port v at in others_idle xs port v at (omega arith) j u (λ e. apart (ap suc e)) there
 
 -- the owner pushes the next piece
-pub adds : (port : ℕ) (v : BagView) (x : ℕ) → v.parts ≡ 64 → v.owed ≡ 0 → v.met ≡ false → x ≡ v.made → Pushes IsInOrder port v (Numbered x ∷ []) (Adds v (Numbered x ∷ []))
+pub adds : (port : ℕ) (v : BagView) (x : ℕ) → v.parts ≡ 64 → v.owed ≡ 0 → v.met ≡ false → x ≡ v.made → Pushes IsInOrder port v (Piece x ∷ []) (Adds v (Piece x ∷ []))
 adds port v x all none unmet is items views h at =
     let w : BagView = bag_view v.parts v.owed (v.made + 1) v.met v.taken in
     let mine = h.fits port v at in
@@ -86,8 +86,8 @@ adds port v x all none unmet is items views h at =
       record {
         next = h.next;
         left = suc h.left;
-        holds = subst (λ (e : ℕ). items ++ Numbered x ∷ [] ≡ tasks h.next (suc h.left) e) (sym owed')
-            (ap (λ (l : List Task). l ++ Numbered x ∷ []) (h.holds ∙ ap (λ (e : ℕ). tasks h.next h.left e) owed) ∙ tasks-piece h.next h.left x (omega arith));
+        holds = subst (λ (e : ℕ). items ++ Piece x ∷ [] ≡ tasks h.next (suc h.left) e) (sym owed')
+            (ap (λ (l : List Task). l ++ Piece x ∷ []) (h.holds ∙ ap (λ (e : ℕ). tasks h.next h.left e) owed) ∙ tasks-piece h.next h.left x (omega arith));
         parts = let s = total-set (λ (u : BagView). u.parts) views port v w at in let p = h.parts in omega arith;
         once = λ y. let s = total-set (λ (u : BagView). times y u.taken) views port v w at in let p = h.once y in omega arith;
         fits = all_set (λ _ u. FitsDeque h.next (suc h.left) u) views port w

@@ -15,14 +15,14 @@ use Rattle.pieces.specs.declared.trying.TryFault.TheVariants.{Stopped, Memory}
 use Rattle.pieces.proofs.Counts.{one_is, times-indices}
 
 module _ {O F : Type 0} where
-  -- an answer that counts stands at some place
-  pub place : (f : Answer O F → ℕ) (xs : List (Answer O F)) → 0 < total f xs → (p : ℕ) × (p < length xs) × ((d : Answer O F) → 0 < f (slice_index_or xs p d))
-  place f [] some = absurd (omega arith)
-  place f (x ∷ xs) some = dite (dec_lt 0 (f x)) (λ here. (0, omega arith, λ d. here))
-      (λ no. let r = place f xs (omega arith) in let lt = r.1 in (suc r.0, omega arith, λ d. r.2 d))
+  -- an answer that counts stands at some position
+  pub position : (f : Answer O F → ℕ) (xs : List (Answer O F)) → 0 < total f xs → (p : ℕ) × (p < length xs) × ((d : Answer O F) → 0 < f (slice_index_or xs p d))
+  position f [] some = absurd (omega arith)
+  position f (x ∷ xs) some = dite (dec_lt 0 (f x)) (λ here. (0, omega arith, λ d. here))
+      (λ no. let r = position f xs (omega arith) in let lt = r.1 in (suc r.0, omega arith, λ d. r.2 d))
 
-  pub place_of : (i : ℕ) (xs : List (Answer O F)) → 0 < times i (indices xs) → (p : ℕ) × (p < length xs) × ((d : Answer O F) → (slice_index_or xs p d).0 ≡ i)
-  place_of i xs some = let r = place (is_at i) xs (let t = times-indices i xs in omega arith) in (r.0, r.1, λ d. one_is i (slice_index_or xs r.0 d).0 (r.2 d))
+  pub position_of : (i : ℕ) (xs : List (Answer O F)) → 0 < times i (indices xs) → (p : ℕ) × (p < length xs) × ((d : Answer O F) → (slice_index_or xs p d).0 ≡ i)
+  position_of i xs some = let r = position (is_at i) xs (let t = times-indices i xs in omega arith) in (r.0, r.1, λ d. one_is i (slice_index_or xs r.0 d).0 (r.2 d))
 
   is_fault : (m k : ℕ) (a : Result O (JobFault F)) → 0 < fault_count m k a → (k ≡ m) × ((o : O) → a ≡ Ok o → ⊥)
   is_fault m k (Ok out) some = absurd (omega arith)
@@ -85,10 +85,10 @@ module _ {O F : Type 0} (n : ℕ) (passes : ℕ → Type 0) (gives : ℕ → O �
       (here, ap (λ (l : List (Answer O F)). slice_index_or l p a) is ∙ front_at before (a ∷ after) p a here) in
       ⊎_elim
       (λ (q : 0 < times i (indices xs)).
-      let r = place_of i xs q in let key : (slice_index_or xs r.0 a).0 ≡ i = r.2 a in let e = early r.0 r.1 (omega arith) in let o = Results-at before outs r.0 a res e.0 in
+      let r = position_of i xs q in let key : (slice_index_or xs r.0 a).0 ≡ i = r.2 a in let e = early r.0 r.1 (omega arith) in let o = Results-at before outs r.0 a res e.0 in
       subst passes key (ok_passes (slice_index_or xs r.0 a) o.0 (h.allowed r.0 a r.1) (ap (λ (z : Answer O F). z.1) e.1 ∙ o.1)).0)
       (λ (q : (m : ℕ) × (m < i) × (0 < total (is_fault_at m) xs)).
-      let r = place (is_fault_at q.0) xs q.2 in let f = is_fault q.0 (slice_index_or xs r.0 a).0 (slice_index_or xs r.0 a).1 (r.2 a) in let k = f.0 in let lt = q.1 in
+      let r = position (is_fault_at q.0) xs q.2 in let f = is_fault q.0 (slice_index_or xs r.0 a).0 (slice_index_or xs r.0 a).1 (r.2 a) in let k = f.0 in let lt = q.1 in
       let e = early r.0 r.1 (omega arith) in let o = Results-at before outs r.0 a res e.0 in
       absurd (f.1 o.0 (ap (λ (z : Answer O F). z.1) e.1 ∙ o.1)))
       (h.covers i below)
@@ -106,13 +106,13 @@ module _ {O F : Type 0} (n : ℕ) (passes : ℕ → Type 0) (gives : ℕ → O �
   at_least xs up zero d lt = omega arith
   at_least xs up (suc k) d lt = let h = at_least xs up k d (omega arith) in let u = up k (suc k) d (omega arith) lt in omega arith
 
-  -- where no answer is a fault, each index stands at its own place
+  -- where no answer is a fault, each index stands at its own position
   in_place : (xs : List (Answer O F)) (outs : List O) → Gathers n passes gives refuses xs → Results xs outs → (b k : ℕ) (d : Answer O F) → k < b → k < length xs → (slice_index_or xs k d).0 ≡ k
   in_place xs outs h res zero k d lt in_xs = absurd (omega arith)
   in_place xs outs h res (suc b) k d lt in_xs =
       let below = (h.allowed k d in_xs).0 in
-      let here : k < n → (p : ℕ) × (p < length xs) × ((slice_index_or xs p d).0 ≡ k) = λ kn. ⊎_elim (λ (q : 0 < times k (indices xs)). let r = place_of k xs q in (r.0, r.1, r.2 d))
-      (λ (q : (m : ℕ) × (m < k) × (0 < total (is_fault_at m) xs)). let r = place (is_fault_at q.0) xs q.2 in let f = is_fault q.0 (slice_index_or xs r.0 d).0 (slice_index_or xs r.0 d).1 (r.2 d) in
+      let here : k < n → (p : ℕ) × (p < length xs) × ((slice_index_or xs p d).0 ≡ k) = λ kn. ⊎_elim (λ (q : 0 < times k (indices xs)). let r = position_of k xs q in (r.0, r.1, r.2 d))
+      (λ (q : (m : ℕ) × (m < k) × (0 < total (is_fault_at m) xs)). let r = position (is_fault_at q.0) xs q.2 in let f = is_fault q.0 (slice_index_or xs r.0 d).0 (slice_index_or xs r.0 d).1 (r.2 d) in
       let o = Results-at xs outs r.0 d res r.1 in absurd (f.1 o.0 o.1)) (h.covers k kn) in
       dite (dec_lt k n)
       (λ kn. let r = here kn in
@@ -126,8 +126,8 @@ module _ {O F : Type 0} (n : ℕ) (passes : ℕ → Type 0) (gives : ℕ → O �
     len = let same = Results-length xs outs res in
         dite (dec_lt n (length xs)) (λ long. absurd (let a = at_least xs h.rises n d long in let b = (h.allowed n d long).0 in omega arith))
         (λ no. dite (dec_lt (length xs) n)
-        (λ short. absurd (⊎_elim (λ (q : 0 < times (length xs) (indices xs)). let r = place_of (length xs) xs q in let lt = r.1 in let z = r.2 d in let e = in_place xs outs h res (suc r.0) r.0 d (omega arith) lt in omega arith)
-        (λ (q : (m : ℕ) × (m < length xs) × (0 < total (is_fault_at m) xs)). let r = place (is_fault_at q.0) xs q.2 in let f = is_fault q.0 (slice_index_or xs r.0 d).0 (slice_index_or xs r.0 d).1 (r.2 d) in
+        (λ short. absurd (⊎_elim (λ (q : 0 < times (length xs) (indices xs)). let r = position_of (length xs) xs q in let lt = r.1 in let z = r.2 d in let e = in_place xs outs h res (suc r.0) r.0 d (omega arith) lt in omega arith)
+        (λ (q : (m : ℕ) × (m < length xs) × (0 < total (is_fault_at m) xs)). let r = position (is_fault_at q.0) xs q.2 in let f = is_fault q.0 (slice_index_or xs r.0 d).0 (slice_index_or xs r.0 d).1 (r.2 d) in
         let o = Results-at xs outs r.0 d res r.1 in f.1 o.0 o.1) (h.covers (length xs) short)))
         (λ not_short. omega arith));
     each = λ i out is. let r = Results-get xs outs i d out res is in let key = in_place xs outs h res (suc i) i d (omega arith) r.0 in

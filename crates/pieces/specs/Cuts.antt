@@ -9,10 +9,10 @@ InRange workers piece = (0 < workers) × (workers ≤ 64) × (0 < piece) × (pie
 abbrev pub pieces : ℕ → ℕ → ℕ
 pieces n size = (n + size - 1) / size
 
--- the first index of the piece of a number, and the index after its last
+-- the first index of the piece at a position, and the index after its last
 abbrev pub first_of : ℕ → ℕ → ℕ
-first_of size number = number * size
+first_of size position = position * size
 
--- where the piece of this number ends, which the indices below n cut short
+-- where the piece at this position ends, which the indices below n cut short
 abbrev pub end_of : ℕ → ℕ → ℕ → ℕ
-end_of n size number = min (number * size + size) n
+end_of n size position = min (position * size + size) n

@@ -31,7 +31,7 @@ bag_view_of (Steals p) = view p
 abbrev pub mark_view_of : Share → MarkView
 mark_view_of s = s.seat.me.0
 
--- the numbers of the pieces that the share took, in order
+-- the positions of the pieces that the share took, in order
 abbrev pub taken : Share → List ℕ
 taken s = (bag_view_of s.access).taken
 

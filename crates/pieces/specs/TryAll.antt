@@ -7,7 +7,7 @@ use Rattle.pieces.specs.declared.trying.TryFault.{TryFault}
 use Rattle.pieces.specs.declared.trying.TryFault.TheVariants.{Stopped, Memory}
 use Rattle.pieces.specs.Gathered.{Answer}
 
--- every index below n passes, and its result stands at its place
+-- every index below n passes, and its result stands at its position
 pub record AllPass {O : Type 0} (n : ℕ) (passes : ℕ → Type 0) (gives : ℕ → O → Type 0) (outs : List O) : Type 0 where
   pub len : length outs ≡ n
   pub each : (i : ℕ) (out : O) → slice_get outs i ≡ Some out → passes i × gives i out

@@ -70,7 +70,7 @@ impl Bag {
         ensures bag { IsShareOf self.now share.new }
         ensures same { KeepsMark share.old share.new }
 
-        // The piece of some number, which now stands last among those that the share took.
+        // The piece at some position, which now stands last among those that the share took.
         ensures some { IfSome result (λ p. (k : ℕ) × (k < count_in self.now)
             × (p.first ≡ first_of self.now.size k) × (p.end ≡ end_of self.now.n self.now.size k)
             × (taken share.new ≡ taken share.old ++ k ∷ [])) }
@@ -83,7 +83,7 @@ impl Bag {
             return None;
         }
         match self.next(rt, &mut share.access) {
-            Task::Numbered(k) => Some(piece_at(self.n, self.size, k)),
+            Task::Piece(k) => Some(piece_at(self.n, self.size, k)),
             Task::End => {
                 share.met = true;
                 None

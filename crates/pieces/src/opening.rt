@@ -54,13 +54,13 @@ impl Split<MarkView> for OnePart {
 }
 
 /// A push never fails, since the deque began with room for every piece and every end mark.
-fn add_piece(owner: &mut BagOwner, number: u64)
+fn add_piece(owner: &mut BagOwner, position: u64)
     requires room { worker_index owner.old < worker_capacity owner.old }
-    requires view { worker_view owner.old ≡ bag_view 64 0 number false [] }
+    requires view { worker_view owner.old ≡ bag_view 64 0 position false [] }
     ensures same { SameWorker owner.old owner.new × (worker_index owner.new ≡ worker_index owner.old + 1) }
-    ensures view { worker_view owner.new ≡ bag_view 64 0 (number + 1) false [] }
+    ensures view { worker_view owner.new ≡ bag_view 64 0 (position + 1) false [] }
 {
-    match owner.push_as::<Adds>(Task::Numbered(number)) {
+    match owner.push_as::<Adds>(Task::Piece(position)) {
         Ok(()) => {}
         Err(_) => unreachable!(),
     }
@@ -85,8 +85,8 @@ fn add_pieces(owner: &mut BagOwner, count: u64)
     ensures same { SameWorker owner.old owner.new × (worker_index owner.new ≡ count) }
     ensures view { worker_view owner.new ≡ bag_view 64 0 count false [] }
 {
-    for number in 0..count {
-        add_piece(owner, number);
+    for position in 0..count {
+        add_piece(owner, position);
     }
 }
 

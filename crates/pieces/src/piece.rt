@@ -9,14 +9,14 @@ pub struct Piece {
     pub end: u32,
 }
 
-/// The piece of this number, where the indices below n are cut into pieces of this size.
-pub(crate) fn piece_at(n: u32, size: u32, number: u64) -> Piece
+/// The piece at this position, where the indices below n are cut into pieces of this size.
+pub(crate) fn piece_at(n: u32, size: u32, position: u64) -> Piece
     requires size { 0 < size }
-    requires number { number < pieces n size }
-    ensures first { result.first ≡ first_of size number }
-    ensures end { result.end ≡ end_of n size number }
+    requires position { position < pieces n size }
+    ensures first { result.first ≡ first_of size position }
+    ensures end { result.end ≡ end_of n size position }
 {
-    let first = number * u64::from(size);
+    let first = position * u64::from(size);
     let end = (first + u64::from(size)).min(u64::from(n));
     Piece {
         first: first as u32,

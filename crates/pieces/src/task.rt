@@ -1,8 +1,8 @@
 //! What lies in the deque.
 
-/// The number of a piece, or an end mark. Behind the pieces lies one end mark for each share.
+/// The position of a piece, or an end mark. Behind the pieces lies one end mark for each share.
 #[derive(Clone, Copy, Drop)]
 pub enum Task {
-    Numbered(u64),
+    Piece(u64),
     End,
 }

@@ -5,7 +5,7 @@ use std::collections::LinkedList;
 
 /// What a share's pass knows of the deque. Of 64 `parts` each pass has some, and one that has them all
 /// knows the whole. It may take `owed` more end marks, `made` pieces were put in, it has `met` an end
-/// mark or not, and it took the pieces of the numbers `taken`.
+/// mark or not, and it took the pieces at the positions `taken`.
 pub struct BagView {
     pub parts: u64,
     pub owed: u64,

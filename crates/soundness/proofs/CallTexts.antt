@@ -116,14 +116,14 @@ past_the_greatest = record {
 -- The least bad line.
 
 pub first_bad : (text : List ℕ) (line : TextLine) → slice_get (lines_of text) 0 ≡ Some line → (IsGood 1 line → ⊥) → LeastBad text 1
-first_bad text line e bad = record { place = 0; line = line; number = refl; stands = e; bad = bad; before = λ j other l s. absurd (omega (arith, l)) }
+first_bad text line e bad = record { position = 0; line = line; number = refl; stands = e; bad = bad; before = λ j other l s. absurd (omega (arith, l)) }
 
 only_first : (text : List ℕ) (first : TextLine) → slice_get (lines_of text) 0 ≡ Some first → IsGood 1 first → (j : ℕ) (other : TextLine) → j < 1 → slice_get (lines_of text) j ≡ Some other → IsGood (suc j) other
 only_first text first e good zero other l s = subst (IsGood 1) (same_Some first other (sym e ∙ s)) good
 only_first text first e good (suc j) other l s = absurd (omega (arith, l))
 
 second_bad : (text : List ℕ) (first line : TextLine) → slice_get (lines_of text) 0 ≡ Some first → IsGood 1 first → slice_get (lines_of text) 1 ≡ Some line → (IsGood 2 line → ⊥) → LeastBad text 2
-second_bad text first line e good s bad = record { place = 1; line = line; number = refl; stands = s; bad = bad; before = only_first text first e good }
+second_bad text first line e good s bad = record { position = 1; line = line; number = refl; stands = s; bad = bad; before = only_first text first e good }
 
 pub bad_texts : BadTexts
 unfolding IsCalls

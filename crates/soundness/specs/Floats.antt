@@ -15,7 +15,7 @@ of_type params results = record empty_module { types = (record { params = params
 
 -- of one global with this first value
 abbrev pub of_global : ValType → Token → ModuleShape
-of_global t first = record empty_module { globals = (record { content = record { content = t; mutable = false }; init = first ∷ End ∷ [] }) ∷ [] }
+of_global t first = record empty_module { globals = (record { global_type = record { val_type = t; mutable = false }; init = first ∷ End ∷ [] }) ∷ [] }
 
 -- of one element segment at this offset
 abbrev pub of_element : Token → ModuleShape
@@ -31,7 +31,7 @@ in_code code = has_floats empty_module ((record { runs = []; code = code }) ∷ 
 
 -- whether a body that declares `count` locals of type t does
 abbrev pub in_locals : ℕ → ValType → Bool
-in_locals count t = has_floats empty_module ((record { runs = (record { count = 1; content = I32 }) ∷ (record { count = count; content = t }) ∷ []; code = End ∷ [] }) ∷ [])
+in_locals count t = has_floats empty_module ((record { runs = (record { count = 1; val_type = I32 }) ∷ (record { count = count; val_type = t }) ∷ []; code = End ∷ [] }) ∷ [])
 
 -- a load or a store of a value of this type
 abbrev pub access : ValType → Access

@@ -21,16 +21,16 @@ use Rattle.wsyntax.specs.Texts.Answer.{Limits, Started, EndsOn}
 -- What was judged.
 
 -- the body that stands at that place is typed: its tokens are those of a tree, which is typed under the context of its function
-pub record TypedAt (m : ModuleShape) (place : ℕ) (b : BodyShape) : Type 0 where
+pub record TypedAt (m : ModuleShape) (position : ℕ) (b : BodyShape) : Type 0 where
   pub code : Code
   pub tree : flat_body code ≡ b.code
-  pub typed : BodyTyped (function_context (module_context m) (function_at m place) b.runs) (result_of (module_context m) (function_at m place)) code
+  pub typed : BodyTyped (function_context (module_context m) (function_at m position) b.runs) (result_of (module_context m) (function_at m position)) code
 
 -- a module that was judged and accepted: no rule is broken, and each function has its body, which is typed
 pub record Judged (m : ModuleShape) (bodies : List BodyShape) : Type 0 where
   pub unbroken : NoneBroken m
   pub count : length m.functions ≡ length bodies
-  pub bodies_typed : (place : ℕ) (b : BodyShape) → slice_get bodies place ≡ Some b → TypedAt m place b
+  pub bodies_typed : (position : ℕ) (b : BodyShape) → slice_get bodies position ≡ Some b → TypedAt m position b
 
 -- and that may be run: nothing is imported, no float is mentioned
 pub record Runnable (m : ModuleShape) (bodies : List BodyShape) : Type 0 where

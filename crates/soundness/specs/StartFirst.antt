@@ -30,7 +30,7 @@ abbrev pub starter : ModuleShape
 starter = record empty_module {
   types = none ∷ gives ∷ [];
   functions = 0 ∷ 1 ∷ [];
-  globals = (record { content = record { content = I32; mutable = true }; init = Do (Const I32 2) ∷ End ∷ [] }) ∷ [];
+  globals = (record { global_type = record { val_type = I32; mutable = true }; init = Do (Const I32 2) ∷ End ∷ [] }) ∷ [];
   start = Some 0;
 }
 

@@ -17,11 +17,11 @@ at n = Do (Const I32 n) ∷ End ∷ []
 
 -- these functions from this entry on
 abbrev pub entries : ℕ → List ℕ → ElementShape
-entries place functions = record { table = 0; offset = at place; functions = functions }
+entries offset functions = record { table = 0; offset = at offset; functions = functions }
 
 -- these bytes from this place on
 abbrev pub bytes : ℕ → List ℕ → DataShape
-bytes place items = record { memory = 0; offset = at place; bytes = items }
+bytes offset items = record { memory = 0; offset = at offset; bytes = items }
 
 -- a module with a table of `size` entries, a memory of `pages` pages, and segments
 abbrev pub sized : ℕ → ℕ → List ElementShape → List DataShape → ModuleShape
@@ -94,8 +94,8 @@ first_bytes s = option_map (λ m. take 5 m.bytes) s.memory
 abbrev pub starting : ModuleShape
 starting = record empty_module {
   globals =
-      record { content = record { content = I64; mutable = false }; init = Do (Const I64 18446744073709551615) ∷ End ∷ [] } ∷
-      record { content = record { content = I32; mutable = false }; init = Do (Const I32 3) ∷ End ∷ [] } ∷ [];
+      record { global_type = record { val_type = I64; mutable = false }; init = Do (Const I64 18446744073709551615) ∷ End ∷ [] } ∷
+      record { global_type = record { val_type = I32; mutable = false }; init = Do (Const I32 3) ∷ End ∷ [] } ∷ [];
 }
 
 -- segments are written in order, so the later of two that overlap is what is left

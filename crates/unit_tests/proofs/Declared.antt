@@ -10,10 +10,10 @@ use Rattle.wsyntax.specs.Validation.ModuleContext.{IndexedContext, module_contex
 use Rattle.checked_body.specs.declared.body.CheckedBody.{CheckedBody}
 use Rattle.accepted_module.specs.Judgement.{IsJudged}
 
-pub declared_content : (m : ModuleShape) (x : IndexedContext) (all : List CheckedBody) (k : ℕ) (g : GlobalType) → ∥ IsJudged m x all ∥₁ → slice_get x.context.globals k ≡ Some g
-    → option_map (λ (g : GlobalType). g.content) (slice_get (module_context m).globals k) ≡ Some g.content
-declared_content m x all k g judged is =
-    ∥∥₁_elim judged (hlevel props) (λ j. ap (λ (y : IndexedContext). option_map (λ (g : GlobalType). g.content) (slice_get y.context.globals k)) (sym j.context) ∙ ap (option_map (λ (g : GlobalType). g.content)) is)
+pub declared_val_type : (m : ModuleShape) (x : IndexedContext) (all : List CheckedBody) (k : ℕ) (g : GlobalType) → ∥ IsJudged m x all ∥₁ → slice_get x.context.globals k ≡ Some g
+    → option_map (λ (g : GlobalType). g.val_type) (slice_get (module_context m).globals k) ≡ Some g.val_type
+declared_val_type m x all k g judged is =
+    ∥∥₁_elim judged (hlevel props) (λ j. ap (λ (y : IndexedContext). option_map (λ (g : GlobalType). g.val_type) (slice_get y.context.globals k)) (sym j.context) ∙ ap (option_map (λ (g : GlobalType). g.val_type)) is)
 
 pub declared_below : (m : ModuleShape) (x : IndexedContext) (all : List CheckedBody) (k : ℕ) (g : GlobalType) → ∥ IsJudged m x all ∥₁ → slice_get x.context.globals k ≡ Some g → k < length (module_context m).globals
 declared_below m x all k g judged is =

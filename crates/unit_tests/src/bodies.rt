@@ -98,7 +98,7 @@ const TOKENS: [(&[u8], usize, Token); 3] = [
 ];
 
 #[test]
-fn tokens_have_their_places(rt: HostRuntime) {
+fn tokens_have_their_positions(rt: HostRuntime) {
     for (bytes, place, token) in TOKENS {
         assert!(rt;
             token_at(rt.alloc(), bytes, place) == Some(token),
@@ -154,16 +154,16 @@ fn deep_nesting(rt: HostRuntime) -> Result<(), Fail> {
 const LOCALS: [LocalRun; 2] = [
     LocalRun {
         count: 2,
-        content: ValType::I32,
+        val_type: ValType::I32,
     },
     LocalRun {
         count: 1,
-        content: ValType::F64,
+        val_type: ValType::F64,
     },
 ];
 
 #[test]
-fn locals_take_the_place_of_others(rt: HostRuntime) -> Result<(), Fail> {
+fn locals_replace_others(rt: HostRuntime) -> Result<(), Fail> {
     let bytes = [0x02, 0x02, 0x7F, 0x01, 0x7C, 0x0B];
     let mut runs = Vec::new(rt.alloc());
     for _ in 0..2 {

@@ -29,11 +29,11 @@ fn one_function(alloc: Global) -> Result<Module<'static>, AllocError> {
 const RUNS: [LocalRun; 2] = [
     LocalRun {
         count: 2,
-        content: F32,
+        val_type: F32,
     },
     LocalRun {
         count: 1,
-        content: I64,
+        val_type: I64,
     },
 ];
 

@@ -28,7 +28,7 @@ fn fault_of(alloc: Global, module: &Module<'_>) -> Option<ModuleFault> {
 
 /// A global whose value can be written.
 const COUNTER: GlobalType = GlobalType {
-    content: ValType::I64,
+    val_type: ValType::I64,
     mutable: true,
 };
 

@@ -122,7 +122,7 @@ fn set_global_at(instance: &mut Instance<'_>, x: u32, value: Value) -> bool {
     let Some(global) = accepted.context().global(x) else {
         return false;
     };
-    match (global.content, value) {
+    match (global.val_type, value) {
         (ValType::I32, Value::I32(_)) => instance.set_global(x, value),
         (ValType::I64, Value::I64(_)) => instance.set_global(x, value),
         _ => return false,

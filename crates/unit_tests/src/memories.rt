@@ -52,9 +52,9 @@ fn segment_at(memory: &mut LinearMemory, at: u32, bytes: &[u8]) -> bool {
 /// What is done to a memory, with what it has to answer.
 #[derive(Clone, Copy)]
 enum MemoryStep {
-    /// A read of some bytes from a place on, and the number that they make.
+    /// A read of some bytes from an address on, and the number that they make.
     Read(u32, u32, Option<u64>),
-    /// A write of some bytes of a number from a place on, and whether there was room.
+    /// A write of some bytes of a number from an address on, and whether there was room.
     Write(u32, u32, u64, bool),
     /// A segment, which has room.
     Segment(u32, &'static [u8]),

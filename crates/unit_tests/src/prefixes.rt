@@ -14,11 +14,11 @@ fn stepped(alloc: Global, count: usize, step: usize) -> Result<Vec<ValType>, All
     Ok(types)
 }
 
-/// A list of 300 types, of which those at `places` are i64 and all others are i32.
-fn marked(alloc: Global, places: &[usize]) -> Result<Vec<ValType>, AllocError> {
+/// A list of 300 types, of which those at `positions` are i64 and all others are i32.
+fn marked(alloc: Global, positions: &[usize]) -> Result<Vec<ValType>, AllocError> {
     let mut types = Vec::new(alloc);
     for i in 0..300 {
-        types.push(if places.contains(&i) { I64 } else { I32 })?;
+        types.push(if positions.contains(&i) { I64 } else { I32 })?;
     }
     Ok(types)
 }

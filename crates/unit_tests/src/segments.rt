@@ -1,4 +1,4 @@
-//! Element segments by their numbers.
+//! Element segments by their indices.
 use std::alloc::{AllocError, Global};
 use std::test::Fail;
 use wsyntax::{ConstExpr, Elements};
@@ -15,16 +15,16 @@ fn three_segments(alloc: Global) -> Result<Elements<'static>, AllocError> {
     Ok(segments)
 }
 
-/// Whether the segment of that number goes to the table of the same number, and has these functions.
-fn is_at(segments: &Elements<'_>, number: u32, functions: &[u32]) -> bool {
-    match segments.get(number as usize) {
-        Some(segment) => segment.table == number && segment.functions == functions,
+/// Whether the segment of that index goes to the table of the same index, and has these functions.
+fn is_at(segments: &Elements<'_>, index: u32, functions: &[u32]) -> bool {
+    match segments.get(index as usize) {
+        Some(segment) => segment.table == index && segment.functions == functions,
         None => false,
     }
 }
 
 #[test]
-fn segments_are_held_by_their_numbers(rt: HostRuntime) -> Result<(), Fail> {
+fn segments_are_held_by_their_indices(rt: HostRuntime) -> Result<(), Fail> {
     let segments = three_segments(rt.alloc())?;
     assert!(rt; segments.len() == 3);
     assert!(rt; is_at(&segments, 0, &[7, 8]));

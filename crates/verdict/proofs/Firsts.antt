@@ -22,29 +22,29 @@ use Rattle.verdict.specs.Refusals.{fault_of, verdict_of, of_decoding, of_rules}
 use Rattle.verdict.proofs.Sizes.{functions_fit}
 use Rattle.verdict.proofs.Bodies.{accepted_where_none, refused_where_some}
 
--- the refusal of the bytes that stand at that place
-at_place : (C : Context) (imported : ℕ) (bodies : List (List ℕ)) (place : ℕ) (bytes : List ℕ) (o : Option BodyRefusal) → slice_get bodies place ≡ Some bytes → body_refusal_at C imported bodies place ≡ o → body_refusal_of C (imported + place) bytes ≡ o
-at_place C imported bodies place bytes o is e = sym (ap (given_refusal C (imported + place)) is) ∙ e
+-- the refusal of the bytes that stand at that position
+at_position : (C : Context) (imported : ℕ) (bodies : List (List ℕ)) (position : ℕ) (bytes : List ℕ) (o : Option BodyRefusal) → slice_get bodies position ≡ Some bytes → body_refusal_at C imported bodies position ≡ o → body_refusal_of C (imported + position) bytes ≡ o
+at_position C imported bodies position bytes o is e = sym (ap (given_refusal C (imported + position)) is) ∙ e
 
-accepted_before : (bytes : List ℕ) (m : ModuleShape) (place : ℕ) → Known bytes m → PassBefore (module_context m) (length (imported_functions m)) m.bodies place → AcceptedBefore m place
-accepted_before bytes m place k before j b lt is = accepted_where_none k.reads k.typed _ _ b (at_place _ _ m.bodies j b None is (before j lt))
+accepted_before : (bytes : List ℕ) (m : ModuleShape) (position : ℕ) → Known bytes m → PassBefore (module_context m) (length (imported_functions m)) m.bodies position → AcceptedBefore m position
+accepted_before bytes m position k before j b lt is = accepted_where_none k.reads k.typed _ _ b (at_position _ _ m.bodies j b None is (before j lt))
 
 pub all_accepted : (bytes : List ℕ) (m : ModuleShape) → Known bytes m → PassBefore (module_context m) (length (imported_functions m)) m.bodies (length m.bodies) → IsVerdict bytes Accepted
 unfolding IsVerdict
 all_accepted bytes m k before = (m, k.whole, k.rules, accepted_before bytes m (length m.bodies) k before)
 
-first_refused : (bytes : List ℕ) (m : ModuleShape) (f : ℕ) (c : BodyRefusal) (place : ℕ) → Known bytes m → place < length m.bodies → f ≡ length (imported_functions m) + place → body_refusal_at (module_context m) (length (imported_functions m)) m.bodies place ≡ Some c → PassBefore (module_context m) (length (imported_functions m)) m.bodies place → FirstRefused m f (fault_of c)
-first_refused bytes m f c place k lt is e before =
-    let b = get_or m.bodies place bytes in
-    let stands : slice_get m.bodies place ≡ Some b = slice_get-get_or m.bodies place bytes lt in
+first_refused : (bytes : List ℕ) (m : ModuleShape) (f : ℕ) (c : BodyRefusal) (position : ℕ) → Known bytes m → position < length m.bodies → f ≡ length (imported_functions m) + position → body_refusal_at (module_context m) (length (imported_functions m)) m.bodies position ≡ Some c → PassBefore (module_context m) (length (imported_functions m)) m.bodies position → FirstRefused m f (fault_of c)
+first_refused bytes m f c position k lt is e before =
+    let b = get_or m.bodies position bytes in
+    let stands : slice_get m.bodies position ≡ Some b = slice_get-get_or m.bodies position bytes lt in
     record {
-      place = place;
+      position = position;
       bytes = b;
       stands = stands;
       index = is;
       refused = refused_where_some k.reads k.faults (module_context m) f b c
-          (ap (λ (x : ℕ). body_refusal_of (module_context m) x b) is ∙ at_place _ _ m.bodies place b (Some c) stands e);
-      before = accepted_before bytes m place k before;
+          (ap (λ (x : ℕ). body_refusal_of (module_context m) x b) is ∙ at_position _ _ m.bodies position b (Some c) stands e);
+      before = accepted_before bytes m position k before;
     }
 
 pub body_refused : (bytes : List ℕ) (m : ModuleShape) (r : Refusal) → Known bytes m → IsFirstBody (module_context m) (length (imported_functions m)) m.bodies r → IfSome (verdict_of r) (IsVerdict bytes)

@@ -15,7 +15,7 @@ use Rattle.verdict.specs.Judged.{body_refusal_of, given_refusal, body_refusal_at
 use Rattle.verdict.specs.Groups.{IsInGroup, GroupPasses, IsFirstOfGroup, GroupRefused}
 use Rattle.verdict.specs.Refusals.{AllowsRefusal}
 
--- ---- each place is one of a group
+-- ---- each position is one of a group
 
 group_below : (n size k : ℕ) → 0 < size → k < n → k / size < div_ceil n size
 group_below n size k some below =
@@ -34,7 +34,7 @@ pub groups_pass : (C : Context) (imported : ℕ) (bodies : List (List ℕ)) (siz
 groups_pass C imported bodies size some all k lt = all (k / size) (group_below (length bodies) size k some lt) k (in_group (length bodies) size k some lt)
 
 -- the bodies before the first refused one of a group, where all groups before it pass
-pub pass_before : (C : Context) (imported : ℕ) (bodies : List (List ℕ)) (size group f : ℕ) (c : BodyRefusal) → 0 < size → (first : IsFirstOfGroup C imported bodies size group f c) → ((i : ℕ) → i < group → GroupPasses C imported bodies size i) → PassBefore C imported bodies first.place
+pub pass_before : (C : Context) (imported : ℕ) (bodies : List (List ℕ)) (size group f : ℕ) (c : BodyRefusal) → 0 < size → (first : IsFirstOfGroup C imported bodies size group f c) → ((i : ℕ) → i < group → GroupPasses C imported bodies size i) → PassBefore C imported bodies first.position
 pass_before C imported bodies size group f c some first earlier k lt =
     let inside = first.inside in
     let to = inside.to in
@@ -46,35 +46,35 @@ pass_before C imported bodies size group f c some first earlier k lt =
 
 -- ---- one body more
 
--- the bytes of the body at a place
-pub bytes_there : (bodies : List (Bor (List ℕ))) (place : ℕ) (d : Bor (List ℕ)) → place < length bodies → slice_get (map (λ b. b.now) bodies) place ≡ Some (get_or bodies place d).now
-bytes_there bodies place d lt = slice_get-map (λ (b : Bor (List ℕ)). b.now) bodies place ∙ ap (option_map (λ (b : Bor (List ℕ)). b.now)) (slice_get-get_or bodies place d lt)
+-- the bytes of the body at a position
+pub bytes_there : (bodies : List (Bor (List ℕ))) (position : ℕ) (d : Bor (List ℕ)) → position < length bodies → slice_get (map (λ b. b.now) bodies) position ≡ Some (get_or bodies position d).now
+bytes_there bodies position d lt = slice_get-map (λ (b : Bor (List ℕ)). b.now) bodies position ∙ ap (option_map (λ (b : Bor (List ℕ)). b.now)) (slice_get-get_or bodies position d lt)
 
--- the refusal of the body at a place
-pub refusal_there : (C D : Context) (i j place : ℕ) (bodies : List (Bor (List ℕ))) (d : Bor (List ℕ)) → D ≡ C → j ≡ i → place < length bodies → body_refusal_of D (j + place) (get_or bodies place d).now ≡ body_refusal_at C i (map (λ b. b.now) bodies) place
-refusal_there C D i j place bodies d same is lt =
-    ap (λ (x : Context). body_refusal_of x (j + place) (get_or bodies place d).now) same
-    ∙ ap (λ (x : ℕ). body_refusal_of C (x + place) (get_or bodies place d).now) is
-    ∙ sym (ap (given_refusal C (i + place)) (bytes_there bodies place d lt))
+-- the refusal of the body at a position
+pub refusal_there : (C D : Context) (i j position : ℕ) (bodies : List (Bor (List ℕ))) (d : Bor (List ℕ)) → D ≡ C → j ≡ i → position < length bodies → body_refusal_of D (j + position) (get_or bodies position d).now ≡ body_refusal_at C i (map (λ b. b.now) bodies) position
+refusal_there C D i j position bodies d same is lt =
+    ap (λ (x : Context). body_refusal_of x (j + position) (get_or bodies position d).now) same
+    ∙ ap (λ (x : ℕ). body_refusal_of C (x + position) (get_or bodies position d).now) is
+    ∙ sym (ap (given_refusal C (i + position)) (bytes_there bodies position d lt))
 
--- the bodies before a place pass, and so the one there
-pub pass_more : (C : Context) (imported : ℕ) (bodies : List (List ℕ)) (place : ℕ) → PassBefore C imported bodies place → body_refusal_at C imported bodies place ≡ None → PassBefore C imported bodies (place + 1)
-pass_more C imported bodies place before here k lt =
-    dite (dec_lt k place) (λ y. before k y)
-    (λ no. let same : place ≡ k = omega (arith, no, lt) in subst (λ (x : ℕ). body_refusal_at C imported bodies x ≡ None) same here)
+-- the bodies before a position pass, and so the one there
+pub pass_more : (C : Context) (imported : ℕ) (bodies : List (List ℕ)) (position : ℕ) → PassBefore C imported bodies position → body_refusal_at C imported bodies position ≡ None → PassBefore C imported bodies (position + 1)
+pass_more C imported bodies position before here k lt =
+    dite (dec_lt k position) (λ y. before k y)
+    (λ no. let same : position ≡ k = omega (arith, no, lt) in subst (λ (x : ℕ). body_refusal_at C imported bodies x ≡ None) same here)
 
 -- the same of the bodies of a group
-pub one_more : (C : Context) (imported : ℕ) (bodies : List (List ℕ)) (size group place : ℕ) → ((k : ℕ) → IsInGroup size (length bodies) group k → k < place → body_refusal_at C imported bodies k ≡ None) → body_refusal_at C imported bodies place ≡ None → (k : ℕ) → IsInGroup size (length bodies) group k → k < place + 1 → body_refusal_at C imported bodies k ≡ None
-one_more C imported bodies size group place before here k inside lt =
-    dite (dec_lt k place) (λ y. before k inside y)
-    (λ no. let same : place ≡ k = omega (arith, no, lt) in subst (λ (x : ℕ). body_refusal_at C imported bodies x ≡ None) same here)
+pub one_more : (C : Context) (imported : ℕ) (bodies : List (List ℕ)) (size group position : ℕ) → ((k : ℕ) → IsInGroup size (length bodies) group k → k < position → body_refusal_at C imported bodies k ≡ None) → body_refusal_at C imported bodies position ≡ None → (k : ℕ) → IsInGroup size (length bodies) group k → k < position + 1 → body_refusal_at C imported bodies k ≡ None
+one_more C imported bodies size group position before here k inside lt =
+    dite (dec_lt k position) (λ y. before k inside y)
+    (λ no. let same : position ≡ k = omega (arith, no, lt) in subst (λ (x : ℕ). body_refusal_at C imported bodies x ≡ None) same here)
 
 -- a body of a group is refused, and those of the group before it pass: so the group is refused
-pub group_refused : (C : Context) (imported : ℕ) (bodies : List (List ℕ)) (size group place : ℕ) (x : Refusal) → IsInGroup size (length bodies) group place
-    → ((k : ℕ) → IsInGroup size (length bodies) group k → k < place → body_refusal_at C imported bodies k ≡ None)
-    → AllowsRefusal (IsBodyRefusal (imported + place) (body_refusal_at C imported bodies place)) x → AllowsRefusal (GroupRefused C imported bodies size group) x
-group_refused C imported bodies size group place (Body f c) inside before a = record { place = place; index = a.0; inside = inside; refused = a.1; before = before }
-group_refused C imported bodies size group place TooLarge inside before a = absurd a
-group_refused C imported bodies size group place Malformed inside before a = absurd a
-group_refused C imported bodies size group place (Rule k) inside before a = absurd a
-group_refused C imported bodies size group place Memory inside before a = tt
+pub group_refused : (C : Context) (imported : ℕ) (bodies : List (List ℕ)) (size group position : ℕ) (x : Refusal) → IsInGroup size (length bodies) group position
+    → ((k : ℕ) → IsInGroup size (length bodies) group k → k < position → body_refusal_at C imported bodies k ≡ None)
+    → AllowsRefusal (IsBodyRefusal (imported + position) (body_refusal_at C imported bodies position)) x → AllowsRefusal (GroupRefused C imported bodies size group) x
+group_refused C imported bodies size group position (Body f c) inside before a = record { position = position; index = a.0; inside = inside; refused = a.1; before = before }
+group_refused C imported bodies size group position TooLarge inside before a = absurd a
+group_refused C imported bodies size group position Malformed inside before a = absurd a
+group_refused C imported bodies size group position (Rule k) inside before a = absurd a
+group_refused C imported bodies size group position Memory inside before a = tt

@@ -49,36 +49,36 @@ is_checker one bytes m x c keeps is =
 
 -- One body.
 
--- what is found of the bytes at a place is found of the body there
-pub refusal_found : (bytes : List ℕ) (m : Module) (x : IndexedContext) (D : Context) (j place : ℕ) (bodies : List (Bor (List ℕ))) (d : Bor (List ℕ)) → KeepsRules bytes m x → bodies ≡ m.bodies.items
-    → D ≡ module_context (module_shape m) → j ≡ x.imported → place < length bodies → refusal_in (module_shape m) place ≡ body_refusal_of D (j + place) (get_or bodies place d).now
-refusal_found bytes m x D j place bodies d keeps same outside is lt =
+-- what is found of the bytes at a position is found of the body there
+pub refusal_found : (bytes : List ℕ) (m : Module) (x : IndexedContext) (D : Context) (j position : ℕ) (bodies : List (Bor (List ℕ))) (d : Bor (List ℕ)) → KeepsRules bytes m x → bodies ≡ m.bodies.items
+    → D ≡ module_context (module_shape m) → j ≡ x.imported → position < length bodies → refusal_in (module_shape m) position ≡ body_refusal_of D (j + position) (get_or bodies position d).now
+refusal_found bytes m x D j position bodies d keeps same outside is lt =
     let s = module_shape m in
     let first : j ≡ length (imported_functions s) = is ∙ ap (λ (y : IndexedContext). y.imported) keeps.context in
-    sym (refusal_there (module_context s) D (length (imported_functions s)) j place bodies d outside first lt
-    ∙ ap (λ (bs : List (List ℕ)). body_refusal_at (module_context s) (length (imported_functions s)) bs place) (ap (map (λ b. b.now)) same))
+    sym (refusal_there (module_context s) D (length (imported_functions s)) j position bodies d outside first lt
+    ∙ ap (λ (bs : List (List ℕ)). body_refusal_at (module_context s) (length (imported_functions s)) bs position) (ap (map (λ b. b.now)) same))
 
-pub body_is_kept : OneShell → (bytes : List ℕ) (m : Module) (x : IndexedContext) (D : Context) (j place : ℕ) (bodies : List (Bor (List ℕ))) (d : Bor (List ℕ)) (checked : CheckedBody) → KeepsRules bytes m x → bodies ≡ m.bodies.items
-    → D ≡ module_context (module_shape m) → j ≡ x.imported → place < length bodies → body_refusal_of D (j + place) (get_or bodies place d).now ≡ None → IsCheckedFrom D (j + place) (get_or bodies place d).now checked
-    → IsKept bytes record { place = place; checked = checked }
-body_is_kept one bytes m x D j place bodies d checked keeps same outside is lt none from =
+pub body_is_kept : OneShell → (bytes : List ℕ) (m : Module) (x : IndexedContext) (D : Context) (j position : ℕ) (bodies : List (Bor (List ℕ))) (d : Bor (List ℕ)) (checked : CheckedBody) → KeepsRules bytes m x → bodies ≡ m.bodies.items
+    → D ≡ module_context (module_shape m) → j ≡ x.imported → position < length bodies → body_refusal_of D (j + position) (get_or bodies position d).now ≡ None → IsCheckedFrom D (j + position) (get_or bodies position d).now checked
+    → IsKept bytes record { position = position; checked = checked }
+body_is_kept one bytes m x D j position bodies d checked keeps same outside is lt none from =
     let s = module_shape m in
-    let b = (get_or bodies place d).now in
+    let b = (get_or bodies position d).now in
     let first : j ≡ length (imported_functions s) = is ∙ ap (λ (y : IndexedContext). y.imported) keeps.context in
-    let there : slice_get s.bodies place ≡ Some b = subst (λ (bs : List (List ℕ)). slice_get bs place ≡ Some b) (ap (map (λ b. b.now)) same) (bytes_there bodies place d lt) in
-    let within : place < length s.bodies = let n = length-map bodies (λ (b : Bor (List ℕ)). b.now) in let e = ap (λ (bs : List (Bor (List ℕ))). length (map (λ b. b.now) bs)) same in omega arith in
-    everywhere one (λ (n : ModuleShape). Passes n place × IsCheckedAt (module_context n) (length (imported_functions n)) n.bodies place checked) bytes m x keeps (
-      (within, refusal_found bytes m x D j place bodies d keeps same outside is lt ∙ none),
-      (b, there, subst (λ (i : ℕ). IsCheckedFrom (module_context s) (i + place) b checked) first (subst (λ (C : Context). IsCheckedFrom C (j + place) b checked) outside from)),
+    let there : slice_get s.bodies position ≡ Some b = subst (λ (bs : List (List ℕ)). slice_get bs position ≡ Some b) (ap (map (λ b. b.now)) same) (bytes_there bodies position d lt) in
+    let within : position < length s.bodies = let n = length-map bodies (λ (b : Bor (List ℕ)). b.now) in let e = ap (λ (bs : List (Bor (List ℕ))). length (map (λ b. b.now) bs)) same in omega arith in
+    everywhere one (λ (n : ModuleShape). Passes n position × IsCheckedAt (module_context n) (length (imported_functions n)) n.bodies position checked) bytes m x keeps (
+      (within, refusal_found bytes m x D j position bodies d keeps same outside is lt ∙ none),
+      (b, there, subst (λ (i : ℕ). IsCheckedFrom (module_context s) (i + position) b checked) first (subst (λ (C : Context). IsCheckedFrom C (j + position) b checked) outside from)),
     )
 
-pub body_is_refused : OneShell → (bytes : List ℕ) (m : Module) (x : IndexedContext) (D : Context) (j place : ℕ) (bodies : List (Bor (List ℕ))) (d : Bor (List ℕ)) (c : BodyRefusal) → KeepsRules bytes m x → bodies ≡ m.bodies.items
-    → D ≡ module_context (module_shape m) → j ≡ x.imported → place < length bodies → body_refusal_of D (j + place) (get_or bodies place d).now ≡ Some c
-    → (n : ModuleShape) → Shell bytes n → (j + place ≡ function_at n place) × (refusal_in n place ≡ Some c)
-body_is_refused one bytes m x D j place bodies d c keeps same outside is lt some =
+pub body_is_refused : OneShell → (bytes : List ℕ) (m : Module) (x : IndexedContext) (D : Context) (j position : ℕ) (bodies : List (Bor (List ℕ))) (d : Bor (List ℕ)) (c : BodyRefusal) → KeepsRules bytes m x → bodies ≡ m.bodies.items
+    → D ≡ module_context (module_shape m) → j ≡ x.imported → position < length bodies → body_refusal_of D (j + position) (get_or bodies position d).now ≡ Some c
+    → (n : ModuleShape) → Shell bytes n → (j + position ≡ function_at n position) × (refusal_in n position ≡ Some c)
+body_is_refused one bytes m x D j position bodies d c keeps same outside is lt some =
     let first : j ≡ length (imported_functions (module_shape m)) = is ∙ ap (λ (y : IndexedContext). y.imported) keeps.context in
-    everywhere one (λ (n : ModuleShape). (j + place ≡ function_at n place) × (refusal_in n place ≡ Some c)) bytes m x keeps
-    (ap (λ (k : ℕ). k + place) first, refusal_found bytes m x D j place bodies d keeps same outside is lt ∙ some)
+    everywhere one (λ (n : ModuleShape). (j + position ≡ function_at n position) × (refusal_in n position ≡ Some c)) bytes m x keeps
+    (ap (λ (k : ℕ). k + position) first, refusal_found bytes m x D j position bodies d keeps same outside is lt ∙ some)
 
 -- All bodies.
 
@@ -87,14 +87,14 @@ pub pass_to_gap : (m : ModuleShape) (passed : List ℕ) (gap : ℕ) → All (Pas
 pass_to_gap m passed gap sound before k lt = (All-contains (Passes m) passed k sound (before k lt)).1
 
 pub has_all : (m : ModuleShape) (passed : List ℕ) (count gap : ℕ) → count ≡ length m.bodies → IsFirstGap passed count gap → count ≤ gap → AllPassed m passed
-has_all m passed count gap n g over place lt = g.before place (omega arith)
+has_all m passed count gap n g over position lt = g.before position (omega arith)
 
 -- where a body is refused there is one
-pub refused_within : (C : Context) (i place : ℕ) (bodies : List (List ℕ)) (c : BodyRefusal) → body_refusal_at C i bodies place ≡ Some c → place < length bodies
-refused_within C i place bodies c e =
-    elim (slice_get_cases bodies place).1 [
+pub refused_within : (C : Context) (i position : ℕ) (bodies : List (List ℕ)) (c : BodyRefusal) → body_refusal_at C i bodies position ≡ Some c → position < length bodies
+refused_within C i position bodies c e =
+    elim (slice_get_cases bodies position).1 [
       | inl h ↦ h.1
-      | inr h ↦ let clash : None ≡ Some c = sym (ap (given_refusal C (i + place)) h.1) ∙ e in absurd cc
+      | inr h ↦ let clash : None ≡ Some c = sym (ap (given_refusal C (i + position)) h.1) ∙ e in absurd cc
     ]
 
 -- the module is accepted
@@ -104,24 +104,24 @@ accepted_where_all bytes m x passed keeps sound all =
 
 -- the first refused body is known
 pub refused_where_first : (bytes : List ℕ) (m : Module) (x : IndexedContext) (passed : List ℕ) (count gap j : ℕ) (r : RefusedBody) → KeepsRules bytes m x → All (Passes (module_shape m)) passed → IsFirstGap passed count gap
-    → j ≡ x.imported → refusal_in (module_shape m) r.place ≡ Some r.refusal → r.place ≤ gap → IsSomeAnd (verdict_of (Body (j + r.place) r.refusal)) (IsVerdict bytes)
+    → j ≡ x.imported → refusal_in (module_shape m) r.position ≡ Some r.refusal → r.position ≤ gap → IsSomeAnd (verdict_of (Body (j + r.position) r.refusal)) (IsVerdict bytes)
 refused_where_first bytes m x passed count gap j r keeps sound g is refused within =
     let s = module_shape m in
     let first : j ≡ length (imported_functions s) = is ∙ ap (λ (y : IndexedContext). y.imported) keeps.context in
-    body_refused bytes s (Body (j + r.place) r.refusal) keeps.known (
-      r.place,
-      refused_within (module_context s) (length (imported_functions s)) r.place s.bodies r.refusal refused,
-      ap (λ (k : ℕ). k + r.place) first,
+    body_refused bytes s (Body (j + r.position) r.refusal) keeps.known (
+      r.position,
+      refused_within (module_context s) (length (imported_functions s)) r.position s.bodies r.refusal refused,
+      ap (λ (k : ℕ). k + r.position) first,
       refused,
       λ k lt. pass_to_gap s passed gap sound g.before k (omega arith),
     )
 
 -- the first body of which nothing is known
 pub open_at : OneShell → (bytes : List ℕ) (m : Module) (x : IndexedContext) (p : Progress) (count gap j : ℕ) → KeepsRules bytes m x → count ≡ length (module_shape m).bodies → IsFirstGap p.passed count gap
-    → j ≡ x.imported → gap < count → IfSome p.refused (λ r. gap < r.place) → (n : ModuleShape) → Shell bytes n → (place : ℕ) × IsFirstOpen n p place × (j + gap ≡ function_at n place)
+    → j ≡ x.imported → gap < count → IfSome p.refused (λ r. gap < r.position) → (n : ModuleShape) → Shell bytes n → (position : ℕ) × IsFirstOpen n p position × (j + gap ≡ function_at n position)
 open_at one bytes m x p count gap j keeps n g is lt unrefused =
     let first : j ≡ length (imported_functions (module_shape m)) = is ∙ ap (λ (y : IndexedContext). y.imported) keeps.context in
-    everywhere one (λ (n : ModuleShape). (place : ℕ) × IsFirstOpen n p place × (j + gap ≡ function_at n place)) bytes m x keeps
+    everywhere one (λ (n : ModuleShape). (position : ℕ) × IsFirstOpen n p position × (j + gap ≡ function_at n position)) bytes m x keeps
     (gap, record { there = omega arith; unknown = g.missing lt; before = g.before; unrefused = unrefused }, ap (λ (k : ℕ). k + gap) first)
 
 -- the checked bodies are those of the module
@@ -135,7 +135,7 @@ judged_where_all bytes m x all keeps checked = record {
 
 -- One body after the other.
 
--- n bodies from the place `first` on were judged, and pass
+-- n bodies from the position `first` on were judged, and pass
 pub record JudgedSo (bytes : List ℕ) (first n : ℕ) (old new : Progress) : Type 0 where
   pub now : new ≡ with_passed old first n
   pub passed : (m : ModuleShape) → Shell bytes m → PassFrom m first n
@@ -200,10 +200,10 @@ stopped_so bytes first n most bodies old mid new x (Err y) is counted lt so at e
 
 -- What a method knows of the module.
 
--- the place of a body is that of one that was decoded
-pub place_there : (bytes now : List ℕ) (m : Module) (x : IndexedContext) (place : ℕ) (bodies : List (Bor (List ℕ))) → KeepsRules bytes m x → bytes ≡ now → bodies ≡ m.bodies.items → ((n : ModuleShape) → Shell now n → place < length n.bodies) → place < length bodies
-place_there bytes now m x place bodies keeps is same there =
-    let h : place < length (module_shape m).bodies = there (module_shape m) (subst (λ (b : List ℕ). Shell b (module_shape m)) is keeps.known.whole.shell) in
+-- the position of a body is that of one that was decoded
+pub position_there : (bytes now : List ℕ) (m : Module) (x : IndexedContext) (position : ℕ) (bodies : List (Bor (List ℕ))) → KeepsRules bytes m x → bytes ≡ now → bodies ≡ m.bodies.items → ((n : ModuleShape) → Shell now n → position < length n.bodies) → position < length bodies
+position_there bytes now m x position bodies keeps is same there =
+    let h : position < length (module_shape m).bodies = there (module_shape m) (subst (λ (b : List ℕ). Shell b (module_shape m)) is keeps.known.whole.shell) in
     let n = length-map m.bodies.items (λ (b : Bor (List ℕ)). b.now) in
     let e = ap length same in
     omega arith
@@ -213,8 +213,8 @@ pub outside_there : (bytes now : List ℕ) (m : Module) (x : IndexedContext) (c 
 outside_there bytes now m x c keeps is checker = checker (module_shape m) (subst (λ (b : List ℕ). Shell b (module_shape m)) is keeps.known.whole.shell)
 
 -- the function of a body has a type
-pub typed_there : (bytes : List ℕ) (m : Module) (x : IndexedContext) (c : Checking) (j place : ℕ) (bodies : List (Bor (List ℕ))) → KeepsRules bytes m x → bodies ≡ m.bodies.items → c.outside ≡ module_context (module_shape m) → j ≡ x.imported → place < length bodies → j + place < length c.outside.functions
-typed_there bytes m x c j place bodies keeps same outside is lt =
+pub typed_there : (bytes : List ℕ) (m : Module) (x : IndexedContext) (c : Checking) (j position : ℕ) (bodies : List (Bor (List ℕ))) → KeepsRules bytes m x → bodies ≡ m.bodies.items → c.outside ≡ module_context (module_shape m) → j ≡ x.imported → position < length bodies → j + position < length c.outside.functions
+typed_there bytes m x c j position bodies keeps same outside is lt =
     let each : x.imported + length bodies ≡ length x.context.functions = each_typed bytes m x bodies keeps same in
     let context : c.outside ≡ x.context = outside ∙ sym (ap (λ (y : IndexedContext). y.context) keeps.context) in
     let n = ap (λ (C : Context). length C.functions) context in
@@ -246,17 +246,17 @@ funcs_fit bytes now m x count j keeps is counted first =
     omega arith
 
 pub standing_refused : (bytes : List ℕ) (m : Module) (x : IndexedContext) (p : Progress) (count gap j : ℕ) (r : RefusedBody) (y : Refusal) → KeepsRules bytes m x → bytes ≡ p.bytes → IsSound p → IsFirstGap p.passed count gap
-    → j ≡ x.imported → p.refused ≡ Some r → r.place ≤ gap → y ≡ Body (j + r.place) r.refusal → IsSomeAnd (verdict_of y) (IsVerdict p.bytes)
+    → j ≡ x.imported → p.refused ≡ Some r → r.position ≤ gap → y ≡ Body (j + r.position) r.refusal → IsSomeAnd (verdict_of y) (IsVerdict p.bytes)
 standing_refused bytes m x p count gap j r y keeps is sound g first some within e =
     let s = module_shape m in
     let recorded = sound s (subst (λ (b : List ℕ). Shell b s) is keeps.known.whole.shell) in
-    let refused : refusal_in s r.place ≡ Some r.refusal = subst (λ (o : Option RefusedBody). IfSome o (λ q. refusal_in s q.place ≡ Some q.refusal)) some recorded.1 in
+    let refused : refusal_in s r.position ≡ Some r.refusal = subst (λ (o : Option RefusedBody). IfSome o (λ q. refusal_in s q.position ≡ Some q.refusal)) some recorded.1 in
     subst (λ (z : Refusal). IsSomeAnd (verdict_of z) (IsVerdict p.bytes)) (sym e)
-    (subst (λ (b : List ℕ). IsSomeAnd (verdict_of (Body (j + r.place) r.refusal)) (IsVerdict b)) is
+    (subst (λ (b : List ℕ). IsSomeAnd (verdict_of (Body (j + r.position) r.refusal)) (IsVerdict b)) is
     (refused_where_first bytes m x p.passed count gap j r keeps recorded.0 g first refused within))
 
 pub standing_open : OneShell → (bytes : List ℕ) (m : Module) (x : IndexedContext) (p : Progress) (count gap j : ℕ) → KeepsRules bytes m x → bytes ≡ p.bytes → HasBodies p.bytes count → IsFirstGap p.passed count gap
-    → j ≡ x.imported → gap < count → IfSome p.refused (λ r. gap < r.place) → (n : ModuleShape) → Shell p.bytes n → (place : ℕ) × IsFirstOpen n p place × (j + gap ≡ function_at n place)
+    → j ≡ x.imported → gap < count → IfSome p.refused (λ r. gap < r.position) → (n : ModuleShape) → Shell p.bytes n → (position : ℕ) × IsFirstOpen n p position × (j + gap ≡ function_at n position)
 standing_open one bytes m x p count gap j keeps is counted g first lt unrefused n shell =
     open_at one bytes m x p count gap j keeps (count_there bytes p.bytes m x count keeps is counted) g first lt unrefused n (subst (λ (b : List ℕ). Shell b n) (sym is) shell)
 

@@ -27,9 +27,9 @@ use Rattle.verdict.proofs.Groups.{groups_pass, pass_before, refusal_there}
 
 -- ---- one body more
 
-pub stand_more : (C : Context) (imported : ℕ) (bodies : List (List ℕ)) (first place : ℕ) (kept : List CheckedBody) (checked : CheckedBody) → StandFrom C imported bodies first kept
-    → first + length kept ≡ place → IsCheckedAt C imported bodies place checked → StandFrom C imported bodies first (kept ++ checked ∷ [])
-stand_more C imported bodies first place kept checked before at here k x e =
+pub stand_more : (C : Context) (imported : ℕ) (bodies : List (List ℕ)) (first position : ℕ) (kept : List CheckedBody) (checked : CheckedBody) → StandFrom C imported bodies first kept
+    → first + length kept ≡ position → IsCheckedAt C imported bodies position checked → StandFrom C imported bodies first (kept ++ checked ∷ [])
+stand_more C imported bodies first position kept checked before at here k x e =
     elim (last_or_before kept checked x k e) [
       | inl h ↦ before k x h
       | inr h ↦ subst (λ (y : CheckedBody). IsCheckedAt C imported bodies (first + k) y) h.1
@@ -38,26 +38,26 @@ stand_more C imported bodies first place kept checked before at here k x e =
 
 -- ---- the end of a group
 
--- a place of the group lies before its end
-before_end : (size n start place : ℕ) → place < start + size → place < n → place < start + min size (n - start)
-before_end size n start place to there =
+-- a position of the group lies before its end
+before_end : (size n start position : ℕ) → position < start + size → position < n → position < start + min size (n - start)
+before_end size n start position to there =
     dite (dec_le size (n - start))
     (λ le. let e : min size (n - start) ≡ size = min-eq_left le in omega (arith, e, to))
     (λ no. let e : min size (n - start) ≡ n - start = min-eq_right (omega (arith, no)) in omega (arith, e, there, no))
 
 -- all of the group were judged
-pub whole_group : (C : Context) (imported : ℕ) (bodies : List (List ℕ)) (size group n place : ℕ) (kept : List CheckedBody) → length bodies ≡ n → place ≡ group * size + min size (n - group * size)
-    → ((k : ℕ) → IsInGroup size (length bodies) group k → k < place → body_refusal_at C imported bodies k ≡ None)
-    → group * size + length kept ≡ place → StandFrom C imported bodies (group * size) kept
+pub whole_group : (C : Context) (imported : ℕ) (bodies : List (List ℕ)) (size group n position : ℕ) (kept : List CheckedBody) → length bodies ≡ n → position ≡ group * size + min size (n - group * size)
+    → ((k : ℕ) → IsInGroup size (length bodies) group k → k < position → body_refusal_at C imported bodies k ≡ None)
+    → group * size + length kept ≡ position → StandFrom C imported bodies (group * size) kept
     → GroupPasses C imported bodies size group × AreOfGroup C imported bodies size group kept
-whole_group C imported bodies size group n place kept same end before count each = (
+whole_group C imported bodies size group n position kept same end before count each = (
   λ k inside. before k inside (let to = inside.to in let there = inside.there in let e = before_end size n (group * size) k to (omega (arith, there, same)) in omega (arith, e, end)),
   record { count = subst (λ (m : ℕ). length kept ≡ min size (m - group * size)) (sym same) (omega (arith, count, end)); each = each },
 )
 
 -- ---- the groups one after the other
 
--- what stands at a place of two lists
+-- what stands at a position of two lists
 first_or_second : {A : Type 0} (xs ys : List A) (y : A) (k : ℕ) → slice_get (xs ++ ys) k ≡ Some y → (slice_get xs k ≡ Some y) ⊎ ((m : ℕ) × (k ≡ length xs + m) × (slice_get ys m ≡ Some y))
 first_or_second [] ys y k e = inr (k, omega arith, e)
 first_or_second (x ∷ xs) ys y zero e = inl e
@@ -137,7 +137,7 @@ first_group : (C : Context) (imported : ℕ) (bodies : List (List ℕ)) (size n 
 first_group C imported bodies size n (Stopped i (Body f c)) some stop =
     let first : IsFirstOfGroup C imported bodies size i f c = stop.1 in
     let inside = first.inside in
-    (first.place, inside.there, first.index, first.refused, pass_before C imported bodies size i f c some first stop.2)
+    (first.position, inside.there, first.index, first.refused, pass_before C imported bodies size i f c some first stop.2)
 first_group C imported bodies size n (Stopped i TooLarge) some stop = absurd stop.1
 first_group C imported bodies size n (Stopped i Malformed) some stop = absurd stop.1
 first_group C imported bodies size n (Stopped i (Rule k)) some stop = absurd stop.1
@@ -152,14 +152,14 @@ group_stopped C i j size n bodies e is some stop =
 
 -- ---- one body after the other
 
--- the body at a place is refused, and those before it pass
-pub first_body : (C D : Context) (i j place : ℕ) (bodies : List (Bor (List ℕ))) (d : Bor (List ℕ)) (x : Refusal) → D ≡ C → j ≡ i → place < length bodies
-    → PassBefore C i (map (λ b. b.now) bodies) place → AllowsRefusal (IsBodyRefusal (j + place) (body_refusal_of D (j + place) (get_or bodies place d).now)) x
+-- the body at a position is refused, and those before it pass
+pub first_body : (C D : Context) (i j position : ℕ) (bodies : List (Bor (List ℕ))) (d : Bor (List ℕ)) (x : Refusal) → D ≡ C → j ≡ i → position < length bodies
+    → PassBefore C i (map (λ b. b.now) bodies) position → AllowsRefusal (IsBodyRefusal (j + position) (body_refusal_of D (j + position) (get_or bodies position d).now)) x
     → IsFirstBody C i (map (λ b. b.now) bodies) x
-first_body C D i j place bodies d (Body f c) same is lt before a =
+first_body C D i j position bodies d (Body f c) same is lt before a =
     let n = length-map bodies (λ (b : Bor (List ℕ)). b.now) in
-    (place, omega (arith, n, lt), a.0 ∙ ap (λ (k : ℕ). k + place) is, sym (refusal_there C D i j place bodies d same is lt) ∙ a.1, before)
-first_body C D i j place bodies d TooLarge same is lt before a = absurd a
-first_body C D i j place bodies d Malformed same is lt before a = absurd a
-first_body C D i j place bodies d (Rule k) same is lt before a = absurd a
-first_body C D i j place bodies d Memory same is lt before a = tt
+    (position, omega (arith, n, lt), a.0 ∙ ap (λ (k : ℕ). k + position) is, sym (refusal_there C D i j position bodies d same is lt) ∙ a.1, before)
+first_body C D i j position bodies d TooLarge same is lt before a = absurd a
+first_body C D i j position bodies d Malformed same is lt before a = absurd a
+first_body C D i j position bodies d (Rule k) same is lt before a = absurd a
+first_body C D i j position bodies d Memory same is lt before a = tt

@@ -55,8 +55,8 @@ typed_or_not laws C f at bytes a r =
     (laws.typed_where_no_fault (function_context C f r.body.runs) (result_of C f) r.code).1 typed at r.fault
 
 -- an ill typed body has one first fault
-one_place : Laws → (C : Context) (f i j : ℕ) (bytes : List ℕ) → IsIllTyped C f bytes i → IsIllTyped C f bytes j → i ≡ j
-one_place laws C f i j bytes r s =
+one_position : Laws → (C : Context) (f i j : ℕ) (bytes : List ℕ) → IsIllTyped C f bytes i → IsIllTyped C f bytes j → i ≡ j
+one_position laws C f i j bytes r s =
     let same : r.body ≡ s.body = laws.one_body bytes r.body s.body r.spelled s.spelled in
     let tree : r.code ≡ s.code = one_code laws r.body s.body r.code s.code same r.tree s.tree in
     let here : FirstFault (function_context C f r.body.runs) (result_of C f) s.code i = subst (λ (x : Code). FirstFault (function_context C f r.body.runs) (result_of C f) x i) tree r.fault in
@@ -79,20 +79,20 @@ one_reason laws C f bytes TooManyLocals TooManyLocals r s = refl
 one_reason laws C f bytes TooManyLocals (IllTyped j) r s = absurd (few_or_many laws bytes s.body r.0 s.spelled r.1 s.few r.2)
 one_reason laws C f bytes (IllTyped i) BodyMalformed r s = absurd (s r.body r.spelled)
 one_reason laws C f bytes (IllTyped i) TooManyLocals r s = absurd (few_or_many laws bytes r.body s.0 r.spelled s.1 r.few s.2)
-one_reason laws C f bytes (IllTyped i) (IllTyped j) r s = ap IllTyped (one_place laws C f i j bytes r s)
+one_reason laws C f bytes (IllTyped i) (IllTyped j) r s = ap IllTyped (one_position laws C f i j bytes r s)
 
 -- ---- the first body
 
--- the body of the function at its place
-refused_there : (m : ModuleShape) (f : ℕ) (fault : BodyFault) (r : FirstRefused m f fault) → IsRefused (module_context m) (function_at m r.place) r.bytes fault
+-- the body of the function at its position
+refused_there : (m : ModuleShape) (f : ℕ) (fault : BodyFault) (r : FirstRefused m f fault) → IsRefused (module_context m) (function_at m r.position) r.bytes fault
 refused_there m f fault r = subst (λ (x : ℕ). IsRefused (module_context m) x r.bytes fault) r.index r.refused
 
 -- no body before it is refused
-not_before : Laws → (m : ModuleShape) (f n : ℕ) (fault : BodyFault) (r : FirstRefused m f fault) → AcceptedBefore m n → r.place < n → ⊥
-not_before laws m f n fault r before lt = never_both laws (module_context m) (function_at m r.place) r.bytes fault (before r.place r.bytes lt r.stands) (refused_there m f fault r)
+not_before : Laws → (m : ModuleShape) (f n : ℕ) (fault : BodyFault) (r : FirstRefused m f fault) → AcceptedBefore m n → r.position < n → ⊥
+not_before laws m f n fault r before lt = never_both laws (module_context m) (function_at m r.position) r.bytes fault (before r.position r.bytes lt r.stands) (refused_there m f fault r)
 
--- of one place
-same_first : Laws → (m : ModuleShape) (f g : ℕ) (a b : BodyFault) (r : FirstRefused m f a) (s : FirstRefused m g b) → r.place ≡ s.place → BodyRefused f a ≡ BodyRefused g b
+-- of one position
+same_first : Laws → (m : ModuleShape) (f g : ℕ) (a b : BodyFault) (r : FirstRefused m f a) (s : FirstRefused m g b) → r.position ≡ s.position → BodyRefused f a ≡ BodyRefused g b
 same_first laws m f g a b r s same =
     let bytes : r.bytes ≡ s.bytes = same_Some r.bytes s.bytes (sym r.stands ∙ ap (slice_get m.bodies) same ∙ s.stands) in
     let index : f ≡ g = r.index ∙ ap (function_at m) same ∙ sym s.index in
@@ -102,14 +102,14 @@ same_first laws m f g a b r s same =
 
 one_first : Laws → (m : ModuleShape) (f g : ℕ) (a b : BodyFault) → FirstRefused m f a → FirstRefused m g b → BodyRefused f a ≡ BodyRefused g b
 one_first laws m f g a b r s =
-    elim (cases_lt r.place s.place) [
-      | inl h ↦ absurd (not_before laws m f s.place a r s.before h)
-      | inr h ↦ elim (cases_lt s.place r.place) [ inl k ↦ absurd (not_before laws m g r.place b s r.before k) | inr k ↦ same_first laws m f g a b r s (omega arith) ]
+    elim (cases_lt r.position s.position) [
+      | inl h ↦ absurd (not_before laws m f s.position a r s.before h)
+      | inr h ↦ elim (cases_lt s.position r.position) [ inl k ↦ absurd (not_before laws m g r.position b s r.before k) | inr k ↦ same_first laws m f g a b r s (omega arith) ]
     ]
 
 -- where a body is refused, not all are accepted
 not_all : Laws → (m : ModuleShape) (f : ℕ) (fault : BodyFault) → FirstRefused m f fault → AcceptedBefore m (length m.bodies) → ⊥
-not_all laws m f fault r all = not_before laws m f (length m.bodies) fault r all (slice_get_within m.bodies r.place r.bytes r.stands)
+not_all laws m f fault r all = not_before laws m f (length m.bodies) fault r all (slice_get_within m.bodies r.position r.bytes r.stands)
 
 -- ---- the module
 

@@ -42,12 +42,12 @@ behind_the_first zero ne = absurd (ne refl)
 behind_the_first (suc i) ne = omega arith
 
 -- what was found of the bytes of a body is found of the body
-pub body_there : {T : Type 0} (C D : Context) (i j place : ℕ) (bodies : List (Bor (List ℕ))) (d : Bor (List ℕ)) (r : Result T Refusal) → D ≡ C → j ≡ i → place < length bodies
-    → MatchResult r (λ _. body_refusal_of D (j + place) (get_or bodies place d).now ≡ None) (AllowsRefusal (IsBodyRefusal (j + place) (body_refusal_of D (j + place) (get_or bodies place d).now)))
-    → MatchResult r (λ _. body_refusal_at C i (map (λ b. b.now) bodies) place ≡ None) (AllowsRefusal (IsBodyRefusal (i + place) (body_refusal_at C i (map (λ b. b.now) bodies) place)))
-body_there C D i j place bodies d r same is lt h =
-    subst (λ (k : ℕ). MatchResult r (λ _. body_refusal_at C i (map (λ b. b.now) bodies) place ≡ None) (AllowsRefusal (IsBodyRefusal (k + place) (body_refusal_at C i (map (λ b. b.now) bodies) place)))) is
-    (subst (λ (o : Option BodyRefusal). MatchResult r (λ _. o ≡ None) (AllowsRefusal (IsBodyRefusal (j + place) o))) (refusal_there C D i j place bodies d same is lt) h)
+pub body_there : {T : Type 0} (C D : Context) (i j position : ℕ) (bodies : List (Bor (List ℕ))) (d : Bor (List ℕ)) (r : Result T Refusal) → D ≡ C → j ≡ i → position < length bodies
+    → MatchResult r (λ _. body_refusal_of D (j + position) (get_or bodies position d).now ≡ None) (AllowsRefusal (IsBodyRefusal (j + position) (body_refusal_of D (j + position) (get_or bodies position d).now)))
+    → MatchResult r (λ _. body_refusal_at C i (map (λ b. b.now) bodies) position ≡ None) (AllowsRefusal (IsBodyRefusal (i + position) (body_refusal_at C i (map (λ b. b.now) bodies) position)))
+body_there C D i j position bodies d r same is lt h =
+    subst (λ (k : ℕ). MatchResult r (λ _. body_refusal_at C i (map (λ b. b.now) bodies) position ≡ None) (AllowsRefusal (IsBodyRefusal (k + position) (body_refusal_at C i (map (λ b. b.now) bodies) position)))) is
+    (subst (λ (o : Option BodyRefusal). MatchResult r (λ _. o ≡ None) (AllowsRefusal (IsBodyRefusal (j + position) o))) (refusal_there C D i j position bodies d same is lt) h)
 
 -- the rest is part 0
 pub rest_passed : (h : Head) (size index : ℕ) → index ≡ 0 → RestPasses h.front → PartPasses h size index
@@ -59,14 +59,14 @@ rest_part h size index r x is first a =
     job_refused (λ _. PartPasses h size index × Unit {0}) (PartRefused h size index) r x is (subst (λ (k : ℕ). AllowsRefusal (PartRefused h size k) x) (sym first) a)
 
 -- a body is refused, and those of its group before it are accepted
-pub body_part : {T : Type 0} (h : Head) (size index place : ℕ) (r : Result T (JobFault Refusal)) (x : Refusal) → IsErrAnd r (λ y. y ≡ in_job x) → index ≢ 0
-    → IsInGroup size (length (bodies_of h)) (index - 1) place
-    → ((k : ℕ) → IsInGroup size (length (bodies_of h)) (index - 1) k → k < place → body_refusal_in h k ≡ None)
-    → AllowsRefusal (IsBodyRefusal (h.context.imported + place) (body_refusal_in h place)) x
+pub body_part : {T : Type 0} (h : Head) (size index position : ℕ) (r : Result T (JobFault Refusal)) (x : Refusal) → IsErrAnd r (λ y. y ≡ in_job x) → index ≢ 0
+    → IsInGroup size (length (bodies_of h)) (index - 1) position
+    → ((k : ℕ) → IsInGroup size (length (bodies_of h)) (index - 1) k → k < position → body_refusal_in h k ≡ None)
+    → AllowsRefusal (IsBodyRefusal (h.context.imported + position) (body_refusal_in h position)) x
     → MatchResult r (λ _. PartPasses h size index × Unit {0}) (AllowsFault (PartRefused h size index))
-body_part h size index place r x is ne inside before a =
+body_part h size index position r x is ne inside before a =
     job_refused (λ _. PartPasses h size index × Unit {0}) (PartRefused h size index) r x is
-    (subst (λ (k : ℕ). AllowsRefusal (PartRefused h size k) x) (behind_the_first index ne) (group_refused h.context.context h.context.imported (bodies_of h) size (index - 1) place x inside before a))
+    (subst (λ (k : ℕ). AllowsRefusal (PartRefused h size k) x) (behind_the_first index ne) (group_refused h.context.context h.context.imported (bodies_of h) size (index - 1) position x inside before a))
 
 -- each body of a group is accepted
 pub group_part : (h : Head) (size index end : ℕ) → index ≢ 0
@@ -74,10 +74,10 @@ pub group_part : (h : Head) (size index end : ℕ) → index ≢ 0
     → ((k : ℕ) → IsInGroup size (length (bodies_of h)) (index - 1) k → k < end → body_refusal_in h k ≡ None)
     → PartPasses h size index
 group_part h size index end ne whole before =
-    subst (PartPasses h size) (behind_the_first index ne) (λ place inside. before place inside (let to = inside.to in let there = inside.there in ends place to there))
+    subst (PartPasses h size) (behind_the_first index ne) (λ position inside. before position inside (let to = inside.to in let there = inside.there in ends position to there))
   where
-    ends : (place : ℕ) → place < (index - 1) * size + size → place < length (bodies_of h) → place < end
-    ends place to there =
+    ends : (position : ℕ) → position < (index - 1) * size + size → position < length (bodies_of h) → position < end
+    ends position to there =
         dite (dec_le size (length (bodies_of h) - (index - 1) * size))
         (λ le. let e : min size (length (bodies_of h) - (index - 1) * size) ≡ size = min-eq_left le in omega (arith, e, whole, to))
         (λ no. let e : min size (length (bodies_of h) - (index - 1) * size) ≡ length (bodies_of h) - (index - 1) * size = min-eq_right (omega (arith, no)) in omega (arith, e, whole, there))
@@ -100,7 +100,7 @@ first_part h size n (Stopped zero Memory) some stop = tt
 first_part h size n (Stopped (suc i) (Body f c)) some stop =
     let first : IsFirstOfGroup h.context.context h.context.imported (bodies_of h) size i f c = stop.1 in
     let inside = first.inside in
-    (stop.2 0 (omega arith), (first.place, inside.there, first.index, first.refused, pass_before h.context.context h.context.imported (bodies_of h) size i f c some first (λ k lt. stop.2 (suc k) (omega (arith, lt)))))
+    (stop.2 0 (omega arith), (first.position, inside.there, first.index, first.refused, pass_before h.context.context h.context.imported (bodies_of h) size i f c some first (λ k lt. stop.2 (suc k) (omega (arith, lt)))))
 first_part h size n (Stopped (suc i) TooLarge) some stop = absurd stop.1
 first_part h size n (Stopped (suc i) Malformed) some stop = absurd stop.1
 first_part h size n (Stopped (suc i) (Rule k)) some stop = absurd stop.1
@@ -118,12 +118,12 @@ rest_first h (Body f c) a = absurd a
 rest_first h Memory a = tt
 
 -- a body is refused, and all before it are accepted
-pub body_first : (h : Head) (place : ℕ) (x : Refusal) → place < length (bodies_of h) → RestPasses h.front → BodiesPass h place → AllowsRefusal (IsBodyRefusal (h.context.imported + place) (body_refusal_in h place)) x → IsFirstPart h x
-body_first h place (Body f c) lt passes before a = (passes, (place, lt, a.0, a.1, before))
-body_first h place TooLarge lt passes before a = absurd a
-body_first h place Malformed lt passes before a = absurd a
-body_first h place (Rule k) lt passes before a = absurd a
-body_first h place Memory lt passes before a = tt
+pub body_first : (h : Head) (position : ℕ) (x : Refusal) → position < length (bodies_of h) → RestPasses h.front → BodiesPass h position → AllowsRefusal (IsBodyRefusal (h.context.imported + position) (body_refusal_in h position)) x → IsFirstPart h x
+body_first h position (Body f c) lt passes before a = (passes, (position, lt, a.0, a.1, before))
+body_first h position TooLarge lt passes before a = absurd a
+body_first h position Malformed lt passes before a = absurd a
+body_first h position (Rule k) lt passes before a = absurd a
+body_first h position Memory lt passes before a = tt
 
 -- ---- the verdict
 

@@ -14,16 +14,16 @@ use Rattle.verdict.specs.declared.judged_bodies.JudgedBodies.TheInside.{Inside}
 use Rattle.verdict.specs.Slots.{AreMarks, AreSlots}
 use Rattle.verdict.specs.Steps.{Progress, refusal_in, Passes, IsFirstGap, IsSound, IsValidShell, HasBodies, HasAll, IsKept, IsRefusedBody, AllChecked, least}
 use Rattle.verdict.specs.JudgedBodies.{progress_of, AreJudged}
-use Rattle.verdict.proofs.SlotSteps.{body_of_place}
+use Rattle.verdict.proofs.SlotSteps.{body_of_position}
 
 -- What is kept and what is refused.
 
-passes_each : (m : ModuleShape) (bytes : List ℕ) → Shell bytes m → (kept : List KeptBody) → All (IsKept bytes) kept → All (Passes m) (map (λ b. b.place) kept)
+passes_each : (m : ModuleShape) (bytes : List ℕ) → Shell bytes m → (kept : List KeptBody) → All (IsKept bytes) kept → All (Passes m) (map (λ b. b.position) kept)
 passes_each m bytes shell [] h k d lt = absurd (omega arith)
 passes_each m bytes shell (b ∷ bs) h zero d lt = (h 0 b (omega arith) m shell).0
 passes_each m bytes shell (b ∷ bs) h (suc k) d lt = passes_each m bytes shell bs (λ i e below. h (suc i) e (omega arith)) k d (omega arith)
 
-refused_each : (m : ModuleShape) (bytes : List ℕ) → Shell bytes m → (o : Option RefusedBody) → IfSome o (IsRefusedBody bytes) → IfSome o (λ r. refusal_in m r.place ≡ Some r.refusal)
+refused_each : (m : ModuleShape) (bytes : List ℕ) → Shell bytes m → (o : Option RefusedBody) → IfSome o (IsRefusedBody bytes) → IfSome o (λ r. refusal_in m r.position ≡ Some r.refusal)
 refused_each m bytes shell None h = tt
 refused_each m bytes shell (Some r) h = h m shell
 
@@ -46,28 +46,28 @@ one_of P false a b x y = y
 least_of : (P : RefusedBody → Type 0) (a b : Option RefusedBody) → IfSome a P → IfSome b P → IfSome (least a b) P
 least_of P None b x y = y
 least_of P (Some a) None x y = x
-least_of P (Some a) (Some b) x y = one_of P (nat_le a.place b.place) a b x y
+least_of P (Some a) (Some b) x y = one_of P (nat_le a.position b.position) a b x y
 
 pub least_refused : (bytes other : List ℕ) (a b c : Option RefusedBody) → other ≡ bytes → c ≡ least a b → IfSome a (IsRefusedBody bytes) → IfSome b (IsRefusedBody other) → IfSome c (IsRefusedBody bytes)
 least_refused bytes other a b c same is x y =
     subst (λ (o : Option RefusedBody). IfSome o (IsRefusedBody bytes)) (sym is) (least_of (IsRefusedBody bytes) a b x (subst (λ (o : List ℕ). IfSome b (IsRefusedBody o)) same y))
 
--- The places.
+-- The positions.
 
-pub below_count : (j : Inside) (p : Progress) (kept : List KeptBody) (count : ℕ) → progress_of j ≡ p → AreJudged j → kept ≡ j.kept.items → IsValidShell p.bytes → HasBodies p.bytes count → All (λ b. b.place < count) kept
+pub below_count : (j : Inside) (p : Progress) (kept : List KeptBody) (count : ℕ) → progress_of j ≡ p → AreJudged j → kept ≡ j.kept.items → IsValidShell p.bytes → HasBodies p.bytes count → All (λ b. b.position < count) kept
 below_count j p kept count is a same valid counted k d lt =
     let m = valid.0 in
     let shell : Shell j.bytes.now m = subst (λ (q : Progress). Shell q.bytes m) (sym is) valid.1.shell in
     let n : count ≡ length m.bodies = counted m valid.1.shell in
     let here : IsKept j.bytes.now (get_or kept k d) = as_before j.bytes.now j.kept.items kept same a.kept k d lt in
-    let place : (get_or kept k d).place < length m.bodies = (here m shell).0.0 in
+    let position : (get_or kept k d).position < length m.bodies = (here m shell).0.0 in
     omega arith
 
-pub first_gap_so : (j : Inside) (p : Progress) (kept : List KeptBody) (marks read : List Bool) (count gap : ℕ) → progress_of j ≡ p → kept ≡ j.kept.items → AreMarks (map (λ b. b.place) kept) count marks → read ≡ marks
+pub first_gap_so : (j : Inside) (p : Progress) (kept : List KeptBody) (marks read : List Bool) (count gap : ℕ) → progress_of j ≡ p → kept ≡ j.kept.items → AreMarks (map (λ b. b.position) kept) count marks → read ≡ marks
     → gap ≤ length read → ((k : ℕ) → k < gap → slice_get read k ≡ Some true) → (gap < length read → slice_get read gap ≡ Some false) → IsFirstGap p.passed count gap
 first_gap_so j p kept marks read count gap is same a copied within marked unmarked =
     let long : length read ≡ count = ap length copied ∙ a.long in
-    let passed : map (λ b. b.place) kept ≡ p.passed = ap (map (λ b. b.place)) same ∙ ap (λ (q : Progress). q.passed) is in
+    let passed : map (λ b. b.position) kept ≡ p.passed = ap (map (λ b. b.position)) same ∙ ap (λ (q : Progress). q.passed) is in
     subst (λ (ps : List ℕ). IsFirstGap ps count gap) passed record {
       within = omega arith;
       before = λ k lt. a.marked k (ap (λ (xs : List Bool). slice_get xs k) (sym copied) ∙ marked k lt);
@@ -82,7 +82,7 @@ none_empty j p count slots is valid counted all a k d lt =
     let n : count ≡ length m.bodies = counted m valid.1.shell in
     let long : length slots ≡ count = a.long in
     let among : Contains p.passed k = all m valid.1.shell k (omega arith) in
-    let f = body_of_place j.kept.items k (subst (λ (q : Progress). Contains q.passed k) (sym is) among) in
+    let f = body_of_position j.kept.items k (subst (λ (q : Progress). Contains q.passed k) (sym is) among) in
     let s = a.filled f.0 f.1 f.2 in
     let at : slice_get slots k ≡ Some (Some s.0) = ap (slice_get slots) (sym f.3) ∙ s.1 in
     subst IsSome (sym (get_or_from_slice_get slots k (Some s.0) d at)) refl
@@ -100,5 +100,5 @@ all_checked j p count slots (Ok v) is counted a s h = λ m shell.
       each = λ k c e.
           let at : slice_get slots k ≡ Some (Some c) = ap (λ (xs : List (Option CheckedBody)). slice_get xs k) (sym h) ∙ slice_get-map Some v.items k ∙ ap (option_map Some) e in
           let f = s.from k c at in
-          (kept_there j.bytes.now j.kept.items f.0 record { place = k; checked = c } a.kept f.1 m own).1;
+          (kept_there j.bytes.now j.kept.items f.0 record { position = k; checked = c } a.kept f.1 m own).1;
     }

@@ -22,7 +22,7 @@ use Rattle.wdecode.specs.Gives.{Fails}
 use Rattle.verdict.specs.declared.refusal.BodyRefusal.{BodyRefusal}
 use Rattle.verdict.specs.declared.refusal.BodyRefusal.TheVariants.{Malformed, TooManyLocals, IllTyped}
 use Rattle.verdict.specs.declared.body.Known.{Known}
-use Rattle.verdict.specs.declared.body.Known.TheVariants.{Nothing, Place, Refusal}
+use Rattle.verdict.specs.declared.body.Known.TheVariants.{Nothing, Stop, Refusal}
 use Rattle.verdict.specs.declared.passing.Passing.{Passing}
 use Rattle.verdict.specs.declared.passing.Passing.TheVariants.{Passed, Stopped, Unknown}
 use Rattle.verdict.specs.Judged.{typing_refusal, body_refusal_of, read_refusal}
@@ -37,7 +37,7 @@ is_false false never = refl
 not_zero : (n : ℕ) → eqb (suc n) 0 ≡ false
 not_zero n = is_false (eqb (suc n) 0) (λ e. let is : suc n ≡ 0 = eqb-true _ _ e in absurd (omega arith))
 
--- ---- the place where tokens stop
+-- ---- where tokens stop
 
 -- what is left is no longer than what was there
 reaches_down : (C : Context) (ts : List Token) (fs gs : List Frame) (bytes rest : List ℕ) → Reaches C fs bytes ts gs rest → length rest ≤ length bytes
@@ -58,7 +58,7 @@ refused_here C (u ∷ us) fs gs bytes rest after t p refuses read e =
 pub same_read : (x y : Token × List ℕ) (o : Option (Token × List ℕ)) → o ≡ Some x → o ≡ Some y → x ≡ y
 same_read x y o a b = let e : Some x ≡ Some y = sym a ∙ b in cc
 
--- before that place it is taken
+-- before the stop it is taken
 taken_here : (C : Context) (ts : List Token) (fs gs : List Frame) (bytes rest after : List ℕ) (t : Token) → Reaches C fs bytes ts gs rest → token_at bytes ≡ Some (t, after) → (length bytes ≡ length rest → ⊥)
     → (hs : List Frame) × (us : List Token) × (step C t fs ≡ Some hs) × Reaches C hs after us gs rest
 taken_here C [] fs gs bytes rest after t p read ne = absurd (ne (ap length p.1))
@@ -73,15 +73,15 @@ still_open C (t ∷ ts) fs gs rest p some none = let lt = p.3 in absurd (omega a
 
 -- ---- a look at a token
 
-pub goes_further : (old new : Checking) (k left place : ℕ) (t : Token) → (left ≡ place → ⊥) → GoesOn old (Place place) k left t new (Place place)
-goes_further old new k left place t ne C fs bytes rest is read h =
+pub goes_further : (old new : Checking) (k left stop : ℕ) (t : Token) → (left ≡ stop → ⊥) → GoesOn old (Stop stop) k left t new (Stop stop)
+goes_further old new k left stop t ne C fs bytes rest is read h =
     let on = taken_here C h.0 fs h.1 bytes h.2 rest t h.3 read (λ e. ne (sym is ∙ e ∙ h.4)) in
     (on.0, (on.1, h.1, h.2, on.3, h.4, h.5, h.6), (λ after. rw on.2 refl))
 
-pub goes_there : (old new : Checking) (k left place : ℕ) (t : Token) → left ≡ place → GoesOn old (Place place) k left t new (Refusal (IllTyped k))
-goes_there old new k left place t there C fs bytes rest is read h =
-    let stop = refused_here C h.0 fs h.1 bytes h.2 rest t h.3 h.5 read (is ∙ there ∙ sym h.4) in
-    (fs, tt, (λ after. rw stop refl))
+pub goes_there : (old new : Checking) (k left stop : ℕ) (t : Token) → left ≡ stop → GoesOn old (Stop stop) k left t new (Refusal (IllTyped k))
+goes_there old new k left stop t there C fs bytes rest is read h =
+    let refused = refused_here C h.0 fs h.1 bytes h.2 rest t h.3 h.5 read (is ∙ there ∙ sym h.4) in
+    (fs, tt, (λ after. rw refused refl))
 
 pub goes_taken : (old new : Checking) (k left : ℕ) (t : Token) (ok : Bool) → step old.inside t old.frames ≡ when ok (Some new.frames) → ok ≡ true → new ≡ with_frames old new.frames → GoesOn old Nothing k left t new Nothing
 goes_taken old new k left t ok step_is taken same C fs bytes rest is read h =
@@ -94,8 +94,8 @@ open_refused : (C : Context) (fs : List Frame) (count : ℕ) → (fs ≡ [] → 
 open_refused C [] count some = absurd (some refl)
 open_refused C (f ∷ fs) count some = refl
 
-pub ends_stopped : (x : Checking) (count place : ℕ) → AtEnd x (Place place) count (Some (IllTyped count))
-ends_stopped x count place C fs h = open_refused C fs count (still_open C h.0 fs h.1 h.2 h.3 h.6)
+pub ends_stopped : (x : Checking) (count stop : ℕ) → AtEnd x (Stop stop) count (Some (IllTyped count))
+ends_stopped x count stop C fs h = open_refused C fs count (still_open C h.0 fs h.1 h.2 h.3 h.6)
 
 -- ---- the loop
 
@@ -250,10 +250,10 @@ refusal_few C f bytes rest runs lent x a few is e =
     ∙ ap (λ (y : List LocalRun). refusal_read (body_context (result_of C f) (function_context C f y)) Nothing (start (result_of C f)) 0 (expression.read rest)) (sym is)
     ∙ ap (λ (y : Checking). refusal_read y.inside Nothing y.frames 0 (expression.read rest)) (sym e)
 
--- no token is refused before that place
-as_placed : (C : Context) (left : ℕ) (fs : List Frame) (o : Option (List Token × List ℕ)) → refusal_read C Nothing fs 0 o ≡ refusal_read C (Place left) fs 0 o
-as_placed C left fs None = refl
-as_placed C left fs (Some x) = refl
+-- no token is refused before the stop
+as_stopped : (C : Context) (left : ℕ) (fs : List Frame) (o : Option (List Token × List ℕ)) → refusal_read C Nothing fs 0 o ≡ refusal_read C (Stop left) fs 0 o
+as_stopped C left fs None = refl
+as_stopped C left fs (Some x) = refl
 
 -- what one loop says of the tokens of the body
 pub body_passes : (C : Context) (f : ℕ) (bytes rest : List ℕ) (runs lent : List LocalRun) (x : Checking) (given : Passing) → locals.read bytes ≡ Some (runs, rest) → ltb local_limit (locals_of runs) ≡ false → lent ≡ runs → x ≡ begun C f lent → TokensPass x.inside x.frames rest given → BodyPasses C f bytes given
@@ -264,7 +264,7 @@ body_passes C f bytes rest runs lent x (Stopped tokens left) a few is e h =
       x.inside,
       x.frames,
       subst (λ (r : List ℕ). StopsAt x.inside x.frames r left) same h.1,
-      refusal_few C f bytes rest runs lent x a few is e ∙ as_placed x.inside left x.frames (expression.read rest) ∙ ap (λ (r : List ℕ). refusal_read x.inside (Place left) x.frames 0 (expression.read r)) same,
+      refusal_few C f bytes rest runs lent x a few is e ∙ as_stopped x.inside left x.frames (expression.read rest) ∙ ap (λ (r : List ℕ). refusal_read x.inside (Stop left) x.frames 0 (expression.read r)) same,
     )
 body_passes C f bytes rest runs lent x Unknown a few is e h = tt
 

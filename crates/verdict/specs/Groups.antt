@@ -12,23 +12,23 @@ use Rattle.verdict.specs.declared.refusal.Refusal.{Refusal}
 use Rattle.verdict.specs.declared.refusal.Refusal.TheVariants.{TooLarge, Malformed, Rule, Body, Memory}
 use Rattle.verdict.specs.Judged.{body_refusal_at, none_and_some, one_body_refusal}
 
--- of `count` bodies the one at `place` is one of the group
-pub record IsInGroup (size count group place : ℕ) : Type 0 where
-  pub from : group * size ≤ place
-  pub to : place < group * size + size
-  pub there : place < count
+-- of `count` bodies the one at `position` is one of the group
+pub record IsInGroup (size count group position : ℕ) : Type 0 where
+  pub from : group * size ≤ position
+  pub to : position < group * size + size
+  pub there : position < count
 
 -- the bodies of the group are accepted
 abbrev pub GroupPasses : Context → ℕ → List (List ℕ) → ℕ → ℕ → Type 0
-GroupPasses C imported bodies size group = (place : ℕ) → IsInGroup size (length bodies) group place → body_refusal_at C imported bodies place ≡ None
+GroupPasses C imported bodies size group = (position : ℕ) → IsInGroup size (length bodies) group position → body_refusal_at C imported bodies position ≡ None
 
 -- the body of function f is the first of the group that is refused, for that reason
 pub record IsFirstOfGroup (C : Context) (imported : ℕ) (bodies : List (List ℕ)) (size group f : ℕ) (c : BodyRefusal) : Type 0 where
-  pub place : ℕ
-  pub index : f ≡ imported + place
-  pub inside : IsInGroup size (length bodies) group place
-  pub refused : body_refusal_at C imported bodies place ≡ Some c
-  pub before : (k : ℕ) → IsInGroup size (length bodies) group k → k < place → body_refusal_at C imported bodies k ≡ None
+  pub position : ℕ
+  pub index : f ≡ imported + position
+  pub inside : IsInGroup size (length bodies) group position
+  pub refused : body_refusal_at C imported bodies position ≡ Some c
+  pub before : (k : ℕ) → IsInGroup size (length bodies) group k → k < position → body_refusal_at C imported bodies k ≡ None
 
 -- the refusal of the group is that of its first body that is refused
 abbrev pub GroupRefused : Context → ℕ → List (List ℕ) → ℕ → ℕ → Refusal → Type 0
@@ -38,7 +38,7 @@ GroupRefused C imported bodies size group Malformed = ⊥
 GroupRefused C imported bodies size group (Rule k) = ⊥
 GroupRefused C imported bodies size group Memory = ⊥
 
--- from that place on these are the checked bodies
+-- from that position on these are the checked bodies
 abbrev pub StandFrom : Context → ℕ → List (List ℕ) → ℕ → List CheckedBody → Type 0
 StandFrom C imported bodies first kept = (k : ℕ) (checked : CheckedBody) → slice_get kept k ≡ Some checked → IsCheckedAt C imported bodies (first + k) checked
 
@@ -50,27 +50,27 @@ pub record AreOfGroup (C : Context) (imported : ℕ) (bodies : List (List ℕ)) 
 -- ---- no group passes and is refused, nor is refused for two reasons
 
 pub passes_or_refused : (C : Context) (imported : ℕ) (bodies : List (List ℕ)) (size group : ℕ) (r : Refusal) → GroupPasses C imported bodies size group → GroupRefused C imported bodies size group r → ⊥
-passes_or_refused C imported bodies size group (Body f c) all first = none_and_some (body_refusal_at C imported bodies first.place) c (all first.place first.inside) first.refused
+passes_or_refused C imported bodies size group (Body f c) all first = none_and_some (body_refusal_at C imported bodies first.position) c (all first.position first.inside) first.refused
 passes_or_refused C imported bodies size group TooLarge all x = x
 passes_or_refused C imported bodies size group Malformed all x = x
 passes_or_refused C imported bodies size group (Rule k) all x = x
 passes_or_refused C imported bodies size group Memory all x = x
 
 -- no first one comes before another
-not_before : (C : Context) (imported : ℕ) (bodies : List (List ℕ)) (size group f g : ℕ) (c d : BodyRefusal) (a : IsFirstOfGroup C imported bodies size group f c) (b : IsFirstOfGroup C imported bodies size group g d) → a.place < b.place → ⊥
-not_before C imported bodies size group f g c d a b lt = none_and_some (body_refusal_at C imported bodies a.place) c (b.before a.place a.inside lt) a.refused
+not_before : (C : Context) (imported : ℕ) (bodies : List (List ℕ)) (size group f g : ℕ) (c d : BodyRefusal) (a : IsFirstOfGroup C imported bodies size group f c) (b : IsFirstOfGroup C imported bodies size group g d) → a.position < b.position → ⊥
+not_before C imported bodies size group f g c d a b lt = none_and_some (body_refusal_at C imported bodies a.position) c (b.before a.position a.inside lt) a.refused
 
-same_place : (C : Context) (imported : ℕ) (bodies : List (List ℕ)) (size group f g : ℕ) (c d : BodyRefusal) (a : IsFirstOfGroup C imported bodies size group f c) (b : IsFirstOfGroup C imported bodies size group g d) → a.place ≡ b.place
-same_place C imported bodies size group f g c d a b =
-    dite (dec_le a.place b.place)
-    (λ up. dite (dec_le b.place a.place) (λ down. le_antisymm up down) (λ no. absurd (not_before C imported bodies size group f g c d a b (lt_of_not-le no))))
+same_position : (C : Context) (imported : ℕ) (bodies : List (List ℕ)) (size group f g : ℕ) (c d : BodyRefusal) (a : IsFirstOfGroup C imported bodies size group f c) (b : IsFirstOfGroup C imported bodies size group g d) → a.position ≡ b.position
+same_position C imported bodies size group f g c d a b =
+    dite (dec_le a.position b.position)
+    (λ up. dite (dec_le b.position a.position) (λ down. le_antisymm up down) (λ no. absurd (not_before C imported bodies size group f g c d a b (lt_of_not-le no))))
     (λ no. absurd (not_before C imported bodies size group g f d c b a (lt_of_not-le no)))
 
 same_body : (C : Context) (imported : ℕ) (bodies : List (List ℕ)) (size group f g : ℕ) (c d : BodyRefusal) → IsFirstOfGroup C imported bodies size group f c → IsFirstOfGroup C imported bodies size group g d → Body f c ≡ Body g d
 same_body C imported bodies size group f g c d a b =
-    let p : a.place ≡ b.place = same_place C imported bodies size group f g c d a b in
+    let p : a.position ≡ b.position = same_position C imported bodies size group f g c d a b in
     let index : f ≡ g = a.index ∙ ap (λ (k : ℕ). imported + k) p ∙ sym b.index in
-    let reason : c ≡ d = one_body_refusal (body_refusal_at C imported bodies a.place) c d a.refused (ap (λ (k : ℕ). body_refusal_at C imported bodies k) p ∙ b.refused) in
+    let reason : c ≡ d = one_body_refusal (body_refusal_at C imported bodies a.position) c d a.refused (ap (λ (k : ℕ). body_refusal_at C imported bodies k) p ∙ b.refused) in
     ap (λ (k : ℕ). Body k c) index ∙ ap (Body g) reason
 
 pub one_first : (C : Context) (imported : ℕ) (bodies : List (List ℕ)) (size group : ℕ) (r s : Refusal) → GroupRefused C imported bodies size group r → GroupRefused C imported bodies size group s → r ≡ s

@@ -40,9 +40,9 @@ abbrev pub given_refusal : Context → ℕ → Option (List ℕ) → Option Body
 given_refusal C f None = None
 given_refusal C f (Some bytes) = body_refusal_of C f bytes
 
--- the body at that place, after `imported` imported functions
+-- the body at that position, after `imported` imported functions
 abbrev pub body_refusal_at : Context → ℕ → List (List ℕ) → ℕ → Option BodyRefusal
-body_refusal_at C imported bodies place = given_refusal C (imported + place) (slice_get bodies place)
+body_refusal_at C imported bodies position = given_refusal C (imported + position) (slice_get bodies position)
 
 -- that is the refusal of the body of function f, by why it is refused
 abbrev pub IsBodyRefusal : ℕ → Option BodyRefusal → Refusal → Type 0
@@ -52,14 +52,14 @@ IsBodyRefusal f o refusal.Malformed = ⊥
 IsBodyRefusal f o (Rule k) = ⊥
 IsBodyRefusal f o Memory = ⊥
 
--- the bodies before that place are accepted
+-- the bodies before that position are accepted
 abbrev pub PassBefore : Context → ℕ → List (List ℕ) → ℕ → Type 0
-PassBefore C imported bodies place = (k : ℕ) → k < place → body_refusal_at C imported bodies k ≡ None
+PassBefore C imported bodies position = (k : ℕ) → k < position → body_refusal_at C imported bodies k ≡ None
 
 -- the refusal is that of the first body that is refused; out of memory says nothing
 abbrev pub IsFirstBody : Context → ℕ → List (List ℕ) → Refusal → Type 0
 IsFirstBody C imported bodies (Body f c) =
-    (place : ℕ) × (place < length bodies) × (f ≡ imported + place) × (body_refusal_at C imported bodies place ≡ Some c) × PassBefore C imported bodies place
+    (position : ℕ) × (position < length bodies) × (f ≡ imported + position) × (body_refusal_at C imported bodies position ≡ Some c) × PassBefore C imported bodies position
 IsFirstBody C imported bodies Memory = Unit {0}
 IsFirstBody C imported bodies TooLarge = ⊥
 IsFirstBody C imported bodies refusal.Malformed = ⊥

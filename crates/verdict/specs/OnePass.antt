@@ -25,7 +25,7 @@ PassesAs C fs bytes tokens = Reaches C fs bytes tokens [] []
 abbrev pub Refuses : Context → List Frame → List ℕ → Type 0
 Refuses C fs bytes = (t : Token) (rest : List ℕ) → token_at bytes ≡ Some (t, rest) → step C t fs ≡ None
 
--- the bytes do not pass: tokens are taken up to the place where this many bytes are left, and none is taken there
+-- the bytes do not pass: tokens are taken up to where this many bytes are left, and none is taken there
 abbrev pub StopsAt : Context → List Frame → List ℕ → ℕ → Type 0
 StopsAt C fs bytes left =
     (tokens : List Token) × (gs : List Frame) × (rest : List ℕ) × Reaches C fs bytes tokens gs rest × (length rest ≡ left) × Refuses C gs rest × (gs ≡ [] → rest ≡ [] → ⊥)

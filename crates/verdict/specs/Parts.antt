@@ -16,11 +16,11 @@ abbrev pub bodies_of : Head → List (List ℕ)
 bodies_of h = (module_shape h.front.«module»).bodies
 
 abbrev pub body_refusal_in : Head → ℕ → Option BodyRefusal
-body_refusal_in h place = body_refusal_at h.context.context h.context.imported (bodies_of h) place
+body_refusal_in h position = body_refusal_at h.context.context h.context.imported (bodies_of h) position
 
--- those before that place are accepted
+-- those before that position are accepted
 abbrev pub BodiesPass : Head → ℕ → Type 0
-BodiesPass h place = PassBefore h.context.context h.context.imported (bodies_of h) place
+BodiesPass h position = PassBefore h.context.context h.context.imported (bodies_of h) position
 
 -- ---- the parts, where groups have that size
 

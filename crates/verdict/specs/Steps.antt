@@ -21,7 +21,7 @@ use Rattle.verdict.specs.Judged.{body_refusal_at}
 use Rattle.verdict.specs.Refusals.{verdict_of}
 
 -- what was judged of the bodies of the module that these bytes spell
--- It is the places of bodies that pass, in the order in which they were judged, and the refused one with the least place.
+-- It is the positions of bodies that pass, in the order in which they were judged, and the refused one with the least position.
 pub record Progress : Type 0 where
   pub bytes : List ℕ
   pub passed : List ℕ
@@ -33,30 +33,30 @@ no_progress bytes = record { bytes = bytes; passed = []; refused = None }
 
 -- Of one module.
 
--- 2.5.1 why the body at that place is refused, if it is
+-- 2.5.1 why the body at that position is refused, if it is
 abbrev pub refusal_in : ModuleShape → ℕ → Option BodyRefusal
-refusal_in m place = body_refusal_at (module_context m) (length (imported_functions m)) m.bodies place
+refusal_in m position = body_refusal_at (module_context m) (length (imported_functions m)) m.bodies position
 
--- the body at that place is there, and passes
+-- the body at that position is there, and passes
 abbrev pub Passes : ModuleShape → ℕ → Type 0
-Passes m place = (place < length m.bodies) × (refusal_in m place ≡ None)
+Passes m position = (position < length m.bodies) × (refusal_in m position ≡ None)
 
 -- each body is among those that pass
 abbrev pub AllPassed : ModuleShape → List ℕ → Type 0
-AllPassed m passed = (place : ℕ) → place < length m.bodies → Contains passed place
+AllPassed m passed = (position : ℕ) → position < length m.bodies → Contains passed position
 
--- that is the first of `count` places that is not among these; it is `count` where all are
+-- that is the first of `count` positions that is not among these; it is `count` where all are
 pub record IsFirstGap (passed : List ℕ) (count gap : ℕ) : Type 0 where
   pub within : gap ≤ count
   pub before : (k : ℕ) → k < gap → Contains passed k
   pub missing : gap < count → Contains passed gap → ⊥
 
--- nothing is known of the body at that place, those before it pass, and none is known to be refused up to there
-pub record IsFirstOpen (m : ModuleShape) (p : Progress) (place : ℕ) : Type 0 where
-  pub there : place < length m.bodies
-  pub unknown : Contains p.passed place → ⊥
-  pub before : (k : ℕ) → k < place → Contains p.passed k
-  pub unrefused : IfSome p.refused (λ r. place < r.place)
+-- nothing is known of the body at that position, those before it pass, and none is known to be refused up to there
+pub record IsFirstOpen (m : ModuleShape) (p : Progress) (position : ℕ) : Type 0 where
+  pub there : position < length m.bodies
+  pub unknown : Contains p.passed position → ⊥
+  pub before : (k : ℕ) → k < position → Contains p.passed k
+  pub unrefused : IfSome p.refused (λ r. position < r.position)
 
 -- Of the module that bytes spell: they spell one at most.
 
@@ -71,11 +71,11 @@ HasBodies bytes n = (m : ModuleShape) → Shell bytes m → n ≡ length m.bodie
 -- the body passes, and is kept as it was checked
 abbrev pub IsKept : List ℕ → KeptBody → Type 0
 IsKept bytes b = (m : ModuleShape) → Shell bytes m
-    → Passes m b.place × IsCheckedAt (module_context m) (length (imported_functions m)) m.bodies b.place b.checked
+    → Passes m b.position × IsCheckedAt (module_context m) (length (imported_functions m)) m.bodies b.position b.checked
 
 -- the body is refused, for that reason
 abbrev pub IsRefusedBody : List ℕ → RefusedBody → Type 0
-IsRefusedBody bytes r = (m : ModuleShape) → Shell bytes m → refusal_in m r.place ≡ Some r.refusal
+IsRefusedBody bytes r = (m : ModuleShape) → Shell bytes m → refusal_in m r.position ≡ Some r.refusal
 
 -- its bodies are checked under its context
 abbrev pub IsChecker : List ℕ → Checking → Type 0
@@ -83,7 +83,7 @@ IsChecker bytes c = (m : ModuleShape) → Shell bytes m → c.outside ≡ module
 
 -- what is noted of its bodies is so
 abbrev pub IsSound : Progress → Type 0
-IsSound p = (m : ModuleShape) → Shell p.bytes m → All (Passes m) p.passed × IfSome p.refused (λ r. refusal_in m r.place ≡ Some r.refusal)
+IsSound p = (m : ModuleShape) → Shell p.bytes m → All (Passes m) p.passed × IfSome p.refused (λ r. refusal_in m r.position ≡ Some r.refusal)
 
 -- of each of its bodies the checked one
 abbrev pub AllChecked : List ℕ → List CheckedBody → Type 0
@@ -96,17 +96,17 @@ HasAll p = (m : ModuleShape) → Shell p.bytes m → AllPassed m p.passed
 
 -- Steps.
 
--- of two bodies that are refused the one with the lesser place
+-- of two bodies that are refused the one with the lesser position
 abbrev pub least : Option RefusedBody → Option RefusedBody → Option RefusedBody
 least None b = b
 least (Some a) None = Some a
-least (Some a) (Some b) = if nat_le a.place b.place then Some a else Some b
+least (Some a) (Some b) = if nat_le a.position b.position then Some a else Some b
 
 -- what both have, where both are of the same bytes
 abbrev pub join : Progress → Progress → Progress
 join p q = record { bytes = p.bytes; passed = p.passed ++ q.passed; refused = least p.refused q.refused }
 
--- n bodies more that pass, from the place `first` on
+-- n bodies more that pass, from the position `first` on
 abbrev pub with_passed : Progress → ℕ → ℕ → Progress
 with_passed p first n = record p { passed = p.passed ++ range_with_len first n }
 
@@ -116,21 +116,21 @@ with_refused p r = record p { refused = least p.refused (Some r) }
 
 -- one body more: it passes, it is refused, or memory is
 abbrev pub JudgesAt : ℕ → Progress → Progress → Result (Unit {0}) Refusal → Type 0
-JudgesAt place old new (Ok _) =
-    (new ≡ record old { passed = old.passed ++ place ∷ [] }) × ((m : ModuleShape) → Shell old.bytes m → Passes m place)
-JudgesAt place old new (Err (refusal.Body f c)) =
-    (new ≡ with_refused old record { place = place; refusal = c })
-    × ((m : ModuleShape) → Shell old.bytes m → (f ≡ function_at m place) × (refusal_in m place ≡ Some c))
-JudgesAt place old new (Err refusal.Memory) = new ≡ old
-JudgesAt place old new (Err refusal.TooLarge) = ⊥
-JudgesAt place old new (Err refusal.Malformed) = ⊥
-JudgesAt place old new (Err (refusal.Rule k)) = ⊥
+JudgesAt position old new (Ok _) =
+    (new ≡ record old { passed = old.passed ++ position ∷ [] }) × ((m : ModuleShape) → Shell old.bytes m → Passes m position)
+JudgesAt position old new (Err (refusal.Body f c)) =
+    (new ≡ with_refused old record { position = position; refusal = c })
+    × ((m : ModuleShape) → Shell old.bytes m → (f ≡ function_at m position) × (refusal_in m position ≡ Some c))
+JudgesAt position old new (Err refusal.Memory) = new ≡ old
+JudgesAt position old new (Err refusal.TooLarge) = ⊥
+JudgesAt position old new (Err refusal.Malformed) = ⊥
+JudgesAt position old new (Err (refusal.Rule k)) = ⊥
 
--- n bodies from the place `first` on pass
+-- n bodies from the position `first` on pass
 abbrev pub PassFrom : ModuleShape → ℕ → ℕ → Type 0
 PassFrom m first n = (k : ℕ) → k < n → Passes m (first + k)
 
--- how many bodies there are from the place `first` on, `count` at most
+-- how many bodies there are from the position `first` on, `count` at most
 abbrev pub clipped : ModuleShape → ℕ → ℕ → ℕ
 clipped m first count = min count (length m.bodies - first)
 
@@ -140,9 +140,9 @@ pub record StopsAt (m : ModuleShape) (first count : ℕ) (old new : Progress) (f
   pub index : f ≡ function_at m (first + n)
   pub refused : refusal_in m (first + n) ≡ Some c
   pub before : PassFrom m first n
-  pub known : new ≡ with_refused (with_passed old first n) record { place = first + n; refusal = c }
+  pub known : new ≡ with_refused (with_passed old first n) record { position = first + n; refusal = c }
 
--- the bodies from the place `first` on, `count` at most, are judged in their order, up to the first that is refused
+-- the bodies from the position `first` on, `count` at most, are judged in their order, up to the first that is refused
 -- Where memory is refused, some of them were judged.
 abbrev pub JudgesFrom : ℕ → ℕ → Progress → Progress → Result (Unit {0}) Refusal → Type 0
 JudgesFrom first count old new (Ok _) = (m : ModuleShape) → Shell old.bytes m
@@ -158,4 +158,4 @@ JudgesFrom first count old new (Err (refusal.Rule k)) = ⊥
 abbrev pub IsStanding : Progress → Standing → Type 0
 IsStanding p Accepted = IsVerdict p.bytes accepted_verdict × HasAll p
 IsStanding p (Refused r) = IsSomeAnd (verdict_of r) (IsVerdict p.bytes)
-IsStanding p (Open f) = (m : ModuleShape) → Shell p.bytes m → (place : ℕ) × IsFirstOpen m p place × (f ≡ function_at m place)
+IsStanding p (Open f) = (m : ModuleShape) → Shell p.bytes m → (position : ℕ) × IsFirstOpen m p position × (f ≡ function_at m position)

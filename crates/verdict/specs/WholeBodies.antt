@@ -8,7 +8,7 @@ use Rattle.wsyntax.specs.Validation.Context.{Context}
 use Rattle.wsyntax.specs.Validation.Algorithm.{Frame, alg_from}
 use Rattle.wcheck.specs.Checking.{Checking}
 use Rattle.verdict.specs.declared.body.Known.{Known}
-use Rattle.verdict.specs.declared.body.Known.TheVariants.{Nothing, Place, Refusal}
+use Rattle.verdict.specs.declared.body.Known.TheVariants.{Nothing, Stop, Refusal}
 use Rattle.verdict.specs.declared.passing.Passing.{Passing}
 use Rattle.verdict.specs.declared.passing.Passing.TheVariants.{Passed, Stopped, Unknown}
 use Rattle.verdict.specs.declared.refusal.BodyRefusal.{BodyRefusal}
@@ -19,16 +19,16 @@ use Rattle.verdict.specs.OnePass.{StopsAt}
 -- what is known is so, where the bytes of the tokens to come are these, and these frames are open
 abbrev pub IsKnown : Context → List Frame → Checking → List ℕ → Known → Type 0
 IsKnown C fs x bytes Nothing = (x.inside ≡ C) × (x.frames ≡ fs)
-IsKnown C fs x bytes (Place left) = StopsAt C fs bytes left
+IsKnown C fs x bytes (Stop left) = StopsAt C fs bytes left
 IsKnown C fs x bytes (Refusal c) = Unit {0}
 
--- the tokens from the one with this number on: a fault that is known goes before theirs
+-- the tokens from the one at this position on: a fault that is known goes before theirs
 abbrev pub refusal_from : Context → Known → List Frame → ℕ → List Token → Option BodyRefusal
 refusal_from C Nothing fs k ts = typing_refusal (alg_from C ts fs k)
-refusal_from C (Place left) fs k ts = typing_refusal (alg_from C ts fs k)
+refusal_from C (Stop left) fs k ts = typing_refusal (alg_from C ts fs k)
 refusal_from C (Refusal c) fs k ts = Some c
 
--- with this token next, of that number, and whatever after it: what is known after it gives the same
+-- with this token next, at that position, and whatever after it: what is known after it gives the same
 abbrev pub GoesOn : Checking → Known → ℕ → ℕ → Token → Checking → Known → Type 0
 GoesOn old known k left t new now =
     (C : Context) (fs : List Frame) (bytes rest : List ℕ) → length bytes ≡ left → token_at bytes ≡ Some (t, rest) → IsKnown C fs old bytes known
@@ -63,5 +63,5 @@ Judges x known bytes given =
 abbrev pub BodyPasses : Context → ℕ → List ℕ → Passing → Type 0
 BodyPasses C f bytes Passed = body_refusal_of C f bytes ≡ None
 BodyPasses C f bytes (Stopped tokens left) =
-    (D : Context) × (fs : List Frame) × StopsAt D fs tokens.now left × (body_refusal_of C f bytes ≡ refusal_read D (Place left) fs 0 (expression.read tokens.now))
+    (D : Context) × (fs : List Frame) × StopsAt D fs tokens.now left × (body_refusal_of C f bytes ≡ refusal_read D (Stop left) fs 0 (expression.read tokens.now))
 BodyPasses C f bytes Unknown = Unit {0}

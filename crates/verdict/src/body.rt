@@ -18,12 +18,12 @@ pub(crate) enum Known {
     /// No token so far is refused: the checker looked at each.
     Nothing,
     /// The first token that is refused, if one is, is that at which this many bytes are left.
-    Place(usize),
+    Stop(usize),
     /// What it is refused for, if its bytes spell a body.
     Refusal(BodyRefusal),
 }
 
-/// Looks at the token of that number, at which `left` bytes are left: what is known after it.
+/// Looks at the token at that position, at which `left` bytes are left: what is known after it.
 fn look(
     checker: &mut Checker<'_>,
     targets: &[u32],
@@ -44,8 +44,8 @@ fn look(
                 Ok(refused)
             }
         }
-        Known::Place(place) if left == place => Ok(refused),
-        Known::Place(_) => Ok(known),
+        Known::Stop(stop) if left == stop => Ok(refused),
+        Known::Stop(_) => Ok(known),
         Known::Refusal(_) => Ok(known),
     }
 }
@@ -137,7 +137,7 @@ pub(crate) fn judge_body(
     let found = match passing {
         Passing::Passed => return Ok(()),
         Passing::Stopped { tokens, left } => {
-            tokens_fault(alloc, checker, targets, Known::Place(left), tokens)
+            tokens_fault(alloc, checker, targets, Known::Stop(left), tokens)
         }
         Passing::Unknown => whole_fault(alloc, checker, targets, func, bytes),
     };

@@ -70,8 +70,8 @@ fn judge_in_order(alloc: Global, head: &Head<'_>) -> Result<(), Refusal>
 {
     let mut scratch = new_scratch(alloc, head)?;
     judge_rest(alloc, head, &mut scratch.names)?;
-    for place in 0..head.front.module.bodies.len() as u32 {
-        judge_at(alloc, head, &mut scratch, place)?;
+    for position in 0..head.front.module.bodies.len() as u32 {
+        judge_at(alloc, head, &mut scratch, position)?;
     }
     Ok(())
 }

@@ -74,7 +74,7 @@ macro_rules! step_known_read {
 /// Reads and checks an instruction after its opcode that is numeric, or a load or a store. Each opcode is told apart
 /// from all others at once, so that the compiler makes one table of all arms.
 #[inline(always)]
-fn number_front<'a>(checker: &mut Checker<'_>, byte: u8, rest: &'a [u8]) -> FrontToken<'a>
+fn numeric_front<'a>(checker: &mut Checker<'_>, byte: u8, rest: &'a [u8]) -> FrontToken<'a>
     requires { checker.old.frames ≡ [] → ⊥ }
     ensures outside { checker.new.outside ≡ checker.old.outside }
     ensures passes { PassesFront (byte ∷ rest.now) checker.old checker.new result }
@@ -88,7 +88,7 @@ fn number_front<'a>(checker: &mut Checker<'_>, byte: u8, rest: &'a [u8]) -> Fron
 }
 
 /// Reads and checks an instruction after its opcode that reads a global, a frequent load or store, or one of the
-/// others of `number_front`.
+/// others of `numeric_front`.
 #[inline(always)]
 fn access_front<'a>(checker: &mut Checker<'_>, byte: u8, rest: &'a [u8]) -> FrontToken<'a>
     requires { checker.old.frames ≡ [] → ⊥ }
@@ -108,7 +108,7 @@ fn access_front<'a>(checker: &mut Checker<'_>, byte: u8, rest: &'a [u8]) -> Fron
         op::I32_STORE16 => step_known_read!(checker, store_at(byte, rest)),
         op::GLOBAL_GET => step_known_read!(checker, variable_at(byte, rest)),
         op::GLOBAL_SET => step_known_read!(checker, variable_at(byte, rest)),
-        _ => number_front(checker, byte, rest),
+        _ => numeric_front(checker, byte, rest),
     }
 }
 

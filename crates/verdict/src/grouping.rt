@@ -39,8 +39,8 @@ pub(crate) fn groups_for(bodies: u32, bytes: usize, plan: Plan) -> (u32, Plan)
     (plan.piece(), each)
 }
 
-/// The places of the bodies of a group, of `bodies` in all: the first, and that after the last.
-pub(crate) fn places_of(group: u32, size: u32, bodies: u32) -> (u32, u32)
+/// The positions of the bodies of a group, of `bodies` in all: the first, and that after the last.
+pub(crate) fn positions_of(group: u32, size: u32, bodies: u32) -> (u32, u32)
     requires sized { 0 < size }
     requires there { group < div_ceil bodies size }
     ensures from { result.0 ≡ group * size }

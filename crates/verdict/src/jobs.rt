@@ -5,7 +5,7 @@ ghost use Rattle.verdict.specs.Parts.{bodies_of, body_refusal_in, parts_of};
 ghost use Rattle.verdict.specs.Refusals.{AllowsRefusal};
 
 use crate::body::judge_body;
-use crate::grouping::places_of;
+use crate::grouping::positions_of;
 use crate::head::Head;
 use crate::passing::Scratch;
 use crate::refusal::Refusal;
@@ -27,23 +27,23 @@ pub(crate) struct ModuleParts<'a, 'b, W> {
     ghost sized: { 0 < size },
 }
 
-/// Judges the body at that place.
+/// Judges the body at that position.
 pub(crate) fn judge_at(
     alloc: Global,
     head: &Head<'_>,
     scratch: &mut Scratch<'_, '_>,
-    place: u32,
+    position: u32,
 ) -> Result<(), Refusal>
-    requires place { place < length (bodies_of head.now) }
+    requires position { position < length (bodies_of head.now) }
     requires outside { scratch.old.checker.outside ≡ head.now.context.context }
     ensures outside { scratch.new.checker.outside ≡ head.now.context.context }
     ensures verdict { MatchResult result
-        (λ _. body_refusal_in head.now place ≡ None)
-        (AllowsRefusal (IsBodyRefusal (head.now.context.imported + place) (body_refusal_in head.now place))) }
+        (λ _. body_refusal_in head.now position ≡ None)
+        (AllowsRefusal (IsBodyRefusal (head.now.context.imported + position) (body_refusal_in head.now position))) }
 {
     let imported = head.context.imported_functions() as u32;
     let bodies = head.front.module.bodies.as_slice();
-    judge_body(alloc, scratch, imported + place, bodies[place as usize])
+    judge_body(alloc, scratch, imported + position, bodies[position as usize])
 }
 
 impl<'a, 'b, W> ModuleParts<'a, 'b, W> {
@@ -84,10 +84,10 @@ impl<'a, 'b, W: Watch> Job for ModuleParts<'a, 'b, W> {
             return Ok(judge_rest(self.alloc, self.head, &mut scratch.names)?);
         }
         let bodies = self.head.front.module.bodies.len() as u32;
-        let (from, to) = places_of(index - 1, self.size, bodies);
-        for place in from..to {
-            self.watch.note(Stage::Body, place);
-            judge_at(self.alloc, self.head, scratch, place)?;
+        let (from, to) = positions_of(index - 1, self.size, bodies);
+        for position in from..to {
+            self.watch.note(Stage::Body, position);
+            judge_at(self.alloc, self.head, scratch, position)?;
         }
         Ok(())
     }

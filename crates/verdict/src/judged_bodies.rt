@@ -37,7 +37,7 @@ fn first_of(a: Option<RefusedBody>, b: Option<RefusedBody>) -> Option<RefusedBod
     ensures { result ≡ least a b }
 {
     match (a, b) {
-        (Some(one), Some(other)) if other.place < one.place => b,
+        (Some(one), Some(other)) if other.position < one.position => b,
         (Some(_), _) => a,
         (None, _) => b,
     }
@@ -66,7 +66,7 @@ impl<'a> JudgedBodies<'a> {
     pub(crate) fn keep(&mut self, body: KeptBody) -> Result<(), AllocError>
         requires { IsKept self.old.bytes body }
         ensures { MatchResult result
-            (λ _. self.new ≡ record self.old { passed = self.old.passed ++ body.place ∷ [] })
+            (λ _. self.new ≡ record self.old { passed = self.old.passed ++ body.position ∷ [] })
             (λ _. self.new ≡ self.old) }
     {
         self.kept.push(body)?;
@@ -81,14 +81,14 @@ impl<'a> JudgedBodies<'a> {
         self.refused = first_of(self.refused, Some(body));
     }
 
-    /// The first refused body, where it stands no later than at that place.
-    pub(crate) fn refused_to(&self, place: u32) -> Option<RefusedBody>
+    /// The first refused body, where it stands no later than at that position.
+    pub(crate) fn refused_to(&self, position: u32) -> Option<RefusedBody>
         ensures { MatchOption result
-            (IfSome self.now.refused (λ r. place < r.place))
-            (λ b. (self.now.refused ≡ Some b) × (b.place ≤ place)) }
+            (IfSome self.now.refused (λ r. position < r.position))
+            (λ b. (self.now.refused ≡ Some b) × (b.position ≤ position)) }
     {
         match self.refused {
-            Some(body) if body.place <= place => Some(body),
+            Some(body) if body.position <= position => Some(body),
             _ => None,
         }
     }
@@ -108,7 +108,7 @@ impl<'a> JudgedBodies<'a> {
         Ok(())
     }
 
-    /// The first place at which no body passes of those that the module has; their count where all do.
+    /// The first position at which no body passes of those that the module has; their count where all do.
     pub(crate) fn first_gap(&self, alloc: Global, count: u32) -> Result<u32, AllocError>
         requires valid { IsValidShell self.now.bytes }
         requires count { HasBodies self.now.bytes count }

@@ -119,10 +119,10 @@ fn judge_bodies_alone<W: Watch>(
     let mut checker = Checker::new(alloc, context);
     // A function that is accepted takes four bytes at least: its type's index, and a size, no locals and an end.
     let mut kept = Vec::with_capacity(alloc, bodies.len().min(module_size / 4))?;
-    for place in 0..bodies.len() as u32 {
-        let func = imported + place;
-        watch.note(Stage::Body, place);
-        let checked = checked_body(alloc, &mut checker, func, bodies[place as usize])?;
+    for position in 0..bodies.len() as u32 {
+        let func = imported + position;
+        watch.note(Stage::Body, position);
+        let checked = checked_body(alloc, &mut checker, func, bodies[position as usize])?;
         kept.push(checked)?;
     }
     Ok(kept)

@@ -3,7 +3,7 @@ ghost use Rattle.accepted_module.specs.Judgement.{IsCheckedAt};
 ghost use Rattle.verdict.specs.Judged.{body_refusal_at, IsBodyRefusal};
 ghost use Rattle.verdict.specs.Refusals.{AllowsRefusal};
 
-use crate::grouping::places_of;
+use crate::grouping::positions_of;
 use crate::keeping::checked_body;
 use crate::refusal::Refusal;
 use checked_body::CheckedBody;
@@ -31,19 +31,19 @@ pub(crate) struct KeptBodies<'a, W> {
 }
 
 impl<'a, W> KeptBodies<'a, W> {
-    /// Judges the body at that place, and keeps it.
-    fn keep_at(&self, checker: &mut Checker<'a>, place: u32) -> Result<CheckedBody, Refusal>
-        requires place { place < length self.now.bodies.now }
+    /// Judges the body at that position, and keeps it.
+    fn keep_at(&self, checker: &mut Checker<'a>, position: u32) -> Result<CheckedBody, Refusal>
+        requires position { position < length self.now.bodies.now }
         requires outside { checker.old.outside ≡ self.now.context.now.context }
         ensures outside { checker.new.outside ≡ self.now.context.now.context }
         ensures verdict { MatchResult result
-            (λ checked. (body_refusal_at self.now.context.now.context self.now.imported (map (λ b. b.now) self.now.bodies.now) place ≡ None)
-            × IsCheckedAt self.now.context.now.context self.now.imported (map (λ b. b.now) self.now.bodies.now) place checked)
-            (AllowsRefusal (IsBodyRefusal (self.now.imported + place)
-            (body_refusal_at self.now.context.now.context self.now.imported (map (λ b. b.now) self.now.bodies.now) place))) }
+            (λ checked. (body_refusal_at self.now.context.now.context self.now.imported (map (λ b. b.now) self.now.bodies.now) position ≡ None)
+            × IsCheckedAt self.now.context.now.context self.now.imported (map (λ b. b.now) self.now.bodies.now) position checked)
+            (AllowsRefusal (IsBodyRefusal (self.now.imported + position)
+            (body_refusal_at self.now.context.now.context self.now.imported (map (λ b. b.now) self.now.bodies.now) position))) }
     {
-        let func = self.imported + place;
-        checked_body(self.alloc, checker, func, self.bodies[place as usize])
+        let func = self.imported + position;
+        checked_body(self.alloc, checker, func, self.bodies[position as usize])
     }
 }
 
@@ -73,13 +73,13 @@ impl<'a, W: Watch> Job for KeptBodies<'a, W> {
         checker: &mut Checker<'a>,
         index: u32,
     ) -> Result<Vec<CheckedBody>, JobFault<Refusal>> {
-        let (from, to) = places_of(index, self.size, self.bodies.len() as u32);
+        let (from, to) = positions_of(index, self.size, self.bodies.len() as u32);
         let Ok(mut kept) = Vec::with_capacity(self.alloc, (to - from) as usize) else {
             return Err(JobFault::Memory);
         };
-        for place in from..to {
-            self.watch.note(Stage::Body, place);
-            let checked = self.keep_at(checker, place)?;
+        for position in from..to {
+            self.watch.note(Stage::Body, position);
+            let checked = self.keep_at(checker, position)?;
             if kept.push(checked).is_err() {
                 return Err(JobFault::Memory);
             }

@@ -3,7 +3,7 @@
 //! The source tells a token apart five times, each time by what the step before gave:
 //!
 //! ```text
-//! opcode byte    frequent_passes, access_passes, number_passes    which reader, and whether the operands may be known
+//! opcode byte    frequent_passes, access_passes, numeric_passes   which reader, and whether the operands may be known
 //! opcode byte    wdecode::frequent: load_at, variable_at, ..      the Token, with its immediates
 //! Token          wcheck::rule: rule_of_token                      the OperandRule; frames, branches and calls have their own
 //! OperandRule    wcheck::apply: apply_known, apply_rule            which methods of the operands
@@ -31,7 +31,7 @@ use wsyntax::{LocalRun, Opcode, Token};
 pub(crate) enum Passing<'a> {
     /// It is accepted.
     Passed,
-    /// It is not. The bytes of its tokens do not pass at the place where this many of them are left.
+    /// It is not. The bytes of its tokens do not pass where this many of them are left.
     Stopped { tokens: &'a [u8], left: usize },
     /// Nothing: its locals are none or too many, or memory was refused.
     Unknown,
@@ -147,7 +147,7 @@ macro_rules! step_known_read {
 /// Reads and checks an instruction after its opcode that is numeric, or a load or a store. Each opcode is told apart
 /// from all others at once, so that the compiler makes one table of all arms.
 #[inline(always)]
-fn number_passes<'a>(checker: &mut Checker<'_>, byte: u8, rest: &'a [u8]) -> FirstToken<'a>
+fn numeric_passes<'a>(checker: &mut Checker<'_>, byte: u8, rest: &'a [u8]) -> FirstToken<'a>
     requires { checker.old.frames ≡ [] → ⊥ }
     ensures outside { checker.new.outside ≡ checker.old.outside }
     ensures passes { Passes (byte ∷ rest.now) checker.old checker.new result }
@@ -161,7 +161,7 @@ fn number_passes<'a>(checker: &mut Checker<'_>, byte: u8, rest: &'a [u8]) -> Fir
 }
 
 /// Reads and checks an instruction after its opcode that reads a global, a frequent load or store, or one of the
-/// others of `number_passes`.
+/// others of `numeric_passes`.
 #[inline(always)]
 fn access_passes<'a>(checker: &mut Checker<'_>, byte: u8, rest: &'a [u8]) -> FirstToken<'a>
     requires { checker.old.frames ≡ [] → ⊥ }
@@ -181,7 +181,7 @@ fn access_passes<'a>(checker: &mut Checker<'_>, byte: u8, rest: &'a [u8]) -> Fir
         op::I32_STORE16 => step_known_read!(checker, store_at(byte, rest)),
         op::GLOBAL_GET => step_known_read!(checker, variable_at(byte, rest)),
         op::GLOBAL_SET => step_known_read!(checker, variable_at(byte, rest)),
-        _ => number_passes(checker, byte, rest),
+        _ => numeric_passes(checker, byte, rest),
     }
 }
 

@@ -15,7 +15,7 @@ pub enum BodyRefusal {
     /// It declares more than 100,000 locals, parameters aside.
     #[error("too-many-locals")]
     TooManyLocals,
-    /// It has no type. `at` is the number of the first token that no completion can save, from 0.
+    /// It has no type. `at` is the position of the first token that no completion can save, from 0.
     #[error("ill-typed at {at}")]
     IllTyped { at: usize },
 }

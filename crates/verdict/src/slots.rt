@@ -1,4 +1,4 @@
-//! The places of the bodies of a module, and what was kept for each.
+//! The positions of the bodies of a module, and what was kept for each.
 ghost use Rattle.std.specs.Prelude.{◌≡◌, ◌<◌, ◌≤◌, ℕ, IfOk, IsSome, All, length, map, slice_get, true, false};
 ghost use Rattle.verdict.specs.Slots.{AreMarks, AreSlots};
 
@@ -6,31 +6,31 @@ use crate::kept_body::KeptBody;
 use checked_body::CheckedBody;
 use std::alloc::{AllocError, Global};
 
-/// Of each place below `count` whether a body is kept there.
+/// Of each position below `count` whether a body is kept there.
 pub(crate) fn marks_of(
     alloc: Global,
     kept: &[KeptBody],
     count: usize,
 ) -> Result<Vec<bool>, AllocError>
-    requires { All (λ b. b.place < count) kept.now }
-    ensures { IfOk result (λ v. AreMarks (map (λ b. b.place) kept.now) count v.items) }
+    requires { All (λ b. b.position < count) kept.now }
+    ensures { IfOk result (λ v. AreMarks (map (λ b. b.position) kept.now) count v.items) }
 {
     let mut marks = vec![in alloc; false; count]?;
     for body in kept {
-        marks[body.place as usize] = true;
+        marks[body.position as usize] = true;
     }
     Ok(marks)
 }
 
-/// The first place that is not marked; their count where all are.
+/// The first position that is not marked; their count where all are.
 pub(crate) fn first_unmarked(marks: &[bool]) -> usize
     ensures within { result ≤ length marks.now }
     ensures marked { (k : ℕ) → k < result → slice_get marks.now k ≡ Some true }
     ensures unmarked { result < length marks.now → slice_get marks.now result ≡ Some false }
 {
-    for place in 0..marks.len() {
-        if !marks[place] {
-            return place;
+    for position in 0..marks.len() {
+        if !marks[position] {
+            return position;
         }
     }
     marks.len()
@@ -48,18 +48,18 @@ fn empty_slots(alloc: Global, count: usize) -> Result<Vec<Option<CheckedBody>>, 
     Ok(slots)
 }
 
-/// Each body in the slot of its place.
+/// Each body in the slot of its position.
 pub(crate) fn in_slots(
     alloc: Global,
     kept: Vec<KeptBody>,
     count: usize,
 ) -> Result<Vec<Option<CheckedBody>>, AllocError>
-    requires { All (λ b. b.place < count) kept.items }
+    requires { All (λ b. b.position < count) kept.items }
     ensures { IfOk result (λ v. AreSlots kept.items count v.items) }
 {
     let mut slots = empty_slots(alloc, count)?;
     for body in kept {
-        slots[body.place as usize] = Some(body.checked);
+        slots[body.position as usize] = Some(body.checked);
     }
     Ok(slots)
 }

@@ -85,30 +85,30 @@ impl<'a> Judging<'a> {
         Checker::new(alloc, &self.context)
     }
 
-    /// Judges the body at a place, and keeps it where it passes.
+    /// Judges the body at a position, and keeps it where it passes.
     fn judge_at(
         &self,
         alloc: Global,
         checker: &mut Checker<'_>,
         judged: &mut JudgedBodies<'_>,
-        place: u32,
+        position: u32,
     ) -> Result<(), Refusal>
         requires of { judged.old.bytes ≡ self.now }
         requires checker { IsChecker self.now checker.old }
-        requires place { (m : ModuleShape) → Shell self.now m → place < length m.bodies }
+        requires position { (m : ModuleShape) → Shell self.now m → position < length m.bodies }
         ensures checker { IsChecker self.now checker.new }
-        ensures judged { JudgesAt place judged.old judged.new result }
+        ensures judged { JudgesAt position judged.old judged.new result }
     {
         shells_are_determined();
         let bodies: &[&[u8]] = &self.module.bodies;
-        let func = self.context.imported_functions() as u32 + place;
-        match checked_body(alloc, checker, func, bodies[place as usize]) {
+        let func = self.context.imported_functions() as u32 + position;
+        match checked_body(alloc, checker, func, bodies[position as usize]) {
             Ok(checked) => {
-                judged.keep(KeptBody { place, checked })?;
+                judged.keep(KeptBody { position, checked })?;
                 Ok(())
             }
             Err(Refusal::Body { refusal, .. }) => {
-                judged.refuse(RefusedBody { place, refusal });
+                judged.refuse(RefusedBody { position, refusal });
                 Err(Refusal::Body { func, refusal })
             }
             // What refuses no body is that memory was refused.
@@ -116,7 +116,7 @@ impl<'a> Judging<'a> {
         }
     }
 
-    /// Judges the bodies from the place `first` on, `count` of them or as many as there are, up to the first that is refused.
+    /// Judges the bodies from the position `first` on, `count` of them or as many as there are, up to the first that is refused.
     /// One that was judged before is judged again. Where memory is refused, some of them may have been judged.
     pub fn judge_bodies(
         &self,
@@ -130,8 +130,8 @@ impl<'a> Judging<'a> {
     {
         let mut checker = self.checker(alloc);
         let count = count.min(self.body_count().saturating_sub(first));
-        for place in first..first + count {
-            self.judge_at(alloc, &mut checker, judged, place)?;
+        for position in first..first + count {
+            self.judge_at(alloc, &mut checker, judged, position)?;
         }
         Ok(())
     }
@@ -148,7 +148,7 @@ impl<'a> Judging<'a> {
         let gap = judged.first_gap(alloc, count)?;
         match judged.refused_to(gap) {
             Some(body) => Ok(Standing::Refused(Refusal::Body {
-                func: imported + body.place,
+                func: imported + body.position,
                 refusal: body.refusal,
             })),
             None if gap < count => Ok(Standing::Open {

@@ -9,7 +9,7 @@ use Rattle.verdict.specs.declared.refusal.Refusal.{Refusal}
 abbrev pub IsJudged : List ℕ → Result (Unit {0}) Refusal → Type 0
 IsJudged bytes judged = MatchResult judged (λ _. IsVerdict bytes Accepted) (λ r. IfSome (verdict_of r) (IsVerdict bytes))
 
--- as many verdicts as modules, each on the bytes at its place
+-- as many verdicts as modules, each on the bytes at its position
 abbrev pub AreVerdicts : List (List ℕ) → List (Result (Unit {0}) Refusal) → Type 0
 AreVerdicts [] [] = Unit {0}
 AreVerdicts [] (v ∷ vs) = ⊥

@@ -60,8 +60,8 @@ pub fn judge_all<R: Threads + Wait + Sync>(
 {
     let found = judge_small(rt, alloc, modules, plan)?;
     let mut verdicts = Vec::with_capacity(alloc, modules.len())?;
-    for place in 0..modules.len() {
-        let judged = settled(rt, alloc, found[place], modules[place], plan);
+    for position in 0..modules.len() {
+        let judged = settled(rt, alloc, found[position], modules[position], plan);
         verdicts.push(judged)?;
     }
     Ok(verdicts)

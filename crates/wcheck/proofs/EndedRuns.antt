@@ -13,7 +13,7 @@ use Rattle.wcheck.proofs.Declared.{in_run, past_run}
 -- the first run that ends past x
 unfoldable pub look : ℕ → List EndedRun → Option ValType
 look x [] = None
-look x (r ∷ rs) = cond (nat_lt x r.end) (Some r.run.content) (look x rs)
+look x (r ∷ rs) = cond (nat_lt x r.end) (Some r.run.val_type) (look x rs)
 
 is_in : (x e : ℕ) → x < e → nat_lt x e ≡ true
 is_in x e lt = grind (arith, lt)
@@ -38,11 +38,11 @@ looked : (b x k : ℕ) (rs : List EndedRun) → AreEnds b rs → x ≡ b + k →
 unfolding look
 looked b x k [] h e lt = refl
 looked b x k (r ∷ rs) h e lt =
-    (elim (nat_lt x r.end) as (λ v. nat_lt x r.end ≡ v → slice_get (replicate r.run.count r.run.content ++ declared (map run_of rs)) k ≡ cond v (Some r.run.content) (look x rs)) [
-      | true ↦ λ q. in_run r.run.count r.run.content (declared (map run_of rs)) k (below b r.run.count x k e (min_in b r.run.count x r.end (2 ^ 64 - 1) h.0 (lt_of x r.end q)))
+    (elim (nat_lt x r.end) as (λ v. nat_lt x r.end ≡ v → slice_get (replicate r.run.count r.run.val_type ++ declared (map run_of rs)) k ≡ cond v (Some r.run.val_type) (look x rs)) [
+      | true ↦ λ q. in_run r.run.count r.run.val_type (declared (map run_of rs)) k (below b r.run.count x k e (min_in b r.run.count x r.end (2 ^ 64 - 1) h.0 (lt_of x r.end q)))
       | false ↦ λ q. (let le = le_of x r.end q in
           let same = min_past b r.run.count x r.end (2 ^ 64 - 1) h.0 le lt in
-          past_run r.run.count r.run.content (declared (map run_of rs)) k (x - r.end) (rest_is b r.run.count x k r.end e same le) ∙ looked r.end x (x - r.end) rs h.1 (back x r.end le) lt)
+          past_run r.run.count r.run.val_type (declared (map run_of rs)) k (x - r.end) (rest_is b r.run.count x k r.end e same le) ∙ looked r.end x (x - r.end) rs h.1 (back x r.end le) lt)
     ]) refl
   where
     lt_of : (y n : ℕ) → nat_lt y n ≡ true → y < n
@@ -76,11 +76,11 @@ rises b (suc j) (r ∷ rs) d h lt le =
 past : (b x i : ℕ) (rs : List EndedRun) (d : EndedRun) → AreEnds b rs → b ≤ 2 ^ 64 - 1 → i < length rs → (get_or rs i d).end ≤ x → look x rs ≡ look x (drop (suc i) rs)
 unfolding look
 past b x i [] d h le lt e = absurd (omega (arith, lt))
-past b x zero (r ∷ rs) d h le lt e = ap (λ v. cond v (Some r.run.content) (look x rs)) (is_past x r.end e)
+past b x zero (r ∷ rs) d h le lt e = ap (λ v. cond v (Some r.run.val_type) (look x rs)) (is_past x r.end e)
 past b x (suc i) (r ∷ rs) d h le lt e =
     let small = min_small b r.run.count r.end (2 ^ 64 - 1) h.0 in
     let lower = rises r.end i rs d h.1 (omega (arith, lt)) small in
-    ap (λ v. cond v (Some r.run.content) (look x rs)) (is_past x r.end (through r.end (get_or rs i d).end x lower e)) ∙ past r.end x i rs d h.1 small (omega (arith, lt)) e
+    ap (λ v. cond v (Some r.run.val_type) (look x rs)) (is_past x r.end (through r.end (get_or rs i d).end x lower e)) ∙ past r.end x i rs d h.1 small (omega (arith, lt)) e
   where
     through : (m n o : ℕ) → m ≤ n → n ≤ o → m ≤ o
     through m n o p q = omega (arith, p, q)
@@ -103,11 +103,11 @@ looks_past x middle rs d h lt le =
     zero_le = omega arith
 
 -- a run is left
-pub found_at : (x low : ℕ) (rs : List EndedRun) (d : EndedRun) → AreEnds 0 rs → x < 2 ^ 64 - 1 → looks_from x low rs → low < length rs → x < (get_or rs low d).end → Some (get_or rs low d).run.content ≡ slice_get (declared (map run_of rs)) x
+pub found_at : (x low : ℕ) (rs : List EndedRun) (d : EndedRun) → AreEnds 0 rs → x < 2 ^ 64 - 1 → looks_from x low rs → low < length rs → x < (get_or rs low d).end → Some (get_or rs low d).run.val_type ≡ slice_get (declared (map run_of rs)) x
 unfolding looks_from look
 found_at x low rs d h lt e within le =
-    let here : look x (drop low rs) ≡ Some (get_or rs low d).run.content =
-    ap (look x) (drop_more rs low d within) ∙ ap (λ v. cond v (Some (get_or rs low d).run.content) (look x (drop (low + 1) rs))) (is_in x (get_or rs low d).end le) in
+    let here : look x (drop low rs) ≡ Some (get_or rs low d).run.val_type =
+    ap (look x) (drop_more rs low d within) ∙ ap (λ v. cond v (Some (get_or rs low d).run.val_type) (look x (drop (low + 1) rs))) (is_in x (get_or rs low d).end le) in
     sym (looked 0 x x rs h (omega arith) lt ∙ sym e ∙ here)
 
 nothing_left : {A : Type 0} (xs : List A) (i : ℕ) → length xs ≤ i → drop i xs ≡ []

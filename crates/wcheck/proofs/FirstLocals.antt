@@ -19,7 +19,7 @@ some_first some params more n e =
 
 declared_append : (xs ys : List LocalRun) → declared (xs ++ ys) ≡ declared xs ++ declared ys
 declared_append [] ys = refl
-declared_append (x ∷ xs) ys = ap (λ z. replicate x.count x.content ++ z) (declared_append xs ys) ∙ sym (append_assoc (replicate x.count x.content) (declared xs) (declared ys))
+declared_append (x ∷ xs) ys = ap (λ z. replicate x.count x.val_type ++ z) (declared_append xs ys) ∙ sym (append_assoc (replicate x.count x.val_type) (declared xs) (declared ys))
 
 -- the parameters, and the locals of some runs
 so_far : (some params : List ValType) (runs : List LocalRun) (i : ℕ) → some ≡ params ++ declared (take i runs) → params ++ declared runs ≡ some ++ declared (drop i runs)
@@ -36,16 +36,16 @@ fewer : {A : Type 0} (n k : ℕ) (x : A) → k ≤ n → replicate n x ≡ repli
 fewer n k x le = let e : n ≡ k + (n - k) = omega (arith, le) in ap (λ m. replicate m x) e ∙ sym (replicate-append-replicate k (n - k) x)
 
 -- these, and some of the locals of the next run
-pub part_first : (some params : List ValType) (runs : List LocalRun) (i k : ℕ) (d : LocalRun) → some ≡ params ++ declared (take i runs) → i < length runs → k ≤ (get_or runs i d).count → AreFirst (some ++ replicate k (get_or runs i d).content) (params ++ declared runs)
+pub part_first : (some params : List ValType) (runs : List LocalRun) (i k : ℕ) (d : LocalRun) → some ≡ params ++ declared (take i runs) → i < length runs → k ≤ (get_or runs i d).count → AreFirst (some ++ replicate k (get_or runs i d).val_type) (params ++ declared runs)
 part_first some params runs i k d e lt le =
     let r = get_or runs i d in
-    let rest = replicate (r.count - k) r.content ++ declared (drop (i + 1) runs) in (
+    let rest = replicate (r.count - k) r.val_type ++ declared (drop (i + 1) runs) in (
       rest,
       so_far some params runs i e
           ∙ ap (λ z. some ++ declared z) (drop_more runs i d lt)
-          ∙ ap (λ z. some ++ (z ++ declared (drop (i + 1) runs))) (fewer r.count k r.content le)
-          ∙ ap (λ z. some ++ z) (append_assoc (replicate k r.content) (replicate (r.count - k) r.content) (declared (drop (i + 1) runs)))
-          ∙ sym (append_assoc some (replicate k r.content) rest),
+          ∙ ap (λ z. some ++ (z ++ declared (drop (i + 1) runs))) (fewer r.count k r.val_type le)
+          ∙ ap (λ z. some ++ z) (append_assoc (replicate k r.val_type) (replicate (r.count - k) r.val_type) (declared (drop (i + 1) runs)))
+          ∙ sym (append_assoc some (replicate k r.val_type) rest),
     )
 
 append_nil : {A : Type 0} (xs : List A) → xs ++ [] ≡ xs
@@ -53,10 +53,10 @@ append_nil [] = refl
 append_nil (x ∷ xs) = ap (λ z. x ∷ z) (append_nil xs)
 
 -- these, and all locals of the next run
-pub next_first : (some params : List ValType) (runs : List LocalRun) (i : ℕ) (d : LocalRun) → some ≡ params ++ declared (take i runs) → i < length runs → some ++ replicate (get_or runs i d).count (get_or runs i d).content ≡ params ++ declared (take (i + 1) runs)
+pub next_first : (some params : List ValType) (runs : List LocalRun) (i : ℕ) (d : LocalRun) → some ≡ params ++ declared (take i runs) → i < length runs → some ++ replicate (get_or runs i d).count (get_or runs i d).val_type ≡ params ++ declared (take (i + 1) runs)
 next_first some params runs i d e lt =
     let r = get_or runs i d in
-    let new = replicate r.count r.content in
+    let new = replicate r.count r.val_type in
     ap (λ z. z ++ new) e
     ∙ append_assoc params (declared (take i runs)) new
     ∙ ap (λ z. params ++ z) (ap (λ z. declared (take i runs) ++ z) (sym (append_nil new)) ∙ sym (declared_append (take i runs) (r ∷ [])) ∙ ap declared (sym (take_more runs i d lt)))
@@ -66,23 +66,23 @@ pub same_first : (some params : List ValType) (runs others : List LocalRun) → 
 same_first some params runs others e f = subst (λ z. AreFirst some (params ++ declared z)) (sym e) f
 
 -- these, filled up to n with the locals of the next run
-pub full_first : (new some params : List ValType) (runs : List LocalRun) (i n m k : ℕ) (d : LocalRun) → some ≡ params ++ declared (take i runs) → length some ≤ n → i < length runs → m ≡ length some → k ≡ m → n - m < (get_or runs i d).count → new ≡ take n some ++ replicate (n - k) (get_or runs i d).content → AreFirst new (params ++ declared runs)
+pub full_first : (new some params : List ValType) (runs : List LocalRun) (i n m k : ℕ) (d : LocalRun) → some ≡ params ++ declared (take i runs) → length some ≤ n → i < length runs → m ≡ length some → k ≡ m → n - m < (get_or runs i d).count → new ≡ take n some ++ replicate (n - k) (get_or runs i d).val_type → AreFirst new (params ++ declared runs)
 full_first new some params runs i n m k d e le lt q p more h =
-    subst (λ z. AreFirst z (params ++ declared runs)) (sym (h ∙ ap (λ z. z ++ replicate (n - k) (get_or runs i d).content) (take_all n some le))) (part_first some params runs i (n - k) d e lt (omega (arith, more, p)))
+    subst (λ z. AreFirst z (params ++ declared runs)) (sym (h ∙ ap (λ z. z ++ replicate (n - k) (get_or runs i d).val_type) (take_all n some le))) (part_first some params runs i (n - k) d e lt (omega (arith, more, p)))
 
 -- these, and all locals of the next run, of which there are not too many
-pub next_new : (new some params : List ValType) (runs : List LocalRun) (i n m k : ℕ) (d : LocalRun) → some ≡ params ++ declared (take i runs) → length some ≤ n → i < length runs → m ≡ length some → k ≡ m → (get_or runs i d).count ≤ n - m → new ≡ take (m + (get_or runs i d).count) some ++ replicate (m + (get_or runs i d).count - k) (get_or runs i d).content → (new ≡ params ++ declared (take (i + 1) runs)) × (length new ≤ n)
+pub next_new : (new some params : List ValType) (runs : List LocalRun) (i n m k : ℕ) (d : LocalRun) → some ≡ params ++ declared (take i runs) → length some ≤ n → i < length runs → m ≡ length some → k ≡ m → (get_or runs i d).count ≤ n - m → new ≡ take (m + (get_or runs i d).count) some ++ replicate (m + (get_or runs i d).count - k) (get_or runs i d).val_type → (new ≡ params ++ declared (take (i + 1) runs)) × (length new ≤ n)
 next_new new some params runs i n m k d e le lt q p few h =
     let r = get_or runs i d in
     let j : m + r.count - k ≡ r.count = omega (arith, p) in
-    let now : new ≡ some ++ replicate r.count r.content =
-    h ∙ ap (λ z. z ++ replicate (m + r.count - k) r.content) (take_all (m + r.count) some (omega (arith, q))) ∙ ap (λ z. some ++ replicate z r.content) j in
+    let now : new ≡ some ++ replicate r.count r.val_type =
+    h ∙ ap (λ z. z ++ replicate (m + r.count - k) r.val_type) (take_all (m + r.count) some (omega (arith, q))) ∙ ap (λ z. some ++ replicate z r.val_type) j in
     let size : length new ≡ length some + r.count =
-    ap length now ∙ length-append some (replicate r.count r.content) ∙ ap (λ z. length some + z) (length-replicate r.count r.content) in
+    ap length now ∙ length-append some (replicate r.count r.val_type) ∙ ap (λ z. length some + z) (length-replicate r.count r.val_type) in
     (now ∙ next_first some params runs i d e lt, omega (arith, size, le, q, few))
 
 -- the same of runs with their ends, and without parameters
-pub next_declared : (new some : List ValType) (runs : List EndedRun) (i n m k : ℕ) (d : EndedRun) → some ≡ declared (take i (map run_of runs)) → length some ≤ n → i < length runs → m ≡ length some → k ≡ m → (get_or runs i d).run.count ≤ n - m → new ≡ take (m + (get_or runs i d).run.count) some ++ replicate (m + (get_or runs i d).run.count - k) (get_or runs i d).run.content → (new ≡ declared (take (i + 1) (map run_of runs))) × (length new ≤ n)
+pub next_declared : (new some : List ValType) (runs : List EndedRun) (i n m k : ℕ) (d : EndedRun) → some ≡ declared (take i (map run_of runs)) → length some ≤ n → i < length runs → m ≡ length some → k ≡ m → (get_or runs i d).run.count ≤ n - m → new ≡ take (m + (get_or runs i d).run.count) some ++ replicate (m + (get_or runs i d).run.count - k) (get_or runs i d).run.val_type → (new ≡ declared (take (i + 1) (map run_of runs))) × (length new ≤ n)
 next_declared new some runs i n m k d e le lt q p =
-    let P : LocalRun → Type 0 = λ r. r.count ≤ n - m → new ≡ take (m + r.count) some ++ replicate (m + r.count - k) r.content → (new ≡ declared (take (i + 1) (map run_of runs))) × (length new ≤ n) in
+    let P : LocalRun → Type 0 = λ r. r.count ≤ n - m → new ≡ take (m + r.count) some ++ replicate (m + r.count - k) r.val_type → (new ≡ declared (take (i + 1) (map run_of runs))) × (length new ≤ n) in
     subst P (get_or-map run_of runs i d) (next_new new some [] (map run_of runs) i n m k (run_of d) e le (subst (λ z. i < z) (sym (length-map runs run_of)) lt) q p)

@@ -20,8 +20,8 @@ same_list [] = refl
 same_list (t ∷ ts) = ap (λ b. b && same_types ts ts) (same_as_itself t) ∙ same_list ts
 
 -- lists at one place
-pub same_place : (types : List FuncType) (a b : TypeList) → a ≡ b → same_types (reverse (list_of types a)) (reverse (list_of types b)) ≡ true
-same_place types a b e =
+pub same_position : (types : List FuncType) (a b : TypeList) → a ≡ b → same_types (reverse (list_of types a)) (reverse (list_of types b)) ≡ true
+same_position types a b e =
     ap (λ z. same_types (reverse (list_of types a)) (reverse (list_of types z))) (sym e) ∙ same_list (reverse (list_of types a))
 
 -- one list that is a suffix of another, which is no longer

@@ -7,7 +7,7 @@ use Rattle.wsyntax.specs.Validation.Algorithm as alg
 use Rattle.wsyntax.specs.Validation.Algorithm.{Rule}
 use Rattle.wcontext.specs.Lists.{list_of}
 use Rattle.wcheck.specs.declared.rule.OperandRule.{OperandRule}
-use Rattle.wcheck.specs.declared.rule.OperandRule.TheVariants.{Nothing, Push, Pop, Unary, Binary, Stores, Signature, Ends, Drops, Selects}
+use Rattle.wcheck.specs.declared.rule.OperandRule.TheVariants.{Nothing, Push, Pop, Unary, Binary, Stores, Signature, Terminates, Drop, Select}
 
 -- with an i32 on top, or not
 abbrev pub indexed : Bool → Stack → Stack
@@ -22,6 +22,6 @@ rule_of types (Unary t u) = alg.Takes (t ∷ []) (u ∷ [])
 rule_of types (Binary t u) = alg.Takes (t ∷ t ∷ []) (u ∷ [])
 rule_of types (Stores t) = alg.Takes (t ∷ I32 ∷ []) []
 rule_of types (Signature has_index ts us) = alg.Takes (indexed has_index (reverse (list_of types ts))) (reverse (list_of types us))
-rule_of types (Ends has_index ts) = alg.Ends (indexed has_index (reverse (list_of types ts)))
-rule_of types Drops = alg.Drops
-rule_of types Selects = alg.Selects
+rule_of types (Terminates has_index ts) = alg.Ends (indexed has_index (reverse (list_of types ts)))
+rule_of types Drop = alg.Drops
+rule_of types Select = alg.Selects

@@ -24,7 +24,7 @@ fn joined(x: Option<ValType>, y: Option<ValType>) -> Option<Option<ValType>>
 /// Takes an i32 and two operands that may be of one type, and puts one of that type.
 #[inline]
 fn selects(operands: &mut OperandStack) -> Result<bool, AllocError>
-    ensures above { IfOk result (λ yes. apply (rule_of operands.old.types OperandRule.Selects) operands.old.above
+    ensures above { IfOk result (λ yes. apply (rule_of operands.old.types OperandRule.Select) operands.old.above
         ≡ when yes (Some operands.new.above)) }
     ensures below { operands.new.below ≡ operands.old.below }
     ensures types { operands.new.types ≡ operands.old.types }
@@ -71,7 +71,7 @@ fn apply_signature(
 /// Takes some types, and what follows is not reached.
 #[inline]
 fn ends(operands: &mut OperandStack, has_index: bool, takes: TypeList) -> bool
-    ensures above { apply (rule_of operands.old.types (OperandRule.Ends has_index takes)) operands.old.above
+    ensures above { apply (rule_of operands.old.types (OperandRule.Terminates has_index takes)) operands.old.above
         ≡ when result (Some operands.new.above) }
     ensures below { operands.new.below ≡ operands.old.below }
     ensures types { operands.new.types ≡ operands.old.types }
@@ -114,9 +114,9 @@ pub(crate) fn apply_rule(operands: &mut OperandStack, rule: OperandRule) -> Resu
             takes,
             gives,
         } => apply_signature(operands, has_index, takes, gives),
-        OperandRule::Ends { has_index, takes } => Ok(ends(operands, has_index, takes)),
-        OperandRule::Drops => Ok(operands.drop_known() || operands.pop_any().is_some()),
-        OperandRule::Selects => selects(operands),
+        OperandRule::Terminates { has_index, takes } => Ok(ends(operands, has_index, takes)),
+        OperandRule::Drop => Ok(operands.drop_known() || operands.pop_any().is_some()),
+        OperandRule::Select => selects(operands),
     }
 }
 
@@ -135,10 +135,10 @@ pub(crate) fn apply_known(operands: &mut OperandStack, rule: OperandRule) -> boo
         OperandRule::Unary(t, u) => operands.apply_unary_known(t, u),
         OperandRule::Binary(t, u) => operands.apply_binary_known(t, u),
         OperandRule::Stores(t) => operands.pop_two_known(t, ValType::I32),
-        OperandRule::Drops => operands.drop_known(),
+        OperandRule::Drop => operands.drop_known(),
         OperandRule::Nothing
         | OperandRule::Signature { .. }
-        | OperandRule::Ends { .. }
-        | OperandRule::Selects => false,
+        | OperandRule::Terminates { .. }
+        | OperandRule::Select => false,
     }
 }

@@ -99,7 +99,7 @@ fn whole(context: &Context, list: TypeList) -> TypePrefix
 }
 
 /// Whether two lists of types are the same, which is mostly known without comparing them.
-#[tactic(auto, using(crate::proofs::TakenBack::same_place))]
+#[tactic(auto, using(crate::proofs::TakenBack::same_position))]
 pub(crate) fn are_same_lists(context: &Context, a: TypeList, b: TypeList) -> bool
     ensures { result ≡ same_types (reverse (list_of context.now.context.types a)) (reverse (list_of context.now.context.types b)) }
 {

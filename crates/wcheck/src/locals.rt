@@ -91,10 +91,10 @@ fn write_first(
         let written = expanded.len();
         let count = run.count as usize;
         if count > EXPANDED - written {
-            expanded.resize(EXPANDED, run.content)?;
+            expanded.resize(EXPANDED, run.val_type)?;
             return Ok(());
         }
-        expanded.resize(written + count, run.content)?;
+        expanded.resize(written + count, run.val_type)?;
     }
     Ok(())
 }
@@ -110,7 +110,7 @@ fn write_declared(written: &mut Vec<ValType>, runs: &[EndedRun]) -> Result<(), A
         if count > LOCAL_LIMIT as usize - length {
             return Ok(());
         }
-        written.resize(length + count, ended.run.content)?;
+        written.resize(length + count, ended.run.val_type)?;
     }
     Ok(())
 }
@@ -132,7 +132,7 @@ fn declared_local(runs: &[EndedRun], x: usize) -> Option<ValType>
         }
     }
     if low < runs.len() {
-        Some(runs[low].run.content)
+        Some(runs[low].run.val_type)
     } else {
         None
     }
@@ -156,7 +156,7 @@ fn local_past_expanded(
     }
     let x = x - params.len();
     match written.get(x) {
-        Some(content) => Some(*content),
+        Some(val_type) => Some(*val_type),
         None => declared_local(runs, x),
     }
 }
@@ -205,7 +205,7 @@ impl<'a> Locals<'a> {
         ensures { IfSome result (λ t. slice_get self.now x ≡ Some t) }
     {
         match self.expanded.get(x as usize) {
-            Some(content) => Some(*content),
+            Some(val_type) => Some(*val_type),
             None => None,
         }
     }
@@ -234,7 +234,7 @@ impl<'a> Locals<'a> {
         ensures { result ≡ slice_get self.now x }
     {
         match self.expanded.get(x as usize) {
-            Some(content) => Some(*content),
+            Some(val_type) => Some(*val_type),
             None => local_past_expanded(self.params, &self.written, &self.runs, x),
         }
     }

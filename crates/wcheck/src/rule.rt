@@ -34,14 +34,14 @@ pub enum OperandRule {
         gives: TypeList,
     },
     /// Takes these, and what follows is not reached.
-    Ends {
+    Terminates {
         has_index: bool,
         takes: TypeList,
     },
     /// Takes one operand of any type.
-    Drops,
+    Drop,
     /// Takes an i32 and two operands of one type, and puts one of that type.
-    Selects,
+    Select,
 }
 
 /// The rule of a numeric operator (3.3.1).
@@ -125,7 +125,7 @@ pub fn table_default(targets: &[u32], first: usize, count: u32) -> u32
     ensures { result ≡ slice_index_or targets.now (first + count) 0 }
 {
     match first.checked_add(count as usize) {
-        Some(place) => targets.get(place).copied().unwrap_or(0),
+        Some(position) => targets.get(position).copied().unwrap_or(0),
         None => 0,
     }
 }
@@ -144,14 +144,14 @@ pub(crate) fn rule_of_token(
 {
     let context = scope.context;
     match token {
-        Token::Unreachable => Some(OperandRule::Ends {
+        Token::Unreachable => Some(OperandRule::Terminates {
             has_index: false,
             takes: TypeList::Nothing,
         }),
         Token::Nop => Some(OperandRule::Nothing),
         Token::Br(label) => {
             let takes = label_at(frame, outer, label.index)?;
-            Some(OperandRule::Ends {
+            Some(OperandRule::Terminates {
                 has_index: false,
                 takes,
             })
@@ -175,12 +175,12 @@ pub(crate) fn rule_of_token(
             ) {
                 return None;
             }
-            Some(OperandRule::Ends {
+            Some(OperandRule::Terminates {
                 has_index: true,
                 takes,
             })
         }
-        Token::Return => Some(OperandRule::Ends {
+        Token::Return => Some(OperandRule::Terminates {
             has_index: false,
             takes: scope.results,
         }),
@@ -203,28 +203,28 @@ pub(crate) fn rule_of_token(
                 gives: results,
             })
         }
-        Token::Drop => Some(OperandRule::Drops),
-        Token::Select => Some(OperandRule::Selects),
+        Token::Drop => Some(OperandRule::Drop),
+        Token::Select => Some(OperandRule::Select),
         Token::LocalGet(x) => {
-            let content = scope.locals.get(x)?;
-            Some(OperandRule::Push(content))
+            let val_type = scope.locals.get(x)?;
+            Some(OperandRule::Push(val_type))
         }
         Token::LocalSet(x) => {
-            let content = scope.locals.get(x)?;
-            Some(OperandRule::Pop(content))
+            let val_type = scope.locals.get(x)?;
+            Some(OperandRule::Pop(val_type))
         }
         Token::LocalTee(x) => {
-            let content = scope.locals.get(x)?;
-            Some(OperandRule::Unary(content, content))
+            let val_type = scope.locals.get(x)?;
+            Some(OperandRule::Unary(val_type, val_type))
         }
         Token::GlobalGet(x) => {
             let global = context.global(x)?;
-            Some(OperandRule::Push(global.content))
+            Some(OperandRule::Push(global.val_type))
         }
         Token::GlobalSet(x) => {
             let global = context.global(x)?;
             if global.mutable {
-                Some(OperandRule::Pop(global.content))
+                Some(OperandRule::Pop(global.val_type))
             } else {
                 None
             }

@@ -17,14 +17,14 @@ use Rattle.wcontext.specs.Constants.{immutable_type, constant_type, constant_of}
 
 -- What is computed is so.
 
-immutable_is : (u t : ValType) (m : Bool) → (if m then None else Some u) ≡ Some t → let g : GlobalType = record { content = u; mutable = m } in g ≡ record { content = t; mutable = false }
+immutable_is : (u t : ValType) (m : Bool) → (if m then None else Some u) ≡ Some t → let g : GlobalType = record { val_type = u; mutable = m } in g ≡ record { val_type = t; mutable = false }
 immutable_is u t true e = cc
-immutable_is u t false e = let same : u ≡ t = cc in ap (λ v. let g : GlobalType = record { content = v; mutable = false } in g) same
+immutable_is u t false e = let same : u ≡ t = cc in ap (λ v. let g : GlobalType = record { val_type = v; mutable = false } in g) same
 
 -- a global.get of an immutable global
-global_is : (o : Option GlobalType) (t : ValType) → option_and_then immutable_type o ≡ Some t → o ≡ Some record { content = t; mutable = false }
+global_is : (o : Option GlobalType) (t : ValType) → option_and_then immutable_type o ≡ Some t → o ≡ Some record { val_type = t; mutable = false }
 global_is None t e = cc
-global_is (Some g) t e = ap Some (immutable_is g.content t g.mutable e)
+global_is (Some g) t e = ap Some (immutable_is g.val_type t g.mutable e)
 
 const_holds : (globals : List GlobalType) (u t : ValType) (n : ℕ) → u ≡ t → ConstantOf globals t (Do (Const u n) ∷ Last ∷ [])
 const_holds globals u t n same = rw same (one_const n)

@@ -21,7 +21,7 @@ count_is are Global = are.globals
 -- the imported globals stand first
 pub imported_is : {m : ModuleShape} {s : Spaces} (are : AreSpacesOf m s) → take s.imported_globals s.globals.items ≡ imported_globals m
 imported_is {m} {s} are =
-    rw (are.imported_globals, are.globals) (take-append_seam (imported_globals m) (map (λ g. g.content) m.globals))
+    rw (are.imported_globals, are.globals) (take-append_seam (imported_globals m) (map (λ g. g.global_type) m.globals))
 
 -- a data segment that is valid by the counts of a module is valid in it, and back
 pub segment_valid : {m : ModuleShape} {c : SpaceSizes} (are : AreCountsOf m c) (s : DataShape) → IsSegmentValid c s → DataValid m s

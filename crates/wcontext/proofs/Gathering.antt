@@ -16,7 +16,7 @@ use Rattle.wcontext.specs.declared.trie.Trie.{Trie}
 use Rattle.wcontext.specs.Lists.{list_of, IsSuffix}
 use Rattle.wcontext.specs.Nodes.{text, GivesLinks}
 use Rattle.wcontext.specs.Trie.{HasPrefixes, IsUnread, AreNodesOf}
-use Rattle.wcontext.specs.Walk.{AreNumbersOf}
+use Rattle.wcontext.specs.Walk.{ArePreorderOf}
 use Rattle.wcontext.specs.SuffixTree.{none, starts_at, start_in, AreSuffixesAt, HavePrefixes, IsGatheredFrom, PutsList}
 use Rattle.wcontext.proofs.Links.{text_prefix}
 
@@ -117,8 +117,8 @@ gathered_next types old mid new t s kept before params results is more =
     )
 
 -- the numbers of the nodes become those of the prefixes
-pub ends_read : (all : List (List ValType)) (lists : List Reading) (trie : Trie) (nodes numbered : List Node) → All (IsUnread all) lists → AreNodesOf lists trie → GivesLinks trie.nodes nodes → AreNumbersOf nodes numbered → AreSuffixesAt all trie.prefixes.items numbered
-ends_read all lists trie nodes numbered unread are links given a b here there from to =
+pub ends_read : (all : List (List ValType)) (lists : List Reading) (trie : Trie) (nodes ordered : List Node) → All (IsUnread all) lists → AreNodesOf lists trie → GivesLinks trie.nodes nodes → ArePreorderOf nodes ordered → AreSuffixesAt all trie.prefixes.items ordered
+ends_read all lists trie nodes ordered unread are links given a b here there from to =
     let prefixes = trie.prefixes.items in
     let some = are all unread in
     let texts = some.0 in

@@ -132,10 +132,10 @@ nodes_put texts old new p t d are puts parent child is = record {
 pub made_after : (old mid new : Nodes) (p d : ℕ) (t : ValType) (n : Node) (texts : List (List ValType)) → AreNodes texts old → p < length texts → (n.above < length texts) × IsSuffix (text texts n.above) (text texts p ++ t ∷ []) → n.below ≡ 0
     → d ≡ length old.nodes.items → mid.nodes.items ≡ old.nodes.items ++ n ∷ [] → mid.links.items ≡ old.links.items ++ n.above ∷ [] → mid.forks ≡ old.forks → PutsChild mid new p t d
     → (more : List (List ValType)) × AreNodes (texts ++ more) new × (d < length (texts ++ more)) × (text (texts ++ more) d ≡ text texts p ++ t ∷ [])
-made_after old mid new p d t n texts are parent ends childless place nodes links forks puts =
+made_after old mid new p d t n texts are parent ends childless position nodes links forks puts =
     let x = text texts p ++ t ∷ [] in
     let made = nodes_more texts old mid x n are ends.0 childless ends.1 nodes links forks in
-    let at : d ≡ length texts = place ∙ are.aboves.size in
+    let at : d ≡ length texts = position ∙ are.aboves.size in
     let inside : d < length (texts ++ x ∷ []) = omega (arith, at, length_push texts x) in
     let last : text (texts ++ x ∷ []) d ≡ x = ap (text (texts ++ x ∷ [])) at ∙ text_last texts x in
     (x ∷ [], nodes_put (texts ++ x ∷ []) mid new p t d made puts (omega (arith, parent, length_push texts x)) inside (last ∙ ap (λ z. z ++ t ∷ []) (sym (text_prefix texts (x ∷ []) p parent))), inside, last)

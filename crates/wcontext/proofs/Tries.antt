@@ -48,17 +48,17 @@ in_block_more all texts more base column r held = record {
 -- One type more is read.
 
 -- a node is put where its text is wanted
-pub put_node : (texts : List (List ValType)) (wanted : ℕ → List ValType) (nodes : List ℕ) (place d : ℕ) → AreTexts texts wanted nodes → (0 < d → (d < length texts) × (text texts d ≡ wanted place)) → AreTexts texts wanted (set nodes place d)
-put_node texts wanted nodes place d read is x above = elim (cases_eq x place) [
-  | inl same ↦ elim (cases_lt place (length nodes)) [
+pub put_node : (texts : List (List ValType)) (wanted : ℕ → List ValType) (nodes : List ℕ) (position d : ℕ) → AreTexts texts wanted nodes → (0 < d → (d < length texts) × (text texts d ≡ wanted position)) → AreTexts texts wanted (set nodes position d)
+put_node texts wanted nodes position d read is x above = elim (cases_eq x position) [
+  | inl same ↦ elim (cases_lt position (length nodes)) [
     | inl inside ↦
-        let now : get_or (set nodes place d) x 0 ≡ d = ap (λ i. get_or (set nodes place d) i 0) same ∙ get_or-set_same nodes place d 0 inside in
+        let now : get_or (set nodes position d) x 0 ≡ d = ap (λ i. get_or (set nodes position d) i 0) same ∙ get_or-set_same nodes position d 0 inside in
         let one = is (subst (λ n. 0 < n) now above) in
         rw now (one.0, one.1 ∙ ap wanted (sym same))
-    | inr past ↦ absurd (omega (arith, above, get_or_past (set nodes place d) x 0 (omega (arith, same, past, length-set nodes place d))))
+    | inr past ↦ absurd (omega (arith, above, get_or_past (set nodes position d) x 0 (omega (arith, same, past, length-set nodes position d))))
   ]
   | inr other ↦
-      let now = get_or-set_other nodes place x d 0 other in
+      let now = get_or-set_other nodes position x d 0 other in
       rw now (read x (subst (λ n. 0 < n) now above))
 ]
 
@@ -73,9 +73,9 @@ type_read all texts list next base i d t held inside within is more below child 
     let at : t ≡ get_or list.types.now (base + i) t = is ∙ held.block i t inside within in
     let prefix : text (texts ++ more) d ≡ take (base + i + 1) list.types.now = child ∙ ap (λ z. z ++ t ∷ []) held.reading.is ∙ next_types list.types.now (base + i) t t within at in
     let there : text all (list.start + (base + i)) ≡ take (base + i + 1) list.types.now = (held.reading.prefixes (base + i) within).1 in
-    let place : list.start + (base + i) ≡ list.start + base + i = omega arith in
+    let position : list.start + (base + i) ≡ list.start + base + i = omega arith in
     let wanted : ℕ → List ValType = λ j. text all (list.start + base + j) in
-    let add_list = put_node (texts ++ more) wanted list.nodes i d (texts_more texts more wanted list.nodes held.nodes) (λ _. (below, prefix ∙ sym there ∙ ap (text all) place)) in
+    let add_list = put_node (texts ++ more) wanted list.nodes i d (texts_more texts more wanted list.nodes held.nodes) (λ _. (below, prefix ∙ sym there ∙ ap (text all) position)) in
     record {
       reading = record {
         prefixes = subst (λ n. HasPrefixes all next.types.now n) (sym start) (subst (λ s. HasPrefixes all s.now list.start) (sym types) held.reading.prefixes);
@@ -155,9 +155,9 @@ none_of_block n lists base all texts are each =
 
 -- The prefixes of a block.
 
-pub put_prefix : (old now : List ℕ) (list : Reading) (base place i : ℕ) → PutsPrefixes old now list base → place ≡ list.start + base + i → PutsPrefixes old (set now place (get_or list.nodes i 0)) list base
-put_prefix old now list base place i before at all texts column held read =
-    put_node texts (text all) now place (get_or list.nodes i 0) (before all texts column held read) (λ above.
+pub put_prefix : (old now : List ℕ) (list : Reading) (base position i : ℕ) → PutsPrefixes old now list base → position ≡ list.start + base + i → PutsPrefixes old (set now position (get_or list.nodes i 0)) list base
+put_prefix old now list base position i before at all texts column held read =
+    put_node texts (text all) now position (get_or list.nodes i 0) (before all texts column held read) (λ above.
     let node = held.nodes i above in
     (node.0, node.1 ∙ ap (text all) (sym at)))
 

@@ -10,7 +10,7 @@ use Rattle.wsyntax.specs.declared.Token.TheVariants as token
 
 -- what a global.get of that global leaves, if it is immutable
 abbrev pub immutable_type : GlobalType → Option ValType
-immutable_type g = if g.mutable then None else Some g.content
+immutable_type g = if g.mutable then None else Some g.val_type
 
 -- what an instruction of a constant expression leaves, under these imported globals
 abbrev pub constant_type : List GlobalType → Token → Option ValType

@@ -8,11 +8,11 @@ use Rattle.wcontext.specs.declared.nodes.Nodes.{Nodes}
 use Rattle.wcontext.specs.Lists.{IsSuffix}
 
 -- the number of a type, by which forks are ordered
-abbrev pub type_number : ValType → ℕ
-type_number I32 = 0
-type_number I64 = 1
-type_number F32 = 2
-type_number F64 = 3
+abbrev pub type_key : ValType → ℕ
+type_key I32 = 0
+type_key I64 = 1
+type_key F32 = 2
+type_key F64 = 3
 
 -- the text of a node, or of a place
 abbrev pub text : List (List ValType) → ℕ → List ValType
@@ -33,12 +33,12 @@ below_at nodes q = (get_or nodes q record { above = 0; below = 0 }).below
 -- below a node lies one child alone, by that type
 pub record IsOnly (below : ℕ) (t : ValType) (d : ℕ) : Type 0 where
   pub only : below < 2147483648
-  pub is : below ≡ 4 * d + type_number t
+  pub is : below ≡ 4 * d + type_key t
 
 -- below a node lies a fork, which has that child by that type
 pub record IsForked (below : ℕ) (forks : List Fork) (t : ValType) (d : ℕ) : Type 0 where
   pub fork : 2147483648 ≤ below
-  pub is : get_or (get_or forks (below - 2147483648) record { children = [] }).children (type_number t) 0 ≡ d
+  pub is : get_or (get_or forks (below - 2147483648) record { children = [] }).children (type_key t) 0 ≡ d
 
 -- a node has that child by that type
 abbrev pub HasChildIn : List Node → List Fork → ℕ → ValType → ℕ → Type 0
@@ -50,7 +50,7 @@ HasChild n p t d = HasChildIn n.nodes.items n.forks.items p t d
 
 -- these are the node's children, by the numbers of their types
 abbrev pub AreChildren : Nodes → ℕ → List ℕ → Type 0
-AreChildren n p children = (t : ValType) → 0 < get_or children (type_number t) 0 → HasChild n p t (get_or children (type_number t) 0)
+AreChildren n p children = (t : ValType) → 0 < get_or children (type_key t) 0 → HasChild n p t (get_or children (type_key t) 0)
 
 -- the forks that lie below nodes are there
 abbrev pub AreForksThere : Nodes → Type 0

@@ -9,7 +9,7 @@ use Rattle.wsyntax.specs.declared.Global.{Global}
 
 -- 3.4.4 the global's first value is a constant expression of its type
 abbrev pub IsGlobalConstant : List GlobalType → Global → Type 0
-IsGlobalConstant globals g = ConstantOf globals g.content.content (initial_tokens g.init)
+IsGlobalConstant globals g = ConstantOf globals g.global_type.val_type (initial_tokens g.init)
 
 -- 3.4.5 where there are that many tables and functions
 abbrev pub IsElementValid : ℕ → ℕ → List GlobalType → HeldElement → Type 0

@@ -9,7 +9,7 @@ use Rattle.wcontext.specs.declared.lists.TypeList.TheVariants.{Nothing, One, Par
 use Rattle.wcontext.specs.declared.suffix_tree.Starts.{Starts}
 use Rattle.wcontext.specs.declared.suffix_tree.Gathered.{Gathered}
 use Rattle.wcontext.specs.declared.suffix_tree.SuffixTree.{SuffixTree}
-use Rattle.wcontext.specs.declared.suffix_tree.Numbers.{Numbers}
+use Rattle.wcontext.specs.declared.suffix_tree.Interval.{Interval}
 use Rattle.wcontext.specs.declared.nodes.Node.{Node}
 use Rattle.wcontext.specs.Lists.{list_of, IsSuffix}
 use Rattle.wcontext.specs.Nodes.{text}
@@ -54,12 +54,12 @@ abbrev pub IsGatheredFrom : List FuncType → Gathered → Type 0
 IsGatheredFrom types g = (all : List (List ValType)) × IsGathered all g × HavePrefixes types g.starts.items all
 
 -- the prefix at a place was read, and its node has numbers
-abbrev pub HasNumbers : List ℕ → List Node → ℕ → Type 0
-HasNumbers prefixes nodes place = (0 < get_or prefixes place 0) × (get_or prefixes place 0 < length nodes)
+abbrev pub HasInterval : List ℕ → List Node → ℕ → Type 0
+HasInterval prefixes nodes position = (0 < get_or prefixes position 0) × (get_or prefixes position 0 < length nodes)
 
 -- a prefix whose number lies within those of another has that as a suffix
 abbrev pub AreSuffixesAt : List (List ValType) → List ℕ → List Node → Type 0
-AreSuffixesAt all prefixes nodes = (a b : ℕ) → HasNumbers prefixes nodes a → HasNumbers prefixes nodes b
+AreSuffixesAt all prefixes nodes = (a b : ℕ) → HasInterval prefixes nodes a → HasInterval prefixes nodes b
     → start_at nodes (get_or prefixes a 0) ≤ start_at nodes (get_or prefixes b 0)
     → start_at nodes (get_or prefixes b 0) < suffix_at nodes (get_or prefixes a 0) → IsSuffix (text all a) (text all b)
 
@@ -68,11 +68,11 @@ abbrev pub IsSuffixTree : List FuncType → SuffixTree → Type 0
 IsSuffixTree types t = (all : List (List ValType)) × AreSuffixesAt all t.prefixes.items t.nodes.items × HavePrefixes types t.starts.items all
 
 -- these are the numbers of the first `count` types of that list
-abbrev pub HoldsPrefix : SuffixTree → TypeList → ℕ → Numbers → Type 0
-HoldsPrefix t list count n = (place : ℕ) × HasNumbers t.prefixes.items t.nodes.items place
-    × (start_at t.nodes.items (get_or t.prefixes.items place 0) ≡ n.start) × (suffix_at t.nodes.items (get_or t.prefixes.items place 0) ≡ n.end)
+abbrev pub HoldsPrefix : SuffixTree → TypeList → ℕ → Interval → Type 0
+HoldsPrefix t list count n = (position : ℕ) × HasInterval t.prefixes.items t.nodes.items position
+    × (start_at t.nodes.items (get_or t.prefixes.items position 0) ≡ n.start) × (suffix_at t.nodes.items (get_or t.prefixes.items position 0) ≡ n.end)
     × ((types : List FuncType) (all : List (List ValType)) → HavePrefixes types t.starts.items all → count ≤ length (list_of types list)
-    → text all place ≡ take count (list_of types list))
+    → text all position ≡ take count (list_of types list))
 
 -- the one prefix is a suffix of the other, if both lists have as many types
 abbrev pub TellsSuffix : SuffixTree → TypeList → ℕ → TypeList → ℕ → Type 0

@@ -49,5 +49,5 @@ pub record IsCountedFrom (nodes : List Node) (i : ℕ) : Type 0 where
   pub high : (q : ℕ) → i ≤ q → q < length nodes → IsCounted nodes q
 
 -- the new nodes have numbers by the links of the old
-abbrev pub AreNumbersOf : List Node → List Node → Type 0
-AreNumbersOf old new = (texts : List (List ValType)) → IsLinked texts old → AreSuffixes texts new
+abbrev pub ArePreorderOf : List Node → List Node → Type 0
+ArePreorderOf old new = (texts : List (List ValType)) → IsLinked texts old → AreSuffixes texts new

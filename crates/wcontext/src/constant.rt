@@ -17,7 +17,7 @@ fn constant_type(token: &Token, globals: &[GlobalType]) -> Option<ValType>
         Token::F32Const(_) => Some(ValType::F32),
         Token::F64Const(_) => Some(ValType::F64),
         Token::GlobalGet(index) => match globals.get(index as usize) {
-            Some(global) if !global.mutable => Some(global.content),
+            Some(global) if !global.mutable => Some(global.val_type),
             _ => None,
         },
         _ => None,
@@ -59,7 +59,7 @@ pub fn are_constant(globals: &[Global<'_>], imported: &[GlobalType]) -> bool
     ensures { IsTrue result ↔ All (IsGlobalConstant imported.now) globals.now }
 {
     for global in globals {
-        if !is_constant(&global.init, global.content.content, imported) {
+        if !is_constant(&global.init, global.global_type.val_type, imported) {
             return false;
         }
     }

@@ -1,6 +1,6 @@
 //! The nodes of a trie of lists of types, with the links of Aho and Corasick.
 ghost use Rattle.std.specs.Prelude.{◌≡◌, ◌<◌, [], ◌∷◌, IfSome};
-ghost use Rattle.wcontext.specs.Nodes.{type_number, HasChild, AreChildren, PutsChild, FindsSuffix};
+ghost use Rattle.wcontext.specs.Nodes.{type_key, HasChild, AreChildren, PutsChild, FindsSuffix};
 ghost use Rattle.wcontext.specs.Nodes.{AreNodes, KeepsTexts, IsNodeAfter, GivesLinks};
 
 use std::alloc::Global;
@@ -46,8 +46,8 @@ pub(crate) struct Nodes {
 }
 
 #[inline]
-fn number(t: ValType) -> u32
-    ensures { result ≡ type_number t }
+fn type_key(t: ValType) -> u32
+    ensures { result ≡ type_key t }
 {
     match t {
         ValType::I32 => 0,
@@ -107,10 +107,10 @@ impl Nodes {
         };
         let below = parent.below;
         if below < FORKS {
-            return if below % 4 == number(t) { below / 4 } else { 0 };
+            return if below % 4 == type_key(t) { below / 4 } else { 0 };
         }
         match self.forks.get((below - FORKS) as usize) {
-            Some(fork) => fork.children[number(t) as usize],
+            Some(fork) => fork.children[type_key(t) as usize],
             None => 0,
         }
     }
@@ -175,7 +175,7 @@ impl Nodes {
         if child >= FORKS / 4 || node as usize >= self.nodes.len() {
             return None;
         }
-        self.nodes[node as usize].below = 4 * child + number(t);
+        self.nodes[node as usize].below = 4 * child + type_key(t);
         Some(())
     }
 
@@ -184,13 +184,13 @@ impl Nodes {
         ensures { IfSome result (λ _. PutsChild self.old self.new node t child) }
     {
         let mut children = self.children(node);
-        children[number(t) as usize] = child;
-        let place = FORKS.checked_add(u32::try_from(self.forks.len()).ok()?)?;
+        children[type_key(t) as usize] = child;
+        let position = FORKS.checked_add(u32::try_from(self.forks.len()).ok()?)?;
         if node as usize >= self.nodes.len() {
             return None;
         }
         self.forks.push(Fork { children }).ok()?;
-        self.nodes[node as usize].below = place;
+        self.nodes[node as usize].below = position;
         Some(())
     }
 

@@ -32,8 +32,8 @@ pub fn are_elements_valid(
 ) -> bool
     ensures { IsTrue result ↔ All (IsElementValid tables functions globals.now) segments.now }
 {
-    for number in 0..segments.len() {
-        let Some(segment) = segments.get(number) else {
+    for index in 0..segments.len() {
+        let Some(segment) = segments.get(index) else {
             unreachable!()
         };
         if !is_element_valid(segment, tables, functions, globals) {

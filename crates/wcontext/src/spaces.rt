@@ -65,7 +65,7 @@ impl Spaces {
     {
         let mut globals = imported_globals(alloc, &module.imports)?;
         for global in &module.globals {
-            globals.push(global.content)?;
+            globals.push(global.global_type)?;
         }
         Ok(globals)
     }

@@ -6,7 +6,7 @@ use crate::lists::TypeList;
 use crate::nodes::Node;
 use crate::trie::{Reading, Trie};
 use crate::tuning::{COMPARED, LONG};
-use crate::walk::number;
+use crate::walk::assign_preorder;
 use std::alloc::Global;
 use wsyntax::{FuncTypes, ValType};
 
@@ -22,7 +22,7 @@ pub(crate) struct Starts {
 
 /// The numbers of a prefix and of those that it is a suffix of: from its own on, up to `end`.
 #[derive(Clone, Copy, Debug)]
-struct Numbers {
+struct Interval {
     start: u32,
     end: u32,
 }
@@ -157,7 +157,7 @@ impl SuffixTree {
             gathered.prefixes as usize,
         )?;
         let mut nodes = nodes.linked();
-        number(&mut nodes)?;
+        assign_preorder(&mut nodes)?;
         Some(SuffixTree {
             starts: gathered.starts,
             prefixes,
@@ -180,19 +180,19 @@ impl SuffixTree {
 
     /// The numbers of the prefix of that list that has `count` types; `None` where the list is not in the tree.
     #[inline]
-    fn numbers(&self, list: TypeList, count: usize) -> Option<Numbers>
+    fn interval(&self, list: TypeList, count: usize) -> Option<Interval>
         ensures { IfSome result (HoldsPrefix self.now list count) }
     {
         let start = self.start_of(list)?;
-        let place = (start as usize).checked_add(count.checked_sub(1)?)?;
-        let node = *self.prefixes.get(place)?;
+        let position = (start as usize).checked_add(count.checked_sub(1)?)?;
+        let node = *self.prefixes.get(position)?;
         if node == 0 {
             return None;
         }
-        let numbered = self.nodes.get(node as usize)?;
-        Some(Numbers {
-            start: numbered.above,
-            end: numbered.below,
+        let ordered = self.nodes.get(node as usize)?;
+        Some(Interval {
+            start: ordered.above,
+            end: ordered.below,
         })
     }
 
@@ -208,8 +208,8 @@ impl SuffixTree {
     ) -> Option<bool>
         ensures { IfSome result (λ answer. answer ≡ true → TellsSuffix self.now short short_count long long_count) }
     {
-        let within = self.numbers(long, long_count)?.start;
-        let numbers = self.numbers(short, short_count)?;
-        Some(numbers.start <= within && within < numbers.end)
+        let within = self.interval(long, long_count)?.start;
+        let interval = self.interval(short, short_count)?;
+        Some(interval.start <= within && within < interval.end)
     }
 }

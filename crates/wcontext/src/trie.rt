@@ -134,9 +134,9 @@ impl Trie {
     {
         let start = (list.start as usize).checked_add(base)?;
         for i in 0..list.types.len().saturating_sub(base).min(WIDTH) {
-            let place = start.checked_add(i)?;
-            if place < self.prefixes.len() {
-                self.prefixes[place] = list.nodes[i];
+            let position = start.checked_add(i)?;
+            if position < self.prefixes.len() {
+                self.prefixes[position] = list.nodes[i];
             }
         }
         Some(())

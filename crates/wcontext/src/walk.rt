@@ -1,6 +1,6 @@
 //! A walk over the tree of links, which gives each node and all below it numbers side by side.
 ghost use Rattle.std.specs.Prelude.{length, IfSome};
-ghost use Rattle.wcontext.specs.Walk.{HaveLinksOf, IsCountedFrom, AreCounted, AreNumbersOf};
+ghost use Rattle.wcontext.specs.Walk.{HaveLinksOf, IsCountedFrom, AreCounted, ArePreorderOf};
 
 use crate::nodes::Node;
 
@@ -34,9 +34,9 @@ fn count(nodes: &mut [Node]) -> Option<()>
 }
 
 /// Numbers nodes that are counted. `below` of a node that has its number is the next that is left for those below it.
-fn give_numbers(nodes: &mut [Node]) -> Option<()>
+fn assign_counted(nodes: &mut [Node]) -> Option<()>
     requires { AreCounted nodes.old }
-    ensures { IfSome result (λ _. AreNumbersOf nodes.old nodes.new) }
+    ensures { IfSome result (λ _. ArePreorderOf nodes.old nodes.new) }
 {
     if nodes.is_empty() {
         return None;
@@ -59,10 +59,10 @@ fn give_numbers(nodes: &mut [Node]) -> Option<()>
 }
 
 /// Numbers the nodes in place of their links: the numbers of a node lie within those of the node that its link leads to.
-pub(crate) fn number(nodes: &mut [Node]) -> Option<()>
-    ensures { IfSome result (λ _. AreNumbersOf nodes.old nodes.new) }
+pub(crate) fn assign_preorder(nodes: &mut [Node]) -> Option<()>
+    ensures { IfSome result (λ _. ArePreorderOf nodes.old nodes.new) }
 {
     count(nodes)?;
-    give_numbers(nodes)?;
+    assign_counted(nodes)?;
     Some(())
 }

@@ -15,19 +15,19 @@ use Rattle.wdecode.proofs.SectionLaws.{section_agrees}
 
 -- The id of a section is its first byte.
 
-number : SectionKind → ℕ
-number CustomSection = 0
-number TypeSection = 1
-number ImportSection = 2
-number FunctionSection = 3
-number TableSection = 4
-number MemorySection = 5
-number GlobalSection = 6
-number ExportSection = 7
-number StartSection = 8
-number ElementSection = 9
-number CodeSection = 10
-number DataSection = 11
+id_of : SectionKind → ℕ
+id_of CustomSection = 0
+id_of TypeSection = 1
+id_of ImportSection = 2
+id_of FunctionSection = 3
+id_of TableSection = 4
+id_of MemorySection = 5
+id_of GlobalSection = 6
+id_of ExportSection = 7
+id_of StartSection = 8
+id_of ElementSection = 9
+id_of CodeSection = 10
+id_of DataSection = 11
 
 section_is : (a c : SectionShape) → Some a ≡ Some c → a ≡ c
 section_is a c e = cc
@@ -39,11 +39,11 @@ split : (t : Bool) (a k : SectionKind) (other : Option SectionKind) (P : Type 0)
 split true a k other P e hit missed = hit refl (kind_is a k e)
 split false a k other P e hit missed = missed e
 
-kind_number : (id : ℕ) (k : SectionKind) → kind_of id ≡ Some k → id ≡ number k
-unfolding number
-kind_number id k e =
-    let P : Type 0 = id ≡ number k in
-    let hit : (a : SectionKind) → eqb id (number a) ≡ true → a ≡ k → P = λ a t is. eqb-true id (number a) t ∙ ap number is in
+kind_id : (id : ℕ) (k : SectionKind) → kind_of id ≡ Some k → id ≡ id_of k
+unfolding id_of
+kind_id id k e =
+    let P : Type 0 = id ≡ id_of k in
+    let hit : (a : SectionKind) → eqb id (id_of a) ≡ true → a ≡ k → P = λ a t is. eqb-true id (id_of a) t ∙ ap id_of is in
     split (eqb id 0) CustomSection k _ P e (hit CustomSection) λ e.
     split (eqb id 1) TypeSection k _ P e (hit TypeSection) λ e.
     split (eqb id 2) ImportSection k _ P e (hit ImportSection) λ e.
@@ -60,8 +60,8 @@ kind_number id k e =
 made_section_id : (a s : SectionShape) (n : ℕ) → section_id a ≡ n → Some a ≡ Some s → section_id s ≡ n
 made_section_id a s n r e = ap section_id (sym (section_is a s e)) ∙ r
 
-contents_section_id : (k : SectionKind) (b bytes : List ℕ) (s : SectionShape) → (contents_of k b).spells bytes s → section_id s ≡ number k
-unfolding number
+contents_section_id : (k : SectionKind) (b bytes : List ℕ) (s : SectionShape) → (contents_of k b).spells bytes s → section_id s ≡ id_of k
+unfolding id_of
 contents_section_id CustomSection b bytes s sp = made_section_id Custom s 0 refl sp.5.1
 contents_section_id TypeSection b bytes s sp = made_section_id (Types sp.2) s 1 refl sp.5.1
 contents_section_id ImportSection b bytes s sp = made_section_id (Imports sp.2) s 2 refl sp.5.1
@@ -76,7 +76,7 @@ contents_section_id CodeSection b bytes s sp = made_section_id (Bodies sp.2) s 1
 contents_section_id DataSection b bytes s sp = made_section_id (Segments sp.2) s 11 refl sp.5.1
 
 contents_id : (id : ℕ) (b bytes : List ℕ) (s : SectionShape) → (contents id b).spells bytes s → id ≡ section_id s
-contents_id id b bytes s sp = kind_number id sp.2 sp.4.1 ∙ sym (contents_section_id sp.2 b sp.1 s sp.5)
+contents_id id b bytes s sp = kind_id id sp.2 sp.4.1 ∙ sym (contents_section_id sp.2 b sp.1 s sp.5)
 
 -- bytes that spell a section begin with its id
 pub spelled_section_id : (x : List ℕ) (s : SectionShape) → section.spells x s → (h : List ℕ) × (x ≡ section_id s ∷ h)

@@ -55,9 +55,9 @@ fn import_at(bytes: &[u8]) -> Result<(Import<'_>, &[u8]), Fault>
 fn global_at(alloc: Alloc, bytes: &[u8]) -> Result<(Global<'_>, &[u8]), Fault>
     ensures { Gives (λ x. (global_shape x.0, x.1.now)) result (global.read bytes.now) }
 {
-    let (content, rest) = global_type_at(bytes)?;
+    let (global_type, rest) = global_type_at(bytes)?;
     let (init, rest) = initial_at(alloc, rest)?;
-    Ok((Global { content, init }, rest))
+    Ok((Global { global_type, init }, rest))
 }
 
 /// An export (5.5.10).
@@ -83,8 +83,8 @@ fn run_at(bytes: &[u8]) -> Result<(LocalRun, &[u8]), Fault>
     ensures { Gives (λ x. (x.0, x.1.now)) result (run.read bytes.now) }
 {
     let (count, rest) = u32_at(bytes)?;
-    let (content, rest) = val_type_at(rest)?;
-    Ok((LocalRun { count, content }, rest))
+    let (val_type, rest) = val_type_at(rest)?;
+    Ok((LocalRun { count, val_type }, rest))
 }
 
 /// A data segment at the front whose offset is a constant i32, as nearly each is; `None` says nothing.

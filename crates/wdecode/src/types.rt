@@ -145,18 +145,18 @@ pub fn table_type_at(bytes: &[u8]) -> Result<(Table, &[u8]), Fault>
 pub fn global_type_at(bytes: &[u8]) -> Result<(GlobalType, &[u8]), Fault>
     ensures { Gives (λ x. (x.0, x.1.now)) result (global_type.read bytes.now) }
 {
-    let (content, rest) = val_type_at(bytes)?;
+    let (val_type, rest) = val_type_at(bytes)?;
     match rest {
         [0, rest @ ..] => Ok((
             GlobalType {
-                content,
+                val_type,
                 mutable: false,
             },
             rest,
         )),
         [1, rest @ ..] => Ok((
             GlobalType {
-                content,
+                val_type,
                 mutable: true,
             },
             rest,

@@ -1,6 +1,6 @@
 pub mod Numbers
 pub mod Ten
-pub mod Places
+pub mod Offsets
 pub mod Counts
 pub mod Shifts
 pub mod Ranges

@@ -94,7 +94,7 @@ pub as_many : (C : Context) (s : SlotStore) → ∥ IsHeld C s ∥₁ → length
 as_many C s held =
     ∥∥₁_elim held (hlevel props) (λ h.
     let vs : List Value = (store_of C s).globals in
-    sym (ap (λ (y : SlotStore). length y.globals) h.same) ∙ length-map vs bits ∙ sym (length-map vs type_of) ∙ ap length h.typed.globals.typed ∙ length-map C.globals (λ (g : GlobalType). g.content))
+    sym (ap (λ (y : SlotStore). length y.globals) h.same) ∙ length-map vs bits ∙ sym (length-map vs type_of) ∙ ap length h.typed.globals.typed ∙ length-map C.globals (λ (g : GlobalType). g.val_type))
 
 slots_set : (vs : List Value) (x : ℕ) (v : Value) → slots (slice_set vs x v) ≡ slice_set (slots vs) x (bits v)
 slots_set [] x v = refl

@@ -61,8 +61,8 @@ within_if false k o e = (refl, e)
 all_within : (k n : ℕ) (all : List Segment) → first_outside k n all ≡ None → AllWithin n all
 all_within k n [] e = tt
 all_within k n (s ∷ ss) e =
-    let h = within_if (nat_lt n (s.place + length s.items)) k (first_outside (suc k) n ss) e in
-    (ltb-false n (s.place + length s.items) h.0, all_within (suc k) n ss h.1)
+    let h = within_if (nat_lt n (s.offset + length s.items)) k (first_outside (suc k) n ss) e in
+    (ltb-false n (s.offset + length s.items) h.0, all_within (suc k) n ss h.1)
 
 -- The memory.
 

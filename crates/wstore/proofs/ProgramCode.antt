@@ -29,28 +29,28 @@ length-declared [] = refl
 length-declared (r ∷ rs) =
     sum_by-cons (λ (r : LocalRun). r.count) r rs
     ∙ ap (λ n. r.count + n) (length-declared rs)
-    ∙ ap (λ n. n + length (declared rs)) (sym (length-replicate r.count r.content))
-    ∙ sym (length-append (replicate r.count r.content) (declared rs))
+    ∙ ap (λ n. n + length (declared rs)) (sym (length-replicate r.count r.val_type))
+    ∙ sym (length-append (replicate r.count r.val_type) (declared rs))
 
 shape_is : (t : FuncType) (n : ℕ) (c : CheckedBody) → IsShapeOf (body_of t c) (frame_layout t n c)
 shape_is t n c = record { params = refl; declared = length-declared c.body.runs.items; results = refl }
 
-shape_at : (types : List FuncType) (numbers fs : List ℕ) (all : List CheckedBody) (f y : ℕ) (c : CheckedBody) (s : FrameLayout) → slice_get (frame_layouts types numbers fs all) f ≡ Some s
-    → slice_get fs f ≡ Some y → slice_get all f ≡ Some c → frame_layout (type_at types y) (slice_index numbers y) c ≡ s
-shape_at types numbers [] all f y c s e is there = absurd cc
-shape_at types numbers (z ∷ zs) [] f y c s e is there = absurd cc
-shape_at types numbers (z ∷ zs) (b ∷ bs) zero y c s e is there =
+shape_at : (types : List FuncType) (ids fs : List ℕ) (all : List CheckedBody) (f y : ℕ) (c : CheckedBody) (s : FrameLayout) → slice_get (frame_layouts types ids fs all) f ≡ Some s
+    → slice_get fs f ≡ Some y → slice_get all f ≡ Some c → frame_layout (type_at types y) (slice_index ids y) c ≡ s
+shape_at types ids [] all f y c s e is there = absurd cc
+shape_at types ids (z ∷ zs) [] f y c s e is there = absurd cc
+shape_at types ids (z ∷ zs) (b ∷ bs) zero y c s e is there =
     let at : z ≡ y = cc in
     let of : b ≡ c = cc in
-    let first : frame_layout (type_at types z) (slice_index numbers z) b ≡ s = cc in
-    ap (λ k. frame_layout (type_at types k) (slice_index numbers k) c) (sym at) ∙ ap (λ k. frame_layout (type_at types z) (slice_index numbers z) k) (sym of) ∙ first
-shape_at types numbers (z ∷ zs) (b ∷ bs) (suc f) y c s e is there = shape_at types numbers zs bs f y c s e is there
+    let first : frame_layout (type_at types z) (slice_index ids z) b ≡ s = cc in
+    ap (λ k. frame_layout (type_at types k) (slice_index ids k) c) (sym at) ∙ ap (λ k. frame_layout (type_at types z) (slice_index ids z) k) (sym of) ∙ first
+shape_at types ids (z ∷ zs) (b ∷ bs) (suc f) y c s e is there = shape_at types ids zs bs f y c s e is there
 
-shapes_count : (types : List FuncType) (numbers fs : List ℕ) (all : List CheckedBody) → length fs ≡ length all → length (frame_layouts types numbers fs all) ≡ length all
-shapes_count types numbers [] [] e = refl
-shapes_count types numbers [] (c ∷ cs) e = absurd (omega arith)
-shapes_count types numbers (y ∷ ys) [] e = refl
-shapes_count types numbers (y ∷ ys) (c ∷ cs) e = ap suc (shapes_count types numbers ys cs (omega arith))
+shapes_count : (types : List FuncType) (ids fs : List ℕ) (all : List CheckedBody) → length fs ≡ length all → length (frame_layouts types ids fs all) ≡ length all
+shapes_count types ids [] [] e = refl
+shapes_count types ids [] (c ∷ cs) e = absurd (omega arith)
+shapes_count types ids (y ∷ ys) [] e = refl
+shapes_count types ids (y ∷ ys) (c ∷ cs) e = ap suc (shapes_count types ids ys cs (omega arith))
 
 -- Numbers of types.
 
@@ -65,25 +65,25 @@ same_test a k false f g = untrue (nat_eq a k) (λ e. f (ap Some (eqb-true a k e)
 type_there : (types : List FuncType) (y : ℕ) → y < length types → slice_get types y ≡ Some (type_at types y)
 type_there types y h = slice_get-get_or types y empty_type h ∙ ap Some (sym (unwrap_or-slice_get types y empty_type))
 
-numbers_tell : (types : List FuncType) (numbers : List ℕ) (y z k : ℕ) (t : FuncType) → AreTypeIds types numbers → y < length types → slice_get types z ≡ Some t → slice_get numbers z ≡ Some k
-    → nat_eq (slice_index numbers y) k ≡ same_func_type (type_at types y) t
-numbers_tell types numbers y z k t n within is there =
-    let here : slice_get numbers y ≡ Some (slice_index numbers y) = slice_get-get_or numbers y 0 (omega (arith, n.count)) in
+ids_tell : (types : List FuncType) (ids : List ℕ) (y z k : ℕ) (t : FuncType) → AreTypeIds types ids → y < length types → slice_get types z ≡ Some t → slice_get ids z ≡ Some k
+    → nat_eq (slice_index ids y) k ≡ same_func_type (type_at types y) t
+ids_tell types ids y z k t n within is there =
+    let here : slice_get ids y ≡ Some (slice_index ids y) = slice_get-get_or ids y 0 (omega (arith, n.count)) in
     let same = n.same y z (type_at types y) t (type_there types y within) is in
-    same_test (slice_index numbers y) k (same_func_type (type_at types y) t) (λ e. same.0 (here ∙ e ∙ sym there)) (λ e. sym here ∙ same.1 e ∙ there)
+    same_test (slice_index ids y) k (same_func_type (type_at types y) t) (λ e. same.0 (here ∙ e ∙ sym there)) (λ e. sym here ∙ same.1 e ∙ there)
 
 -- The code.
 
 -- the code has the parts of the module
-pub record HasParts (c : Code) (m : ModuleShape) (numbers : List ℕ) (all : List CheckedBody) : Type 0 where
+pub record HasParts (c : Code) (m : ModuleShape) (ids : List ℕ) (all : List CheckedBody) : Type 0 where
   pub types : c.types.now ≡ m.types
   pub functions : c.functions.now ≡ m.functions
   pub bodies : c.bodies.now ≡ all
-  pub shapes : c.shapes.now ≡ frame_layouts m.types numbers m.functions all
-  pub type_ids : c.type_ids.now ≡ numbers
+  pub shapes : c.shapes.now ≡ frame_layouts m.types ids m.functions all
+  pub type_ids : c.type_ids.now ≡ ids
 
-pub parts_program : (c : Code) (m : ModuleShape) (numbers : List ℕ) (all : List CheckedBody) → HasParts c m numbers all → program_of c ≡ record { types = m.types; bodies = bodies_of m.types m.functions all }
-parts_program c m numbers all h =
+pub parts_program : (c : Code) (m : ModuleShape) (ids : List ℕ) (all : List CheckedBody) → HasParts c m ids all → program_of c ≡ record { types = m.types; bodies = bodies_of m.types m.functions all }
+parts_program c m ids all h =
     λ i. record { types = h.types i; bodies = bodies_of (h.types i) (h.functions i) (h.bodies i) }
 
 function_type : (m : ModuleShape) (f y : ℕ) → FunctionsTyped m → slice_get m.functions f ≡ Some y → y < length m.types
@@ -91,27 +91,27 @@ function_type m f y rule is =
     let Has : ℕ → Type 0 = λ z. z < length m.types in
     subst Has (get_or_from_slice_get m.functions f y 0 is) (All-get_or Has m.functions f 0 (slice_get_within m.functions f y is) rule)
 
-pub is_code : (c : Code) (m : ModuleShape) (numbers : List ℕ) (all : List CheckedBody) → HasParts c m numbers all → FunctionsTyped m → length m.functions ≡ length all → AreTypeIds m.types numbers → IsCode c
-is_code c m numbers all h rule count n =
-    let program = parts_program c m numbers all h in
+pub is_code : (c : Code) (m : ModuleShape) (ids : List ℕ) (all : List CheckedBody) → HasParts c m ids all → FunctionsTyped m → length m.functions ≡ length all → AreTypeIds m.types ids → IsCode c
+is_code c m ids all h rule count n =
+    let program = parts_program c m ids all h in
     let stands : (f : ℕ) (b : Body) → slice_get (program_of c).bodies f ≡ Some b → StandsAt m.types m.functions all f b =
     λ f b e. body_at m.types m.functions all f b (ap (λ (p : Program). slice_get p.bodies f) (sym program) ∙ e) in
-    let shaped : (f : ℕ) (s : FrameLayout) → slice_get c.shapes.now f ≡ Some s → slice_get (frame_layouts m.types numbers m.functions all) f ≡ Some s =
+    let shaped : (f : ℕ) (s : FrameLayout) → slice_get c.shapes.now f ≡ Some s → slice_get (frame_layouts m.types ids m.functions all) f ≡ Some s =
     λ f s e. ap (λ ss. slice_get ss f) (sym h.shapes) ∙ e in
     record {
       count = ap length h.functions ∙ count ∙ ap length (sym h.bodies);
-      shapes_count = ap length h.shapes ∙ shapes_count m.types numbers m.functions all count ∙ ap length (sym h.bodies);
+      shapes_count = ap length h.shapes ∙ shapes_count m.types ids m.functions all count ∙ ap length (sym h.bodies);
       shapes = λ f b s eb es.
           let at = stands f b eb in
           let t = type_at m.types at.of_type in
-          let k = slice_index numbers at.of_type in
+          let k = slice_index ids at.of_type in
           subst (λ (x : Body). IsShapeOf x s) at.same
-          (subst (IsShapeOf (body_of t at.checked)) (shape_at m.types numbers m.functions all f at.of_type at.checked s (shaped f s es) at.typed at.there) (shape_is t k at.checked));
+          (subst (IsShapeOf (body_of t at.checked)) (shape_at m.types ids m.functions all f at.of_type at.checked s (shaped f s es) at.typed at.there) (shape_is t k at.checked));
       type_ids_count = ap length h.type_ids ∙ n.count ∙ ap length (sym h.types);
       type_ids = λ f b s y t k eb es et ek.
           let at = stands f b eb in
-          let shape = shape_at m.types numbers m.functions all f at.of_type at.checked s (shaped f s es) at.typed at.there in
+          let shape = shape_at m.types ids m.functions all f at.of_type at.checked s (shaped f s es) at.typed at.there in
           ap (λ (x : FrameLayout). nat_eq x.type_id k) (sym shape)
-          ∙ numbers_tell m.types numbers at.of_type y k t n (function_type m f at.of_type rule at.typed) (ap (λ (p : Program). slice_get p.types y) (sym program) ∙ et) (ap (λ ks. slice_get ks y) (sym h.type_ids) ∙ ek)
+          ∙ ids_tell m.types ids at.of_type y k t n (function_type m f at.of_type rule at.typed) (ap (λ (p : Program). slice_get p.types y) (sym program) ∙ et) (ap (λ ks. slice_get ks y) (sym h.type_ids) ∙ ek)
           ∙ ap (λ (x : Body). same_func_type (x.function).func_type t) at.same;
     }

@@ -38,18 +38,18 @@ use Rattle.wstore.proofs.ProgramCode.{HasParts, parts_program, is_code}
 -- Before the call.
 
 -- what is known of an accepted module, its program and its store
-pub record Known (m : ModuleShape) (x : IndexedContext) (all : List CheckedBody) (numbers : List ℕ) (store : SlotStore) : Type 0 where
+pub record Known (m : ModuleShape) (x : IndexedContext) (all : List CheckedBody) (ids : List ℕ) (store : SlotStore) : Type 0 where
   pub judged : IsJudged m x all
   pub small : IsSmall m all
-  pub numbered : AreTypeIds m.types numbers
+  pub identified : AreTypeIds m.types ids
   pub runnable : Runnable m (shapes_of all)
   pub held : IsHeld (module_context m) store
 
-pub known : (m : ModuleShape) (x : IndexedContext) (all : List CheckedBody) (numbers : List ℕ) (store : SlotStore) → ∥ IsJudged m x all ∥₁ → ∥ IsSmall m all ∥₁ → ∥ AreTypeIds m.types numbers ∥₁
-    → ∥ Runnable m (shapes_of all) ∥₁ → ∥ IsHeld (module_context m) store ∥₁ → ∥ Known m x all numbers store ∥₁
-known m x all numbers store judged small numbered runnable held =
-    ∥∥₁_elim judged ∥∥₁_prop (λ j. ∥∥₁_elim small ∥∥₁_prop (λ s. ∥∥₁_elim numbered ∥∥₁_prop (λ n. ∥∥₁_elim runnable ∥∥₁_prop (λ r.
-    ∥∥₁_map held (λ h. record { judged = j; small = s; numbered = n; runnable = r; held = h })))))
+pub known : (m : ModuleShape) (x : IndexedContext) (all : List CheckedBody) (ids : List ℕ) (store : SlotStore) → ∥ IsJudged m x all ∥₁ → ∥ IsSmall m all ∥₁ → ∥ AreTypeIds m.types ids ∥₁
+    → ∥ Runnable m (shapes_of all) ∥₁ → ∥ IsHeld (module_context m) store ∥₁ → ∥ Known m x all ids store ∥₁
+known m x all ids store judged small identified runnable held =
+    ∥∥₁_elim judged ∥∥₁_prop (λ j. ∥∥₁_elim small ∥∥₁_prop (λ s. ∥∥₁_elim identified ∥∥₁_prop (λ n. ∥∥₁_elim runnable ∥∥₁_prop (λ r.
+    ∥∥₁_map held (λ h. record { judged = j; small = s; identified = n; runnable = r; held = h })))))
 
 -- the program of the module
 abbrev program_in : ModuleShape → List CheckedBody → Program
@@ -72,11 +72,11 @@ program_holds m x all found one j r = record {
 short_bodies : (m : ModuleShape) (all : List CheckedBody) → IsSmall m all → longest (shapes_of all) ≤ 2 ^ 31
 short_bodies m all s = let h = longest_within module_limit all s.tokens in omega (arith, h)
 
-pub typed_call : (m : ModuleShape) (x : IndexedContext) (all : List CheckedBody) (numbers : List ℕ) (store : SlotStore) (c : Code) (f : ℕ) (args : List Value) (fuel frames : ℕ)
-    → TreeIsFound → OneInstance → Known m x all numbers store → HasParts c m numbers all → Fits (module_context m) f args → IsTypedCall m (shapes_of all) c store f args fuel frames
-typed_call m x all numbers store c f args fuel frames found one k h fits =
+pub typed_call : (m : ModuleShape) (x : IndexedContext) (all : List CheckedBody) (ids : List ℕ) (store : SlotStore) (c : Code) (f : ℕ) (args : List Value) (fuel frames : ℕ)
+    → TreeIsFound → OneInstance → Known m x all ids store → HasParts c m ids all → Fits (module_context m) f args → IsTypedCall m (shapes_of all) c store f args fuel frames
+typed_call m x all ids store c f args fuel frames found one k h fits =
     let count = bodies_count m x all k.judged in
-    let program = sym (parts_program c m numbers all h) in
+    let program = sym (parts_program c m ids all h) in
     let instance = program_instance m x all found k.judged in
     let held = program_holds m x all found one k.judged k.runnable in
     let at = defined_at m f fits.sig k.runnable.no_imports fits.function in
@@ -84,7 +84,7 @@ typed_call m x all numbers store c f args fuel frames found one k h fits =
     record {
       body = b.0;
       sig = fits.sig;
-      coded = is_code c m numbers all h (k.judged.rules 3) count k.numbered;
+      coded = is_code c m ids all h (k.judged.rules 3) count k.identified;
       instance = subst (λ (p : Program). InstanceOf m (shapes_of all) (module_of p)) program instance;
       call = record {
         called = record {

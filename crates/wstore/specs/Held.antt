@@ -9,7 +9,7 @@ use Rattle.soundness.specs.Slots.{SlotStore, slot_store, all_tagged}
 
 -- the store that slots without tags stand for: its globals have the types of the context
 abbrev pub store_of : Context → SlotStore → Store
-store_of C s = record { memory = s.memory; table = s.table; globals = all_tagged (map (λ (g : GlobalType). g.content) C.globals) s.globals }
+store_of C s = record { memory = s.memory; table = s.table; globals = all_tagged (map (λ (g : GlobalType). g.val_type) C.globals) s.globals }
 
 -- it is typed, and without tags it is what was given
 pub record IsHeld (C : Context) (s : SlotStore) : Type 0 where

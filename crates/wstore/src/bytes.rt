@@ -25,11 +25,11 @@ fn copy_out(memory: &LinearMemory, at: u64, out: &mut [u8])
     ensures { out.new ≡ take (length out.old) (drop at memory.now.memory.bytes) }
 {
     memory.typed();
-    for place in 0..out.len() {
-        let Some(byte) = memory.read_8(at + place as u64) else {
+    for position in 0..out.len() {
+        let Some(byte) = memory.read_8(at + position as u64) else {
             unreachable!()
         };
-        out[place] = byte;
+        out[position] = byte;
     }
 }
 
@@ -40,8 +40,8 @@ fn copy_in(memory: &mut LinearMemory, at: u64, bytes: &[u8])
 {
     memory.typed();
     // A place of more than 32 bits is the end of the greatest memory, where no byte fits.
-    if let Ok(place) = u32::try_from(at) {
-        memory.overwrite(place, bytes);
+    if let Ok(address) = u32::try_from(at) {
+        memory.overwrite(address, bytes);
     }
 }
 

@@ -68,7 +68,7 @@ impl<'a> Instance<'a> {
         ensures marks { KeepsMarks self.old self.new }
     {
         self.accepted.accepted_holds();
-        self.accepted.types_are_numbered();
+        self.accepted.types_have_ids();
         self.accepted.functions_have_shapes();
         self.accepted.is_small();
         soundness::instances::one_instance();

@@ -9,7 +9,7 @@ ghost use Rattle.wsyntax.specs.Execution.Start.{layout_of};
 ghost use Rattle.interpreter.specs.Seen.{memory_of};
 ghost use Rattle.interpreter.specs.Buffers.{room_with};
 ghost use Rattle.accepted_module.specs.InitialStates.{IsLayoutOf};
-ghost use Rattle.accepted_module.specs.Segments.{data_segments, places_of};
+ghost use Rattle.accepted_module.specs.Segments.{data_segments, offsets_of};
 ghost use Rattle.wstore.specs.Buffers.{with_bytes};
 ghost use Rattle.wstore.specs.LaidOut.{IsLaidOut};
 
@@ -18,14 +18,14 @@ use memory::{CleanMem, LinearMemory};
 use std::alloc::Global;
 use wsyntax::{Data, Limits, Module};
 
-/// Writes the data segments in order, each from its place in `places` on.
-fn put_data(memory: &mut LinearMemory, segments: &[Data<'_>], places: &[u32])
+/// Writes the data segments in order, each from its place in `offsets` on.
+fn put_data(memory: &mut LinearMemory, segments: &[Data<'_>], offsets: &[u32])
     requires within { AllWithin (length memory.old.memory.bytes) (data_segments segments.now) }
-    requires placed { places.now ≡ places_of (data_segments segments.now) }
+    requires placed { offsets.now ≡ offsets_of (data_segments segments.now) }
     ensures { memory.new ≡ with_bytes memory.old (put_data (data_segments segments.now) memory.old.memory.bytes) }
 {
-    for (number, segment) in segments.iter().enumerate() {
-        memory.overwrite(places[number], segment.bytes);
+    for (index, segment) in segments.iter().enumerate() {
+        memory.overwrite(offsets[index], segment.bytes);
     }
 }
 
@@ -36,17 +36,17 @@ pub(crate) fn fresh_memory(
     limits: &Limits,
     pages: u32,
     segments: &[Data<'_>],
-    places: &[u32],
+    offsets: &[u32],
 ) -> Result<LinearMemory, CleanMem>
     requires may_have { may_have (zeros limits.now.min limits.now.max pages) limits.now.min ≡ true }
     requires within { AllWithin (limits.now.min * page) (data_segments segments.now) }
-    requires placed { places.now ≡ places_of (data_segments segments.now) }
+    requires placed { offsets.now ≡ offsets_of (data_segments segments.now) }
     ensures memory { IfOk result (λ m. m.memory ≡ fresh_memory pages (data_segments segments.now) limits.now) }
     ensures room { IfOk result (λ m. m.room ≡ max clean (limits.now.min * page)) }
     ensures refused { IfErr result (λ back. back ≡ clean) }
 {
     let mut memory = LinearMemory::allocate(clean, limits.min, limits.max, pages)?;
-    put_data(&mut memory, segments, places);
+    put_data(&mut memory, segments, offsets);
     Ok(memory)
 }
 
@@ -69,6 +69,6 @@ pub(crate) fn module_memory(
     let Some(limits) = module.memories.first() else {
         return Ok((None, clean));
     };
-    let memory = fresh_memory(clean, limits, pages, &module.data, layout.data_places())?;
+    let memory = fresh_memory(clean, limits, pages, &module.data, layout.data_offsets())?;
     Ok((Some(memory), CleanMem::empty(alloc)))
 }

@@ -101,12 +101,12 @@ impl<'a> Instance<'a> {
         ensures { slice_get (store_in self.now).globals x ≡ Some result }
     {
         let global = &self.accepted.module().globals[x as usize];
-        value_in(global.content.content, self.parts.globals[x as usize])
+        value_in(global.global_type.val_type, self.parts.globals[x as usize])
     }
 
     /// Sets its global `x` to `value`, which is of the global's type.
     pub fn set_global(&mut self, x: u32, value: Value)
-        requires { option_map (λ g. g.content) (slice_get (context_in self.old).globals x) ≡ Some (type_of value) }
+        requires { option_map (λ g. g.val_type) (slice_get (context_in self.old).globals x) ≡ Some (type_of value) }
         ensures globals { (store_in self.new).globals ≡ slice_set (store_in self.old).globals x value }
         ensures rest { ((store_in self.new).memory ≡ (store_in self.old).memory)
             × ((store_in self.new).table ≡ (store_in self.old).table) }

@@ -7,7 +7,7 @@ ghost use Rattle.interpreter.specs.Seen.{entry_of};
 ghost use Rattle.wsyntax.specs.Modules.{module_shape};
 ghost use Rattle.wsyntax.specs.Execution.Start.{layout_of};
 ghost use Rattle.accepted_module.specs.InitialStates.{IsLayoutOf};
-ghost use Rattle.accepted_module.specs.Segments.{element_segments, places_of};
+ghost use Rattle.accepted_module.specs.Segments.{element_segments, offsets_of};
 ghost use Rattle.accepted_module.specs.Sizes.{table_size};
 
 use accepted_module::InitialState;
@@ -15,27 +15,27 @@ use interpreter::TableEntry;
 use std::alloc::{AllocError, Global};
 use wsyntax::{Elements, Module, Table};
 
-/// Sets the entries from `place` on to the functions `functions`.
-fn put_functions(entries: &mut [TableEntry], place: usize, functions: &[u32])
-    requires { place + length functions.now ≤ length entries.old }
-    ensures { map entry_of entries.new ≡ overwrite place (map SetTo functions.now) (map entry_of entries.old) }
+/// Sets the entries from `offset` on to the functions `functions`.
+fn put_functions(entries: &mut [TableEntry], offset: usize, functions: &[u32])
+    requires { offset + length functions.now ≤ length entries.old }
+    ensures { map entry_of entries.new ≡ overwrite offset (map SetTo functions.now) (map entry_of entries.old) }
 {
     for (i, func) in functions.iter().enumerate() {
-        entries[place + i] = TableEntry::SetTo(*func);
+        entries[offset + i] = TableEntry::SetTo(*func);
     }
 }
 
-/// Writes the element segments in order, each from its place in `places` on.
-fn put_elements(entries: &mut [TableEntry], segments: &Elements<'_>, places: &[u32])
+/// Writes the element segments in order, each from its place in `offsets` on.
+fn put_elements(entries: &mut [TableEntry], segments: &Elements<'_>, offsets: &[u32])
     requires within { AllWithin (length entries.old) (element_segments segments.now) }
-    requires placed { places.now ≡ places_of (element_segments segments.now) }
+    requires placed { offsets.now ≡ offsets_of (element_segments segments.now) }
     ensures { map entry_of entries.new ≡ put_elements (element_segments segments.now) (map entry_of entries.old) }
 {
-    for number in 0..segments.len() {
-        let Some(segment) = segments.get(number) else {
+    for index in 0..segments.len() {
+        let Some(segment) = segments.get(index) else {
             unreachable!()
         };
-        put_functions(entries, places[number] as usize, segment.functions);
+        put_functions(entries, offsets[index] as usize, segment.functions);
     }
 }
 
@@ -44,15 +44,15 @@ pub(crate) fn fresh_table(
     alloc: Global,
     table: &Table,
     segments: &Elements<'_>,
-    places: &[u32],
+    offsets: &[u32],
 ) -> Result<Vec<TableEntry>, AllocError>
     requires within { AllWithin table.now.limits.min (element_segments segments.now) }
-    requires placed { places.now ≡ places_of (element_segments segments.now) }
+    requires placed { offsets.now ≡ offsets_of (element_segments segments.now) }
     ensures { IfOk result
         (λ t. map entry_of t.items ≡ put_elements (element_segments segments.now) (replicate table.now.limits.min Unset)) }
 {
     let mut entries = Vec::from_elem(alloc, TableEntry::Unset, table.limits.min as usize)?;
-    put_elements(&mut entries, segments, places);
+    put_elements(&mut entries, segments, offsets);
     Ok(entries)
 }
 
@@ -72,6 +72,6 @@ pub(crate) fn module_table(
     let Some(table) = module.tables.first() else {
         return Ok(None);
     };
-    let entries = fresh_table(alloc, table, &module.elements, layout.element_places())?;
+    let entries = fresh_table(alloc, table, &module.elements, layout.element_offsets())?;
     Ok(Some(entries))
 }

@@ -14,6 +14,6 @@ none_from (Some x) e = cc
 
 pub in_gap : (first count byte : ℕ) → is_gap first count ≡ true → first ≤ byte → byte < first + count → opcode_of byte ≡ None
 in_gap first count byte gap low high =
-    let place : first + (byte - first) ≡ byte = omega arith in
+    let position : first + (byte - first) ≡ byte = omega arith in
     let none = agree_below_at (λ k. is_none (opcode_of (first + k))) (λ _. true) count (byte - first) gap (omega arith) in
-    none_from (opcode_of byte) (subst (λ k. is_none (opcode_of k) ≡ true) place none)
+    none_from (opcode_of byte) (subst (λ k. is_none (opcode_of k) ≡ true) position none)

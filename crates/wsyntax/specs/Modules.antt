@@ -111,12 +111,12 @@ export_shape e = record { item_name = e.name.now; kind = e.kind; index = e.index
 
 -- 2.5.6 a global, its first value as the tokens of an expression
 pub record GlobalShape : Type 0 where
-  pub content : GlobalType
+  pub global_type : GlobalType
   pub init : List Token
 
 -- 2.5.6 what a global of the code means
 abbrev pub global_shape : Global → GlobalShape
-global_shape g = record { content = g.content; init = initial_tokens g.init }
+global_shape g = record { global_type = g.global_type; init = initial_tokens g.init }
 
 -- 2.5.7 an element segment
 pub record ElementShape : Type 0 where

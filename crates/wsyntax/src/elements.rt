@@ -3,7 +3,7 @@ ghost use Rattle.std.specs.Prelude.{◌≡◌, ◌<◌, ◌≤◌, IfOk, length,
 ghost use Rattle.wsyntax.specs.Elements.{start_at};
 
 use crate::module::ConstExpr;
-use crate::places::place_in_list;
+use crate::positions::position_in_list;
 use std::alloc::{AllocError, Global as Alloc};
 use std::marker::Model;
 use std::mem::size_of;
@@ -29,14 +29,14 @@ pub(crate) struct Segment<'a> {
 const _: () = prove!(size_of::<Segment<'static>>() == 32);
 
 /// Where the functions of the segment of that number begin.
-fn start_of(segments: &[Segment<'_>], number: usize) -> u32
-    requires { number < length segments.now }
-    ensures { result ≡ start_at 0 segments.now number }
+fn start_of(segments: &[Segment<'_>], index: usize) -> u32
+    requires { index < length segments.now }
+    ensures { result ≡ start_at 0 segments.now index }
 {
-    if number == 0 {
+    if index == 0 {
         0
     } else {
-        segments[number - 1].end
+        segments[index - 1].end
     }
 }
 
@@ -98,7 +98,7 @@ impl<'a> Elements<'a> {
     pub fn push(&mut self, table: u32, offset: ConstExpr<'a>) -> Result<(), AllocError>
         ensures { IfOk result (λ _. self.new ≡ self.old ++ (record { table = table; offset = offset.entry; functions = [] }) ∷ []) }
     {
-        let end = place_in_list(self.functions.len())?;
+        let end = position_in_list(self.functions.len())?;
         self.segments.push(Segment { table, end, offset })?;
         Ok(())
     }
@@ -112,7 +112,7 @@ impl<'a> Elements<'a> {
             return Ok(());
         }
         let last = self.segments.len() - 1;
-        let end = place_in_list(self.functions.len() + 1)?;
+        let end = position_in_list(self.functions.len() + 1)?;
         self.functions.push(function)?;
         self.segments[last].end = end;
         Ok(())
@@ -128,11 +128,11 @@ impl<'a> Elements<'a> {
 
     /// The segment of that number, in constant time; `None` where there is none.
     #[inline]
-    pub fn get(&self, number: usize) -> Option<Element<'_>>
-        ensures { option_map element_of result ≡ slice_get self.now number }
+    pub fn get(&self, index: usize) -> Option<Element<'_>>
+        ensures { option_map element_of result ≡ slice_get self.now index }
     {
-        let segment = self.segments.get(number)?;
-        let start = start_of(&self.segments, number);
+        let segment = self.segments.get(index)?;
+        let start = start_of(&self.segments, index);
         Some(Element {
             table: segment.table,
             offset: &segment.offset,

@@ -1,7 +1,7 @@
 //! Function types (2.3.3), whose value types share one list.
 ghost use Rattle.std.specs.Prelude.{◌≡◌, IfOk};
 
-use crate::places::place_in_list;
+use crate::positions::position_in_list;
 use crate::types::ValType;
 use std::alloc::{AllocError, Global as Alloc};
 use std::marker::Model;
@@ -68,11 +68,11 @@ impl FuncTypes {
     pub fn push(&mut self, params: &[ValType], results: &[ValType]) -> Result<(), AllocError>
         ensures { IfOk result (λ _. self.new ≡ self.old ++ (record { params = params.now; results = results.now }) ∷ []) }
     {
-        let start = place_in_list(self.values.len())?;
+        let start = position_in_list(self.values.len())?;
         self.values.extend_from_slice(params)?;
-        let middle = place_in_list(self.values.len())?;
+        let middle = position_in_list(self.values.len())?;
         self.values.extend_from_slice(results)?;
-        let end = place_in_list(self.values.len())?;
+        let end = position_in_list(self.values.len())?;
         self.ranges.push(TypeRange { start, middle, end })?;
         Ok(())
     }

@@ -20,7 +20,7 @@ mod opcode;
 mod operator_rows;
 mod other_expression;
 mod outcome;
-mod places;
+mod positions;
 mod rows;
 mod signature;
 mod start_refusal;

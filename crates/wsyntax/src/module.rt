@@ -62,7 +62,7 @@ pub struct Table {
 /// A global (2.5.6) and the expression of its first value.
 #[derive(Clone, Copy, Debug)]
 pub struct Global<'a> {
-    pub content: GlobalType,
+    pub global_type: GlobalType,
     pub init: ConstExpr<'a>,
 }
 
@@ -112,7 +112,7 @@ pub struct Import<'a> {
 #[derive(Clone, Copy, Debug, PartialEq, Eq)]
 pub struct LocalRun {
     pub count: u32,
-    pub content: ValType,
+    pub val_type: ValType,
 }
 
 /// The declared locals and the expression of a defined function (2.5.3).

@@ -19,6 +19,6 @@ pub struct Limits {
 /// A global type (2.3.7): what the global holds, and whether it may be set.
 #[derive(Clone, Copy, Debug, PartialEq, Eq)]
 pub struct GlobalType {
-    pub content: ValType,
+    pub val_type: ValType,
     pub mutable: bool,
 }

@@ -7,7 +7,7 @@ ghost use Rattle.wcontext.specs.Spaces.{AreSpacesOf, counted};
 
 use super::repeats::{Repeat, proposed};
 use crate::broken_item::{BrokenItem, ItemFault};
-use crate::item_places::EXPORT;
+use crate::item_offsets::EXPORT;
 use std::alloc::{AllocError, Global};
 use wcontext::{ModuleFault, Spaces, check_module};
 use wsyntax::{Export, Module};
@@ -19,9 +19,9 @@ pub(crate) const NAMES_RULE: u32 = 10;
 fn first_missing<'a>(exports: &[Export<'a>], spaces: &Spaces) -> Option<(usize, Export<'a>)>
     ensures { IfSome result (λ x. IsFirst (λ e. e.index < counted spaces.now e.kind) exports.now x.0 x.1) }
 {
-    for (number, export) in exports.iter().enumerate() {
+    for (position, export) in exports.iter().enumerate() {
         if export.index as usize >= spaces.count(export.kind) {
-            return Some((number, *export));
+            return Some((position, *export));
         }
     }
     None
@@ -32,10 +32,10 @@ pub(crate) fn exported_index<'a>(module: &Module<'a>, spaces: &Spaces) -> Option
     requires { AreSpacesOf (module_shape «module».now) spaces.now }
     ensures { IfSome result (BreaksIn (module_shape «module».now) 9) }
 {
-    let (number, export) = first_missing(&module.exports, spaces)?;
+    let (position, export) = first_missing(&module.exports, spaces)?;
     Some(BrokenItem {
         section: EXPORT,
-        number,
+        position,
         at: None,
         fault: ItemFault::ExportedIndex {
             name: export.name,
@@ -58,21 +58,21 @@ fn keeps_names(alloc: Global, module: &Module<'_>) -> Result<bool, AllocError>
 }
 
 /// The name of the export of that number.
-fn name_of<'a>(exports: &[Export<'a>], number: usize) -> Option<&'a [u8]>
-    ensures { option_map (λ n. n.now) result ≡ name_at exports.now number }
+fn name_of<'a>(exports: &[Export<'a>], position: usize) -> Option<&'a [u8]>
+    ensures { option_map (λ n. n.now) result ≡ name_at exports.now position }
 {
-    let export = exports.get(number)?;
+    let export = exports.get(position)?;
     Some(export.name)
 }
 
 /// The name of the export of that number, where an earlier one has it.
-fn shared_name<'a>(exports: &[Export<'a>], number: usize, earlier: usize) -> Option<&'a [u8]>
-    ensures { IfSome result (λ name. (earlier < number) × (name_at exports.now number ≡ Some name.now)
+fn shared_name<'a>(exports: &[Export<'a>], position: usize, earlier: usize) -> Option<&'a [u8]>
+    ensures { IfSome result (λ name. (earlier < position) × (name_at exports.now position ≡ Some name.now)
         × (name_at exports.now earlier ≡ Some name.now)) }
 {
-    let name = name_of(exports, number)?;
+    let name = name_of(exports, position)?;
     let first = name_of(exports, earlier)?;
-    if earlier < number && first == name {
+    if earlier < position && first == name {
         Some(name)
     } else {
         None
@@ -99,7 +99,7 @@ pub(crate) fn exported_name<'a>(
     }
     Ok(Some(BrokenItem {
         section: EXPORT,
-        number: later,
+        position: later,
         at: None,
         fault: ItemFault::ExportedName { name, earlier },
     }))

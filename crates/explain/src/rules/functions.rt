@@ -6,7 +6,7 @@ ghost use Rattle.wcontext.specs.Spaces.{AreSpacesOf};
 
 use crate::broken_item::{BrokenItem, ItemFault};
 use crate::imported::import_of;
-use crate::item_places::{FUNCTION, IMPORT};
+use crate::item_offsets::{FUNCTION, IMPORT};
 use wcontext::Spaces;
 use wsyntax::{ExportKind, Module};
 
@@ -14,9 +14,9 @@ use wsyntax::{ExportKind, Module};
 pub(crate) fn first_unknown(indices: &[u32], count: usize) -> Option<(usize, u32)>
     ensures { MatchOption result (All (λ y. y < count) indices.now) (λ x. IsFirst (λ y. y < count) indices.now x.0 x.1) }
 {
-    for (place, index) in indices.iter().enumerate() {
+    for (position, index) in indices.iter().enumerate() {
         if *index as usize >= count {
-            return Some((place, *index));
+            return Some((position, *index));
         }
     }
     None
@@ -32,7 +32,7 @@ pub(crate) fn imported_type<'a>(module: &Module<'a>, spaces: &Spaces) -> Option<
     let (func, type_index) = first_unknown(imported, types)?;
     Some(BrokenItem {
         section: IMPORT,
-        number: import_of(&module.imports, ExportKind::Function, func)?,
+        position: import_of(&module.imports, ExportKind::Function, func)?,
         at: None,
         fault: ItemFault::ImportedType {
             func,
@@ -48,13 +48,13 @@ pub(crate) fn defined_type<'a>(module: &Module<'a>, spaces: &Spaces) -> Option<B
     ensures { IfSome result (BreaksIn (module_shape «module».now) 3) }
 {
     let types = module.types.len();
-    let (number, type_index) = first_unknown(&module.functions, types)?;
+    let (position, type_index) = first_unknown(&module.functions, types)?;
     Some(BrokenItem {
         section: FUNCTION,
-        number,
+        position,
         at: None,
         fault: ItemFault::DefinedType {
-            func: spaces.imported_functions.checked_add(number)?,
+            func: spaces.imported_functions.checked_add(position)?,
             type_index,
             types,
         },

@@ -6,7 +6,7 @@ ghost use Rattle.wcontext.specs.Spaces.{AreSpacesOf};
 
 use super::initial::{initial_of, is_constant};
 use crate::broken_item::{BrokenItem, Initial, ItemFault};
-use crate::item_places::GLOBAL;
+use crate::item_offsets::GLOBAL;
 use wcontext::Spaces;
 use wsyntax::{Global, GlobalType, Module, ValType};
 
@@ -18,10 +18,10 @@ fn first_global(
 ) -> Option<(usize, ValType, Initial)>
     ensures { IfSome result (λ x. TellsGlobal imported.now (map global_shape globals.now) x.0 x.1 x.2) }
 {
-    for (number, global) in globals.iter().enumerate() {
+    for (position, global) in globals.iter().enumerate() {
         let initial = initial_of(&global.init, imported);
-        if !is_constant(initial, global.content.content) {
-            return Some((number, global.content.content, initial));
+        if !is_constant(initial, global.global_type.val_type) {
+            return Some((position, global.global_type.val_type, initial));
         }
     }
     None
@@ -33,13 +33,13 @@ pub(crate) fn global_value<'a>(module: &Module<'a>, spaces: &Spaces) -> Option<B
     ensures { IfSome result (BreaksIn (module_shape «module».now) 8) }
 {
     let imported = spaces.constant_globals();
-    let (number, wanted, initial) = first_global(&module.globals, imported)?;
+    let (position, wanted, initial) = first_global(&module.globals, imported)?;
     Some(BrokenItem {
         section: GLOBAL,
-        number,
+        position,
         at: None,
         fault: ItemFault::GlobalValue {
-            global: imported.len().checked_add(number)?,
+            global: imported.len().checked_add(position)?,
             wanted,
             initial,
         },

@@ -40,7 +40,7 @@ fn constant_type(initial: Initial) -> Option<ValType>
         Initial::Get {
             gets: Some(global),
             ..
-        } if !global.mutable => Some(global.content),
+        } if !global.mutable => Some(global.val_type),
         _ => None,
     }
 }

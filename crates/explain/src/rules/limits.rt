@@ -7,7 +7,7 @@ ghost use Rattle.wcontext.specs.Spaces.{AreSpacesOf};
 
 use crate::broken_item::{BrokenItem, ItemFault};
 use crate::imported::import_of;
-use crate::item_places::{IMPORT, MEMORY, TABLE};
+use crate::item_offsets::{IMPORT, MEMORY, TABLE};
 use wcontext::{Spaces, are_in_order, are_within_pages};
 use wsyntax::{ExportKind, Limits, Module, PAGE_RANGE, Table};
 
@@ -37,7 +37,7 @@ fn first_memory(memories: &[Limits]) -> Option<(usize, Limits)>
 
 /// The section and the number in it of the item of that index in the space of that kind, of which so many are imported, and
 /// the others are those of the section `own`.
-fn place_in(
+fn location_in(
     module: &Module<'_>,
     kind: ExportKind,
     own: u8,
@@ -45,21 +45,21 @@ fn place_in(
     index: usize,
 ) -> Option<(u8, usize)> {
     match index.checked_sub(imported) {
-        Some(number) => Some((own, number)),
+        Some(position) => Some((own, position)),
         None => Some((IMPORT, import_of(&module.imports, kind, index)?)),
     }
 }
 
 /// The section and the number in it of the table of that index.
-fn table_place(module: &Module<'_>, spaces: &Spaces, table: usize) -> Option<(u8, usize)> {
+fn table_location(module: &Module<'_>, spaces: &Spaces, table: usize) -> Option<(u8, usize)> {
     let imported = spaces.tables.len().saturating_sub(module.tables.len());
-    place_in(module, ExportKind::Table, TABLE, imported, table)
+    location_in(module, ExportKind::Table, TABLE, imported, table)
 }
 
 /// The section and the number in it of the memory of that index.
-fn memory_place(module: &Module<'_>, spaces: &Spaces, memory: usize) -> Option<(u8, usize)> {
+fn memory_location(module: &Module<'_>, spaces: &Spaces, memory: usize) -> Option<(u8, usize)> {
     let imported = spaces.memories.len().saturating_sub(module.memories.len());
-    place_in(module, ExportKind::Memory, MEMORY, imported, memory)
+    location_in(module, ExportKind::Memory, MEMORY, imported, memory)
 }
 
 /// The first table whose limits are not in order.
@@ -68,10 +68,10 @@ pub(crate) fn table_limits<'a>(module: &Module<'a>, spaces: &Spaces) -> Option<B
     ensures { IfSome result (BreaksIn (module_shape «module».now) 4) }
 {
     let (table, limits) = first_table(&spaces.tables)?;
-    let (section, number) = table_place(module, spaces, table)?;
+    let (section, position) = table_location(module, spaces, table)?;
     Some(BrokenItem {
         section,
-        number,
+        position,
         at: None,
         fault: ItemFault::TableLimits { table, limits },
     })
@@ -83,10 +83,10 @@ pub(crate) fn memory_limits<'a>(module: &Module<'a>, spaces: &Spaces) -> Option<
     ensures { IfSome result (BreaksIn (module_shape «module».now) 5) }
 {
     let (memory, limits) = first_memory(&spaces.memories)?;
-    let (section, number) = memory_place(module, spaces, memory)?;
+    let (section, position) = memory_location(module, spaces, memory)?;
     Some(BrokenItem {
         section,
-        number,
+        position,
         at: None,
         fault: ItemFault::MemoryLimits { memory, limits },
     })
@@ -101,10 +101,10 @@ pub(crate) fn second_table<'a>(module: &Module<'a>, spaces: &Spaces) -> Option<B
     if tables <= 1 {
         return None;
     }
-    let (section, number) = table_place(module, spaces, 1)?;
+    let (section, position) = table_location(module, spaces, 1)?;
     Some(BrokenItem {
         section,
-        number,
+        position,
         at: None,
         fault: ItemFault::SecondTable { tables },
     })
@@ -119,10 +119,10 @@ pub(crate) fn second_memory<'a>(module: &Module<'a>, spaces: &Spaces) -> Option<
     if memories <= 1 {
         return None;
     }
-    let (section, number) = memory_place(module, spaces, 1)?;
+    let (section, position) = memory_location(module, spaces, 1)?;
     Some(BrokenItem {
         section,
-        number,
+        position,
         at: None,
         fault: ItemFault::SecondMemory { memories },
     })

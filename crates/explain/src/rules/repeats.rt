@@ -8,7 +8,7 @@ use wsyntax::Export;
 const SHORT: usize = 11;
 
 /// How many numbers an export may have.
-const NUMBERS: u128 = 4_294_967_296;
+const POSITIONS: u128 = 4_294_967_296;
 
 /// Two exports of one name, by their numbers.
 #[derive(Clone, Copy)]
@@ -19,7 +19,7 @@ pub(crate) struct Repeat {
 
 /// The names of exports with their numbers. A short name is kept as one number of both: to compare two of them, neither is looked up.
 #[derive(Drop)]
-struct Numbered<'a> {
+struct Keyed<'a> {
     short: Vec<u128>,
     long: Vec<(&'a [u8], u32)>,
 }
@@ -34,34 +34,34 @@ fn count_short(exports: &[Export<'_>]) -> usize {
 }
 
 /// The number of a short name: its bytes, and a one above them.
-fn number_of(name: &[u8]) -> u128 {
-    let mut number = 1u128;
+fn key_of(name: &[u8]) -> u128 {
+    let mut position = 1u128;
     for byte in name {
-        number = number << 8 | u128::from(*byte);
+        position = position << 8 | u128::from(*byte);
     }
-    number
+    position
 }
 
-impl<'a> Numbered<'a> {
+impl<'a> Keyed<'a> {
     /// The names of exports, each with the number of its export.
     fn of(alloc: Global, exports: &[Export<'a>]) -> Result<Self, AllocError> {
         let short = count_short(exports);
-        let mut numbered = Numbered {
+        let mut keyed = Keyed {
             short: Vec::with_capacity(alloc, short)?,
             long: Vec::with_capacity(alloc, exports.len().saturating_sub(short))?,
         };
-        for number in 0..exports.len() {
-            let name = exports[number].name;
-            let number = u32::try_from(number).unwrap_or(u32::MAX);
+        for position in 0..exports.len() {
+            let name = exports[position].name;
+            let position = u32::try_from(position).unwrap_or(u32::MAX);
             if name.len() > SHORT {
-                numbered.long.push((name, number))?;
+                keyed.long.push((name, position))?;
             } else {
-                numbered
+                keyed
                     .short
-                    .push(number_of(name) << 32 | u128::from(number))?;
+                    .push(key_of(name) << 32 | u128::from(position))?;
             }
         }
-        Ok(numbered)
+        Ok(keyed)
     }
 }
 
@@ -80,10 +80,10 @@ fn first_of(one: Option<Repeat>, earlier: u32, later: u32) -> Option<Repeat> {
 /// The first two of these short names, which are sorted, that are one.
 fn among_short(names: &[u128]) -> Option<Repeat> {
     let mut first = None;
-    for place in 1..names.len() {
-        let (one, next) = (names[place - 1], names[place]);
-        if one / NUMBERS == next / NUMBERS {
-            first = first_of(first, (one % NUMBERS) as u32, (next % NUMBERS) as u32);
+    for position in 1..names.len() {
+        let (one, next) = (names[position - 1], names[position]);
+        if one / POSITIONS == next / POSITIONS {
+            first = first_of(first, (one % POSITIONS) as u32, (next % POSITIONS) as u32);
         }
     }
     first
@@ -92,8 +92,8 @@ fn among_short(names: &[u128]) -> Option<Repeat> {
 /// The first two of these names, which are sorted, that are one; or those.
 fn among_long(names: &[(&[u8], u32)], others: Option<Repeat>) -> Option<Repeat> {
     let mut first = others;
-    for place in 1..names.len() {
-        let (one, next) = (names[place - 1], names[place]);
+    for position in 1..names.len() {
+        let (one, next) = (names[position - 1], names[position]);
         if one.0 == next.0 {
             first = first_of(first, one.1, next.1);
         }
@@ -106,9 +106,9 @@ pub(crate) fn proposed(
     alloc: Global,
     exports: &[Export<'_>],
 ) -> Result<Option<Repeat>, AllocError> {
-    let mut numbered = Numbered::of(alloc, exports)?;
-    numbered.short.sort_unstable();
-    numbered.long.sort_unstable();
-    let short = among_short(&numbered.short);
-    Ok(among_long(&numbered.long, short))
+    let mut keyed = Keyed::of(alloc, exports)?;
+    keyed.short.sort_unstable();
+    keyed.long.sort_unstable();
+    let short = among_short(&keyed.short);
+    Ok(among_long(&keyed.long, short))
 }

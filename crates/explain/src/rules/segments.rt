@@ -10,7 +10,7 @@ ghost use Rattle.wcontext.specs.Spaces.{AreSpacesOf};
 use super::functions::first_unknown;
 use super::initial::{initial_of, is_constant};
 use crate::broken_item::{BrokenItem, ItemFault};
-use crate::item_places::{DATA, ELEMENT};
+use crate::item_offsets::{DATA, ELEMENT};
 use wcontext::Spaces;
 use wsyntax::{Data, Element, Elements, GlobalType, Module, ValType};
 
@@ -34,8 +34,8 @@ fn element_fault<'a>(
     }
     match first_unknown(segment.functions, functions) {
         None => None,
-        Some((place, func)) => Some(ItemFault::ElementFunction {
-            place,
+        Some((position, func)) => Some(ItemFault::ElementFunction {
+            position,
             func,
             functions,
         }),
@@ -51,10 +51,10 @@ fn first_element<'a>(
 ) -> Option<(usize, ItemFault<'a>)>
     ensures { IfSome result (λ x. IsFirstElement tables functions globals.now segments.now x.0 x.1) }
 {
-    for number in 0..segments.len() {
-        let segment = segments.get(number)?;
+    for position in 0..segments.len() {
+        let segment = segments.get(position)?;
         if let Some(fault) = element_fault(segment, tables, functions, globals) {
-            return Some((number, fault));
+            return Some((position, fault));
         }
     }
     None
@@ -65,7 +65,7 @@ pub(crate) fn element<'a>(module: &Module<'a>, spaces: &Spaces) -> Option<Broken
     requires { AreSpacesOf (module_shape «module».now) spaces.now }
     ensures { IfSome result (BreaksIn (module_shape «module».now) 12) }
 {
-    let (number, fault) = first_element(
+    let (position, fault) = first_element(
         &module.elements,
         spaces.tables.len(),
         spaces.functions.len(),
@@ -73,7 +73,7 @@ pub(crate) fn element<'a>(module: &Module<'a>, spaces: &Spaces) -> Option<Broken
     )?;
     Some(BrokenItem {
         section: ELEMENT,
-        number,
+        position,
         at: None,
         fault,
     })
@@ -107,9 +107,9 @@ fn first_data<'a>(
 ) -> Option<(usize, ItemFault<'a>)>
     ensures { IfSome result (λ x. IsFirstData memories globals.now segments.now x.0 x.1) }
 {
-    for (number, segment) in segments.iter().enumerate() {
+    for (position, segment) in segments.iter().enumerate() {
         if let Some(fault) = data_fault(segment, memories, globals) {
-            return Some((number, fault));
+            return Some((position, fault));
         }
     }
     None
@@ -121,10 +121,10 @@ pub(crate) fn data<'a>(module: &Module<'a>, spaces: &Spaces) -> Option<BrokenIte
     ensures { IfSome result (BreaksIn (module_shape «module».now) 13) }
 {
     let globals = spaces.constant_globals();
-    let (number, fault) = first_data(&module.data, spaces.memories.len(), globals)?;
+    let (position, fault) = first_data(&module.data, spaces.memories.len(), globals)?;
     Some(BrokenItem {
         section: DATA,
-        number,
+        position,
         at: None,
         fault,
     })

@@ -6,7 +6,7 @@ ghost use Rattle.wcontext.specs.Spaces.{AreSpacesOf};
 
 use crate::broken_item::{BrokenItem, ItemFault};
 use crate::explanation::FunctionSignature;
-use crate::item_places::START;
+use crate::item_offsets::START;
 use std::alloc::{AllocError, Global};
 use wcontext::Spaces;
 use wsyntax::Module;
@@ -56,7 +56,7 @@ pub(crate) fn start<'a>(
     };
     Ok(Some(BrokenItem {
         section: START,
-        number: 0,
+        position: 0,
         at: None,
         fault,
     }))

@@ -4,7 +4,7 @@ ghost use Rattle.explain.specs.Shells.{Comes, ContentsCome, ItemsCome, Passes, V
 
 use crate::shell::items::{Items, after_item};
 use crate::shell::primitives::{Stuck, after_index, after_name, number_at};
-use crate::shell_place::{SectionPart, Wanted, Wrong};
+use crate::shell_location::{SectionPart, Wanted, Wrong};
 use std::alloc::{AllocError, Global};
 
 /// The id of a custom section (5.5.3).
@@ -16,7 +16,7 @@ const START: u8 = 8;
 /// A segment that begins with another number than 0, and the bytes from its first on.
 #[derive(Clone, Copy)]
 pub(crate) struct LaterSegment<'a> {
-    pub(crate) number: u32,
+    pub(crate) position: u32,
     pub(crate) first: u32,
     pub(crate) rest: &'a [u8],
 }
@@ -83,7 +83,7 @@ fn part_read<'a>(
 }
 
 /// The segment of that number, where it begins with another number than 0.
-fn later_segment<'a>(items: Items, number: u32, bytes: &'a [u8]) -> Option<LaterSegment<'a>> {
+fn later_segment<'a>(items: Items, position: u32, bytes: &'a [u8]) -> Option<LaterSegment<'a>> {
     if items != Items::Elements && items != Items::Segments {
         return None;
     }
@@ -92,7 +92,7 @@ fn later_segment<'a>(items: Items, number: u32, bytes: &'a [u8]) -> Option<Later
         return None;
     }
     Some(LaterSegment {
-        number,
+        position,
         first,
         rest: bytes,
     })
@@ -109,10 +109,10 @@ fn after_items<'a>(
 {
     let mut rest = bytes;
     let mut segment = None;
-    for number in 0..count {
-        segment = segment.or(later_segment(items, number, rest));
+    for position in 0..count {
+        segment = segment.or(later_segment(items, position, rest));
         let read = after_item(alloc, items, rest);
-        match part_read(SectionPart::Item(number), read, segment)? {
+        match part_read(SectionPart::Item(position), read, segment)? {
             ContentsEnd::After { rest: after, .. } => rest = after,
             ContentsEnd::Stopped(lapse) => return Ok(ContentsEnd::Stopped(lapse)),
             ContentsEnd::Unknown => return Ok(ContentsEnd::Unknown),

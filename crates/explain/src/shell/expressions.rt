@@ -7,7 +7,7 @@ ghost use Rattle.explain.specs.Shells.{IsStuck, Passes, Stands};
 use crate::explanation::Stopped;
 use crate::misreads::immediates_stuck;
 use crate::shell::primitives::Stuck;
-use crate::shell_place::{Wanted, Wrong};
+use crate::shell_location::{Wanted, Wrong};
 use crate::stops::{Halt, halt_in};
 use std::alloc::{AllocError, Global};
 use wdecode::{Fault, expression_at};

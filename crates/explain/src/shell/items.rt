@@ -11,7 +11,7 @@ use crate::shell::primitives::{Stuck, after_index, after_name, number_at, sized_
 use crate::shell::type_items::{
     after_func_type, after_global_type, after_limits, after_table_type,
 };
-use crate::shell_place::Wanted;
+use crate::shell_location::Wanted;
 use std::alloc::Global;
 
 /// The bytes after an import (5.5.5).

@@ -5,7 +5,7 @@ ghost use Rattle.wsyntax.specs.Binary.Values.{u32 as u32_production, blob, name}
 ghost use Rattle.wdecode.specs.Gives.{rest_of};
 ghost use Rattle.explain.specs.Shells.{Finds, FindsBytes, IsNone, Passes, Stands, StuckAt};
 
-use crate::shell_place::{Wanted, Wrong};
+use crate::shell_location::{Wanted, Wrong};
 
 /// Why what is wanted is not read.
 #[derive(Clone, Copy)]

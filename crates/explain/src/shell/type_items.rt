@@ -4,11 +4,11 @@ ghost use Rattle.wsyntax.specs.Binary.Production.{times_at};
 ghost use Rattle.wsyntax.specs.Binary.Values.{vector_at};
 ghost use Rattle.wsyntax.specs.Binary.Types.{val_type, func_type, limits, table_type, global_type};
 ghost use Rattle.wdecode.specs.Gives.{rest_of};
-ghost use Rattle.explain.specs.declared.shell_place.Wanted.TheVariants.{MemoryFlags, TableFlags};
+ghost use Rattle.explain.specs.declared.shell_location.Wanted.TheVariants.{MemoryFlags, TableFlags};
 ghost use Rattle.explain.specs.Shells.{Passes};
 
 use crate::shell::primitives::{Stuck, number_at, wrong_byte};
-use crate::shell_place::Wanted;
+use crate::shell_location::Wanted;
 
 /// The bytes after a value type (5.3.1).
 #[tactic(auto, unfolding(wsyntax::specs::Binary::Types::val_type))]

@@ -15,7 +15,7 @@ use Rattle.wsyntax.specs.Execution.Store.{SetTo}
 use Rattle.wsyntax.specs.Execution.Layers.{LabelLayer}
 use Rattle.wsyntax.specs.Execution.ConfigTyped.{MemoryTyped, TableTyped, ConfigTyped, global_types}
 use Rattle.checked_body.specs.declared.branch.Branch.{Branch}
-use Rattle.checked_body.specs.SideTable.{Lab, Place, Begins, Entering, Bounded, chosen_label}
+use Rattle.checked_body.specs.SideTable.{Lab, Sequence, Begins, Entering, Bounded, chosen_label}
 use Rattle.soundness.specs.State.{belows, config_of}
 use Rattle.soundness.specs.Slots.{bits, slots}
 use Rattle.refinement.specs.Machine.{Machine}
@@ -40,7 +40,7 @@ some_is (Some y) x e = refl
 top_is : (t : ValType) (v : Value) (ns : List ℕ) → type_of v ≡ t → IsBitsOf (type_of v) (bits v) → TopIs t (bits v ∷ ns)
 top_is t v ns e h = subst (λ t. IsBitsOf t (bits v)) e h
 
-module _ (w : World) (sp : Spot) (s : Stands w sp) (levels : List LabelLayer) (here : Place) (lf : Levels w sp levels here) where
+module _ (w : World) (sp : Spot) (s : Stands w sp) (levels : List LabelLayer) (here : Sequence) (lf : Levels w sp levels here) where
   abbrev At : List Value → Code → Machine
   At held code = machine_of (at_ sp levels held code)
 
@@ -76,7 +76,7 @@ module _ (w : World) (sp : Spot) (s : Stands w sp) (levels : List LabelLayer) (h
 
     globals_length : (held : List Value) (code : Code) → Typed_at held code → length (slots (sp.store).globals) ≡ length (w.C).globals
     globals_length held code t =
-        length-map (sp.store).globals bits ∙ types_length (sp.store).globals (global_types (w.C).globals) (((t.store).globals).typed) ∙ length-map (w.C).globals (λ (g : GlobalType). g.content)
+        length-map (sp.store).globals bits ∙ types_length (sp.store).globals (global_types (w.C).globals) (((t.store).globals).typed) ∙ length-map (w.C).globals (λ (g : GlobalType). g.val_type)
 
     memory_is : (held : List Value) (code : Code) → Typed_at held code → IsTrue (w.C).has_memory → IsSome (sp.store).memory
     memory_is held code t has =
@@ -129,16 +129,16 @@ module _ (w : World) (sp : Spot) (s : Stands w sp) (levels : List LabelLayer) (h
           (λ i g e. let h = k.2 i (SetTo g) e in let c = callee w g h.0 h.1 in (c.body, c.there)),
         )
 
-    ready_global : (x : ℕ) (held : List Value) (rest : Code) → Typed_at held (Plain (GlobalSet x) rest) → (g : GlobalType) (c : Stack) → slice_get (w.C).globals x ≡ Some g → types held ≡ g.content ∷ c → ReadyToDo w.C w.p (At held (Plain (GlobalSet x) rest)) (GlobalSet x)
+    ready_global : (x : ℕ) (held : List Value) (rest : Code) → Typed_at held (Plain (GlobalSet x) rest) → (g : GlobalType) (c : Stack) → slice_get (w.C).globals x ≡ Some g → types held ≡ g.val_type ∷ c → ReadyToDo w.C w.p (At held (Plain (GlobalSet x) rest)) (GlobalSet x)
     ready_global x [] rest t g c at_x e = absurd (cc e)
     ready_global x (V32 n ∷ held) rest t g c at_x e =
         let run = running w sp s levels (V32 n ∷ held) (Plain (GlobalSet x) rest) r t in
         let lt = slice_get_within (w.C).globals x g at_x in
-        (g, at_x, top_is g.content (V32 n) (slots (held ++ belows levels)) (cc e) run.operands.0, omega (arith, lt, globals_length (V32 n ∷ held) (Plain (GlobalSet x) rest) t))
+        (g, at_x, top_is g.val_type (V32 n) (slots (held ++ belows levels)) (cc e) run.operands.0, omega (arith, lt, globals_length (V32 n ∷ held) (Plain (GlobalSet x) rest) t))
     ready_global x (V64 n ∷ held) rest t g c at_x e =
         let run = running w sp s levels (V64 n ∷ held) (Plain (GlobalSet x) rest) r t in
         let lt = slice_get_within (w.C).globals x g at_x in
-        (g, at_x, top_is g.content (V64 n) (slots (held ++ belows levels)) (cc e) run.operands.0, omega (arith, lt, globals_length (V64 n ∷ held) (Plain (GlobalSet x) rest) t))
+        (g, at_x, top_is g.val_type (V64 n) (slots (held ++ belows levels)) (cc e) run.operands.0, omega (arith, lt, globals_length (V64 n ∷ held) (Plain (GlobalSet x) rest) t))
 
     pub ready_to_do : (i : Op) (held : List Value) (rest : Code) → Typed_at held (Plain i rest) → Fit w sp (Plain i rest) here sp.pc (types held) → ReadyToDo w.C w.p (At held (Plain i rest)) i
     ready_to_do Unreachable held rest t f = tt

@@ -6,13 +6,13 @@ use Rattle.wsyntax.specs.Validation.Context.{Stack, Context}
 use Rattle.wsyntax.specs.declared.value.Value.{Value}
 use Rattle.wsyntax.specs.Execution.Values.{types}
 use Rattle.wsyntax.specs.Execution.Layers.{LabelLayer}
-use Rattle.checked_body.specs.SideTable.{Filled, Lab, Place, Fits}
+use Rattle.checked_body.specs.SideTable.{Filled, Lab, Sequence, Fits}
 use Rattle.soundness.specs.State.{belows}
 use Rattle.refinement.specs.Invariant.{LevelsFit}
 use Rattle.refinement.proofs.Kept.Stacks.{some_same}
 
 module _ (D : Context) (fn : Filled) (results : Stack) where
-  pub base_is : (lvs : List LabelLayer) (here : Place) → LevelsFit D fn results lvs here → here.base ≡ length (belows lvs)
+  pub base_is : (lvs : List LabelLayer) (here : Sequence) → LevelsFit D fn results lvs here → here.base ≡ length (belows lvs)
   base_is [] here h = h.3
   base_is (lv ∷ lvs) here h =
       let r = base_is lvs h.1 h.5 in
@@ -21,7 +21,7 @@ module _ (D : Context) (fn : Filled) (results : Stack) where
   -- the label that is named: where a branch to it lands
   pub record Target (lvs : List LabelLayer) (n : ℕ) (lab : Lab) : Type 0 where
     pub lv : LabelLayer
-    pub out : Place
+    pub out : Sequence
     pub found : slice_get lvs n ≡ Some lv
     pub arity : length lab.kept ≡ lv.arity
     pub lands : Fits D fn (follow lv.cont lv.rest) out lab.target (lab.kept ++ types lv.below)
@@ -30,7 +30,7 @@ module _ (D : Context) (fn : Filled) (results : Stack) where
     pub above : List Value
     pub split : belows lvs ≡ above ++ (lv.below ++ belows (drop (suc n) lvs))
 
-  pub target_of : (lvs : List LabelLayer) (n : ℕ) (lab : Lab) (here : Place) → LevelsFit D fn results lvs here → slice_get here.labels n ≡ Some lab → Target lvs n lab
+  pub target_of : (lvs : List LabelLayer) (n : ℕ) (lab : Lab) (here : Sequence) → LevelsFit D fn results lvs here → slice_get here.labels n ≡ Some lab → Target lvs n lab
   target_of [] n lab here h e =
       let q : slice_get [] n ≡ Some lab = subst (λ l. slice_get l n ≡ Some lab) h.0 e in absurd (cc q)
   target_of (lv ∷ lvs) zero lab here h e =

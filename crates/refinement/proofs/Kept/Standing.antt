@@ -8,7 +8,7 @@ use Rattle.wsyntax.specs.Validation.Context.{Stack, leave}
 use Rattle.wsyntax.specs.Execution.Values.{types}
 use Rattle.wsyntax.specs.Execution.Layers.{LabelLayer}
 use Rattle.wsyntax.specs.Execution.ConfigTyped.{ConfigTyped}
-use Rattle.checked_body.specs.SideTable.{Place, Closes, ByEnd, ByElse}
+use Rattle.checked_body.specs.SideTable.{Sequence, Closes, ByEnd, ByElse}
 use Rattle.soundness.specs.State.{config_of}
 use Rattle.refinement.specs.Machine.{token_here}
 use Rattle.refinement.specs.Joint.{Joint, state_of, machine_of}
@@ -26,7 +26,7 @@ use Rattle.refinement.proofs.Kept.Took.{closing, spot, stands}
 use Rattle.refinement.proofs.Kept.Reaching.{world}
 
 -- the operands have room
-low_of : (code : Code) (w : World) (sp : Spot) (here : Place) (pc : ℕ) (ts : Stack) → Fit w sp code here pc ts → here.base + length ts ≤ ((sp.body).filled).height
+low_of : (code : Code) (w : World) (sp : Spot) (here : Sequence) (pc : ℕ) (ts : Stack) → Fit w sp code here pc ts → here.base + length ts ≤ ((sp.body).filled).height
 low_of Stop w sp here pc ts f = f.2
 low_of (Plain i rest) w sp here pc ts f = f.5
 low_of (Block b body rest) w sp here pc ts f = f.9
@@ -35,16 +35,16 @@ low_of (If b body rest) w sp here pc ts f = f.11
 low_of (IfElse b body other rest) w sp here pc ts f = f.11
 
 -- the place is a token's, or after the last one
-place_of : (code : Code) (w : World) (sp : Spot) (levels : List LabelLayer) (here : Place) → Levels w sp levels here → (held : List Value) → Fit w sp code here sp.pc (types held) → sp.pc ≤ length ((sp.body).filled).tokens
-place_of Stop w sp [] here lf held f = omega (arith, f.0, lf.2)
-place_of Stop w sp (lv ∷ levels) here lf held f =
+position_of : (code : Code) (w : World) (sp : Spot) (levels : List LabelLayer) (here : Sequence) → Levels w sp levels here → (held : List Value) → Fit w sp code here sp.pc (types held) → sp.pc ≤ length ((sp.body).filled).tokens
+position_of Stop w sp [] here lf held f = omega (arith, f.0, lf.2)
+position_of Stop w sp (lv ∷ levels) here lf held f =
     let c = closing (sp.body).filled sp.pc lf.2 (subst (λ i. Closes (sp.body).filled i lf.2) (sym f.0) lf.4.closes) in
     omega (arith, slice_get_within ((sp.body).filled).tokens sp.pc c.0 c.1)
-place_of (Plain i rest) w sp levels here lf held f = omega (arith, slice_get_within ((sp.body).filled).tokens sp.pc (Do i) f.1)
-place_of (Block b body rest) w sp levels here lf held f = omega (arith, slice_get_within ((sp.body).filled).tokens sp.pc (OpenBlock b) f.3)
-place_of (Loop b body rest) w sp levels here lf held f = omega (arith, slice_get_within ((sp.body).filled).tokens sp.pc (OpenLoop b) f.3)
-place_of (If b body rest) w sp levels here lf held f = omega (arith, slice_get_within ((sp.body).filled).tokens sp.pc (OpenIf b) f.4)
-place_of (IfElse b body other rest) w sp levels here lf held f = omega (arith, slice_get_within ((sp.body).filled).tokens sp.pc (OpenIf b) f.5)
+position_of (Plain i rest) w sp levels here lf held f = omega (arith, slice_get_within ((sp.body).filled).tokens sp.pc (Do i) f.1)
+position_of (Block b body rest) w sp levels here lf held f = omega (arith, slice_get_within ((sp.body).filled).tokens sp.pc (OpenBlock b) f.3)
+position_of (Loop b body rest) w sp levels here lf held f = omega (arith, slice_get_within ((sp.body).filled).tokens sp.pc (OpenLoop b) f.3)
+position_of (If b body rest) w sp levels here lf held f = omega (arith, slice_get_within ((sp.body).filled).tokens sp.pc (OpenIf b) f.4)
+position_of (IfElse b body other rest) w sp levels here lf held f = omega (arith, slice_get_within ((sp.body).filled).tokens sp.pc (OpenIf b) f.5)
 
 -- ready at the token at hand
 abbrev ReadyHere : World → Joint → Type 0
@@ -54,22 +54,22 @@ at_token : (w : World) (j : Joint) (o : Option Token) → token_here (machine_of
 at_token w j o e h = subst (ReadyAt w.C w.p (machine_of j)) (sym e) h
 
 module _ (w : World) (sp : Spot) (s : Stands w sp) where
-  ready_closed : (lv : LabelLayer) (levels : List LabelLayer) (here : Place) → Levels w sp (lv ∷ levels) here → (held : List Value) (after : ℕ) → Closes (sp.body).filled sp.pc after → ReadyHere w (at_ sp (lv ∷ levels) held Stop)
+  ready_closed : (lv : LabelLayer) (levels : List LabelLayer) (here : Sequence) → Levels w sp (lv ∷ levels) here → (held : List Value) (after : ℕ) → Closes (sp.body).filled sp.pc after → ReadyHere w (at_ sp (lv ∷ levels) held Stop)
   ready_closed lv levels here lf held after (ByEnd t a) = at_token w (at_ sp (lv ∷ levels) held Stop) (Some End) t tt
   ready_closed lv levels here lf held after (ByElse e t there a) =
       at_token w (at_ sp (lv ∷ levels) held Stop) (Some Else) t (moves w sp s (lv ∷ levels) here lf held Stop e there)
 
-  ready_if : (b : BlockType) (body rest : Code) (levels : List LabelLayer) (here : Place) → Levels w sp levels here → (held : List Value) → Fit w sp (If b body rest) here sp.pc (types held) → ReadyHere w (at_ sp levels held (If b body rest))
+  ready_if : (b : BlockType) (body rest : Code) (levels : List LabelLayer) (here : Sequence) → Levels w sp levels here → (held : List Value) → Fit w sp (If b body rest) here sp.pc (types held) → ReadyHere w (at_ sp levels held (If b body rest))
   ready_if b body rest levels here lf [] f = absurd f.10
   ready_if b body rest levels here lf (v ∷ held) f =
       at_token w (at_ sp levels (v ∷ held) (If b body rest)) (Some (OpenIf b)) f.4 (omega arith, moves w sp s levels here lf (v ∷ held) (If b body rest) f.3 f.6)
 
-  ready_if_else : (b : BlockType) (body other rest : Code) (levels : List LabelLayer) (here : Place) → Levels w sp levels here → (held : List Value) → Fit w sp (IfElse b body other rest) here sp.pc (types held) → ReadyHere w (at_ sp levels held (IfElse b body other rest))
+  ready_if_else : (b : BlockType) (body other rest : Code) (levels : List LabelLayer) (here : Sequence) → Levels w sp levels here → (held : List Value) → Fit w sp (IfElse b body other rest) here sp.pc (types held) → ReadyHere w (at_ sp levels held (IfElse b body other rest))
   ready_if_else b body other rest levels here lf [] f = absurd f.10
   ready_if_else b body other rest levels here lf (v ∷ held) f =
       at_token w (at_ sp levels (v ∷ held) (IfElse b body other rest)) (Some (OpenIf b)) f.5 (omega arith, moves w sp s levels here lf (v ∷ held) (IfElse b body other rest) f.4 f.7)
 
-  ready_code : (code : Code) (levels : List LabelLayer) (here : Place) → Levels w sp levels here → (held : List Value) (r : Stack) → ConfigTyped w.C (config_of (state_of (at_ sp levels held code))) r → Fit w sp code here sp.pc (types held) → ReadyHere w (at_ sp levels held code)
+  ready_code : (code : Code) (levels : List LabelLayer) (here : Sequence) → Levels w sp levels here → (held : List Value) (r : Stack) → ConfigTyped w.C (config_of (state_of (at_ sp levels held code))) r → Fit w sp code here sp.pc (types held) → ReadyHere w (at_ sp levels held code)
   ready_code Stop [] here lf held r t f =
       let e = slice_get_past ((sp.body).filled).tokens sp.pc (omega (arith, f.0, lf.2)) in
       at_token w (at_ sp [] held Stop) None e (omega (arith, types_length held (results_at sp) (f.1 ∙ lf.1), many w sp [], ops_length w sp s [] here lf held Stop))
@@ -95,7 +95,7 @@ ready_sites w j r t s =
     record {
       locals = locals_length w sp st levels x.here x.levels ∙ length-append ((((j.running).body).function).func_type).params (((j.running).body).function).locals;
       room = omega (arith, low, base, n, ops_length w sp st levels x.here x.levels held (j.running).code);
-      place = place_of (j.running).code w sp levels x.here x.levels held x.fits;
+      position = position_of (j.running).code w sp levels x.here x.levels held x.fits;
       at_token = ready_code w sp st (j.running).code levels x.here x.levels held r t x.fits;
     }
 

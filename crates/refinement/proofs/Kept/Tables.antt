@@ -9,7 +9,7 @@ use Rattle.wsyntax.specs.Validation.Context.{Stack}
 use Rattle.wsyntax.specs.Validation.Algorithm.{Rule, Ends, when, all_take, rule}
 use Rattle.wsyntax.specs.Execution.Values.{types}
 use Rattle.wsyntax.specs.Execution.Layers.{LabelLayer}
-use Rattle.checked_body.specs.SideTable.{Lab, Place, Begins, Needs, Jumps, chosen_label, kepts}
+use Rattle.checked_body.specs.SideTable.{Lab, Sequence, Begins, Needs, Jumps, chosen_label, kepts}
 use Rattle.refinement.specs.Machine.{turn}
 use Rattle.refinement.specs.Joint.{machine_of}
 use Rattle.refinement.specs.Turns.{holding, branched}
@@ -28,7 +28,7 @@ module _ (w : World) (sp : Spot) (labels : List Lab) (ls : List ℕ) (d : ℕ) (
       let there : slice_get (kepts labels) (chosen_label ls d i) ≡ Some o.0 = chosen (λ l. slice_get (kepts labels) l ≡ Some o.0) ls d i o.2 in
       some_same lab.kept o.0 (sym (image_at (λ (x : Lab). x.kept) labels (chosen_label ls d i) lab at_label) ∙ there) ∙ first
 
-module _ (w : World) (sp : Spot) (s : Stands w sp) (levels : List LabelLayer) (here : Place) (lf : Levels w sp levels here) where
+module _ (w : World) (sp : Spot) (s : Stands w sp) (levels : List LabelLayer) (here : Sequence) (lf : Levels w sp levels here) where
   -- the labels of a table, and what each of them keeps
   pub record Chooses (ls : List ℕ) (d : ℕ) (held : List Value) : Type 0 where
     pub kept : Stack

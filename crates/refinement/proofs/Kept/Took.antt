@@ -9,7 +9,7 @@ use Rattle.wsyntax.specs.Execution.Values.{types}
 use Rattle.wsyntax.specs.Execution.Layers.{LabelLayer}
 use Rattle.wsyntax.specs.Execution.ConfigTyped.{ConfigTyped}
 use Rattle.checked_body.specs.declared.branch.Branch.{Branch}
-use Rattle.checked_body.specs.SideTable.{Filled, Place, Closes, ByEnd, ByElse, Jumps}
+use Rattle.checked_body.specs.SideTable.{Filled, Sequence, Closes, ByEnd, ByElse, Jumps}
 use Rattle.soundness.specs.State.{config_of}
 use Rattle.refinement.specs.Machine.{turn, ticked, token_here, entry_here}
 use Rattle.refinement.specs.Joint.{Joint, state_of, machine_of}
@@ -36,7 +36,7 @@ pub closing : (fn : Filled) (stop after : ℕ) → Closes fn stop after → (t :
 closing fn stop after (ByEnd t a) = (End, t, λ i e. absurd (cc e))
 closing fn stop after (ByElse e t s a) = (Else, t, λ i e. absurd (cc e))
 
-module _ (w : World) (sp : Spot) (s : Stands w sp) (levels : List LabelLayer) (here : Place) (lf : Levels w sp levels here) (held : List Value) (r : Stack) where
+module _ (w : World) (sp : Spot) (s : Stands w sp) (levels : List LabelLayer) (here : Sequence) (lf : Levels w sp levels here) (held : List Value) (r : Stack) where
   abbrev At : Code → Joint
   At code = at_ sp levels held code
 
@@ -63,7 +63,7 @@ module _ (w : World) (sp : Spot) (s : Stands w sp) (levels : List LabelLayer) (h
   plain_right (Const k n) rest t f = straight_right w sp s levels here lf (Const k n) held rest r tt tt t f
   plain_right (Numeric op) rest t f = straight_right w sp s levels here lf (Numeric op) held rest r tt tt t f
 
-stop_took : (w : World) (sp : Spot) → Stands w sp → (levels : List LabelLayer) (here : Place) → Levels w sp levels here → (held : List Value) → Fit w sp Stop here sp.pc (types held) → Took w (at_ sp levels held Stop)
+stop_took : (w : World) (sp : Spot) → Stands w sp → (levels : List LabelLayer) (here : Sequence) → Levels w sp levels here → (held : List Value) → Fit w sp Stop here sp.pc (types held) → Took w (at_ sp levels held Stop)
 stop_took w sp s [] here lf held f =
     let h = past_right w sp s here lf held f in
     let j = at_ sp [] held Stop in
@@ -72,7 +72,7 @@ stop_took w sp s (lv ∷ levels) here lf held f =
     let c = closing (sp.body).filled sp.pc lf.2 (subst (λ i. Closes (sp.body).filled i lf.2) (sym f.0) lf.4.closes) in
     took_token w (at_ sp (lv ∷ levels) held Stop) c.0 c.1 (close_right w sp s lv levels here lf held f)
 
-code_took : (code : Code) (w : World) (sp : Spot) → Stands w sp → (levels : List LabelLayer) (here : Place) → Levels w sp levels here → (held : List Value) (r : Stack) → ConfigTyped w.C (config_of (state_of (at_ sp levels held code))) r → Fit w sp code here sp.pc (types held) → Took w (at_ sp levels held code)
+code_took : (code : Code) (w : World) (sp : Spot) → Stands w sp → (levels : List LabelLayer) (here : Sequence) → Levels w sp levels here → (held : List Value) (r : Stack) → ConfigTyped w.C (config_of (state_of (at_ sp levels held code))) r → Fit w sp code here sp.pc (types held) → Took w (at_ sp levels held code)
 code_took Stop w sp s levels here lf held r t f = stop_took w sp s levels here lf held f
 code_took (Plain i rest) w sp s levels here lf held r t f =
     took_token w (at_ sp levels held (Plain i rest)) (Do i) f.1 (plain_right w sp s levels here lf held r i rest t f)
@@ -100,7 +100,7 @@ took w j r t s =
 
 -- The entry of a branch table has the number of its labels.
 
-table_entry : (fn : Filled) (here : Place) (pc : ℕ) (i : Op) (ls : List ℕ) (d : ℕ) (e : Branch) → Do i ≡ Do (BrTable ls d) → Jumps fn here.labels pc i → slice_get fn.table pc ≡ Some e → e.arity ≡ length ls
+table_entry : (fn : Filled) (here : Sequence) (pc : ℕ) (i : Op) (ls : List ℕ) (d : ℕ) (e : Branch) → Do i ≡ Do (BrTable ls d) → Jumps fn here.labels pc i → slice_get fn.table pc ≡ Some e → e.arity ≡ length ls
 table_entry fn here pc i ls d e is jumps at_entry =
     let same : i ≡ BrTable ls d = cc is in
     let j : Jumps fn here.labels pc (BrTable ls d) = subst (Jumps fn here.labels pc) same jumps in
@@ -109,7 +109,7 @@ table_entry fn here pc i ls d e is jumps at_entry =
 no_table : {t : Token} {ls : List ℕ} {d : ℕ} (o : Option Token) → o ≡ Some t → o ≡ Some (Do (BrTable ls d)) → t ≡ Do (BrTable ls d)
 no_table o e h = some_same _ _ (sym e ∙ h)
 
-code_table : (code : Code) (w : World) (sp : Spot) (levels : List LabelLayer) (here : Place) → Levels w sp levels here → (held : List Value) → Fit w sp code here sp.pc (types held) → (ls : List ℕ) (d : ℕ) (e : Branch) → slice_get ((sp.body).filled).tokens sp.pc ≡ Some (Do (BrTable ls d)) → slice_get ((sp.body).filled).table sp.pc ≡ Some e → e.arity ≡ length ls
+code_table : (code : Code) (w : World) (sp : Spot) (levels : List LabelLayer) (here : Sequence) → Levels w sp levels here → (held : List Value) → Fit w sp code here sp.pc (types held) → (ls : List ℕ) (d : ℕ) (e : Branch) → slice_get ((sp.body).filled).tokens sp.pc ≡ Some (Do (BrTable ls d)) → slice_get ((sp.body).filled).table sp.pc ≡ Some e → e.arity ≡ length ls
 code_table Stop w sp [] here lf held f ls d e token at_entry =
     let lt = slice_get_within ((sp.body).filled).tokens sp.pc (Do (BrTable ls d)) token in
     absurd (omega (arith, lt, f.0, lf.2))

@@ -44,11 +44,11 @@ rule-back C (LocalSet l) r a b e d =
 rule-back C (LocalTee l) r a b e d =
     let x = on_some (slice_get C.locals l) _ r e in let h = at_rule (Takes (x.0 ∷ []) (x.0 ∷ [])) r a b x.2 d in (x.0, x.1, h.0, h.1)
 rule-back C (GlobalGet l) r a b e d =
-    let x = on_some (slice_get C.globals l) _ r e in let h = at_rule (Takes [] (x.0.content ∷ [])) r a b x.2 d in (x.0, x.1, h.0, h.1)
+    let x = on_some (slice_get C.globals l) _ r e in let h = at_rule (Takes [] (x.0.val_type ∷ [])) r a b x.2 d in (x.0, x.1, h.0, h.1)
 rule-back C (GlobalSet l) r a b e d =
     let x = on_some (slice_get C.globals l) _ r e in
     let y = when_some x.0.mutable _ r x.2 in
-    let h = at_rule (Takes (x.0.content ∷ []) []) r a b y.1 d in (x.0, x.1, y.0, h.0, h.1)
+    let h = at_rule (Takes (x.0.val_type ∷ []) []) r a b y.1 d in (x.0, x.1, y.0, h.0, h.1)
 rule-back C (MemoryLoad m) r a b e d =
     let x = when_some C.has_memory _ r e in
     let y = when_some (nat_le (2 ^ m.align) m.width) _ r x.1 in
@@ -82,9 +82,9 @@ rule-on C Select a b d = (Selects, refl, d)
 rule-on C (LocalGet l) a b d = (Takes [] (d.0 ∷ []), on_to (slice_get C.locals l) _ d.0 _ d.1 refl, (d.2, d.3))
 rule-on C (LocalSet l) a b d = (Takes (d.0 ∷ []) [], on_to (slice_get C.locals l) _ d.0 _ d.1 refl, (d.2, d.3))
 rule-on C (LocalTee l) a b d = (Takes (d.0 ∷ []) (d.0 ∷ []), on_to (slice_get C.locals l) _ d.0 _ d.1 refl, (d.2, d.3))
-rule-on C (GlobalGet l) a b d = (Takes [] (d.0.content ∷ []), on_to (slice_get C.globals l) _ d.0 _ d.1 refl, (d.2, d.3))
+rule-on C (GlobalGet l) a b d = (Takes [] (d.0.val_type ∷ []), on_to (slice_get C.globals l) _ d.0 _ d.1 refl, (d.2, d.3))
 rule-on C (GlobalSet l) a b d =
-    (Takes (d.0.content ∷ []) [], on_to (slice_get C.globals l) _ d.0 _ d.1 (when_to d.0.mutable _ _ d.2 refl), (d.3, d.4))
+    (Takes (d.0.val_type ∷ []) [], on_to (slice_get C.globals l) _ d.0 _ d.1 (when_to d.0.mutable _ _ d.2 refl), (d.3, d.4))
 rule-on C (MemoryLoad m) a b d =
     (Takes (I32 ∷ []) (m.of_type ∷ []), when_to C.has_memory _ _ d.0 (when_to (nat_le (2 ^ m.align) m.width) _ _ (le-leb (2 ^ m.align) m.width d.1) refl), (d.2, d.3))
 rule-on C (MemoryStore m) a b d =

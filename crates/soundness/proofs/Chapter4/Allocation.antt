@@ -8,19 +8,19 @@ use Rattle.wsyntax.specs.Execution.ConfigTyped.{AreBytes, Has, MemoryTyped, Entr
 use Rattle.soundness.proofs.Chapter4.Stores.{bytes_join, bytes_front, bytes_back, bytes_zero}
 use Rattle.wsyntax.specs.Execution.Allocation.{Segment, overwrite, put_data, put_elements, fresh_memory, AllWithin, AllBytes, AllFunctions, AllElements, FreshTyped}
 
-overwrite_length : (place : ℕ) (items xs : List ℕ) → place + length items ≤ length xs → length (overwrite place items xs) ≡ length xs
-overwrite_length place items xs h =
-    omega (arith, length-append (take place xs) (items ++ drop (place + length items) xs), length-append items (drop (place + length items) xs), length-take place xs, length-drop (place + length items) xs)
+overwrite_length : (offset : ℕ) (items xs : List ℕ) → offset + length items ≤ length xs → length (overwrite offset items xs) ≡ length xs
+overwrite_length offset items xs h =
+    omega (arith, length-append (take offset xs) (items ++ drop (offset + length items) xs), length-append items (drop (offset + length items) xs), length-take offset xs, length-drop (offset + length items) xs)
 
 data_length : (n : ℕ) (ss : List Segment) (bytes : List ℕ) → AllWithin n ss → length bytes ≡ n → length (put_data ss bytes) ≡ n
 data_length n [] bytes h e = e
-data_length n (s ∷ ss) bytes h e = data_length n ss (overwrite s.place s.items bytes) h.1 (overwrite_length s.place s.items bytes (omega (arith, h.0, e)) ∙ e)
+data_length n (s ∷ ss) bytes h e = data_length n ss (overwrite s.offset s.items bytes) h.1 (overwrite_length s.offset s.items bytes (omega (arith, h.0, e)) ∙ e)
 
 data_bytes : (ss : List Segment) (bytes : List ℕ) → AllBytes ss → AreBytes bytes → AreBytes (put_data ss bytes)
 data_bytes [] bytes h k = k
 data_bytes (s ∷ ss) bytes h k =
-    data_bytes ss (overwrite s.place s.items bytes) h.1
-    (bytes_join (take s.place bytes) _ (bytes_front s.place bytes k) (bytes_join s.items _ h.0 (bytes_back (s.place + length s.items) bytes k)))
+    data_bytes ss (overwrite s.offset s.items bytes) h.1
+    (bytes_join (take s.offset bytes) _ (bytes_front s.offset bytes k) (bytes_join s.items _ h.0 (bytes_back (s.offset + length s.items) bytes k)))
 
 -- entries that are typed, by recursion
 abbrev Entries : Context → List Entry → Type 0
@@ -52,8 +52,8 @@ entries_unset C (suc n) = (tt, entries_unset C n)
 entries_put : (C : Context) (ss : List Segment) (es : List Entry) → AllElements C ss → Entries C es → Entries C (put_elements ss es)
 entries_put C [] es h k = k
 entries_put C (s ∷ ss) es h k =
-    entries_put C ss (overwrite s.place (map SetTo s.items) es) h.1
-    (entries_join C (take s.place es) _ (entries_front C s.place es k)
+    entries_put C ss (overwrite s.offset (map SetTo s.items) es) h.1
+    (entries_join C (take s.offset es) _ (entries_front C s.offset es k)
     (entries_join C (map SetTo s.items) _ (entries_set C s.items h.0) (entries_back C _ es k)))
 
 by_index : (C : Context) (es : List Entry) → Entries C es → TableTyped C es

@@ -128,9 +128,9 @@ loaded_ok a n i = value_ok a.of_type _ i
 pub with_memory : {C : Context} {s : Store} (m : Memory) → StoreTyped C s → MemoryTyped m → StoreTyped C (put_memory s m)
 with_memory {C} {s} m t h = record { memory = has_still MemoryTyped C.has_memory m h; table = t.table; globals = t.globals }
 
-pub global_type : (gs : List GlobalType) (x : ℕ) (g : GlobalType) → slice_get gs x ≡ Some g → slice_get (global_types gs) x ≡ Some g.content
+pub global_type : (gs : List GlobalType) (x : ℕ) (g : GlobalType) → slice_get gs x ≡ Some g → slice_get (global_types gs) x ≡ Some g.val_type
 global_type [] x g e = absurd cc
-global_type (h ∷ gs) zero g e = let same : h ≡ g = cc in ap (λ (k : GlobalType). Some k.content) same
+global_type (h ∷ gs) zero g e = let same : h ≡ g = cc in ap (λ (k : GlobalType). Some k.val_type) same
 global_type (h ∷ gs) (suc x) g e = global_type gs x g e
 
 pub with_global : {C : Context} {s : Store} (x : ℕ) (v was : Value) → StoreTyped C s → slice_get s.globals x ≡ Some was → type_of v ≡ type_of was → IsWord v → StoreTyped C (put_global s x v)

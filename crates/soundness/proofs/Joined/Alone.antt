@@ -75,7 +75,7 @@ sole_unbroken =
       ),
     )
 
-sole_typed : (place : ℕ) (b : BodyShape) → slice_get (sole_body ∷ []) place ≡ Some b → TypedAt sole place b
+sole_typed : (position : ℕ) (b : BodyShape) → slice_get (sole_body ∷ []) position ≡ Some b → TypedAt sole position b
 sole_typed zero b e = subst (TypedAt sole 0) (same_Some sole_body b e) (record { code = Plain Nop Stop; tree = refl; typed = ([], [], [], (refl, refl), refl, refl) })
 sole_typed (suc k) b e = absurd cc
 

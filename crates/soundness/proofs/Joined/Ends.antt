@@ -67,19 +67,19 @@ apart xs a b j k d lt in' ea eb same =
     r (ap (λ (x : ExportShape). x.item_name) (get_or_from_slice_get xs j a a ea) ∙ same ∙ sym (ap (λ (x : ExportShape). x.item_name) (get_or_from_slice_get xs k b a eb)))
 
 -- a name is that of one export
-by_place : (m : ModuleShape) (a b : ExportShape) (j k : ℕ) → ExportsDistinct m → j < length m.exports → k < length m.exports → slice_get m.exports j ≡ Some a → slice_get m.exports k ≡ Some b → a.item_name ≡ b.item_name → ((j ≡ k) ⊎ ((j < k) ⊎ (k < j))) → a ≡ b
-by_place m a b j k d hj hk ea eb same (inl e) =
+by_position : (m : ModuleShape) (a b : ExportShape) (j k : ℕ) → ExportsDistinct m → j < length m.exports → k < length m.exports → slice_get m.exports j ≡ Some a → slice_get m.exports k ≡ Some b → a.item_name ≡ b.item_name → ((j ≡ k) ⊎ ((j < k) ⊎ (k < j))) → a ≡ b
+by_position m a b j k d hj hk ea eb same (inl e) =
     let ea' : slice_get m.exports k ≡ Some a = subst (λ k. slice_get m.exports k ≡ Some a) e ea in
     let both : Some a ≡ Some b = sym ea' ∙ eb in
     same_Some a b both
-by_place m a b j k d hj hk ea eb same (inr (inl lt)) = absurd (apart m.exports a b j k d lt hk ea eb same)
-by_place m a b j k d hj hk ea eb same (inr (inr lt)) = absurd (apart m.exports b a k j d lt hj eb ea (sym same))
+by_position m a b j k d hj hk ea eb same (inr (inl lt)) = absurd (apart m.exports a b j k d lt hk ea eb same)
+by_position m a b j k d hj hk ea eb same (inr (inr lt)) = absurd (apart m.exports b a k j d lt hj eb ea (sym same))
 
 one_export : (m : ModuleShape) (a b : ExportShape) → ExportsDistinct m → Contains m.exports a → Contains m.exports b → a.item_name ≡ b.item_name → a ≡ b
 one_export m a b d ca cb same =
     let p = stands m.exports a ca in
     let q = stands m.exports b cb in
-    by_place m a b p.0 q.0 d p.1 q.1 p.2 q.2 same (cases_order p.0 q.0)
+    by_position m a b p.0 q.0 d p.1 q.1 p.2 q.2 same (cases_order p.0 q.0)
 
 -- Whole ends.
 

@@ -92,4 +92,4 @@ pub integer_locals : (runs : List LocalRun) → any run_has_floats runs ≡ fals
 integer_locals [] e = tt
 integer_locals (run ∷ runs) e =
     let h = or_parts (run_has_floats run) (any run_has_floats runs) e in
-    integers_join (replicate run.count run.content) (declared runs) (integers_run run.count run.content h.0) (integer_locals runs h.1)
+    integers_join (replicate run.count run.val_type) (declared runs) (integers_run run.count run.val_type h.0) (integer_locals runs h.1)

@@ -69,8 +69,8 @@ cond_none false x o e = (refl, e)
 all_inside : (k size : ℕ) (ss : List Segment) → first_outside k size ss ≡ None → AllWithin size ss
 all_inside k size [] e = tt
 all_inside k size (s ∷ ss) e =
-    let h = cond_none (nat_lt size (s.place + length s.items)) k (first_outside (suc k) size ss) e in
-    (ltb-false size (s.place + length s.items) h.0, all_inside (suc k) size ss h.1)
+    let h = cond_none (nat_lt size (s.offset + length s.items)) k (first_outside (suc k) size ss) e in
+    (ltb-false size (s.offset + length s.items) h.0, all_inside (suc k) size ss h.1)
 
 -- The memory.
 
@@ -123,21 +123,21 @@ table_ok C (t ∷ ts) ss h = has_still (λ (n : ℕ). AllElements C ss) (nat_lt 
 
 -- The globals.
 
-globals_ok : (gs : List GlobalShape) → any (λ (g : GlobalShape). is_float g.content.content || any token_has_floats g.init) gs ≡ false → ValuesTyped (map first_value gs) (global_types (map (λ (g : GlobalShape). g.content) gs))
+globals_ok : (gs : List GlobalShape) → any (λ (g : GlobalShape). is_float g.global_type.val_type || any token_has_floats g.init) gs ≡ false → ValuesTyped (map first_value gs) (global_types (map (λ (g : GlobalShape). g.global_type) gs))
 globals_ok [] e = no_values
 globals_ok (g ∷ gs) e =
-    let h = or_parts (is_float g.content.content || any token_has_floats g.init) _ e in
-    let v = value_ok g.content.content (constant_in g.init) (integer_type g.content.content (or_parts (is_float g.content.content) _ h.0).0) in
+    let h = or_parts (is_float g.global_type.val_type || any token_has_floats g.init) _ e in
+    let v = value_ok g.global_type.val_type (constant_in g.init) (integer_type g.global_type.val_type (or_parts (is_float g.global_type.val_type) _ h.0).0) in
     let same : v.value ≡ first_value g = sym (ap (λ o. unwrap_or o (V32 0)) v.is) in
-    subst (λ w. ValuesTyped (w ∷ map first_value gs) (global_types (map (λ (g : GlobalShape). g.content) (g ∷ gs)))) same
+    subst (λ w. ValuesTyped (w ∷ map first_value gs) (global_types (map (λ (g : GlobalShape). g.global_type) (g ∷ gs)))) same
     (push v.value v.of_type v.word (globals_ok gs h.1))
 
-no_floats_in_globals : (m : ModuleShape) (bodies : List BodyShape) → has_floats m bodies ≡ false → any (λ (g : GlobalShape). is_float g.content.content || any token_has_floats g.init) m.globals ≡ false
+no_floats_in_globals : (m : ModuleShape) (bodies : List BodyShape) → has_floats m bodies ≡ false → any (λ (g : GlobalShape). is_float g.global_type.val_type || any token_has_floats g.init) m.globals ≡ false
 no_floats_in_globals m bodies e =
     let a = or_parts _ (any body_has_floats bodies) e in
     let b = or_parts _ (any (λ (d : DataShape). any token_has_floats d.offset) m.segments) a.0 in
     let c = or_parts _ (any (λ (e : ElementShape). any token_has_floats e.offset) m.elements) b.0 in
-    (or_parts (any type_has_floats m.types) (any (λ (g : GlobalShape). is_float g.content.content || any token_has_floats g.init) m.globals) c.0).1
+    (or_parts (any type_has_floats m.types) (any (λ (g : GlobalShape). is_float g.global_type.val_type || any token_has_floats g.init) m.globals) c.0).1
 
 -- The layout.
 
@@ -148,9 +148,9 @@ memories_defined m e = ap (λ is. filter_map (λ i. imported_memory i.kind) is +
 tables_defined : (m : ModuleShape) → m.imports ≡ [] → tables_of m ≡ m.tables
 tables_defined m e = ap (λ is. filter_map (λ i. imported_table i.kind) is ++ m.tables) e
 
-globals_defined : (m : ModuleShape) → m.imports ≡ [] → globals_of m ≡ map (λ (g : GlobalShape). g.content) m.globals
+globals_defined : (m : ModuleShape) → m.imports ≡ [] → globals_of m ≡ map (λ (g : GlobalShape). g.global_type) m.globals
 globals_defined m e =
-    ap (λ is. filter_map (λ i. imported_global i.kind) is ++ map (λ (g : GlobalShape). g.content) m.globals) e
+    ap (λ is. filter_map (λ i. imported_global i.kind) is ++ map (λ (g : GlobalShape). g.global_type) m.globals) e
 
 layout_typed : (m : ModuleShape) (bodies : List BodyShape) (pages : ℕ) → Judged m bodies → SegmentsAreBytes m → start_refusal pages m bodies ≡ None → LayoutTyped (module_context m) pages (layout_of m)
 layout_typed m bodies pages h k e =

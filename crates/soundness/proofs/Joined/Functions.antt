@@ -80,12 +80,12 @@ parts types _ _ _ k fn h e = absurd h
 pub functions_defined : (m : ModuleShape) → m.imports ≡ [] → functions_of m ≡ m.functions
 functions_defined m e = ap (λ is. filter_map (λ i. imported_function i.kind) is ++ m.functions) e
 
-place_is : (m : ModuleShape) (k : ℕ) → m.imports ≡ [] → function_at m k ≡ k
-place_is m k e = ap (λ is. length (filter_map (λ i. imported_function i.kind) is) + k) e ∙ omega arith
+index_is : (m : ModuleShape) (k : ℕ) → m.imports ≡ [] → function_at m k ≡ k
+index_is m k e = ap (λ is. length (filter_map (λ i. imported_function i.kind) is) + k) e ∙ omega arith
 
 type_there : (m : ModuleShape) (k y : ℕ) → m.imports ≡ [] → slice_get m.functions k ≡ Some y → type_at (module_context m).functions (function_at m k) ≡ type_at m.types y
 type_there m k y e is =
-    ap (λ j. type_at (module_context m).functions j) (place_is m k e)
+    ap (λ j. type_at (module_context m).functions j) (index_is m k e)
     ∙ ap (λ fs. type_at (map (type_at m.types) fs) k) (functions_defined m e)
     ∙ ap (λ o. unwrap_or o empty_type) (slice_get-map (type_at m.types) m.functions k)
     ∙ ap (λ o. unwrap_or (option_map (type_at m.types) o) empty_type) is

@@ -30,24 +30,24 @@ say_same (l ∷ ls) (c ∷ cs) (d ∷ ds) h k =
 say_same _ _ ds h k = absurd h
 
 -- each line of good calls says one
-said : (lines : List TextLine) (cs : List Call) (place : ℕ) (line : TextLine) → SayAll lines cs → slice_get lines place ≡ Some line → (c : Call) × Says line c
-said [] cs place line h e = absurd cc
-said (l ∷ ls) [] place line h e = absurd h
+said : (lines : List TextLine) (cs : List Call) (position : ℕ) (line : TextLine) → SayAll lines cs → slice_get lines position ≡ Some line → (c : Call) × Says line c
+said [] cs position line h e = absurd cc
+said (l ∷ ls) [] position line h e = absurd h
 said (l ∷ ls) (c ∷ cs) zero line h e = (c, subst (λ l. Says l c) (same_Some l line e) h.0)
-said (l ∷ ls) (c ∷ cs) (suc place) line h e = said ls cs place line h.1 e
+said (l ∷ ls) (c ∷ cs) (suc position) line h e = said ls cs position line h.1 e
 
 -- so there is no bad one among them
 not_bad : (text : List ℕ) (k : ℕ) (cs : List Call) → LeastBad text k → length (lines_of text) ≤ line_limit → SayAll (lines_of text) cs → ⊥
 not_bad text k cs b few h =
-    let in' = slice_get_within (lines_of text) b.place b.line b.stands in
-    b.bad (omega (arith, b.number, in', few), said (lines_of text) cs b.place b.line h b.stands)
+    let in' = slice_get_within (lines_of text) b.position b.line b.stands in
+    b.bad (omega (arith, b.number, in', few), said (lines_of text) cs b.position b.line h b.stands)
 
 -- a bad line is not before the least one
-not_before : (text : List ℕ) (k n : ℕ) (a : LeastBad text k) (b : LeastBad text n) → a.place < b.place → ⊥
+not_before : (text : List ℕ) (k n : ℕ) (a : LeastBad text k) (b : LeastBad text n) → a.position < b.position → ⊥
 not_before text k n a b lt =
-    a.bad (subst (λ k. IsGood k a.line) (sym a.number) (b.before a.place a.line lt a.stands))
+    a.bad (subst (λ k. IsGood k a.line) (sym a.number) (b.before a.position a.line lt a.stands))
 
-least_same : (text : List ℕ) (k n : ℕ) (a : LeastBad text k) (b : LeastBad text n) → ((a.place ≡ b.place) ⊎ ((a.place < b.place) ⊎ (b.place < a.place))) → k ≡ n
+least_same : (text : List ℕ) (k n : ℕ) (a : LeastBad text k) (b : LeastBad text n) → ((a.position ≡ b.position) ⊎ ((a.position < b.position) ⊎ (b.position < a.position))) → k ≡ n
 least_same text k n a b (inl e) = a.number ∙ ap suc e ∙ sym b.number
 least_same text k n a b (inr (inl lt)) = absurd (not_before text k n a b lt)
 least_same text k n a b (inr (inr lt)) = absurd (not_before text n k b a lt)
@@ -58,7 +58,7 @@ one_calls text TooLong TooLong h k = refl
 one_calls text TooLong (BadLine n) h k = absurd (omega (arith, h, k.0))
 one_calls text TooLong (Good ds) h k = absurd (omega (arith, h, k.0))
 one_calls text (BadLine n) TooLong h k = absurd (omega (arith, h.0, k))
-one_calls text (BadLine n) (BadLine j) h k = ap BadLine (least_same text n j h.1 k.1 (cases_order (h.1).place (k.1).place))
+one_calls text (BadLine n) (BadLine j) h k = ap BadLine (least_same text n j h.1 k.1 (cases_order (h.1).position (k.1).position))
 one_calls text (BadLine n) (Good ds) h k = absurd (not_bad text n ds h.1 k.1 k.2)
 one_calls text (Good cs) TooLong h k = absurd (omega (arith, h.0, k))
 one_calls text (Good cs) (BadLine n) h k = absurd (not_bad text n cs k.1 h.1 h.2)

@@ -28,7 +28,7 @@ fn accepted<R: Threads + Wait + Abort + Sync>(rt: &R, alloc: Global) -> Accepted
 }
 
 const IMPORTED: GlobalType = GlobalType {
-    content: ValType::I64,
+    val_type: ValType::I64,
     mutable: false,
 };
 
@@ -83,14 +83,14 @@ fn lends_locals_and_tokens<R: Abort>(rt: &R, accepted: &Accepted<'_>) -> Result<
     let body = accepted.body(1).ok_or("no body")?;
     let run = LocalRun {
         count: 2,
-        content: ValType::I64,
+        val_type: ValType::I64,
     };
     assert_eq!(rt; body.locals(), [run].as_slice());
     assert_eq!(rt; (body.tokens().len(), body.long().len()), (10, 0));
     Ok(())
 }
 
-fn lends_the_place_of_a_branch<R: Abort>(rt: &R, accepted: &Accepted<'_>) -> Result<(), Fail> {
+fn lends_the_position_of_a_branch<R: Abort>(rt: &R, accepted: &Accepted<'_>) -> Result<(), Fail> {
     let body = accepted.body(1).ok_or("no body")?;
     // on after the block's end, with one operand above the 5
     let destination = BranchTarget::Short {
@@ -125,7 +125,7 @@ fn lends_a_branch_table<R: Abort>(rt: &R, accepted: &Accepted<'_>) -> Result<(),
     Ok(())
 }
 
-fn lends_the_places_of_a_branch_table<R: Abort>(
+fn lends_the_positions_of_a_branch_table<R: Abort>(
     rt: &R,
     accepted: &Accepted<'_>,
 ) -> Result<(), Fail> {
@@ -165,7 +165,7 @@ fn lends_the_shapes_of_functions<R: Abort>(rt: &R, accepted: &Accepted<'_>) -> R
     Ok(())
 }
 
-fn lends_the_numbers_of_types<R: Abort>(rt: &R, accepted: &Accepted<'_>) -> Result<(), Fail> {
+fn lends_the_ids_of_types<R: Abort>(rt: &R, accepted: &Accepted<'_>) -> Result<(), Fail> {
     // three types, no two of which are equal
     let [one, two, three] = accepted.type_ids() else {
         return Err("three types".into());
@@ -187,7 +187,7 @@ fn lends_the_module<R: Abort>(rt: &R, accepted: &Accepted<'_>) -> Result<(), Fai
     lends_the_export(rt, accepted)?;
     lends_types_and_functions(rt, accepted);
     lends_the_shapes_of_functions(rt, accepted)?;
-    lends_the_numbers_of_types(rt, accepted)?;
+    lends_the_ids_of_types(rt, accepted)?;
     lends_the_counts_of_locals(rt, accepted);
     lends_the_context(rt, accepted);
     the_context_knows_types(rt, accepted)
@@ -195,9 +195,9 @@ fn lends_the_module<R: Abort>(rt: &R, accepted: &Accepted<'_>) -> Result<(), Fai
 
 fn lends_the_bodies<R: Abort>(rt: &R, accepted: &Accepted<'_>) -> Result<(), Fail> {
     lends_locals_and_tokens(rt, accepted)?;
-    lends_the_place_of_a_branch(rt, accepted)?;
+    lends_the_position_of_a_branch(rt, accepted)?;
     lends_a_branch_table(rt, accepted)?;
-    lends_the_places_of_a_branch_table(rt, accepted)?;
+    lends_the_positions_of_a_branch_table(rt, accepted)?;
     lends_no_other_body(rt, accepted);
     Ok(())
 }

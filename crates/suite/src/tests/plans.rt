@@ -46,8 +46,8 @@ fn thousand_bodies(
     let mut bytes = FRONT.as_slice().to_vec(alloc)?;
     bytes.extend_from_slice(&[0; 1_000])?;
     bytes.extend_from_slice(head)?;
-    for place in 0..1_000 {
-        let body = match place {
+    for position in 0..1_000 {
+        let body = match position {
             3 => third,
             900 => late,
             _ => EMPTY.as_slice(),

@@ -38,7 +38,7 @@ unfoldable pub global : Production GlobalShape
 global = do
   t ← global_type
   e ← expression
-  pure (record { content = t; init = e })
+  pure (record { global_type = t; init = e })
 
 -- 5.5.10 exports
 abbrev pub export_kind_of : ℕ → Option ExportKind
@@ -66,7 +66,7 @@ unfoldable pub run : Production LocalRun
 run = do
   n ← u32
   t ← val_type
-  pure (record { count = n; content = t })
+  pure (record { count = n; val_type = t })
 
 -- how many locals these runs declare
 abbrev pub locals_of : List LocalRun → ℕ

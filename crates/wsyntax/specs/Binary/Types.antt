@@ -68,4 +68,4 @@ global_type = do
   t ← val_type
   b ← byte
   m ← given (mutable_of b)
-  pure (record { content = t; mutable = m })
+  pure (record { val_type = t; mutable = m })

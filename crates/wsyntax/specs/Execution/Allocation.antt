@@ -8,7 +8,7 @@ use Rattle.wsyntax.specs.Execution.ConfigTyped.{ValuesTyped, AreBytes, Has, Stor
 
 -- function indices for a table, or bytes for a memory, from a place on
 pub record Segment : Type 0 where
-  pub place : ℕ
+  pub offset : ℕ
   pub items : List ℕ
 
 -- 4.5.4 what an instance is made of: the limits of its memory, the minimum of its table, the first values of its globals, its segments. Ours: offsets and first values are computed before
@@ -21,17 +21,17 @@ pub record Layout : Type 0 where
 
 -- these items from a place on
 abbrev pub overwrite : {A : Type 0} → ℕ → List A → List A → List A
-overwrite place items xs = take place xs ++ (items ++ drop (place + length items) xs)
+overwrite offset items xs = take offset xs ++ (items ++ drop (offset + length items) xs)
 
 -- 4.5.4 the data segments in order
 abbrev pub put_data : List Segment → List ℕ → List ℕ
 put_data [] bytes = bytes
-put_data (s ∷ ss) bytes = put_data ss (overwrite s.place s.items bytes)
+put_data (s ∷ ss) bytes = put_data ss (overwrite s.offset s.items bytes)
 
 -- 4.5.4 the element segments in order
 abbrev pub put_elements : List Segment → List Entry → List Entry
 put_elements [] table = table
-put_elements (s ∷ ss) table = put_elements ss (overwrite s.place (map SetTo s.items) table)
+put_elements (s ∷ ss) table = put_elements ss (overwrite s.offset (map SetTo s.items) table)
 
 -- 4.5.3 a memory of its minimum with zeros, and then the data segments
 abbrev pub fresh_memory : ℕ → List Segment → Limits → Memory
@@ -48,7 +48,7 @@ fresh pages l = record {
 -- every segment ends within n bytes or entries
 abbrev pub AllWithin : ℕ → List Segment → Type 0
 AllWithin n [] = Unit {0}
-AllWithin n (s ∷ ss) = (s.place + length s.items ≤ n) × AllWithin n ss
+AllWithin n (s ∷ ss) = (s.offset + length s.items ≤ n) × AllWithin n ss
 
 -- the bytes of every segment are bytes
 abbrev pub AllBytes : List Segment → Type 0

@@ -101,7 +101,7 @@ TableTyped C table = (i : ℕ) (e : Entry) → slice_get table i ≡ Some e → 
 
 -- what the globals hold
 abbrev pub global_types : List GlobalType → List ValType
-global_types gs = map (λ (g : GlobalType). g.content) gs
+global_types gs = map (λ (g : GlobalType). g.val_type) gs
 
 -- 7.5 stores: the memory, the table and the globals are typed
 pub record StoreTyped (C : Context) (s : Store) : Type 0 where

@@ -57,7 +57,7 @@ token_has_floats End = false
 
 -- a run of no locals declares none
 abbrev pub run_has_floats : LocalRun → Bool
-run_has_floats r = nat_lt 0 r.count && is_float r.content
+run_has_floats r = nat_lt 0 r.count && is_float r.val_type
 
 -- in a body
 abbrev pub body_has_floats : BodyShape → Bool
@@ -67,7 +67,7 @@ body_has_floats b = any run_has_floats b.runs || any token_has_floats b.code
 abbrev pub has_floats : ModuleShape → List BodyShape → Bool
 has_floats m bodies =
     any type_has_floats m.types
-    || any (λ g. is_float g.content.content || any token_has_floats g.init) m.globals
+    || any (λ g. is_float g.global_type.val_type || any token_has_floats g.init) m.globals
     || any (λ e. any token_has_floats e.offset) m.elements
     || any (λ d. any token_has_floats d.offset) m.segments
     || any body_has_floats bodies
@@ -81,15 +81,15 @@ constant_in _ = 0
 
 -- 4.5.4 the first value of a global
 abbrev pub first_value : GlobalShape → Held
-first_value g = unwrap_or (value_in g.content.content (constant_in g.init)) (V32 0)
+first_value g = unwrap_or (value_in g.global_type.val_type (constant_in g.init)) (V32 0)
 
 -- 4.5.4 an element segment with its place
 abbrev pub element_segment : ElementShape → Segment
-element_segment e = record { place = constant_in e.offset; items = e.functions }
+element_segment e = record { offset = constant_in e.offset; items = e.functions }
 
 -- 4.5.4 a data segment with its place
 abbrev pub data_segment : DataShape → Segment
-data_segment d = record { place = constant_in d.offset; items = d.bytes }
+data_segment d = record { offset = constant_in d.offset; items = d.bytes }
 
 -- the first of a list
 abbrev pub first : {A : Type 0} → List A → Option A
@@ -120,7 +120,7 @@ table_limit = 65536
 -- the number of the first segment that does not end within `size`; the numbers begin with k
 abbrev pub first_outside : ℕ → ℕ → List Segment → Option ℕ
 first_outside k size [] = None
-first_outside k size (s ∷ ss) = if nat_lt size (s.place + length s.items) then Some k else first_outside (suc k) size ss
+first_outside k size (s ∷ ss) = if nat_lt size (s.offset + length s.items) then Some k else first_outside (suc k) size ss
 
 -- the first refusal that holds, or none
 abbrev pub or_else : {A : Type 0} → Option A → Option A → Option A

@@ -68,12 +68,12 @@ pub data CallsText : Type 0 where
 
 -- the least bad line
 pub record LeastBad (text : List ℕ) (k : ℕ) : Type 0 where
-  pub place : ℕ
+  pub position : ℕ
   pub line : TextLine
-  pub number : k ≡ suc place
-  pub stands : slice_get (lines_of text) place ≡ Some line
+  pub number : k ≡ suc position
+  pub stands : slice_get (lines_of text) position ≡ Some line
   pub bad : IsGood k line → ⊥
-  pub before : (j : ℕ) (other : TextLine) → j < place → slice_get (lines_of text) j ≡ Some other → IsGood (suc j) other
+  pub before : (j : ℕ) (other : TextLine) → j < position → slice_get (lines_of text) j ≡ Some other → IsGood (suc j) other
 
 -- what a text of calls is: too long goes first, then the least bad line, else the calls that it says
 unfoldable pub IsCalls : List ℕ → CallsText → Type 0

@@ -52,8 +52,8 @@ rule C Select = Some Selects
 rule C (LocalGet x) = on (slice_get C.locals x) (λ t. Some (Takes [] (t ∷ [])))
 rule C (LocalSet x) = on (slice_get C.locals x) (λ t. Some (Takes (t ∷ []) []))
 rule C (LocalTee x) = on (slice_get C.locals x) (λ t. Some (Takes (t ∷ []) (t ∷ [])))
-rule C (GlobalGet x) = on (slice_get C.globals x) (λ g. Some (Takes [] (g.content ∷ [])))
-rule C (GlobalSet x) = on (slice_get C.globals x) (λ g. when g.mutable (Some (Takes (g.content ∷ []) [])))
+rule C (GlobalGet x) = on (slice_get C.globals x) (λ g. Some (Takes [] (g.val_type ∷ [])))
+rule C (GlobalSet x) = on (slice_get C.globals x) (λ g. when g.mutable (Some (Takes (g.val_type ∷ []) [])))
 -- 3.3.4 memory instructions
 rule C (MemoryLoad m) = when C.has_memory (when (nat_le (2 ^ m.align) m.width) (Some (Takes (I32 ∷ []) (m.of_type ∷ []))))
 rule C (MemoryStore m) = when C.has_memory (when (nat_le (2 ^ m.align) m.width) (Some (Takes (m.of_type ∷ I32 ∷ []) [])))

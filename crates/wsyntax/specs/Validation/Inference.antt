@@ -19,8 +19,8 @@ mutual
     local_get : {C : Context} {x : ℕ} {t : ValType} → slice_get C.locals x ≡ Some t → InstrTyped C (Plain (LocalGet x) Stop) [] (t ∷ [])
     local_set : {C : Context} {x : ℕ} {t : ValType} → slice_get C.locals x ≡ Some t → InstrTyped C (Plain (LocalSet x) Stop) (t ∷ []) []
     local_tee : {C : Context} {x : ℕ} {t : ValType} → slice_get C.locals x ≡ Some t → InstrTyped C (Plain (LocalTee x) Stop) (t ∷ []) (t ∷ [])
-    global_get : {C : Context} {x : ℕ} {g : GlobalType} → slice_get C.globals x ≡ Some g → InstrTyped C (Plain (GlobalGet x) Stop) [] (g.content ∷ [])
-    global_set : {C : Context} {x : ℕ} {g : GlobalType} → slice_get C.globals x ≡ Some g → IsTrue g.mutable → InstrTyped C (Plain (GlobalSet x) Stop) (g.content ∷ []) []
+    global_get : {C : Context} {x : ℕ} {g : GlobalType} → slice_get C.globals x ≡ Some g → InstrTyped C (Plain (GlobalGet x) Stop) [] (g.val_type ∷ [])
+    global_set : {C : Context} {x : ℕ} {g : GlobalType} → slice_get C.globals x ≡ Some g → IsTrue g.mutable → InstrTyped C (Plain (GlobalSet x) Stop) (g.val_type ∷ []) []
     -- 3.3.4 memory instructions: the alignment is no larger than the width
     load : {C : Context} {m : Access} → IsTrue C.has_memory → 2 ^ m.align ≤ m.width → InstrTyped C (Plain (MemoryLoad m) Stop) (I32 ∷ []) (m.of_type ∷ [])
     store : {C : Context} {m : Access} → IsTrue C.has_memory → 2 ^ m.align ≤ m.width → InstrTyped C (Plain (MemoryStore m) Stop) (m.of_type ∷ I32 ∷ []) []

@@ -72,7 +72,7 @@ memories_of m = imported_memories m ++ m.memories
 
 -- 2.5.1 the globals of a module, each by its type, the imported ones first
 abbrev pub globals_of : ModuleShape → List GlobalType
-globals_of m = imported_globals m ++ map (λ g. g.content) m.globals
+globals_of m = imported_globals m ++ map (λ g. g.global_type) m.globals
 
 -- 3.4.10 the context of a module.
 
@@ -118,7 +118,7 @@ indexed_context m = record {
 -- 5.5.13 the declared locals, one by one
 abbrev pub declared : List LocalRun → List ValType
 declared [] = []
-declared (run ∷ runs) = replicate run.count run.content ++ declared runs
+declared (run ∷ runs) = replicate run.count run.val_type ++ declared runs
 
 -- 3.4.1 the context of the function of that index, whose declared locals are these: its parameters are its first locals. Its label and its return type come with `body_context`
 abbrev pub function_context : Context → ℕ → List LocalRun → Context

@@ -55,11 +55,11 @@ OneMemory m = length (memories_of m) ≤ 1
 -- 3.3.7.2 a constant expression of type t, under these imported globals: one t.const, or one global.get of an imported immutable global of type t. Ours: the offsets of segments read imported globals alone, too
 pub data ConstantOf (globals : List GlobalType) (t : ValType) : List Token → Type 0 where
   one_const : (n : ℕ) → ConstantOf globals t (Do (Const t n) ∷ End ∷ [])
-  one_get : (x : ℕ) → slice_get globals x ≡ Some record { content = t; mutable = false } → ConstantOf globals t (Do (GlobalGet x) ∷ End ∷ [])
+  one_get : (x : ℕ) → slice_get globals x ≡ Some record { val_type = t; mutable = false } → ConstantOf globals t (Do (GlobalGet x) ∷ End ∷ [])
 
 -- rule 8 (3.4.4): each global's first value is a constant expression of its type
 abbrev pub GlobalsConstant : ModuleShape → Type 0
-GlobalsConstant m = All (λ g. ConstantOf (imported_globals m) g.content.content g.init) m.globals
+GlobalsConstant m = All (λ g. ConstantOf (imported_globals m) g.global_type.val_type g.init) m.globals
 
 -- Exports.
 

@@ -54,9 +54,9 @@ OpTyped C Select a b = (t : ValType) × (a ≡ I32 ∷ t ∷ t ∷ []) × (b ≡
 OpTyped C (LocalGet x) a b = (t : ValType) × (slice_get C.locals x ≡ Some t) × (a ≡ []) × (b ≡ t ∷ [])
 OpTyped C (LocalSet x) a b = (t : ValType) × (slice_get C.locals x ≡ Some t) × (a ≡ t ∷ []) × (b ≡ [])
 OpTyped C (LocalTee x) a b = (t : ValType) × (slice_get C.locals x ≡ Some t) × (a ≡ t ∷ []) × (b ≡ t ∷ [])
-OpTyped C (GlobalGet x) a b = (g : GlobalType) × (slice_get C.globals x ≡ Some g) × (a ≡ []) × (b ≡ g.content ∷ [])
+OpTyped C (GlobalGet x) a b = (g : GlobalType) × (slice_get C.globals x ≡ Some g) × (a ≡ []) × (b ≡ g.val_type ∷ [])
 OpTyped C (GlobalSet x) a b =
-    (g : GlobalType) × (slice_get C.globals x ≡ Some g) × IsTrue g.mutable × (a ≡ g.content ∷ []) × (b ≡ [])
+    (g : GlobalType) × (slice_get C.globals x ≡ Some g) × IsTrue g.mutable × (a ≡ g.val_type ∷ []) × (b ≡ [])
 -- 3.3.4 memory instructions
 OpTyped C (MemoryLoad m) a b = IsTrue C.has_memory × (2 ^ m.align ≤ m.width) × (a ≡ I32 ∷ []) × (b ≡ m.of_type ∷ [])
 OpTyped C (MemoryStore m) a b = IsTrue C.has_memory × (2 ^ m.align ≤ m.width) × (a ≡ m.of_type ∷ I32 ∷ []) × (b ≡ [])

@@ -55,20 +55,20 @@ IsRefused C f bytes (IllTyped at) = IsIllTyped C f bytes at
 
 -- 2.5.1 the index of the function whose body stands at that place: imported ones come first
 abbrev pub function_at : ModuleShape → ℕ → ℕ
-function_at m place = length (imported_functions m) + place
+function_at m position = length (imported_functions m) + position
 
 -- each body before that place is accepted
 abbrev pub AcceptedBefore : ModuleShape → ℕ → Type 0
-AcceptedBefore m place = (k : ℕ) (bytes : List ℕ) → k < place → slice_get m.bodies k ≡ Some bytes → IsAccepted (module_context m) (function_at m k) bytes
+AcceptedBefore m position = (k : ℕ) (bytes : List ℕ) → k < position → slice_get m.bodies k ≡ Some bytes → IsAccepted (module_context m) (function_at m k) bytes
 
 -- the first body that is refused is that of function f
 pub record FirstRefused (m : ModuleShape) (f : ℕ) (fault : BodyFault) : Type 0 where
-  pub place : ℕ
+  pub position : ℕ
   pub bytes : List ℕ
-  pub stands : slice_get m.bodies place ≡ Some bytes
-  pub index : f ≡ function_at m place
+  pub stands : slice_get m.bodies position ≡ Some bytes
+  pub index : f ≡ function_at m position
   pub refused : IsRefused (module_context m) f bytes fault
-  pub before : AcceptedBefore m place
+  pub before : AcceptedBefore m position
 
 -- The module.
 

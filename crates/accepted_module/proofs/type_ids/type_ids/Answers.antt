@@ -1,5 +1,5 @@
 use Rattle.std.proofs.Common.{◌≡◌, ◌∙◌, ℕ, ◌+◌, length, set, sym, subst, arith, inl, inr}
-use Rattle.accepted_module.proofs.Numbering.{AreGiven, IsRun, as_many, given_all, given_step, low_at, read, run_more}
+use Rattle.accepted_module.proofs.GivenIds.{AreGiven, IsRun, as_many, given_all, given_step, low_at, read, run_more}
 use Rattle.accepted_module.proofs.type_ids.type_ids.Goals as goal
 use Rattle.accepted_module.proofs.type_ids.type_ids.Goals.{then-is_ne, else-is_ne}
 
@@ -8,37 +8,37 @@ overflow_cast-first c =
     let many = as_many c.args.types.now c.in_ok-indices.indices.items c.in_ok-indices.ensures.each in
     elim c.if-is_ne.branch [
       | then-is_ne w ↦ omega (arith, w.first-is, many)
-      | else-is_ne w ↦ omega (arith, w.first-is, many, c.loop-place.invariant.run.low)
+      | else-is_ne w ↦ omega (arith, w.first-is, many, c.loop-position.invariant.run.low)
     ]
 
 pub index_mut-requires : goal.index_mut-requires
 index_mut-requires c =
-    let is = read c.in_ok-indices.indices.items c.loop-place.place c.index-in-loop-place-2.result.now (omega arith) c.index-in-loop-place-2.ensures in
-    let low = low_at c.args.types.now c.in_ok-indices.indices.items c.loop-place.place c.in_ok-indices.ensures.each (omega arith) in
-    omega (arith, is, low, c.loop-place.invariant.count)
+    let is = read c.in_ok-indices.indices.items c.loop-position.position c.index-in-loop-position-2.result.now (omega arith) c.index-in-loop-position-2.ensures in
+    let low = low_at c.args.types.now c.in_ok-indices.indices.items c.loop-position.position c.in_ok-indices.ensures.each (omega arith) in
+    omega (arith, is, low, c.loop-position.invariant.count)
 
-pub loop-place-preserved : goal.loop-place-preserved
-loop-place-preserved c =
+pub loop-position-preserved : goal.loop-position-preserved
+loop-position-preserved c =
     let types = c.args.types.now in
     let indices = c.in_ok-indices.indices.items in
-    let place = c.loop-place.place in
+    let position = c.loop-position.position in
     let next = c.if-is_ne.first in
-    let run : IsRun types indices next (place + 1) =
-    run_more types indices c.loop-place.first next place c.index.result.now c.index-in-loop-place.result.now c.compare.result c.in_ok-indices.ensures.sorted (omega arith)
-    c.index.ensures c.index-in-loop-place.ensures c.compare.ensures c.loop-place.invariant.run
+    let run : IsRun types indices next (position + 1) =
+    run_more types indices c.loop-position.first next position c.index.result.now c.index-in-loop-position.result.now c.compare.result c.in_ok-indices.ensures.sorted (omega arith)
+    c.index.ensures c.index-in-loop-position.ensures c.compare.ensures c.loop-position.invariant.run
     (elim c.if-is_ne.branch [
       | then-is_ne w ↦ inl (sym c.is_ne.ensures ∙ w.if-is_ne.true, w.first-is)
       | else-is_ne w ↦ inr (sym c.is_ne.ensures ∙ w.if-is_ne.false, w.first-is)
     ])
     in
-    let is = read indices place c.index-in-loop-place-2.result.now (omega arith) c.index-in-loop-place-2.ensures in
-    subst (λ (y : ℕ). AreGiven types indices next (place + 1) (set c.loop-place.ids.items y next)) (sym is)
-    (given_step types indices c.loop-place.first next place c.loop-place.ids.items (omega arith) (low_at types indices place c.in_ok-indices.ensures.each (omega arith)) run c.loop-place.invariant)
+    let is = read indices position c.index-in-loop-position-2.result.now (omega arith) c.index-in-loop-position-2.ensures in
+    subst (λ (y : ℕ). AreGiven types indices next (position + 1) (set c.loop-position.ids.items y next)) (sym is)
+    (given_step types indices c.loop-position.first next position c.loop-position.ids.items (omega arith) (low_at types indices position c.in_ok-indices.ensures.each (omega arith)) run c.loop-position.invariant)
 
 pub returns : goal.returns
 returns c =
     let types = c.args.types.now in
     let indices = c.in_ok-indices.indices.items in
-    let all : c.loop-place.place ≡ length indices = omega arith in
-    given_all types indices c.loop-place.first c.loop-place.ids.items c.in_ok-indices.ensures.each
-    (subst (λ (k : ℕ). AreGiven types indices c.loop-place.first k c.loop-place.ids.items) all c.loop-place.invariant)
+    let all : c.loop-position.position ≡ length indices = omega arith in
+    given_all types indices c.loop-position.first c.loop-position.ids.items c.in_ok-indices.ensures.each
+    (subst (λ (k : ℕ). AreGiven types indices c.loop-position.first k c.loop-position.ids.items) all c.loop-position.invariant)

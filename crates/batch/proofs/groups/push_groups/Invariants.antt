@@ -1,4 +1,4 @@
--- The calls up to a place are in groups.
+-- The calls up to a position are in groups.
 use Rattle.std.proofs.Common.{◌≤◌, ◌-◌, length, take}
 use Rattle.batch.specs.Groups.{AddsGroups}
 use Rattle.batch.proofs.groups.push_groups.Given as goal

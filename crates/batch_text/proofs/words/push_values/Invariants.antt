@@ -3,5 +3,5 @@ use Rattle.std.proofs.Common.{◌≡◌, ◌++◌, string_bytes, take}
 use Rattle.wsyntax.specs.Texts.Report.{spaced_values}
 use Rattle.batch_text.proofs.words.push_values.Given as goal
 
-abbrev pub invariant-loop-place : goal.invariant-loop-place
-invariant-loop-place l = string_bytes l.text ≡ string_bytes l.initial.text ++ spaced_values (take l.place l.values)
+abbrev pub invariant-loop-position : goal.invariant-loop-position
+invariant-loop-position l = string_bytes l.text ≡ string_bytes l.initial.text ++ spaced_values (take l.position l.values)

@@ -3,12 +3,12 @@ use Rattle.std.proofs.lemmas.List.{take_more, map_push}
 use Rattle.wsyntax.specs.Execution.Values.{IsWord, AreWords}
 use Rattle.wsyntax.specs.declared.value.Value.{Value}
 use Rattle.c_api.specs.declared.value.GateValue.{GateValue}
-use Rattle.c_api.specs.Values.{value_numbers, IsNoValue}
+use Rattle.c_api.specs.Values.{value_fields, IsNoValue}
 use Rattle.c_api.proofs.calling.arguments.Goals as goal
 
 -- where one of them is of no value, they are of no arguments
 no_arguments : (i : ℕ) (xs : List GateValue) (d : GateValue) → i < length xs → IsNoValue (get_or xs i d)
-    → (args : List Value) → AreWords args → map value_numbers args ≡ xs → ⊥
+    → (args : List Value) → AreWords args → map value_fields args ≡ xs → ⊥
 no_arguments i [] d h refused args words same = absurd (omega (arith, h))
 no_arguments i (x ∷ xs) d h refused [] words same = let none = ap length same in absurd (omega (arith, none))
 no_arguments zero (x ∷ xs) d h refused (v ∷ vs) words same = refused v words.0 (ap (λ (ys : List GateValue). get_or ys 0 d) same)
@@ -25,8 +25,8 @@ loop-number-preserved c =
     let fit : i < length c.args.numbers.now = omega arith in
     let grown : c.push.new.self.items ≡ vs ++ v ∷ [] = subst (λ (b : Bool). c.push.new.self.items ≡ (if b then vs ++ v ∷ [] else vs)) c.if-is_err.ensures.negation c.push.ensures.items in
     let more = take_more c.args.numbers.now i (record { width = 0; bits = 0 }) fit in
-    let numbers = ap (λ (xs : List GateValue). xs ++ value_numbers v ∷ []) c.loop-number.invariant.0 ∙ ap (λ (x : GateValue). take i c.args.numbers.now ++ x ∷ []) c.in-Some.ensures.some ∙ sym more in (
-      ap (map value_numbers) grown ∙ map_push value_numbers vs v ∙ numbers,
+    let numbers = ap (λ (xs : List GateValue). xs ++ value_fields v ∷ []) c.loop-number.invariant.0 ∙ ap (λ (x : GateValue). take i c.args.numbers.now ++ x ∷ []) c.in-Some.ensures.some ∙ sym more in (
+      ap (map value_fields) grown ∙ map_push value_fields vs v ∙ numbers,
       subst AreWords (sym grown) (words_more vs v c.loop-number.invariant.1 c.in-Some.ensures.word),
     )
 

@@ -12,7 +12,7 @@ put_more i (t ∷ ts) [] d h k = absurd (omega (arith, k))
 put_more zero (t ∷ ts) (x ∷ old) d h k = refl
 put_more (suc i) (t ∷ ts) (x ∷ old) d h k = ap (λ (r : List ℕ). type_byte t ∷ r) (put_more i ts old d (omega (arith, h)) (omega (arith, k)))
 
-pub loop-place-preserved : goal.loop-place-preserved
-loop-place-preserved c =
-    let more = put_more c.loop-place.place c.args.types.now c.args.out.now I32 (omega arith) (omega arith) in
+pub loop-position-preserved : goal.loop-position-preserved
+loop-position-preserved c =
+    let more = put_more c.loop-position.position c.args.types.now c.args.out.now I32 (omega arith) (omega arith) in
     rw add-one (cc more)

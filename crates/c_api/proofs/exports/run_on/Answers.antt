@@ -24,12 +24,12 @@ answered a b calls l text status same kept answer by =
     (h.0, calls, l, on h.0 h.1 (spelled h.0 a h.2), (Accepted, h.1, by)))
 
 -- what is handed out is an answer on the module, within these limits
-handed : (a b : AcceptedModule) (calls : List ℕ) (s : GateSettings) (l : Limits) (text : List ℕ) (status : Status) (old new : List ℕ) (before now : ℕ) (was kept : ReportSlot) (number : ℕ)
+handed : (a b : AcceptedModule) (calls : List ℕ) (s : GateSettings) (l : Limits) (text : List ℕ) (status : Status) (old new : List ℕ) (before now : ℕ) (was kept : ReportSlot) (code : ℕ)
     → b ≡ a → l ≡ runs.limits_of s → in_range s ≡ true → IsAnswerOn b calls l text → StatusBy calls Accepted status
-    → ((number ≡ 70) × LeavesAll old new before now was kept) ⊎ HandsOrKeeps text status old new now was kept number
-    → HandsAnswer s (IsAnswerOf a calls s) old new before now was kept number
-handed a b calls s l text status old new before now was kept number same within range answer by (inl left) = inr (range, inl left)
-handed a b calls s l text status old new before now was kept number same within range answer by (inr hands) =
+    → ((code ≡ 70) × LeavesAll old new before now was kept) ⊎ HandsOrKeeps text status old new now was kept code
+    → HandsAnswer s (IsAnswerOf a calls s) old new before now was kept code
+handed a b calls s l text status old new before now was kept code same within range answer by (inl left) = inr (range, inl left)
+handed a b calls s l text status old new before now was kept code same within range answer by (inr hands) =
     let on : IsAnswerOn b calls (runs.limits_of s) text = subst (λ (x : Limits). IsAnswerOn b calls x text) within answer in
     inr (range, inr (text, status, (subst (λ (x : AcceptedModule). IsAnswerOn x calls (runs.limits_of s) text) same on, by), hands))
 

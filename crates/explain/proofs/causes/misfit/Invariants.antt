@@ -1,5 +1,5 @@
 use Rattle.std.proofs.Common.{◌≤◌, length}
 use Rattle.explain.proofs.causes.misfit.Given as goal
 
-abbrev pub invariant-loop-place : goal.invariant-loop-place
-invariant-loop-place l = l.place ≤ length l.finds
+abbrev pub invariant-loop-position : goal.invariant-loop-position
+invariant-loop-position l = l.position ≤ length l.finds

@@ -33,7 +33,7 @@ returns-clause-typing c =
       code = code;
       declared = c.in_ok-runs.ensures;
       now = now;
-      before = from_beginning C c.new-checker.result.outside c.args.func runs c.deref.result.now code c.args.number c.begin.new.self now
+      before = from_beginning C c.new-checker.result.outside c.args.func runs c.deref.result.now code c.args.position c.begin.new.self now
           c.in_ok-rest.ensures.passed c.in_ok-begin.ensures.begun c.new-checker.ensures.outside c.deref.ensures.value;
       left = left;
       rest = c.in_ok-rest.ensures.left;
@@ -53,12 +53,12 @@ returns-clause-cause c =
     let t = c.in_ok-token.token in
     let left = c.in_ok-rest.rest.now in
     let why = subst (λ (ts : List ℕ). IfSome c.in_ok-typing.cause (IsCause now.inside (decoded_as ts t) now.frames)) c.deref-2.ensures.value c.in_ok-typing.ensures.cause in
-    some_more (IsCause now.inside (decoded_as targets t) now.frames) (IsCauseOf C c.args.func c.args.body.now c.args.number) c.in_ok-typing.cause (λ x p. record {
+    some_more (IsCause now.inside (decoded_as targets t) now.frames) (IsCauseOf C c.args.func c.args.body.now c.args.position) c.in_ok-typing.cause (λ x p. record {
       runs = runs;
       code = code;
       declared = c.in_ok-runs.ensures;
       now = now;
-      before = from_beginning C c.new-checker.result.outside c.args.func runs c.deref.result.now code c.args.number c.begin.new.self now
+      before = from_beginning C c.new-checker.result.outside c.args.func runs c.deref.result.now code c.args.position c.begin.new.self now
           c.in_ok-rest.ensures.passed c.in_ok-begin.ensures.begun c.new-checker.ensures.outside c.deref.ensures.value;
       left = left;
       rest = c.in_ok-rest.ensures.left;

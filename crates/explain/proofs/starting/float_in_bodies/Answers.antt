@@ -1,5 +1,5 @@
 use Rattle.std.proofs.Common.{Some, sym, ap, ◌∙◌}
-use Rattle.explain.proofs.FloatPlaces.{body_here, body_later}
+use Rattle.explain.proofs.FloatLocations.{body_here, body_later}
 use Rattle.explain.proofs.starting.float_in_bodies.Goals as goal
 
 pub returns-then-has_floats : goal.returns-then-has_floats

@@ -2,7 +2,7 @@ use Rattle.std.proofs.Common.{sym, ap, map, ◌∙◌}
 use Rattle.std.specs.Prelude.{position}
 use Rattle.wsyntax.specs.Modules.{body_shape, decoded_as}
 use Rattle.wsyntax.specs.Execution.Start.{run_has_floats}
-use Rattle.explain.proofs.FloatPlaces.{token_first}
+use Rattle.explain.proofs.FloatLocations.{token_first}
 use Rattle.explain.proofs.starting.float_in_body.Goals as goal
 
 pub returns-in-None : goal.returns-in-None

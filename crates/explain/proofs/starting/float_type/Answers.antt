@@ -1,18 +1,18 @@
 use Rattle.std.proofs.Common.{sym, ◌∙◌, arith}
 use Rattle.wsyntax.specs.FuncTypes.{func_type_of}
 use Rattle.wsyntax.specs.Execution.Start.{type_has_floats}
-use Rattle.explain.proofs.Positions.{no_place, place_from_front, place_here, place_later}
+use Rattle.explain.proofs.Positions.{no_position, position_from_front, position_here, position_later}
 use Rattle.explain.proofs.starting.float_type.Goals as goal
 
 pub returns-then-type_has_floats : goal.returns-then-type_has_floats
 returns-then-type_has_floats c =
-    sym (place_from_front type_has_floats c.args.types.now ∙ c.loop-index.invariant
-    ∙ place_here type_has_floats c.args.types.now c.loop-index.index (func_type_of c.in-Some.of_type) (omega arith) (sym c.in-Some.ensures.found) (sym c.if-type_has_floats.ensures))
+    sym (position_from_front type_has_floats c.args.types.now ∙ c.loop-index.invariant
+    ∙ position_here type_has_floats c.args.types.now c.loop-index.index (func_type_of c.in-Some.of_type) (omega arith) (sym c.in-Some.ensures.found) (sym c.if-type_has_floats.ensures))
 
 pub loop-index-preserved : goal.loop-index-preserved
 loop-index-preserved c =
     c.loop-index.invariant
-    ∙ place_later type_has_floats c.args.types.now c.loop-index.index (func_type_of c.in-Some.of_type) (omega arith) (sym c.in-Some.ensures.found) (sym c.if-type_has_floats.ensures)
+    ∙ position_later type_has_floats c.args.types.now c.loop-index.index (func_type_of c.in-Some.of_type) (omega arith) (sym c.in-Some.ensures.found) (sym c.if-type_has_floats.ensures)
 
 pub returns : goal.returns
-returns c = sym (place_from_front type_has_floats c.args.types.now ∙ c.loop-index.invariant ∙ no_place type_has_floats c.args.types.now c.loop-index.index (omega arith))
+returns c = sym (position_from_front type_has_floats c.args.types.now ∙ c.loop-index.invariant ∙ no_position type_has_floats c.args.types.now c.loop-index.index (omega arith))

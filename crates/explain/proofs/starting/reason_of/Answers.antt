@@ -3,7 +3,7 @@ use Rattle.wsyntax.specs.Modules.{module_shape}
 use Rattle.wsyntax.specs.Execution.Start.{table_limit}
 use Rattle.accepted_module.specs.Judgement.{shapes_of}
 use Rattle.accepted_module.specs.Sizes.{table_size, memory_pages}
-use Rattle.explain.proofs.FloatPlaces.{no_import, some_import}
+use Rattle.explain.proofs.FloatLocations.{no_import, some_import}
 use Rattle.explain.proofs.Refusals.{Passes, at_imports, at_floats, at_table, at_memory, at_element, at_data, at_none, none_of}
 use Rattle.explain.proofs.starting.reason_of.Goals as goal
 

@@ -1,6 +1,6 @@
 use Rattle.std.proofs.Common.{subst}
 use Rattle.explain.specs.declared.stops.Further.{Further}
-use Rattle.explain.specs.Places.{GoesFurther}
+use Rattle.explain.specs.Locations.{GoesFurther}
 use Rattle.explain.proofs.Lefts.{halts_after}
 use Rattle.explain.proofs.stops.halt_in.Goals as goal
 

@@ -1,5 +1,5 @@
 use Rattle.std.proofs.Common.{◌≡◌, Some}
-use Rattle.explain.specs.Places.{left_after}
+use Rattle.explain.specs.Locations.{left_after}
 use Rattle.explain.proofs.stops.halt_in.Given as goal
 
 abbrev pub invariant-loop-tokens : goal.invariant-loop-tokens

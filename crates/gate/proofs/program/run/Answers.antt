@@ -38,17 +38,17 @@ no_acceptance Memory e = omega arith
 pub returns-in-Ok-obey-clause-accepted : goal.returns-in-Ok-obey-clause-accepted
 returns-in-Ok-obey-clause-accepted g c e =
     good (map (λ w. w.now) c.args.words.now) c.in-Ok.request (g.S.Source.holds c.args.source.now) (g.S.Source.lists c.args.source.now) (g.S.Source.asked c.args.source.now) (g.S.Source.asked c.obey.new.source) (g.O.Write.contents c.args.out.now) (g.O.Write.contents c.obey.new.out) c.in-Ok-obey.status
-    c.in-Ok.ensures.request c.in-Ok-obey.ensures.done c.in-Ok-obey.ensures.asked (sym c.number.ensures ∙ e)
+    c.in-Ok.ensures.request c.in-Ok-obey.ensures.done c.in-Ok-obey.ensures.asked (sym c.exit_code.ensures ∙ e)
 
 pub returns-in-Ok-obey-clause-refused : goal.returns-in-Ok-obey-clause-refused
 returns-in-Ok-obey-clause-refused g c e =
     refusal (map (λ w. w.now) c.args.words.now) c.in-Ok.request (g.S.Source.holds c.args.source.now) (g.S.Source.lists c.args.source.now) (g.S.Source.asked c.args.source.now) (g.S.Source.asked c.obey.new.source) (g.O.Write.contents c.args.out.now) (g.O.Write.contents c.obey.new.out) c.in-Ok-obey.status
-    c.in-Ok.ensures.request c.in-Ok-obey.ensures.done c.in-Ok-obey.ensures.asked (sym c.number.ensures ∙ e)
+    c.in-Ok.ensures.request c.in-Ok-obey.ensures.done c.in-Ok-obey.ensures.asked (sym c.exit_code.ensures ∙ e)
 
 pub returns-in-Ok-obey-clause-calls_refused : goal.returns-in-Ok-obey-clause-calls_refused
 returns-in-Ok-obey-clause-calls_refused g c e =
     calls_refusal (map (λ w. w.now) c.args.words.now) c.in-Ok.request (g.S.Source.holds c.args.source.now) (g.S.Source.lists c.args.source.now) (g.S.Source.asked c.args.source.now) (g.S.Source.asked c.obey.new.source) (g.O.Write.contents c.args.out.now) (g.O.Write.contents c.obey.new.out) c.in-Ok-obey.status
-    c.in-Ok.ensures.request c.in-Ok-obey.ensures.done c.in-Ok-obey.ensures.asked (sym c.number.ensures ∙ e)
+    c.in-Ok.ensures.request c.in-Ok-obey.ensures.done c.in-Ok-obey.ensures.asked (sym c.exit_code.ensures ∙ e)
 
 pub returns-in-Err-obey-clause-accepted : goal.returns-in-Err-obey-clause-accepted
 returns-in-Err-obey-clause-accepted g c e = absurd (no_acceptance _ (sym c.end-in-Err-obey.ensures ∙ e))
@@ -60,7 +60,7 @@ pub returns-in-Err-obey-clause-calls_refused : goal.returns-in-Err-obey-clause-c
 returns-in-Err-obey-clause-calls_refused g c e = absurd (no_calls_refusal _ (sym c.end-in-Err-obey.ensures ∙ e))
 
 pub returns-in-Ok-obey-clause-obeyed : goal.returns-in-Ok-obey-clause-obeyed
-returns-in-Ok-obey-clause-obeyed g c = inl (c.in-Ok.request, Ok c.in-Ok-obey.status, c.in-Ok.ensures.request, c.in-Ok-obey.ensures.done, c.in-Ok-obey.ensures.asked, c.number.ensures)
+returns-in-Ok-obey-clause-obeyed g c = inl (c.in-Ok.request, Ok c.in-Ok-obey.status, c.in-Ok.ensures.request, c.in-Ok-obey.ensures.done, c.in-Ok-obey.ensures.asked, c.exit_code.ensures)
 
 pub returns-in-Err-obey-clause-obeyed : goal.returns-in-Err-obey-clause-obeyed
 returns-in-Err-obey-clause-obeyed g c = inl (c.in-Ok.request, Err c.in-Err-obey.fault, c.in-Ok.ensures.request, c.in-Err-obey.ensures.done, c.in-Err-obey.ensures.asked, c.end-in-Err-obey.ensures)

@@ -12,6 +12,6 @@ returns-clause-verdict c =
     let bodies = c.as_slice-bodies.result.now in
     let count = length-map c.args.head.now.front.«module».bodies.items (λ b. b.now) in
     subst (λ (bs : List (Bor (List ℕ))). MatchResult c.judge_body.result
-    (λ _. body_refusal_at x.context x.imported (map (λ b. b.now) bs) c.args.place ≡ None)
-    (AllowsRefusal (IsBodyRefusal (x.imported + c.args.place) (body_refusal_at x.context x.imported (map (λ b. b.now) bs) c.args.place)))) c.as_slice-bodies.ensures.value
-    (body_there _ _ _ _ c.args.place bodies _ _ c.requires.outside c.imported_functions-imported.ensures.count (omega (arith, count, c.as_slice-bodies.ensures.len, c.requires.place)) c.judge_body.ensures.verdict)
+    (λ _. body_refusal_at x.context x.imported (map (λ b. b.now) bs) c.args.position ≡ None)
+    (AllowsRefusal (IsBodyRefusal (x.imported + c.args.position) (body_refusal_at x.context x.imported (map (λ b. b.now) bs) c.args.position)))) c.as_slice-bodies.ensures.value
+    (body_there _ _ _ _ c.args.position bodies _ _ c.requires.outside c.imported_functions-imported.ensures.count (omega (arith, count, c.as_slice-bodies.ensures.len, c.requires.position)) c.judge_body.ensures.verdict)

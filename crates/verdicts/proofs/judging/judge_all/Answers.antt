@@ -10,14 +10,14 @@ use Rattle.verdicts.proofs.judging.judge_all.Goals as goal
 pub settled-judged-requires-after_bounds : goal.settled-judged-requires-after_bounds
 settled-judged-requires-after_bounds g c κs within =
     let none : Bor (List ℕ) = record { ref_ptr = (0, 0); now = [] } in
-    subst (λ (o : Option (Result (Unit {0}) Refusal)). IfSome o (IsJudged (get_or c.args.modules.now c.loop-place.place none).now)) (sym c.index.ensures)
-    (found_here c.args.modules.now c.in_ok-found.found.items c.loop-place.place c.index.result.now none c.loop-place-test.true c.in_ok-found.ensures)
+    subst (λ (o : Option (Result (Unit {0}) Refusal)). IfSome o (IsJudged (get_or c.args.modules.now c.loop-position.position none).now)) (sym c.index.ensures)
+    (found_here c.args.modules.now c.in_ok-found.found.items c.loop-position.position c.index.result.now none c.loop-position-test.true c.in_ok-found.ensures)
 
-pub loop-place-preserved : goal.loop-place-preserved
-loop-place-preserved g c =
+pub loop-position-preserved : goal.loop-position-preserved
+loop-position-preserved g c =
     let none : Bor (List ℕ) = record { ref_ptr = (0, 0); now = [] } in
     let items = c.in_ok-push.ensures.items in
     rw items (
-    one_more c.args.modules.now c.loop-place.place (get_or c.args.modules.now c.loop-place.place none) c.loop-place.verdicts.items c.settled-judged.result c.loop-place-test.true
-    (slice_get-get_or c.args.modules.now c.loop-place.place none c.loop-place-test.true) c.loop-place.invariant c.settled-judged.ensures
+    one_more c.args.modules.now c.loop-position.position (get_or c.args.modules.now c.loop-position.position none) c.loop-position.verdicts.items c.settled-judged.result c.loop-position-test.true
+    (slice_get-get_or c.args.modules.now c.loop-position.position none c.loop-position-test.true) c.loop-position.invariant c.settled-judged.ensures
     )

@@ -10,18 +10,18 @@ use Rattle.wstore.proofs.table_part.put_elements.Goals as goal
 
 pub put_functions-requires : goal.put_functions-requires
 put_functions-requires c =
-    let place = get_or c.args.places.now c.loop-number.number 0 in
-    let placed = element_placed c.args.segments.now c.loop-number.number (element_of c.in-Some.segment) c.args.places.now c.requires.placed c.in-Some.ensures in
-    let h : place + length c.in-Some.segment.functions.now ≤ length c.args.entries.now =
-    within_here (length c.args.entries.now) place (length c.in-Some.segment.functions.now) _ _ _ (elements_from c.args.segments.now c.loop-number.number (element_of c.in-Some.segment) c.in-Some.ensures) placed refl c.loop-number.invariant.0
+    let offset = get_or c.args.offsets.now c.loop-index.index 0 in
+    let placed = element_placed c.args.segments.now c.loop-index.index (element_of c.in-Some.segment) c.args.offsets.now c.requires.placed c.in-Some.ensures in
+    let h : offset + length c.in-Some.segment.functions.now ≤ length c.args.entries.now =
+    within_here (length c.args.entries.now) offset (length c.in-Some.segment.functions.now) _ _ _ (elements_from c.args.segments.now c.loop-index.index (element_of c.in-Some.segment) c.in-Some.ensures) placed refl c.loop-index.invariant.0
     in omega arith
 
-pub loop-number-preserved : goal.loop-number-preserved
-loop-number-preserved c =
-    let place = get_or c.args.places.now c.loop-number.number 0 in
+pub loop-index-preserved : goal.loop-index-preserved
+loop-index-preserved c =
+    let offset = get_or c.args.offsets.now c.loop-index.index 0 in
     let segment = element_segment (element_shape (element_of c.in-Some.segment)) in
-    let placed = element_placed c.args.segments.now c.loop-number.number (element_of c.in-Some.segment) c.args.places.now c.requires.placed c.in-Some.ensures in
-    let from = elements_from c.args.segments.now c.loop-number.number (element_of c.in-Some.segment) c.in-Some.ensures in (
-      within_later (length c.args.entries.now) segment (drop c.loop-number.number (element_segments c.args.segments.now)) (drop (c.loop-number.number + 1) (element_segments c.args.segments.now)) from c.loop-number.invariant.0,
-      put_elements_here place c.in-Some.segment.functions.now segment (element_segments c.args.segments.now) (drop c.loop-number.number (element_segments c.args.segments.now)) (drop (c.loop-number.number + 1) (element_segments c.args.segments.now)) (map entry_of c.args.entries.now) (map entry_of c.loop-number.entries) (map entry_of c.put_functions.new.entries) from placed refl c.put_functions.ensures c.loop-number.invariant.1,
+    let placed = element_placed c.args.segments.now c.loop-index.index (element_of c.in-Some.segment) c.args.offsets.now c.requires.placed c.in-Some.ensures in
+    let from = elements_from c.args.segments.now c.loop-index.index (element_of c.in-Some.segment) c.in-Some.ensures in (
+      within_later (length c.args.entries.now) segment (drop c.loop-index.index (element_segments c.args.segments.now)) (drop (c.loop-index.index + 1) (element_segments c.args.segments.now)) from c.loop-index.invariant.0,
+      put_elements_here offset c.in-Some.segment.functions.now segment (element_segments c.args.segments.now) (drop c.loop-index.index (element_segments c.args.segments.now)) (drop (c.loop-index.index + 1) (element_segments c.args.segments.now)) (map entry_of c.args.entries.now) (map entry_of c.loop-index.entries) (map entry_of c.put_functions.new.entries) from placed refl c.put_functions.ensures c.loop-index.invariant.1,
     )

@@ -4,4 +4,4 @@ use Rattle.interpreter.specs.declared.store.TableEntry.TheVariants.{SetTo}
 use Rattle.wstore.proofs.table_part.put_functions.Given as goal
 
 abbrev pub invariant-loop-i : goal.invariant-loop-i
-invariant-loop-i l = l.entries ≡ overwrite l.place (map SetTo (take l.i l.functions)) l.fn.entries
+invariant-loop-i l = l.entries ≡ overwrite l.offset (map SetTo (take l.i l.functions)) l.fn.entries

@@ -4,7 +4,7 @@ use Rattle.std.specs.List.Sorted.{IsPermutation}
 use Rattle.wsyntax.specs.declared.module.Export.{Export}
 use Rattle.wsyntax.specs.Modules.{module_shape}
 use Rattle.accepted_module.specs.Exports.{AreAscending}
-use Rattle.accepted_module.proofs.Lendings.{shaped_same, looked_same, typed_same, numbered_same, paired_same, few_same}
+use Rattle.accepted_module.proofs.Lendings.{shaped_same, looked_same, typed_same, identified_same, paired_same, few_same}
 use Rattle.accepted_module.proofs.accepted.Accepted.of.Goals as goal
 
 -- What the shapes ask for.
@@ -14,9 +14,9 @@ pub frame_layouts-requires-clause-typed : goal.frame_layouts-requires-clause-typ
 frame_layouts-requires-clause-typed c =
     typed_same c.args.«module».types c.deref-3.result.now c.args.«module».functions.items c.deref-3.ensures.value (c.requires.judged.rules 3)
 
-pub frame_layouts-requires-clause-numbered : goal.frame_layouts-requires-clause-numbered
-frame_layouts-requires-clause-numbered c =
-    numbered_same c.args.«module».types c.deref-2.result.now c.in_ok-type_ids.type_ids.items c.deref-2.ensures.value c.in_ok-type_ids.ensures
+pub frame_layouts-requires-clause-identified : goal.frame_layouts-requires-clause-identified
+frame_layouts-requires-clause-identified c =
+    identified_same c.args.«module».types c.deref-2.result.now c.in_ok-type_ids.type_ids.items c.deref-2.ensures.value c.in_ok-type_ids.ensures
 
 pub frame_layouts-requires-clause-paired : goal.frame_layouts-requires-clause-paired
 frame_layouts-requires-clause-paired c =
@@ -69,8 +69,8 @@ invariant_of-result-clause-each c =
 pub invariant_of-result-clause-ascending : goal.invariant_of-result-clause-ascending
 invariant_of-result-clause-ascending c = subst (λ (es : List Export). AreAscending es c.in_ok-by_name.by_name.items) c.deref.ensures.value c.in_ok-by_name.ensures.ascending
 
-pub invariant_of-result-clause-numbered : goal.invariant_of-result-clause-numbered
-invariant_of-result-clause-numbered c =
+pub invariant_of-result-clause-identified : goal.invariant_of-result-clause-identified
+invariant_of-result-clause-identified c =
     ∣ c.in_ok-type_ids.ensures ∣₁
 
 pub invariant_of-result-clause-shaped : goal.invariant_of-result-clause-shaped

@@ -5,10 +5,10 @@ use Rattle.batch_text.specs.Ends.{ends_of}
 use Rattle.batch_text.specs.Totals.{tally, IsWithin}
 use Rattle.batch_text.proofs.part.Part.of.Given as goal
 
-abbrev pub invariant-loop-place : goal.invariant-loop-place
-invariant-loop-place l = record {
-  text : string_bytes l.text ≡ call_lines l.first (ends_of (take l.place l.lines));
-  counts : tally l.total ≡ total_of (ends_of (take l.place l.lines));
-  calls : l.total.calls ≡ l.place;
+abbrev pub invariant-loop-position : goal.invariant-loop-position
+invariant-loop-position l = record {
+  text : string_bytes l.text ≡ call_lines l.first (ends_of (take l.position l.lines));
+  counts : tally l.total ≡ total_of (ends_of (take l.position l.lines));
+  calls : l.total.calls ≡ l.position;
   within : IsWithin l.total;
 }

@@ -9,8 +9,8 @@ pub returns : goal.returns
 returns c = (
   refl,
   (
-    first_along (λ e. e.index < count_of (module_shape c.args.module.now) e.kind) (map export_shape c.deref.result.now) (map export_shape c.args.module.now.exports.items) c.in_ok-number.number (export_shape c.in_ok-number.export) (ap (map export_shape) c.deref.ensures.value)
-        (first_export c.requires c.deref.result.now c.in_ok-number.number c.in_ok-number.export c.in_ok-number.ensures),
-    c.count.ensures ∙ count_is c.requires c.in_ok-number.export.kind,
+    first_along (λ e. e.index < count_of (module_shape c.args.module.now) e.kind) (map export_shape c.deref.result.now) (map export_shape c.args.module.now.exports.items) c.in_ok-position.position (export_shape c.in_ok-position.export) (ap (map export_shape) c.deref.ensures.value)
+        (first_export c.requires c.deref.result.now c.in_ok-position.position c.in_ok-position.export c.in_ok-position.ensures),
+    c.count.ensures ∙ count_is c.requires c.in_ok-position.export.kind,
   ),
 )

@@ -3,5 +3,5 @@ use Rattle.std.specs.List.{All}
 use Rattle.wcontext.specs.Spaces.{counted}
 use Rattle.explain.proofs.rules.exports.first_missing.Given as goal
 
-abbrev pub invariant-loop-number : goal.invariant-loop-number
-invariant-loop-number l = All (λ e. e.index < counted l.spaces e.kind) (take l.number l.exports)
+abbrev pub invariant-loop-position : goal.invariant-loop-position
+invariant-loop-position l = All (λ e. e.index < counted l.spaces e.kind) (take l.position l.exports)

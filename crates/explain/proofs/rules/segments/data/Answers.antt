@@ -7,6 +7,6 @@ use Rattle.explain.proofs.rules.segments.data.Goals as goal
 pub returns : goal.returns
 returns c =
     let memories : c.len.result ≡ length (memories_of (module_shape c.args.module.now)) = search rules in
-    breaks_data (module_shape c.args.module.now) c.in_ok-number.number c.in_ok-number.fault
-    (data_told (module_shape c.args.module.now) c.deref.result.now c.len.result c.constant_globals-globals.result.now c.in_ok-number.number c.in_ok-number.fault memories
-    (c.constant_globals-globals.ensures ∙ globals_are c.requires) (ap (map data_shape) c.deref.ensures.value) c.in_ok-number.ensures)
+    breaks_data (module_shape c.args.module.now) c.in_ok-position.position c.in_ok-position.fault
+    (data_told (module_shape c.args.module.now) c.deref.result.now c.len.result c.constant_globals-globals.result.now c.in_ok-position.position c.in_ok-position.fault memories
+    (c.constant_globals-globals.ensures ∙ globals_are c.requires) (ap (map data_shape) c.deref.ensures.value) c.in_ok-position.ensures)

@@ -1,5 +1,5 @@
 use Rattle.std.proofs.Common.{◌≡◌, Some, subst}
-use Rattle.explain.specs.declared.shell_place.SectionPart.TheVariants as part
+use Rattle.explain.specs.declared.shell_location.SectionPart.TheVariants as part
 use Rattle.explain.specs.declared.shell.contents.ContentsEnd.{ContentsEnd}
 use Rattle.explain.specs.declared.shell.contents.ContentsEnd.TheVariants as outcome
 use Rattle.explain.specs.Shells.{Comes, after}
@@ -8,14 +8,14 @@ use Rattle.explain.proofs.shell.contents.after_items.Goals as goal
 
 pub returns-in-Stopped : goal.returns-in-Stopped
 returns-in-Stopped c =
-    let come : Comes (part.Item c.loop-number.number) (after c.args.items c.loop-number.rest.now) (outcome.Stopped c.in-Stopped.lapse) =
-    subst (λ (o : ContentsEnd). Comes (part.Item c.loop-number.number) (after c.args.items c.loop-number.rest.now) o) c.in-Stopped.is
-    (c.in_ok-after.ensures (after c.args.items c.loop-number.rest.now) c.after_item-read.ensures) in
-    ((c.loop-number.number, c.loop-number.rest.now, come.0, c.loop-number-test.true, c.loop-number.invariant, come.1), come.2)
+    let come : Comes (part.Item c.loop-position.position) (after c.args.items c.loop-position.rest.now) (outcome.Stopped c.in-Stopped.lapse) =
+    subst (λ (o : ContentsEnd). Comes (part.Item c.loop-position.position) (after c.args.items c.loop-position.rest.now) o) c.in-Stopped.is
+    (c.in_ok-after.ensures (after c.args.items c.loop-position.rest.now) c.after_item-read.ensures) in
+    ((c.loop-position.position, c.loop-position.rest.now, come.0, c.loop-position-test.true, c.loop-position.invariant, come.1), come.2)
 
-pub loop-number-preserved : goal.loop-number-preserved
-loop-number-preserved c =
-    let come : after c.args.items c.loop-number.rest.now ≡ Some c.in-After.after.now =
-    subst (λ (o : ContentsEnd). Comes (part.Item c.loop-number.number) (after c.args.items c.loop-number.rest.now) o) c.in-After.is
-    (c.in_ok-after.ensures (after c.args.items c.loop-number.rest.now) c.after_item-read.ensures) in
-    one_item_more c.args.items c.loop-number.number c.args.bytes.now c.loop-number.rest.now c.in-After.after.now c.loop-number.invariant come
+pub loop-position-preserved : goal.loop-position-preserved
+loop-position-preserved c =
+    let come : after c.args.items c.loop-position.rest.now ≡ Some c.in-After.after.now =
+    subst (λ (o : ContentsEnd). Comes (part.Item c.loop-position.position) (after c.args.items c.loop-position.rest.now) o) c.in-After.is
+    (c.in_ok-after.ensures (after c.args.items c.loop-position.rest.now) c.after_item-read.ensures) in
+    one_item_more c.args.items c.loop-position.position c.args.bytes.now c.loop-position.rest.now c.in-After.after.now c.loop-position.invariant come

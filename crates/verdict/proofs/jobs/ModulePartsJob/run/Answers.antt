@@ -5,9 +5,9 @@ use Rattle.verdict.proofs.Groups.{one_more}
 use Rattle.verdict.proofs.Parts.{rest_passed, rest_part, body_part, group_part}
 use Rattle.verdict.proofs.jobs.ModulePartsJob.run.Goals as goal
 
-pub loop-place-preserved : goal.loop-place-preserved
-loop-place-preserved g c =
-    let old = c.loop-place.invariant in
+pub loop-position-preserved : goal.loop-position-preserved
+loop-position-preserved g c =
+    let old = c.loop-position.invariant in
     record {
       outside = c.in_ok-judge_at.ensures.outside;
       early_hold = old.early_hold;
@@ -30,9 +30,9 @@ returns-in_err-judge_at-clause-answer g c =
     let count = length-map items (λ b. b.now) in
     let most = min-le_left size (length items - (c.args.index - 1) * size) in
     let left = min-le_right size (length items - (c.args.index - 1) * size) in
-    body_part h size c.args.index c.loop-place.place c.from_residual-in_err-judge_at.result c.in_err-judge_at.field-0.0 c.from_residual-in_err-judge_at.ensures.1 ne
-    record { from = omega (arith, c.loop-place.auto.place); to = omega (arith, most, c.loop-place-test.true); there = omega (arith, count, left, c.loop-place.auto.place, c.loop-place-test.true) }
-    c.loop-place.invariant.passed
+    body_part h size c.args.index c.loop-position.position c.from_residual-in_err-judge_at.result c.in_err-judge_at.field-0.0 c.from_residual-in_err-judge_at.ensures.1 ne
+    record { from = omega (arith, c.loop-position.auto.position); to = omega (arith, most, c.loop-position-test.true); there = omega (arith, count, left, c.loop-position.auto.position, c.loop-position-test.true) }
+    c.loop-position.invariant.passed
     c.in_err-judge_at.ensures.verdict
 
 pub returns-clause-answer : goal.returns-clause-answer
@@ -42,5 +42,5 @@ returns-clause-answer g c =
     let size = c.args.self.now.size in
     let first = (c.args.index - 1) * size in
     let count = length-map h.front.«module».bodies.items (λ b. b.now) in
-    let whole = subst (λ (n : ℕ). first + min size (n - first) ≤ c.loop-place.place) (sym count) (omega (arith, c.loop-place-test.false)) in
-    (group_part h size c.args.index c.loop-place.place ne whole c.loop-place.invariant.passed, tt)
+    let whole = subst (λ (n : ℕ). first + min size (n - first) ≤ c.loop-position.position) (sym count) (omega (arith, c.loop-position-test.false)) in
+    (group_part h size c.args.index c.loop-position.position ne whole c.loop-position.invariant.passed, tt)

@@ -10,4 +10,4 @@ returns c =
     c.loop-global.invariant
     (c.in_ok-globals.ensures ∙ ap (filter_map (λ i. imported_global i.kind)) c.deref.ensures.value)
     (sym (filter_map-map (λ i. imported_global i.kind) import_shape c.args.module.now.imports.items))
-    (map-map-take (λ g. g.content) global_shape c.loop-global.global-index c.args.module.now.globals.items (omega arith))
+    (map-map-take (λ g. g.global_type) global_shape c.loop-global.global-index c.args.module.now.globals.items (omega arith))

@@ -1,6 +1,6 @@
 use Rattle.std.proofs.Common.{◌≡◌, ◌++◌, length, take, drop, arith, subst, sym}
 use Rattle.std.proofs.lemmas.List.{take_at}
-use Rattle.wcontext.specs.Walk.{AreNumbersOf}
+use Rattle.wcontext.specs.Walk.{ArePreorderOf}
 use Rattle.wcontext.proofs.Gathering.{ends_read}
 use Rattle.wcontext.proofs.suffix_tree.SuffixTree.new.Goals as goal
 
@@ -10,8 +10,8 @@ returns c =
     let all = g.0 in
     let trie = c.in_ok-nodes.field-0 in
     let old = c.linked-nodes.result in
-    let numbered = c.number.new.nodes in
-    let size : length numbered ≡ old.len = grind arith in
-    let kept : take old.len (numbered ++ drop (length numbered) old.items) ≡ numbered = take_at numbered (drop (length numbered) old.items) old.len size in
-    let given : AreNumbersOf old.items numbered = subst (λ l. AreNumbersOf l numbered) c.deref_mut.ensures.value c.in_ok-number.ensures in
-    (all, ends_read all c.in_ok-gathered.gathered.lists.items trie old.items _ g.1.unread c.in_ok-nodes.ensures c.linked-nodes.ensures (subst (AreNumbersOf old.items) (sym kept) given), g.2)
+    let ordered = c.assign_preorder.new.nodes in
+    let size : length ordered ≡ old.len = grind arith in
+    let kept : take old.len (ordered ++ drop (length ordered) old.items) ≡ ordered = take_at ordered (drop (length ordered) old.items) old.len size in
+    let given : ArePreorderOf old.items ordered = subst (λ l. ArePreorderOf l ordered) c.deref_mut.ensures.value c.in_ok-assign_preorder.ensures in
+    (all, ends_read all c.in_ok-gathered.gathered.lists.items trie old.items _ g.1.unread c.in_ok-nodes.ensures c.linked-nodes.ensures (subst (ArePreorderOf old.items) (sym kept) given), g.2)

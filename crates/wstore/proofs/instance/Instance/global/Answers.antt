@@ -19,5 +19,5 @@ returns c =
     let below : c.args.x < length C.globals = c.requires in
     let global : c.index-global.result.now ≡ get_or i.accepted.now.module.globals.items c.args.x c.index-global.result.now = cc (c.index-global.ensures, c.module.ensures) in
     let word : slice_get i.parts.globals.items c.args.x ≡ Some c.index.result.now = slice_get-get_or i.parts.globals.items c.args.x c.index.result.now (omega arith) ∙ ap Some (sym c.index.ensures) in
-    global_there C (seen i.parts) c.args.x c.index-global.result.now.content.content c.index.result.now c.value_in.result i.held
+    global_there C (seen i.parts) c.args.x c.index-global.result.now.global_type.val_type c.index.result.now c.value_in.result i.held
     (declared_at i.accepted.now.module bodies c.args.x c.index-global.result.now i.runnable (omega arith) global) word c.value_in.ensures

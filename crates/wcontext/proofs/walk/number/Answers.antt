@@ -1,5 +1,0 @@
-use Rattle.wcontext.proofs.Walks.{linked_alike}
-use Rattle.wcontext.proofs.walk.number.Goals as goal
-
-pub returns : goal.returns
-returns c texts linked = c.in_ok-give_numbers.ensures texts (linked_alike texts c.args.nodes.now c.count.new.nodes c.count.ensures.links linked)
