@@ -1,5 +1,5 @@
 /// What the entry of a function needs to know of it: how many parameters, declared locals and results it has, and the
-/// canonical number of its type.
+/// canonical id of its type.
 // PERF: an entry reads this one record of 16 bytes, and sums and compares nothing.
 #[derive(Clone, Copy, Debug, PartialEq, Eq)]
 pub struct FrameLayout {

@@ -1,4 +1,4 @@
-//! Where a call begins (4.5.5): the slots of its first frame, and the place of its first token.
+//! Where a call begins (4.5.5): the slots of its first frame, and the position of its first token.
 
 ghost use Rattle.std.specs.Prelude.{◌≡◌, ◌<◌, ◌∷◌, IfOk};
 ghost use Rattle.soundness.specs.Slots.{bits, slots};

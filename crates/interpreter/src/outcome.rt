@@ -9,7 +9,7 @@ use std::alloc::{AllocError, Global};
 use wnum::conversions::wrap;
 use wsyntax::{Outcome, Trap, ValType, Value};
 
-/// Why a run stops: it gave its results, which lie below this place, it trapped, or it reached a limit.
+/// Why a run stops: it gave its results, which lie below this position, it trapped, or it reached a limit.
 #[derive(Clone, Copy)]
 pub(crate) enum Stop {
     Gave(usize),

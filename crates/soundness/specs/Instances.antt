@@ -20,7 +20,7 @@ use Rattle.wsyntax.specs.Texts.Answer.{Limits, Started, EndsOn}
 
 -- What was judged.
 
--- the body that stands at that place is typed: its tokens are those of a tree, which is typed under the context of its function
+-- the body at that position is typed: its tokens are those of a tree, which is typed under the context of its function
 pub record TypedAt (m : ModuleShape) (position : ℕ) (b : BodyShape) : Type 0 where
   pub code : Code
   pub tree : flat_body code ≡ b.code

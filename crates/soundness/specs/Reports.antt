@@ -117,7 +117,7 @@ pub record VerdictTexts : Type 0 where
   pub body_malformed : verdict_text (BodyRefused 0 BodyMalformed) ≡ codes "refused body 0 malformed"
   -- a body of too many locals
   pub too_many_locals : verdict_text (BodyRefused 10 TooManyLocals) ≡ codes "refused body 10 too-many-locals"
-  -- a body that is ill typed, by the number of its first fault
+  -- a body that is ill typed, by the position of its first fault
   pub ill_typed : verdict_text (BodyRefused 205 (IllTyped 3)) ≡ codes "refused body 205 ill-typed at 3"
   -- the line of a verdict
   pub line : verdict_line (BodyRefused 1 (IllTyped 0)) ≡ codes "refused body 1 ill-typed at 0\n"

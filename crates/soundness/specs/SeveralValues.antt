@@ -143,7 +143,7 @@ carries_two = Block gives_two (const 9 (five_three (arg (Plain (BrIf 0) (drop (d
 abbrev pub carries_far : Code
 carries_far = Block gives_two (const 9 (Block gives_two (const 8 (five_three (Plain (Br 1) Stop))) (drop Stop))) (sub Stop)
 
--- a table of branches carries 5 and 3 out of one block, where 1 is put in the place of 3, or of two
+-- a table of branches carries 5 and 3 out of one block, where 1 is put instead of 3, or of two
 abbrev pub chooses : Code
 chooses = Block gives_two (Block gives_two (five_three (arg (Plain (BrTable (0 ∷ []) 1) Stop))) (drop (const 1 Stop))) (sub Stop)
 

@@ -7,7 +7,7 @@ use Rattle.wsyntax.specs.Validation.ModuleContext.{empty_type}
 use Rattle.wsyntax.specs.Execution.Store.{Module}
 use Rattle.soundness.specs.Instances.{Instantiated}
 
--- a start function that does nothing, a memory of a page, and two bytes for its last places
+-- a start function that does nothing, a memory of a page, and two bytes for its last offsets
 abbrev pub sole : ModuleShape
 sole = record {
   types = empty_type ∷ [];

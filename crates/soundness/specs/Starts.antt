@@ -15,11 +15,11 @@ use Rattle.wsyntax.specs.Execution.Start.{StartRefusal, HasImports, HasFloats, T
 abbrev pub at : ℕ → List Token
 at n = Do (Const I32 n) ∷ End ∷ []
 
--- these functions from this entry on
+-- these functions from this offset on
 abbrev pub entries : ℕ → List ℕ → ElementShape
 entries offset functions = record { table = 0; offset = at offset; functions = functions }
 
--- these bytes from this place on
+-- these bytes from this offset on
 abbrev pub bytes : ℕ → List ℕ → DataShape
 bytes offset items = record { memory = 0; offset = at offset; bytes = items }
 

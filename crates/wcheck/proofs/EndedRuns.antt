@@ -146,7 +146,7 @@ pub more_last : (b : ℕ) (rs : List EndedRun) (r : EndedRun) → last_end b (rs
 more_last b [] r = refl
 more_last b (q ∷ rs) r = more_last q.end rs r
 
--- ---- the places
+-- ---- the positions
 
 pub before_end : (rs : List EndedRun) (r : EndedRun) (x : ℕ) → slice_get rs (length rs) ≡ Some r → x < r.end
 before_end rs r x e = absurd (omega (arith, slice_get_within rs (length rs) r e))

@@ -1,4 +1,4 @@
--- Operands on top whose types are known, each in a place of its own.
+-- Operands on top whose types are known, each in an entry of its own.
 use Rattle.std.proofs.Common.{◌≡◌, ℕ, suc, false, ◌-◌, ◌+◌, ◌<◌, ◌≤◌, List, [], ◌∷◌, ◌++◌, map, length, take, get_or, Option, Some, refl, sym, ap, subst, ◌∙◌, arith, length-take}
 use Rattle.std.specs.Prelude.{set}
 use Rattle.std.proofs.lemmas.List.{append_assoc, append-nil, map-append, take_more, take_all}
@@ -10,7 +10,7 @@ use Rattle.wcheck.proofs.LastItems.{prefix, last_two, set_last, split_at_last}
 use Rattle.wcheck.proofs.Stretched.{single, counted_prefix, counted_single}
 use Rattle.wcheck.proofs.Topmost.{known_single}
 
--- the places xs with the runs rs stand for v, and x is the topmost place, of the type t
+-- the entries xs with the runs rs stand for v, and x is the topmost entry, of the type t
 module _ (xs : List StackEntry) (rs : List (List ValType)) (v : List (Option ValType)) (n : ℕ) (x : StackEntry) (t : ValType) (w : types_in xs rs ≡ v) (c : n ≡ length xs) (le : 1 ≤ n) (e : x ≡ get_or xs (n - 1) x) (k : type_of x ≡ Some t) where
   split : xs ≡ take (n - 1) xs ++ x ∷ []
   split = split_at_last xs n (n - 1) x c refl (omega (arith, c, le)) e
@@ -26,7 +26,7 @@ module _ (xs : List StackEntry) (rs : List (List ValType)) (v : List (Option Val
   one_off_counted m h =
       counted_prefix (take (n - 1) xs) rs x (type_of x) m (single (take (n - 1) xs) rs x (known_single x t k)) (subst (λ z. IsCounted z rs m) split h)
 
-  -- the place y of the type u is written over it
+  -- the entry y of the type u is written over it
   module _ (y : StackEntry) (u : ValType) (q : type_of y ≡ Some u) where
     written : set xs (n - 1) y ≡ take (n - 1) xs ++ y ∷ []
     written =
@@ -42,7 +42,7 @@ module _ (xs : List StackEntry) (rs : List (List ValType)) (v : List (Option Val
     one_over_counted m h =
         subst (λ z. IsCounted z rs m) (sym written) (counted_single (take (n - 1) xs) rs y m (one_off_counted m h) (known_single y u q))
 
--- x is the topmost place, and stands for one operand
+-- x is the topmost entry, and stands for one operand
 module _ (xs : List StackEntry) (rs : List (List ValType)) (v : List (Option ValType)) (n : ℕ) (x : StackEntry) (w : types_in xs rs ≡ v) (c : n ≡ length xs) (le : 1 ≤ n) (e : x ≡ get_or xs (n - 1) x) (k : is_several x ≡ false) where
   parted : xs ≡ take (n - 1) xs ++ x ∷ []
   parted = split_at_last xs n (n - 1) x c refl (omega (arith, c, le)) e
@@ -58,7 +58,7 @@ set_end : {A : Type 0} (prefix_part : List A) (x z : A) → set (prefix_part ++ 
 set_end [] x z = refl
 set_end (a ∷ rest) x z = ap (λ l. a ∷ l) (set_end rest x z)
 
--- x and y are the two topmost places, of the types t and u
+-- x and y are the two topmost entries, of the types t and u
 module _ (xs : List StackEntry) (rs : List (List ValType)) (v : List (Option ValType)) (n : ℕ) (x y : StackEntry) (t u : ValType) (w : types_in xs rs ≡ v) (c : n ≡ length xs) (le : 2 ≤ n) (ex : x ≡ get_or xs (n - 2) x) (ey : y ≡ get_or xs (n - 1) y) (kx : type_of x ≡ Some t) (ky : type_of y ≡ Some u) where
   split_two : xs ≡ (take (n - 2) xs ++ x ∷ []) ++ y ∷ []
   split_two =
@@ -85,7 +85,7 @@ module _ (xs : List StackEntry) (rs : List (List ValType)) (v : List (Option Val
       let without = counted_prefix (take (n - 2) xs ++ x ∷ []) rs y (type_of y) m (single (take (n - 2) xs ++ x ∷ []) rs y (known_single y u ky)) (subst (λ z. IsCounted z rs m) split_two h) in
       counted_prefix (take (n - 2) xs) rs x (type_of x) m (single (take (n - 2) xs) rs x (known_single x t kx)) without
 
-  -- the place z of the type s is written in their place
+  -- the entry z of the type s is written instead of them
   module _ (ys : List StackEntry) (z : StackEntry) (s : ValType) (off : ys ≡ take (n - 1) xs) (q : type_of z ≡ Some s) where
     in_place : set ys (n - 2) z ≡ take (n - 2) xs ++ z ∷ []
     in_place =
@@ -106,7 +106,7 @@ module _ (xs : List StackEntry) (rs : List (List ValType)) (v : List (Option Val
     two_over_counted m h =
         subst (λ l. IsCounted l rs m) (sym in_place) (counted_single (take (n - 2) xs) rs z m (two_off_counted m h) (known_single z s q))
 
--- one more place from s + i on, of the next of the types ts
+-- one more entry from s + i on, of the next of the types ts
 pub known_more : (xs : List StackEntry) (rs : List (List ValType)) (ts : List ValType) (s i : ℕ) (x : StackEntry) (t : ValType) → s + i < length xs → i < length ts → type_of (get_or xs (s + i) x) ≡ Some (get_or ts i t) → types_in (take (s + i) xs) rs ≡ types_in (take s xs) rs ++ map Some (take i ts) → types_in (take (s + (i + 1)) xs) rs ≡ types_in (take s xs) rs ++ map Some (take (i + 1) ts)
 known_more xs rs ts s i x t lx lt k h =
     let at : s + (i + 1) ≡ s + i + 1 = omega arith in

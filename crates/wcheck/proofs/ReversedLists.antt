@@ -14,7 +14,7 @@ map-reverse f [] = refl
 map-reverse f (x ∷ xs) =
     ap (map f) (reverse-append (x ∷ []) xs) ∙ map-append f (reverse xs) (x ∷ []) ∙ ap (λ z. z ++ f x ∷ []) (map-reverse f xs) ∙ sym (reverse-append (f x ∷ []) (map f xs))
 
--- the place l of a list that begins with b and then goes backwards
+-- the item l of a list that begins with b and then goes backwards
 pub behind_or : {A B : Type 0} (f : A → B) (b : B) (xs : List A) (l : ℕ) (d : A) → (l ≡ 0 → ⊥) → l ≤ length xs → slice_get (b ∷ reverse (map f xs)) l ≡ Some (f (get_or xs (length xs - l) d))
 behind_or f b xs zero d nz le = absurd (nz refl)
 behind_or f b xs (suc m) d nz le =

@@ -1,4 +1,4 @@
--- A list of operands without its topmost place, or with less of the run there.
+-- A list of operands without its topmost entry, or with less of the run there.
 use Rattle.std.proofs.Common.{◌≡◌, ℕ, zero, suc, ◌+◌, ◌-◌, ◌<◌, ◌≤◌, List, [], ◌∷◌, ◌++◌, map, length, take, drop, get_or, Option, Some, None, refl, sym, ap, ◌∙◌, subst, arith, length-append, length-take, length-drop}
 use Rattle.std.specs.Prelude.{set}
 use Rattle.std.proofs.Math.Seq.{take-nil}
@@ -19,7 +19,7 @@ pub nonempty : (xs : List StackEntry) (rs : List (List ValType)) (v : List (Opti
 nonempty [] rs v w lt = absurd (omega (arith, lt, ap length w, ap length (none rs)))
 nonempty (x ∷ xs) rs v w lt = omega arith
 
--- the places xs with the runs rs stand for v, and x is the topmost place
+-- the entries xs with the runs rs stand for v, and x is the topmost entry
 module _ (xs : List StackEntry) (rs : List (List ValType)) (x : StackEntry) (v : List (Option ValType)) (n : ℕ) (w : types_in xs rs ≡ v) (s : xs ≡ take n xs ++ x ∷ []) where
   pub one_less : run_at x rs ≡ None → types_in (take n xs) rs ≡ take (length v - 1) v
   one_less q = prefix v (types_in (take n xs) rs) (type_of x ∷ []) (sym w ∙ ap (λ z. types_in z rs) s ∙ no_run (take n xs) rs x q)
@@ -89,7 +89,7 @@ module _ (xs : List StackEntry) (rs : List (List ValType)) (x : StackEntry) (v :
         small = omega (arith, c.small);
       }
 
--- the runs with another in the place of the last
+-- the runs with another instead of the last
 pub last_run_written : (types : List FuncType) (rs : List TypePrefix) (count n : ℕ) (run : TypePrefix) (r : List ValType) → prefix_of types run ≡ r → count ≡ length rs → n ≡ count - 1 → 0 < length (map (prefix_of types) rs) → map (prefix_of types) (set rs n run) ≡ take (length (map (prefix_of types) rs) - 1) (map (prefix_of types) rs) ++ r ∷ []
 last_run_written types rs count n run r k c e lt =
     map-set (prefix_of types) rs n run

@@ -1,4 +1,4 @@
--- A list of operands without a run: each place is an operand.
+-- A list of operands without a run: each entry is an operand.
 use Rattle.std.proofs.Common.{◌≡◌, ℕ, Bool, true, List, [], ◌∷◌, map, length, take, Option, refl, sym, ap, ◌∙◌, arith}
 use Rattle.std.specs.Prelude.{◌==◌}
 use Rattle.std.proofs.lemmas.List.{length-map, take-map}

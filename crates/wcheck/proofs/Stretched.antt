@@ -1,4 +1,4 @@
--- A list of operands in which a run takes one place.
+-- A list of operands in which a run takes one entry.
 use Rattle.std.proofs.Common.{◌≡◌, ℕ, suc, ◌+◌, ◌-◌, ◌^◌, ◌<◌, ◌≤◌, false, List, [], ◌∷◌, ◌++◌, map, length, take, reverse, Option, Some, None, refl, sym, ap, ◌∙◌, arith, length-append}
 use Rattle.std.proofs.lemmas.List.{reverse-append, reverse-reverse, length-reverse, length-map}
 use Rattle.wsyntax.specs.declared.ValType.{ValType}
@@ -9,7 +9,7 @@ use Rattle.wcheck.specs.Runs.{is_several, run_at, of_run, stretched, types_in, I
 use Rattle.wcheck.proofs.ReversedLists.{map-reverse, reversed_last}
 use Rattle.wcheck.proofs.LastItems.{no_last, is_there}
 
--- the topmost place, where no run stands
+-- the topmost entry, where no run stands
 top_single : (x : StackEntry) (ys : List StackEntry) (rs : List (List ValType)) → is_several x ≡ false → stretched (x ∷ ys) rs ≡ type_of x ∷ stretched ys rs
 top_single I32 ys rs e = refl
 top_single I64 ys rs e = refl
@@ -18,7 +18,7 @@ top_single F64 ys rs e = refl
 top_single Unknown ys rs e = refl
 top_single Run ys rs e = absurd cc
 
--- a place more, where no run stands
+-- an entry more, where no run stands
 pub single : (xs : List StackEntry) (rs : List (List ValType)) (x : StackEntry) → is_several x ≡ false → types_in (xs ++ x ∷ []) rs ≡ types_in xs rs ++ type_of x ∷ []
 unfolding types_in
 single xs rs x e =
@@ -35,7 +35,7 @@ several xs rs r =
     ∙ reverse-append (reverse (of_run r)) (stretched (reverse xs) (reverse rs))
     ∙ ap (λ z. reverse (stretched (reverse xs) (reverse rs)) ++ z) (reverse-reverse (of_run r))
 
--- a place of a run that there is not
+-- an entry of a run that there is not
 pub lone : (xs : List StackEntry) → types_in (xs ++ Run ∷ []) [] ≡ types_in xs [] ++ None ∷ []
 unfolding types_in
 lone xs =
@@ -54,7 +54,7 @@ stretched_least (Run ∷ xs) ([] ∷ rs) = omega (arith, stretched_least xs rs)
 stretched_least (Run ∷ xs) ((t ∷ ts) ∷ rs) =
     omega (arith, stretched_least xs rs, length-append (reverse (of_run (t ∷ ts))) (stretched xs rs), length-reverse (of_run (t ∷ ts)))
 
--- each place stands for an operand or more
+-- each entry stands for an operand or more
 pub least : (xs : List StackEntry) (rs : List (List ValType)) → length xs ≤ length (types_in xs rs)
 unfolding types_in
 least xs rs =
@@ -69,7 +69,7 @@ stretched_singles (F64 ∷ xs) = ap (λ z. type_of F64 ∷ z) (stretched_singles
 stretched_singles (Unknown ∷ xs) = ap (λ z. type_of Unknown ∷ z) (stretched_singles xs)
 stretched_singles (Run ∷ xs) = ap (λ z. None ∷ z) (stretched_singles xs)
 
--- where there is no run, each place is an operand
+-- where there is no run, each entry is an operand
 pub singles : (xs : List StackEntry) → types_in xs [] ≡ map type_of xs
 unfolding types_in
 singles xs =
@@ -102,14 +102,14 @@ counted_run xs rs r m more c e le = record {
   small = le;
 }
 
--- without the last place
+-- without the last entry
 pub counted_prefix : (xs : List StackEntry) (rs : List (List ValType)) (x : StackEntry) (y : Option ValType) (m : ℕ) → types_in (xs ++ x ∷ []) rs ≡ types_in xs rs ++ y ∷ [] → IsCounted (xs ++ x ∷ []) rs m → IsCounted xs rs m
 counted_prefix xs rs x y m e c = record {
   count = omega (arith, c.count, ap length e, length-append (types_in xs rs) (y ∷ []), length-append xs (x ∷ []));
   small = c.small;
 }
 
--- what a run adds to the places is counted
+-- what a run adds to the entries is counted
 pub run_counted : (xs : List StackEntry) (rs : List (List ValType)) (r : List ValType) (m : ℕ) → IsCounted (xs ++ Run ∷ []) (rs ++ r ∷ []) m → length r - 1 ≤ m
 run_counted xs rs r m c =
     omega (arith, c.count, ap length (several xs rs r), length-append (types_in xs rs) (of_run r), run_length r, length-append xs (Run ∷ []), least xs rs)
@@ -120,7 +120,7 @@ counted_less xs rs r m c = record {
   small = omega (arith, c.small);
 }
 
--- ---- the topmost place
+-- ---- the topmost entry
 
 -- no run stands there
 pub no_run : (xs : List StackEntry) (rs : List (List ValType)) (x : StackEntry) → run_at x rs ≡ None → types_in (xs ++ x ∷ []) rs ≡ types_in xs rs ++ type_of x ∷ []

@@ -19,7 +19,7 @@ pub same_list : (ts : List ValType) → same_types ts ts ≡ true
 same_list [] = refl
 same_list (t ∷ ts) = ap (λ b. b && same_types ts ts) (same_as_itself t) ∙ same_list ts
 
--- lists at one place
+-- lists at one position
 pub same_position : (types : List FuncType) (a b : TypeList) → a ≡ b → same_types (reverse (list_of types a)) (reverse (list_of types b)) ≡ true
 same_position types a b e =
     ap (λ z. same_types (reverse (list_of types a)) (reverse (list_of types z))) (sym e) ∙ same_list (reverse (list_of types a))

@@ -7,7 +7,8 @@ use Rattle.wsyntax.specs.Validation.Algorithm as alg
 use Rattle.wsyntax.specs.Validation.Algorithm.{Rule}
 use Rattle.wcontext.specs.Lists.{list_of}
 use Rattle.wcheck.specs.declared.rule.OperandRule.{OperandRule}
-use Rattle.wcheck.specs.declared.rule.OperandRule.TheVariants.{Nothing, Push, Pop, Unary, Binary, Stores, Signature, Terminates, Drop, Select}
+use Rattle.wcheck.specs.declared.rule.OperandRule.TheVariants.{Nothing, Push, Pop, Unary, Binary, Stores, Signature}
+use Rattle.wcheck.specs.declared.rule.OperandRule.TheVariants.{Terminates, Drop, Select}
 
 -- with an i32 on top, or not
 abbrev pub indexed : Bool → Stack → Stack

@@ -21,7 +21,7 @@ use wsyntax::{Body, Expression};
 /// Why a body is refused.
 #[derive(Clone, Copy, Debug, PartialEq, Eq, Error)]
 pub enum CheckFault {
-    /// It has no type. `at` is the number of the first token that no completion can save, from 0.
+    /// It has no type. `at` is the position of the first token that no completion can save, from 0.
     #[error("ill-typed at {at}")]
     IllTyped { at: usize },
     /// A growth of memory was refused. Nothing is said of the body.
@@ -93,9 +93,9 @@ pub fn keep_body(
 ///
 /// It asks more of its caller than the index of a function of the module:
 /// - `follow`: each branch table begins in the list of targets where the one before it ends, as `decode_body` promises.
-/// - `few`: the side table has room for the places of fewer than 2^31 tokens. A token takes a byte at least, so each body of
-///   a module within its limit has fewer.
-/// - A checker stands in place of the module's context. It may have checked other bodies of the module before, and may check
+/// - `few`: the side table has room for the positions of fewer than 2^31 tokens. A token takes a byte at least, so each body
+///   of a module within its limit has fewer.
+/// - A checker stands for the module's context. It may have checked other bodies of the module before, and may check
 ///   more, in the memory that it has.
 ///
 /// A `Body` that is made by hand may break `follow` and `few`.

@@ -49,7 +49,7 @@ module _ (L : ℕ) where
   Costs t m (Over NoFrames s f) = (t ≤ remains m.body m.pc + waits m.callers) × (f ≡ m.fuel)
   Costs t m Broken = Unit {0}
 
-  -- on at another place of the body, where less remains
+  -- on at another position of the body, where less remains
   on_to : (m n : Machine) → n.body ≡ m.body → n.callers ≡ m.callers → n.fuel ≡ m.fuel → remains n.body n.pc < remains m.body m.pc → Costs 1 m (Going n)
   on_to m n eb ec eu less =
       let w : waits n.callers ≡ waits m.callers = ap waits ec in

@@ -34,7 +34,7 @@ low_of (Loop b body rest) w sp here pc ts f = f.9
 low_of (If b body rest) w sp here pc ts f = f.11
 low_of (IfElse b body other rest) w sp here pc ts f = f.11
 
--- the place is a token's, or after the last one
+-- the position is a token's, or after the last one
 position_of : (code : Code) (w : World) (sp : Spot) (levels : List LabelLayer) (here : Sequence) → Levels w sp levels here → (held : List Value) → Fit w sp code here sp.pc (types held) → sp.pc ≤ length ((sp.body).filled).tokens
 position_of Stop w sp [] here lf held f = omega (arith, f.0, lf.2)
 position_of Stop w sp (lv ∷ levels) here lf held f =

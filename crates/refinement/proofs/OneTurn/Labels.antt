@@ -71,7 +71,7 @@ module _ (laws : ReductionLaws) where
     few = omega arith;
   }
 
-  -- what closes a label, without its place
+  -- what closes a label, without its position
   leave_step : (p : Program) (j : Joint) (lv : LabelLayer) → step (module_of p) (config_of (state_of (opened j lv (j.running).pc (j.running).held Stop))) ≡ Steps Quiet j.store [] (frames_around (activation j.running).arity (j.running).locals (in_labels (j.running).levels (Source ((j.running).held ++ lv.below) lv.rest)) (others j))
   unfolding next source
   leave_step p j lv =

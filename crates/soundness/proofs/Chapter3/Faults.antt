@@ -61,7 +61,7 @@ run-accepted C (t ∷ ts) fs k e =
       | Some gs ↦ λ h. run-accepted C ts gs (k + 1) h
     ]) e
 
--- where the algorithm refuses the token with the number j, from the number k on
+-- where the algorithm refuses the token at the position j, from the position k on
 record RefusedAt (C : Context) (ts : List Token) (fs : List Frame) (i : ℕ) : Type 0 where
   here : run C (take (suc i) ts) fs ≡ None
   before : (m : ℕ) → m < i → (gs : List Frame) × (run C (take (suc m) ts) fs ≡ Some gs)

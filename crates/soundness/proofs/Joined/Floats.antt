@@ -18,7 +18,7 @@ any_join test (x ∷ xs) ys e =
     let k = any_join test xs ys h.1 in
     (or_from (test x) (any test xs) h.0 k.0, k.1)
 
--- none of a list, not the one at a place
+-- none of a list, not the one at a position
 pub any_at : {A : Type 0} (test : A → Bool) (xs : List A) (k : ℕ) (x : A) → any test xs ≡ false → slice_get xs k ≡ Some x → test x ≡ false
 any_at test [] k x e is = absurd cc
 any_at {A = A} test (y ∷ xs) zero x e is =

@@ -57,7 +57,7 @@ impl OperandStack<'_> {
         true
     }
 
-    /// Puts an operand of the second type in the place of the two topmost, if both are known to be of the first.
+    /// Puts an operand of the second type instead of the two topmost, if both are known to be of the first.
     #[inline(always)]
     pub(crate) fn apply_binary_known(&mut self, t: ValType, u: ValType) -> bool
         ensures above { result ≡ true → apply (Takes (t ∷ t ∷ []) (u ∷ [])) self.old.above ≡ Some self.new.above }
