@@ -1,4 +1,4 @@
--- From the number that a search by name finds, or not, to what the module exports under the name.
+-- From the position that a search by name finds, or not, to what the module exports under the name.
 use Rattle.std.proofs.Common.{◌≡◌, ◌≢◌, ◌↔◌, ℕ, zero, suc, ◌+◌, ◌<◌, List, [], ◌∷◌, length, map, Option, Some, refl, sym, ap, ◌∙◌, arith, get_or, inl, inr}
 use Rattle.std.specs.Prelude.{Contains}
 use Rattle.std.specs.List.{All, AllPairs, range_with_len}
@@ -17,7 +17,7 @@ use Rattle.accepted_module.specs.Exports.{name_at}
 some_is : {A : Type 0} (a c : A) → Some a ≡ Some c → a ≡ c
 some_is a c e = cc
 
--- The numbers from 0 on, in another order.
+-- The positions from 0 on, in another order.
 
 -- each of them is below the count
 position_below : (n : ℕ) (positions : List ℕ) (k : ℕ) → IsPermutation (range_with_len 0 n) positions → Contains positions k → k < n
@@ -30,7 +30,7 @@ position_below n positions k moved among =
 pub position_within : (n : ℕ) (positions : List ℕ) (k : ℕ) → ∥ IsPermutation (range_with_len 0 n) positions ∥₁ → Contains positions k → k < n
 position_within n positions k moved among = ∥∥₁_elim moved (search props) (λ m. position_below n positions k m among)
 
--- each number below the count is one of them
+-- each position below the count is one of them
 position_among : (n : ℕ) (positions : List ℕ) (k : ℕ) → IsPermutation (range_with_len 0 n) positions → k < n → Contains positions k
 position_among n positions k moved within =
     let is : 0 + k ≡ k = omega arith in
@@ -38,7 +38,7 @@ position_among n positions k moved within =
 
 -- Names.
 
--- the name of the export of that number
+-- the name of the export at that position
 named : (exports : List Export) (k : ℕ) (d : ExportShape) → k < length exports → name_at exports k ≡ (get_or (map export_shape exports) k d).item_name
 named [] k d within = absurd (omega arith)
 named (x ∷ xs) zero d within = refl
@@ -54,7 +54,7 @@ none_has exports positions name moved differ e there same =
 pub none_exported : (exports : List Export) (positions : List ℕ) (name : List ℕ) → ∥ IsPermutation (range_with_len 0 (length exports)) positions ∥₁ → All (λ k. name_at exports k ≢ name) positions → (e : ExportShape) → Contains (map export_shape exports) e → e.item_name ≢ name
 none_exported exports positions name moved differ e there same = ∥∥₁_elim moved (λ a b. absurd a) (λ m. none_has exports positions name m differ e there same)
 
--- names that are one stand at one place
+-- names that are one stand at one position
 one_position : (shapes : List ExportShape) (i k : ℕ) (d : ExportShape) → AllPairs (λ a b. a.item_name ≢ b.item_name) shapes → i < length shapes → k < length shapes → (get_or shapes i d).item_name ≡ (get_or shapes k d).item_name → i ≡ k
 one_position shapes i k d distinct first second same =
     elim (cases_lt i k) [
@@ -69,7 +69,7 @@ one_position shapes i k d distinct first second same =
 abbrev answer : ExportKind → ℕ → Option (ExportKind × ℕ)
 answer kind index = Some (kind, index)
 
--- of the export of that number, which has the name: its kind and its index are those that are exported under the name, and no others are
+-- of the export at that position, which has the name: its kind and its index are those that are exported under the name, and no others are
 pub is_exported : (exports : List Export) (name : List ℕ) (k : ℕ) (x : Export) → AllPairs (λ a b. a.item_name ≢ b.item_name) (map export_shape exports) → k < length exports → x ≡ get_or exports k x → name_at exports k ≡ name → (kind : ExportKind) (index : ℕ) → (answer x.kind x.index ≡ answer kind index) ↔ Contains (map export_shape exports) (record { item_name = name; kind = kind; index = index })
 is_exported exports name k x distinct within is same kind index = (to, from)
   where

@@ -40,7 +40,7 @@ chosen false k p get e = let same : k ≡ p = cc in ap get same
 paired : (m : ModuleShape) (x : IndexedContext) (all : List CheckedBody) → IsJudged m x all → length m.functions ≡ length all
 paired m x all j = j.paired ∙ sym j.bodies.count
 
--- of the function at a place
+-- of the function whose body is at a position
 pub declared_at : (m : ModuleShape) (x : IndexedContext) (type_ids : List ℕ) (all : List CheckedBody) (imported f position : ℕ) → ∥ IsJudged m x all ∥₁ → body_index imported f ≡ Some position → option_map (λ b. locals_of b.body.runs.items) (body_at imported all f) ≡ option_map (λ s. s.declared) (slice_get (frame_layouts m.types type_ids m.functions all) position)
 declared_at m x type_ids all imported f position judged e =
     let same : length m.functions ≡ length all = ∥∥₁_elim judged (search props) (λ j. paired m x all j) in

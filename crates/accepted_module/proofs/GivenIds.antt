@@ -1,4 +1,4 @@
--- Types that are numbered by their sorted indices: two ids are equal exactly where the types are.
+-- Types that get their ids by their sorted indices: two ids are equal exactly where the types are.
 use Rattle.std.proofs.Common.{◌≡◌, ◌⊎◌, ℕ, ◌+◌, ◌-◌, ◌<◌, ◌≤◌, false, true, List, length, get_or, set, Some, sym, ap, subst, ◌∙◌, arith, inl, inr, refl}
 use Rattle.std.specs.Prelude.{slice_get}
 use Rattle.std.specs.List.{All, range_with_len}
@@ -17,7 +17,7 @@ use Rattle.wsyntax.specs.Validation.ModuleContext.{type_at}
 use Rattle.accepted_module.specs.TypeIds.{AreTypeIds, func_type_cmp, index_cmp}
 use Rattle.accepted_module.proofs.TypeOrder.{func_type_total, func_types_tie}
 
--- the index at a place
+-- the index at a position
 abbrev at : List ℕ → ℕ → ℕ
 at indices k = get_or indices k 0
 
@@ -72,7 +72,7 @@ together types indices low mid high up first second below same =
     let alike = alike_right func_type_total (type_at types (at indices low)) (type_at types (at indices high)) (type_at types (at indices mid)) same in
     neither _ _ (func_type_total.antisymm (type_at types (at indices mid)) (type_at types (at indices high))) (ap is_lt (sym alike) ∙ left) right
 
--- From `first` up to this place all types are equal, and none before is equal to them.
+-- From `first` up to this position all types are equal, and none before is equal to them.
 pub record IsRun (types : List FuncType) (indices : List ℕ) (first position : ℕ) : Type 0 where
   pub low : first ≤ position - 1
   pub run : (j : ℕ) → first ≤ j → j < position → Tied types (at indices first) (at indices j)
@@ -115,13 +115,13 @@ run_more types indices first next position a b o up within one other is before w
 
 -- Ids.
 
--- the id of a type: the first place of an equal one
+-- the id of a type: the first position of an equal one
 pub record IsIdOf (types : List FuncType) (indices : List ℕ) (y id : ℕ) : Type 0 where
   pub within : id < length indices
   pub same : Tied types (at indices id) y
   pub least : (j : ℕ) → j < id → Tied types (at indices j) y → ⊥
 
--- what holds where the types before this place have their ids
+-- what holds where the types before this position have their ids
 pub record AreGiven (types : List FuncType) (indices : List ℕ) (first position : ℕ) (ids : List ℕ) : Type 0 where
   pub count : length ids ≡ length types
   pub run : IsRun types indices first position

@@ -18,7 +18,7 @@ of_shapes P f xs h = λ k d below. subst P (get_or-map f xs k d (f d) below) (h 
 pub elements_have_offsets : (m : ModuleShape) (es : List HeldElement) → All (ElementValid m) (map element_shape es) → All (λ e. IsOffset e.offset) es
 elements_have_offsets m es h = λ k d below. (imported_globals m, (of_shapes (ElementValid m) element_shape es h k d below).constant)
 
--- of one that is read by its number
+-- of one that is read by its index
 pub element_has_offset : (es : List HeldElement) (i : ℕ) (e : HeldElement) → All (λ s. IsOffset s.offset) es → Some e ≡ slice_get es i → IsOffset e.offset
 element_has_offset es i e all read =
     subst (λ (s : HeldElement). IsOffset s.offset) (get_or_from_slice_get es i e e (sym read)) (all i e (slice_get_within es i e (sym read)))

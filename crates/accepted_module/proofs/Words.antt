@@ -18,7 +18,7 @@ pub one_more : {A : Type 0} (f : A → ℕ) (xs : List A) (i : ℕ) (x : A) (was
 one_more f xs i x was new n is below so_far number pushed =
     pushed ∙ ap (λ l. l ++ n ∷ []) so_far ∙ ap (λ k. map f (take i xs) ++ k ∷ []) (number ∙ ap f is) ∙ sym (map_more f xs i x below)
 
--- one more, of an item that is read by its number
+-- one more, of an item that is read by its index
 pub one_more_read : {A : Type 0} (f : A → ℕ) (xs : List A) (i : ℕ) (x : A) (was new : List ℕ) (n : ℕ) → Some x ≡ slice_get xs i → was ≡ map f (take i xs) → n ≡ f x → new ≡ was ++ n ∷ [] → new ≡ map f (take (i + 1) xs)
 one_more_read f xs i x was new n read so_far number pushed =
     one_more f xs i x was new n (sym (get_or_from_slice_get xs i x x (sym read))) (slice_get_within xs i x (sym read)) so_far number pushed
@@ -27,7 +27,7 @@ one_more_read f xs i x was new n read so_far number pushed =
 pub words_of : (gs : List Global) → map (λ (g : Global). bits (first_value (global_shape g))) gs ≡ slots (map first_value (map global_shape gs))
 words_of gs = sym (ap (map bits) (map-map first_value global_shape gs) ∙ map-map bits (λ (g : Global). first_value (global_shape g)) gs)
 
--- the places of the segments
+-- the offsets of the segments
 pub element_offsets_of : (es : List HeldElement) → map element_offset es ≡ offsets_of (element_segments es)
 element_offsets_of es = sym (ap (map (λ (s : Segment). s.offset)) (map-map element_segment element_shape es) ∙ map-map (λ (s : Segment). s.offset) (λ (e : HeldElement). element_segment (element_shape e)) es)
 

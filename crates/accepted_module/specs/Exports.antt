@@ -16,10 +16,10 @@ abbrev pub name_of : Option Export → List ℕ
 name_of None = []
 name_of (Some e) = e.name.now
 
--- the name of the export of that number, empty where there is none
+-- the name of the export at that position, empty where there is none
 abbrev pub name_at : List Export → ℕ → List ℕ
 name_at exports position = name_of (slice_get exports position)
 
--- the numbers of exports stand in the order of their names, byte by byte
+-- the positions of exports stand in the order of their names, byte by byte
 abbrev pub AreAscending : List Export → List ℕ → Type 0
 AreAscending exports positions = IsSortedByKey (name_at exports) (slice_cmp nat_cmp) positions

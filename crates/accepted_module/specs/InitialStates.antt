@@ -1,5 +1,5 @@
 -- 4.5.4 What is computed once a module.
--- It is the definition's `layout_of`: first values without tags, the places of segments, and of each kind the first segment outside
+-- It is the definition's `layout_of`: first values without tags, the offsets of segments, and of each kind the first segment outside
 -- the minimum.
 use Rattle.std.specs.Prelude.{◌≡◌, ◌*◌}
 use Rattle.wsyntax.specs.Modules.{ModuleShape}
@@ -10,7 +10,7 @@ use Rattle.accepted_module.specs.Segments.{offsets_of}
 use Rattle.accepted_module.specs.Sizes.{table_size, memory_pages}
 use Rattle.accepted_module.specs.declared.initial_state.InitialState.{InitialState}
 
--- the first values of the globals without tags, the places of the segments, and of each kind the first segment that does not end within the minimum
+-- the first values of the globals without tags, the offsets of the segments, and of each kind the first segment that does not end within the minimum
 pub record IsLayoutOf (m : ModuleShape) (l : InitialState) : Type 0 where
   pub globals : l.globals.items ≡ slots (layout_of m).globals
   pub element_offsets : l.element_offsets.items ≡ offsets_of (layout_of m).elements

@@ -22,7 +22,7 @@ pub record IsCheckedFrom (C : Context) (f : ℕ) (bytes : List ℕ) (checked : C
   pub typed : IsTypedAs C f checked.body
   pub fits : FitsAs C f checked
 
--- it is that of the bytes at that place, after `imported` imported functions
+-- it is that of the bytes at that position, after `imported` imported functions
 abbrev pub IsCheckedAt : Context → ℕ → List (List ℕ) → ℕ → CheckedBody → Type 0
 IsCheckedAt C imported bodies position checked =
     (bytes : List ℕ) × (slice_get bodies position ≡ Some bytes) × IsCheckedFrom C (imported + position) bytes checked

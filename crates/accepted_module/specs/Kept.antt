@@ -18,6 +18,6 @@ pub record IsAcceptedFrom (bytes : List ℕ) (a : Accepted) : Type 0 where
 abbrev pub body_at : ℕ → List CheckedBody → ℕ → Option CheckedBody
 body_at imported bodies f = if nat_lt f imported then None else slice_get bodies (f - imported)
 
--- the place of the body of a function, imported ones counted
+-- the index among the bodies of the body of a function, imported ones counted
 abbrev pub body_index : ℕ → ℕ → Option ℕ
 body_index imported f = if nat_lt f imported then None else Some (f - imported)

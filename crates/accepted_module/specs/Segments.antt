@@ -14,11 +14,11 @@ use Rattle.wsyntax.specs.Execution.Start.{element_segment, data_segment}
 abbrev pub IsOffset : ConstExpr → Type 0
 IsOffset e = (globals : List GlobalType) × ConstantOf globals I32 (initial_tokens e)
 
--- 4.5.4 the element segments with their places
+-- 4.5.4 the element segments with their offsets
 abbrev pub element_segments : List HeldElement → List Segment
 element_segments all = map element_segment (map element_shape all)
 
--- 4.5.4 the data segments with their places
+-- 4.5.4 the data segments with their offsets
 abbrev pub data_segments : List Data → List Segment
 data_segments all = map data_segment (map data_shape all)
 

@@ -1,5 +1,5 @@
--- Numbers of types, by which equal types are known.
--- Two types have one number exactly where they are the same.
+-- Ids of types, by which equal types are known.
+-- Two types have one id exactly where they are the same.
 use Rattle.std.specs.Prelude.{◌≡◌, ◌↔◌, ◌<◌, ℕ, IsTrue, List, Option, Some, None, length, map, slice_get, All}
 use Rattle.std.specs.Cmp.Lexicographic.{slice_cmp}
 use Rattle.std.specs.Ordering.{nat_cmp, ordering_then}
@@ -9,20 +9,20 @@ use Rattle.wsyntax.specs.declared.ValType.TheVariants.{I32, I64, F32, F64}
 use Rattle.wsyntax.specs.Types.{FuncType, same_func_type}
 use Rattle.wsyntax.specs.Validation.ModuleContext.{type_at}
 
--- of each type a number below the count of types; two are equal exactly where the types are the same
+-- of each type an id below the count of types; two are equal exactly where the types are the same
 pub record AreTypeIds (types : List FuncType) (type_ids : List ℕ) : Type 0 where
   pub count : length type_ids ≡ length types
   pub below : All (λ n. n < length types) type_ids
   pub same : (y z : ℕ) (s t : FuncType) → slice_get types y ≡ Some s → slice_get types z ≡ Some t → (slice_get type_ids y ≡ slice_get type_ids z) ↔ IsTrue (same_func_type s t)
 
--- the number of the type of that index, if there is an index
+-- the id of the type of that index, if there is an index
 abbrev pub function_type_id : List ℕ → Option ℕ → Option ℕ
 function_type_id type_ids None = None
 function_type_id type_ids (Some y) = slice_get type_ids y
 
 -- How they are found.
 
--- the place of a value type among the four
+-- the position of a value type among the four
 abbrev pub rank : ValType → ℕ
 rank I32 = 0
 rank I64 = 1

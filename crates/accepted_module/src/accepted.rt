@@ -29,7 +29,7 @@ pub struct Accepted<'a> {
     pub(crate) bodies: Vec<CheckedBody>,
     /// Of each body what the entry of its function needs to know.
     pub(crate) shapes: Vec<FrameLayout>,
-    /// The number of each export, in the order of their names.
+    /// The position of each export, in the order of their names.
     pub(crate) by_name: Vec<usize>,
     pub(crate) uses_floats: bool,
     /// Of each type its id: equal types have equal ids.
@@ -84,7 +84,7 @@ impl<'a> Accepted<'a> {
         ensures { ∥ IsSmall (module_shape self.now.module) self.now.bodies.items ∥₁ }
     {}
 
-    /// What its layout is: the first values of its globals, the places of its segments, and of each kind the first segment
+    /// What its layout is: the first values of its globals, the offsets of its segments, and of each kind the first segment
     /// that does not end within its table or memory.
     pub fn is_laid_out(&self)
         ensures { IsLayoutOf (module_shape self.now.module) self.now.layout }
@@ -126,7 +126,7 @@ impl<'a> Accepted<'a> {
         self.bodies.get(self.body_index(func)?)
     }
 
-    /// The place of the body of the function of that index among the bodies; `None` where it is imported.
+    /// The index among the bodies of the body of the function of that index; `None` where it is imported.
     #[inline]
     fn body_index(&self, func: u32) -> Option<usize>
         ensures { result ≡ body_index self.now.context.imported func }

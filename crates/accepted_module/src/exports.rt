@@ -7,7 +7,7 @@ ghost use Rattle.accepted_module.specs.Exports.{name_at, AreAscending};
 use std::alloc::{AllocError, Global};
 use wsyntax::Export;
 
-/// The name of the export of that number; empty where there is none.
+/// The name of the export at that position; empty where there is none.
 fn name_at<'a>(exports: &[Export<'a>], position: usize) -> &'a [u8]
     ensures { result.now ≡ name_at exports.now position }
 {
@@ -17,7 +17,7 @@ fn name_at<'a>(exports: &[Export<'a>], position: usize) -> &'a [u8]
     }
 }
 
-/// The numbers of exports, in the order of their names. The time is near linear in the length of the names, whatever they are.
+/// The positions of exports, in the order of their names. The time is near linear in the length of the names, whatever they are.
 pub(crate) fn positions_by_name(
     alloc: Global,
     exports: &[Export<'_>],
@@ -30,7 +30,7 @@ pub(crate) fn positions_by_name(
     Ok(positions)
 }
 
-/// The number of the export of that name.
+/// The position of the export of that name.
 pub(crate) fn position_of(exports: &[Export<'_>], positions: &[usize], name: &[u8]) -> Option<usize>
     requires ascending { AreAscending exports.now positions.now }
     ensures { MatchOption result (All (λ k. name_at exports.now k ≢ name.now) positions.now)

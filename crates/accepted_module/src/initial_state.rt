@@ -64,14 +64,14 @@ impl InitialState {
         &self.data_offsets
     }
 
-    /// The number of the first element segment that does not end within the table's minimum.
+    /// The index of the first element segment that does not end within the table's minimum.
     pub fn first_out_of_bounds_elem(&self) -> Option<u32>
         ensures { result ≡ self.now.first_out_of_bounds_elem }
     {
         self.first_out_of_bounds_elem
     }
 
-    /// The number of the first data segment that does not end within the memory's minimum.
+    /// The index of the first data segment that does not end within the memory's minimum.
     pub fn data_outside(&self) -> Option<u32>
         ensures { result ≡ self.now.data_outside }
     {

@@ -1,5 +1,5 @@
 //! An accepted module: its parts, and what is computed once about it. Whoever holds one knows that it was judged. With
-//! it stands what its instances start from (Core 1.0, 4.5.4): the first values of its globals, the places of its
+//! it stands what its instances start from (Core 1.0, 4.5.4): the first values of its globals, the offsets of its
 //! segments, and the first segments that lie outside.
 //!
 //! Proved: no rule is broken, the context is the module's, and each function has its checked body (`accepted_holds`). The

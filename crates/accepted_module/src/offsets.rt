@@ -1,4 +1,4 @@
-//! The places of segments: their offsets computed (4.5.4).
+//! The offsets of segments, computed (4.5.4).
 
 ghost use Rattle.std.specs.Prelude.{◌≡◌, map, All, IfOk};
 ghost use Rattle.wsyntax.specs.Modules.{initial_tokens};
@@ -8,7 +8,7 @@ ghost use Rattle.accepted_module.specs.Segments.{IsOffset, element_offset, data_
 use std::alloc::{AllocError, Global};
 use wsyntax::{ConstExpr, Data, Elements};
 
-/// The number of an offset: of one `i32.const`, without sign; 0 of an offset that reads an imported global.
+/// What an offset is: the number of one `i32.const`, without sign; 0 of an offset that reads an imported global.
 pub(crate) fn offset_of(offset: &ConstExpr<'_>) -> u32
     requires { IsOffset offset.now }
     ensures { result ≡ constant_in (initial_tokens offset.now) }
@@ -19,7 +19,7 @@ pub(crate) fn offset_of(offset: &ConstExpr<'_>) -> u32
     }
 }
 
-/// The place of each element segment in its table.
+/// The offset of each element segment in its table.
 pub(crate) fn element_offsets(alloc: Global, segments: &Elements<'_>) -> Result<Vec<u32>, AllocError>
     requires { All (λ s. IsOffset s.offset) segments.now }
     ensures { IfOk result (λ v. v.items ≡ map element_offset segments.now) }
@@ -34,7 +34,7 @@ pub(crate) fn element_offsets(alloc: Global, segments: &Elements<'_>) -> Result<
     Ok(offsets)
 }
 
-/// The place of each data segment in its memory.
+/// The offset of each data segment in its memory.
 pub(crate) fn data_offsets(alloc: Global, segments: &[Data<'_>]) -> Result<Vec<u32>, AllocError>
     requires { All (λ s. IsOffset s.offset) segments.now }
     ensures { IfOk result (λ v. v.items ≡ map data_offset segments.now) }

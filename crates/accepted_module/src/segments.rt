@@ -14,7 +14,7 @@ fn ends_within(offset: u32, count: usize, size: usize) -> bool
     count <= size && offset as usize <= size - count
 }
 
-/// The number of the first element segment that does not end within a table of that size.
+/// The index of the first element segment that does not end within a table of that size.
 pub(crate) fn first_element_outside(size: usize, segments: &Elements<'_>) -> Option<u32>
     requires few { length segments.now < 2 ^ 32 }
     requires offsets { All (λ s. IsOffset s.offset) segments.now }
@@ -31,7 +31,7 @@ pub(crate) fn first_element_outside(size: usize, segments: &Elements<'_>) -> Opt
     None
 }
 
-/// The number of the first data segment that does not end within a memory of that size.
+/// The index of the first data segment that does not end within a memory of that size.
 pub(crate) fn first_data_outside(size: usize, segments: &[Data<'_>]) -> Option<u32>
     requires few { length segments.now < 2 ^ 32 }
     requires offsets { All (λ s. IsOffset s.offset) segments.now }

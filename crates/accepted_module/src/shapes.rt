@@ -27,7 +27,7 @@ fn frame_layout(of_type: FuncType<'_>, type_id: u32, body: &CheckedBody) -> Fram
         params: of_type.params.len() as u32,
         declared: count_locals(body.locals()),
         results: of_type.results.len() as u32,
-        type_id: type_id,
+        type_id,
     }
 }
 

@@ -10,7 +10,7 @@ use std::alloc::{AllocError, Global};
 use std::cmp::Ordering;
 use wsyntax::{FuncType, FuncTypes, ValType};
 
-/// The place of a value type among the four.
+/// The position of a value type among the four.
 fn rank(of_type: ValType) -> u8
     ensures { result ≡ rank of_type }
 {
@@ -67,7 +67,7 @@ fn sorted_indices(alloc: Global, types: &FuncTypes) -> Result<Vec<u32>, AllocErr
     Ok(indices)
 }
 
-/// Of each type its id, equal for equal types alone: the first place that an equal one has among the sorted. The time is near
+/// Of each type its id, equal for equal types alone: the first position that an equal one has among the sorted. The time is near
 /// linear in the length of the types, whatever they are.
 pub(crate) fn type_ids(alloc: Global, types: &FuncTypes) -> Result<Vec<u32>, AllocError>
     requires { length types.now < 2 ^ 32 }

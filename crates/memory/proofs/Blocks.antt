@@ -19,7 +19,7 @@ other_block marks i b within unmarked same =
 pub was_unmarked : (marks : List Bool) (i b : ℕ) → i < length marks → get_or (set marks i true) b false ≡ false → get_or marks b false ≡ false
 was_unmarked marks i b within unmarked = sym (get_or-set_other marks i b true false (other_block marks i b within unmarked)) ∙ unmarked
 
--- a place that is not below the lesser of two ends lies past one of them
+-- an address that is not below the lesser of two ends lies past one of them
 ends_by : (a b to k : ℕ) → to ≡ min a b → to ≤ k → (b ≤ k) ⊎ (a ≤ k)
 ends_by a b to k is past = ⊎_elim (λ (h : k < b). inr (omega arith)) (λ (h : b ≤ k). inl h) (cases_lt k b)
 

@@ -31,7 +31,7 @@ overwrite-above at xs bs k within above =
 take_past : (p q : List ℕ) (n k : ℕ) → length p + k ≡ n → take n (p ++ q) ≡ p ++ take k q
 take_past p q n k e = ap (λ i. take i (p ++ q)) (sym e) ∙ take-append-add p q k
 
--- what lies from a place on in a front
+-- what lies from an address on in a front
 pub drop_front : (n at : ℕ) (bs : List ℕ) → at ≤ n → drop at (take n bs) ≡ take (n - at) (drop at bs)
 drop_front n at bs le = let e : n ≡ at + (n - at) = omega arith in ap (λ i. drop at (take i bs)) e ∙ drop-take at (n - at) bs
 

@@ -49,7 +49,7 @@ below [] index v at = absurd (some-ne-none v (sym at))
 below (u ∷ us) zero v at = omega arith
 below (u ∷ us) (suc index) v at = let h = below us index v at in omega arith
 
--- what a list with one more at its end has at a place
+-- what a list with one more at its end has at an index
 at_end : (views : List TicketView) (last : TicketView) (index : ℕ) (v : TicketView) → get_elem? (views ++ last ∷ []) index ≡ some v
     → (get_elem? views index ≡ some v) ⊎ ((index ≡ length views) × (last ≡ v))
 at_end [] last zero v at = inr (refl, some-injective last v at)

@@ -8,11 +8,11 @@ use Rattle.memory.specs.declared.history.PoolStep.TheVariants.{Gave, Lent}
 use Rattle.memory.specs.declared.history.PoolEntry.{PoolEntry}
 use Rattle.memory.specs.declared.history.TicketView.{TicketView}
 
--- a step of the ticket with this number
+-- a step of the ticket with this index
 abbrev pub entry : ℕ → PoolStep → PoolEntry
 entry ticket step = record { ticket = ticket; step = step }
 
--- what the ticket with this number knows
+-- what the ticket with this index knows
 abbrev pub ticket_view : ℕ → Bool → List PoolEntry → List PoolStep → TicketView
 ticket_view ticket newest seen made = record { ticket = ticket; newest = newest; seen = seen; made = made }
 
@@ -50,7 +50,7 @@ made_by ticket (e ∷ es) = if_same (nat_eq e.ticket ticket) e.step ++ made_by t
 abbrev pub Begins : List PoolEntry → List PoolEntry → Type 0
 Begins seen log = (more : List PoolEntry) × (log ≡ seen ++ more)
 
--- what a ticket knows of the history: its number, the beginning that it has seen, and that its steps are those that it made
+-- what a ticket knows of the history: its index, the beginning that it has seen, and that its steps are those that it made
 pub record Knows (log : List PoolEntry) (count index : ℕ) (v : TicketView) : Type 0 where
   pub index' : v.ticket ≡ index
   pub newest : v.newest ≡ true → suc index ≡ count
@@ -77,7 +77,7 @@ pub record Extends (v : TicketView) (step : PoolStep) (w : TicketView) : Type 0 
   pub newest : w.newest ≡ v.newest
 
 -- The pool was found with these memories: there is a legal history that begins with all that the ticket has seen and leaves
--- them. Of this ticket it has the steps that it made, and none of tickets above the greatest number. For a pool of one ticket
+-- them. Of this ticket it has the steps that it made, and none of tickets above the greatest index. For a pool of one ticket
 -- it is what the ticket has seen. Where there are more tickets, the others may have given and taken anything in between, so a
 -- pool may have been found with any memories.
 pub record Finds (v : TicketView) (kept : List ℕ) : Type 0 where

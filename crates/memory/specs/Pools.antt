@@ -22,7 +22,7 @@ view_of t = view t.pass
 abbrev pub IsTicketOf : Pool → Ticket → Type 0
 IsTicketOf p t = IsPassOf p.queue t.pass
 
--- the numbers below n
+-- the indices below n
 abbrev pub indices_below : ℕ → List ℕ
 indices_below zero = []
 indices_below (suc n) = indices_below n ++ n ∷ []
@@ -33,7 +33,7 @@ pub record IsNew (p : Pool) (t : Ticket) : Type 0 where
   pub seen : (view_of t).seen ≡ []
   pub made : (view_of t).made ≡ []
 
--- all tickets of a new pool: one for each number, in order
+-- all tickets of a new pool: one for each index, in order
 pub record AreIssued (p : Pool) (tickets : List Ticket) : Type 0 where
   pub each : All (IsNew p) tickets
   pub indexed : map (λ (t : Ticket). (view_of t).ticket) tickets ≡ indices_below (length tickets)

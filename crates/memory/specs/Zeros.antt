@@ -10,7 +10,7 @@ abbrev pub AreUnmarked : List Bool → Type 0
 AreUnmarked marks = (b : ℕ) → slice_index_or marks b false ≡ false
 
 -- Each block of 4,096 bytes has a mark. A store marks the block of its first byte, and has at most 7 bytes after that. So a
--- byte is zero where neither its own block is marked nor the block of the place 7 before it.
+-- byte is zero where neither its own block is marked nor the block of the address 7 before it.
 abbrev pub AreZeroUnmarked : List ℕ → List Bool → Type 0
 AreZeroUnmarked bytes marks = (k : ℕ) → slice_index_or marks (k / 4096) false ≡ false → slice_index_or marks ((k - 7) / 4096) false ≡ false → slice_index bytes k ≡ 0
 

@@ -87,7 +87,7 @@ pub fn put_64(bytes: &mut [u8], at: usize, n: u64)
     bytes[at + 7] = (n / 0x100_0000_0000_0000 % 0x100) as u8;
 }
 
-/// Writes the bytes of `source` from place `at` on.
+/// Writes the bytes of `source` from address `at` on.
 pub fn put(bytes: &mut [u8], at: usize, source: &[u8])
     requires { at + length source.now ≤ length bytes.old }
     ensures { bytes.new ≡ overwrite at source.now bytes.old }

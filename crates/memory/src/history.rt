@@ -11,14 +11,14 @@ pub enum PoolStep {
     Lent(usize),
 }
 
-/// A step, and the number of the ticket that made it.
+/// A step, and the index of the ticket that made it.
 #[derive(Clone, Copy, Drop)]
 pub struct PoolEntry {
     pub ticket: u64,
     pub step: PoolStep,
 }
 
-/// What a ticket knows: its number, whether it is the one of the greatest number, the history that it has `seen` so
+/// What a ticket knows: its index, whether it is the one of the greatest index, the history that it has `seen` so
 /// far, and the steps that it `made`.
 pub struct TicketView {
     pub ticket: u64,

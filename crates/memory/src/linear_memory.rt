@@ -109,7 +109,7 @@ impl LinearMemory {
         (self.length / PAGE) as u32
     }
 
-    /// The byte at a place. `None` exactly where it lies past the end.
+    /// The byte at an address. `None` exactly where it lies past the end.
     #[inline(always)]
     pub fn read_8(&self, at: u64) -> Option<u8>
         requires { at < 2 ^ 33 }
@@ -123,7 +123,7 @@ impl LinearMemory {
         }
     }
 
-    /// The 16 bits from a place on, little-endian. `None` exactly where they reach past the end.
+    /// The 16 bits from an address on, little-endian. `None` exactly where they reach past the end.
     #[inline(always)]
     pub fn read_16(&self, at: u64) -> Option<u16>
         requires { at < 2 ^ 33 }
@@ -137,7 +137,7 @@ impl LinearMemory {
         }
     }
 
-    /// The 32 bits from a place on, little-endian. `None` exactly where they reach past the end.
+    /// The 32 bits from an address on, little-endian. `None` exactly where they reach past the end.
     #[inline(always)]
     pub fn read_32(&self, at: u64) -> Option<u32>
         requires { at < 2 ^ 33 }
@@ -151,7 +151,7 @@ impl LinearMemory {
         }
     }
 
-    /// The 64 bits from a place on, little-endian. `None` exactly where they reach past the end.
+    /// The 64 bits from an address on, little-endian. `None` exactly where they reach past the end.
     #[inline(always)]
     pub fn read_64(&self, at: u64) -> Option<u64>
         requires { at < 2 ^ 33 }
@@ -165,7 +165,7 @@ impl LinearMemory {
         }
     }
 
-    /// The number in `width` bytes from place `at` on, little-endian. `None` exactly where they reach past the end.
+    /// The number in `width` bytes from address `at` on, little-endian. `None` exactly where they reach past the end.
     pub fn read(&self, at: u64, width: u32) -> Option<u64>
         requires at { at < 2 ^ 33 }
         requires width { IsWidth width }
@@ -179,7 +179,7 @@ impl LinearMemory {
         }
     }
 
-    /// Writes the 8 lowest bits at a place. Where they reach past the end it answers false, and nothing changes.
+    /// Writes the 8 lowest bits at an address. Where they reach past the end it answers false, and nothing changes.
     #[inline(always)]
     pub fn write_8(&mut self, at: u64, bits: u64) -> bool
         requires { at < 2 ^ 33 }
@@ -194,7 +194,7 @@ impl LinearMemory {
         true
     }
 
-    /// Writes the 16 lowest bits at a place. Where they reach past the end it answers false, and nothing changes.
+    /// Writes the 16 lowest bits at an address. Where they reach past the end it answers false, and nothing changes.
     #[inline(always)]
     pub fn write_16(&mut self, at: u64, bits: u64) -> bool
         requires { at < 2 ^ 33 }
@@ -209,7 +209,7 @@ impl LinearMemory {
         true
     }
 
-    /// Writes the 32 lowest bits at a place. Where they reach past the end it answers false, and nothing changes.
+    /// Writes the 32 lowest bits at an address. Where they reach past the end it answers false, and nothing changes.
     #[inline(always)]
     pub fn write_32(&mut self, at: u64, bits: u64) -> bool
         requires { at < 2 ^ 33 }
@@ -224,7 +224,7 @@ impl LinearMemory {
         true
     }
 
-    /// Writes the 64 bits at a place. Where they reach past the end it answers false, and nothing changes.
+    /// Writes the 64 bits at an address. Where they reach past the end it answers false, and nothing changes.
     #[inline(always)]
     pub fn write_64(&mut self, at: u64, bits: u64) -> bool
         requires { at < 2 ^ 33 }
@@ -239,7 +239,7 @@ impl LinearMemory {
         true
     }
 
-    /// Writes the `width` lowest bytes of `bits` from place `at` on, little-endian. Where they reach past the end it
+    /// Writes the `width` lowest bytes of `bits` from address `at` on, little-endian. Where they reach past the end it
     /// answers false, and nothing changes.
     pub fn write(&mut self, at: u64, width: u32, bits: u64) -> bool
         requires at { at < 2 ^ 33 }
@@ -254,7 +254,7 @@ impl LinearMemory {
         }
     }
 
-    /// Writes `bytes` from place `at` on, as a data segment does.
+    /// Writes `bytes` from address `at` on, as a data segment does.
     pub fn overwrite(&mut self, at: u32, bytes: &[u8])
         requires { at + length bytes.now ≤ length self.old.memory.bytes }
         ensures { Overwrites self.old at bytes.now self.new }

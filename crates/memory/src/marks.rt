@@ -13,7 +13,7 @@ use std::alloc::AllocError;
 // PERF: a store marks the block of its first byte alone, so that it makes one mark, and `clear` looks `REACH` bytes further.
 pub const REACH: usize = 7;
 
-/// Marks the block of place `at`.
+/// Marks the block of address `at`.
 #[inline(always)]
 pub fn mark(marks: &mut [bool], at: usize)
     requires { at / 4096 < length marks.old }
@@ -22,7 +22,7 @@ pub fn mark(marks: &mut [bool], at: usize)
     marks[at / BLOCK] = true;
 }
 
-/// Marks the blocks of the places from `from` up to `to`.
+/// Marks the blocks of the addresses from `from` up to `to`.
 pub fn mark_all(marks: &mut [bool], from: usize, to: usize)
     requires { to ≤ length marks.old * 4096 }
     ensures inside { (b : ℕ) → from / 4096 ≤ b → b * 4096 < to → slice_index_or marks.new b false ≡ true }

@@ -96,7 +96,7 @@ impl Pool {
         Ok((pool, tickets))
     }
 
-    /// As many tickets as there are to be, in the order of their numbers. The newest one makes the next.
+    /// As many tickets as there are to be, in the order of their indices. The newest one makes the next.
     fn issue(
         &self,
         first: Pass<CleanMem, TicketView>,

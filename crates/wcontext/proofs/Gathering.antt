@@ -1,4 +1,4 @@
--- Long lists that are gathered, and what the numbers of their prefixes tell.
+-- Long lists that are gathered, and what the intervals of their prefixes tell.
 use Rattle.std.proofs.Common.{◌≡◌, ℕ, zero, suc, ◌+◌, ◌<◌, ◌≤◌, List, [], ◌∷◌, ◌++◌, length, take, get_or, refl, sym, ap, subst, ◌∙◌, arith, inl, inr, length-append}
 use Rattle.std.specs.List.{All}
 use Rattle.std.proofs.lemmas.Bool.{cases_lt, cases_eq}
@@ -116,7 +116,7 @@ gathered_next types old mid new t s kept before params results is more =
           (λ long. subst (λ (u : FuncType). HasPrefixes there u.results s.results) (sym is) (two.2 long))),
     )
 
--- the numbers of the nodes become those of the prefixes
+-- the intervals of the nodes become those of the prefixes
 pub ends_read : (all : List (List ValType)) (lists : List Reading) (trie : Trie) (nodes ordered : List Node) → All (IsUnread all) lists → AreNodesOf lists trie → GivesLinks trie.nodes nodes → ArePreorderOf nodes ordered → AreSuffixesAt all trie.prefixes.items ordered
 ends_read all lists trie nodes ordered unread are links given a b here there from to =
     let prefixes = trie.prefixes.items in

@@ -1,4 +1,4 @@
--- Nodes that are counted and numbered.
+-- Nodes that are counted and put in order.
 use Rattle.std.proofs.Common.{◌≡◌, ◌≢◌, ℕ, ◌+◌, ◌<◌, ◌≤◌, List, length, drop, get_or, set, refl, sym, ap, subst, ◌∙◌, arith, inl, inr, length-set}
 use Rattle.std.proofs.lemmas.Bool.{cases_lt, cases_eq}
 use Rattle.std.proofs.lemmas.Bool.Decides.{nat_tests}
@@ -25,7 +25,7 @@ linked_alike texts old new same linked = record {
   ends = λ q above within. rw (same.links q) (linked.ends q above within);
 }
 
--- Numbering.
+-- The preorder.
 
 pub walk_more : (R : ℕ → ℕ → Type 0) (s e n u v m : ℕ → ℕ) (i f : ℕ) → IsWalk R s e n i → ((a : ℕ) → R a a) → ((a : ℕ) → R a f → R a i) → f < i → n f < v i → v i ≤ e f → u i ≡ n f → m i ≡ n f + 1 → m f ≡ v i
     → ((a : ℕ) → a < i → u a ≡ s a) → ((a : ℕ) → a < i → v a ≡ e a) → ((a : ℕ) → a < i → a ≢ f → m a ≡ n a) → IsWalk R u v m (i + 1)

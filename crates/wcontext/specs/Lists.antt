@@ -1,4 +1,4 @@
--- 2.3.3 Lists of value types, by the places where a module writes them.
+-- 2.3.3 Lists of value types, by the positions where a module writes them.
 use Rattle.std.specs.Prelude.{◌≡◌, List, [], ◌∷◌, ◌++◌, take}
 use Rattle.wsyntax.specs.Types.{FuncType}
 use Rattle.wsyntax.specs.declared.ValType.{ValType}
@@ -8,7 +8,7 @@ use Rattle.wcontext.specs.declared.lists.TypeList.TheVariants.{Nothing, One, Par
 use Rattle.wcontext.specs.declared.lists.ListPair.{ListPair}
 use Rattle.wcontext.specs.declared.lists.TypePrefix.{TypePrefix}
 
--- the list at a place, where these are the function types
+-- the list at a position, where these are the function types
 abbrev pub list_of : List FuncType → TypeList → List ValType
 list_of types Nothing = []
 list_of types (One t) = t ∷ []

@@ -7,14 +7,14 @@ use Rattle.wcontext.specs.declared.nodes.Fork.{Fork}
 use Rattle.wcontext.specs.declared.nodes.Nodes.{Nodes}
 use Rattle.wcontext.specs.Lists.{IsSuffix}
 
--- the number of a type, by which forks are ordered
+-- the key of a type, by which forks are ordered
 abbrev pub type_key : ValType → ℕ
 type_key I32 = 0
 type_key I64 = 1
 type_key F32 = 2
 type_key F64 = 3
 
--- the text of a node, or of a place
+-- the text of a node, or of a position
 abbrev pub text : List (List ValType) → ℕ → List ValType
 text texts q = get_or texts q []
 
@@ -48,7 +48,7 @@ HasChildIn nodes forks p t d = IsOnly (below_at nodes p) t d ⊎ IsForked (below
 abbrev pub HasChild : Nodes → ℕ → ValType → ℕ → Type 0
 HasChild n p t d = HasChildIn n.nodes.items n.forks.items p t d
 
--- these are the node's children, by the numbers of their types
+-- these are the node's children, by the keys of their types
 abbrev pub AreChildren : Nodes → ℕ → List ℕ → Type 0
 AreChildren n p children = (t : ValType) → 0 < get_or children (type_key t) 0 → HasChild n p t (get_or children (type_key t) 0)
 

@@ -53,21 +53,21 @@ PutsList old new types start = (all : List (List ValType)) → IsGathered all ol
 abbrev pub IsGatheredFrom : List FuncType → Gathered → Type 0
 IsGatheredFrom types g = (all : List (List ValType)) × IsGathered all g × HavePrefixes types g.starts.items all
 
--- the prefix at a place was read, and its node has numbers
+-- the prefix at a position was read, and its node has an interval
 abbrev pub HasInterval : List ℕ → List Node → ℕ → Type 0
 HasInterval prefixes nodes position = (0 < get_or prefixes position 0) × (get_or prefixes position 0 < length nodes)
 
--- a prefix whose number lies within those of another has that as a suffix
+-- a prefix whose number lies within the interval of another has that as a suffix
 abbrev pub AreSuffixesAt : List (List ValType) → List ℕ → List Node → Type 0
 AreSuffixesAt all prefixes nodes = (a b : ℕ) → HasInterval prefixes nodes a → HasInterval prefixes nodes b
     → start_at nodes (get_or prefixes a 0) ≤ start_at nodes (get_or prefixes b 0)
     → start_at nodes (get_or prefixes b 0) < suffix_at nodes (get_or prefixes a 0) → IsSuffix (text all a) (text all b)
 
--- the numbers are those of the prefixes of the types' lists
+-- the intervals are those of the prefixes of the types' lists
 abbrev pub IsSuffixTree : List FuncType → SuffixTree → Type 0
 IsSuffixTree types t = (all : List (List ValType)) × AreSuffixesAt all t.prefixes.items t.nodes.items × HavePrefixes types t.starts.items all
 
--- these are the numbers of the first `count` types of that list
+-- this is the interval of the first `count` types of that list
 abbrev pub HoldsPrefix : SuffixTree → TypeList → ℕ → Interval → Type 0
 HoldsPrefix t list count n = (position : ℕ) × HasInterval t.prefixes.items t.nodes.items position
     × (start_at t.nodes.items (get_or t.prefixes.items position 0) ≡ n.start) × (suffix_at t.nodes.items (get_or t.prefixes.items position 0) ≡ n.end)

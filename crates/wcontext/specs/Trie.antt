@@ -7,16 +7,16 @@ use Rattle.wcontext.specs.declared.trie.Reading.{Reading}
 use Rattle.wcontext.specs.declared.nodes.Nodes.{Nodes}
 use Rattle.wcontext.specs.Nodes.{text, AreNodes}
 
--- each node that is not 0 has the text that is wanted at its place
+-- each node that is not 0 has the text that is wanted at its position
 abbrev pub AreTexts : List (List ValType) → (ℕ → List ValType) → List ℕ → Type 0
 AreTexts texts wanted nodes = (x : ℕ) → 0 < get_or nodes x 0
     → (get_or nodes x 0 < length texts) × (text texts (get_or nodes x 0) ≡ wanted x)
 
--- the prefixes that were read have the texts of their places
+-- the prefixes that were read have the texts of their positions
 abbrev pub AreRead : List (List ValType) → List (List ValType) → List ℕ → Type 0
 AreRead all texts prefixes = AreTexts texts (text all) prefixes
 
--- the places from start on have the prefixes of that list
+-- the positions from start on have the prefixes of that list
 abbrev pub HasPrefixes : List (List ValType) → List ValType → ℕ → Type 0
 HasPrefixes all types start = (i : ℕ) → i < length types → (start + i < length all) × (text all (start + i) ≡ take (i + 1) types)
 

@@ -1,4 +1,4 @@
--- The numbers that a walk gives the nodes.
+-- The preorder that a walk gives the nodes.
 use Rattle.std.specs.Prelude.{◌≡◌, ℕ, ◌+◌, ◌<◌, ◌≤◌, ◌==◌, if◌then◌else◌, List, [], ◌∷◌, length, drop}
 use Rattle.wsyntax.specs.declared.ValType.{ValType}
 use Rattle.wcontext.specs.declared.nodes.Node.{Node}
@@ -9,11 +9,11 @@ use Rattle.wcontext.specs.Nodes.{text, above_at, below_at, IsLinked}
 abbrev pub start_at : List Node → ℕ → ℕ
 start_at = above_at
 
--- where the numbers of a node that is numbered end
+-- where the interval of a node that is in order ends
 abbrev pub suffix_at : List Node → ℕ → ℕ
 suffix_at = below_at
 
--- a text whose number lies within those of another has that as a suffix
+-- a text whose number lies within the interval of another has that as a suffix
 abbrev pub AreSuffixes : List (List ValType) → List Node → Type 0
 AreSuffixes texts ns = (a b : ℕ) → a < length ns → b < length ns
     → start_at ns a ≤ start_at ns b → start_at ns b < suffix_at ns a → IsSuffix (text texts a) (text texts b)
@@ -48,6 +48,6 @@ pub record IsCountedFrom (nodes : List Node) (i : ℕ) : Type 0 where
   pub low : (q : ℕ) → q < i → below_at nodes q ≡ 1 + count_at (drop i nodes) q
   pub high : (q : ℕ) → i ≤ q → q < length nodes → IsCounted nodes q
 
--- the new nodes have numbers by the links of the old
+-- the new nodes have intervals by the links of the old
 abbrev pub ArePreorderOf : List Node → List Node → Type 0
 ArePreorderOf old new = (texts : List (List ValType)) → IsLinked texts old → AreSuffixes texts new

@@ -3,7 +3,7 @@ ghost use Rattle.std.specs.Prelude.{◌≡◌, [], ◌∷◌, true};
 
 use wsyntax::ValType;
 
-/// A list of value types, by the place where a module writes it.
+/// A list of value types, by the position where a module writes it.
 #[derive(Clone, Copy, Debug)]
 pub enum TypeList {
     /// No type.
@@ -16,7 +16,7 @@ pub enum TypeList {
     Results(u32),
 }
 
-/// The two lists of a function type (2.3.3), by their places.
+/// The two lists of a function type (2.3.3), by their positions.
 #[derive(Clone, Copy, Debug)]
 pub struct ListPair {
     pub params: TypeList,
@@ -31,7 +31,7 @@ pub struct TypePrefix {
 }
 
 impl TypeList {
-    /// Whether both are the same place, and so the same list. The lists at two places may be the same too.
+    /// Whether both are the same position, and so the same list. The lists at two positions may be the same too.
     #[inline]
     pub fn is_at(self, other: TypeList) -> bool
         ensures { result ≡ true → self ≡ other }

@@ -9,22 +9,22 @@ use wsyntax::ValType;
 /// How many value types there are.
 const TYPES: usize = 4;
 
-/// From here on what a node has below it is the place of a fork.
+/// From here on what a node has below it is the index of a fork.
 const FORKS: u32 = 1 << 31;
 
-/// What is kept of a node. Its numbers take the place of its link and its children, so that a trie and the numbers of its
+/// What is kept of a node. Its interval replaces its link and its children, so that a trie and the intervals of its
 /// nodes are never in memory at once.
 #[derive(Clone, Copy, Debug)]
 pub(crate) struct Node {
     /// Where a look-up that finds no child here goes on: at the node's link, or farther up the links, past nodes whose only child
-    /// is by the same type as this node's. Once the node is numbered, its number.
+    /// is by the same type as this node's. Once the nodes are in order, its number in the preorder.
     pub(crate) above: u32,
-    /// One child: four times its place, plus the number of its type. Several: `FORKS`, plus the place of the fork. None: 0.
-    /// Once the node is numbered, where the numbers of the nodes below it end.
+    /// One child: four times its index, plus the key of its type. Several: `FORKS`, plus the index of the fork. None: 0.
+    /// Once the nodes are in order, where the numbers of the nodes below it end.
     pub(crate) below: u32,
 }
 
-/// The children of a node that has several, by the numbers of their types; 0 for none.
+/// The children of a node that has several, by the keys of their types; 0 for none.
 #[derive(Clone, Copy)]
 struct Fork {
     children: [u32; TYPES],
@@ -115,7 +115,7 @@ impl Nodes {
         }
     }
 
-    /// The children of a node by the numbers of their types; 0 for none.
+    /// The children of a node by the keys of their types; 0 for none.
     fn children(&self, node: u32) -> [u32; TYPES]
         ensures { AreChildren self.now node result }
     {

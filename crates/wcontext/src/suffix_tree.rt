@@ -13,28 +13,28 @@ use wsyntax::{FuncTypes, ValType};
 /// The start of a list that is not in the tree.
 const NONE: u32 = u32::MAX;
 
-/// The places of the first prefixes of a function type's lists.
+/// The positions of the first prefixes of a function type's lists.
 #[derive(Clone, Copy, Debug)]
 pub(crate) struct Starts {
     params: u32,
     results: u32,
 }
 
-/// The numbers of a prefix and of those that it is a suffix of: from its own on, up to `end`.
+/// The numbers in the preorder of a prefix and of those that it is a suffix of: from its own on, up to `end`.
 #[derive(Clone, Copy, Debug)]
 struct Interval {
     start: u32,
     end: u32,
 }
 
-/// The prefixes of long lists, each with the numbers of those that it is a suffix of.
+/// The prefixes of long lists, each with the interval of those that it is a suffix of.
 #[derive(Debug, Drop)]
 pub(crate) struct SuffixTree {
     /// Of each function type.
     starts: Vec<Starts>,
-    /// The nodes of the prefixes, by their places.
+    /// The nodes of the prefixes, by their positions.
     prefixes: Vec<u32>,
-    /// The nodes, numbered.
+    /// The nodes, in order.
     nodes: Vec<Node>,
 }
 
@@ -178,7 +178,7 @@ impl SuffixTree {
         if start < NONE { Some(start) } else { None }
     }
 
-    /// The numbers of the prefix of that list that has `count` types; `None` where the list is not in the tree.
+    /// The interval of the prefix of that list that has `count` types; `None` where the list is not in the tree.
     #[inline]
     fn interval(&self, list: TypeList, count: usize) -> Option<Interval>
         ensures { IfSome result (HoldsPrefix self.now list count) }

@@ -12,7 +12,7 @@ use wsyntax::ValType;
 #[derive(Clone, Copy)]
 pub(crate) struct Reading<'a> {
     types: &'a [ValType],
-    /// The place of its first prefix.
+    /// The position of its first prefix.
     start: u32,
     /// The node of the prefix that was read last.
     node: u32,
@@ -55,7 +55,7 @@ impl<'a> Reading<'a> {
 #[derive(Drop)]
 pub(crate) struct Trie {
     pub(crate) nodes: Nodes,
-    /// The nodes of the prefixes, by the places of the prefixes; 0 where none was read.
+    /// The nodes of the prefixes, by the positions of the prefixes; 0 where none was read.
     pub(crate) prefixes: Vec<u32>,
 }
 
@@ -153,7 +153,7 @@ impl Trie {
         Some(())
     }
 
-    /// Reads the lists, whose prefixes have that many places. `None` where memory is refused.
+    /// Reads the lists, whose prefixes have that many positions. `None` where memory is refused.
     pub(crate) fn read(alloc: Global, mut lists: Vec<Reading<'_>>, prefixes: usize) -> Option<Trie>
         ensures { IfSome result (λ trie. AreNodesOf lists.entry.items trie) }
     {

@@ -1,4 +1,4 @@
-//! A walk over the tree of links, which gives each node and all below it numbers side by side.
+//! A walk over the tree of links, a preorder: each node and all below it get numbers side by side.
 ghost use Rattle.std.specs.Prelude.{length, IfSome};
 ghost use Rattle.wcontext.specs.Walk.{HaveLinksOf, IsCountedFrom, AreCounted, ArePreorderOf};
 
@@ -33,7 +33,8 @@ fn count(nodes: &mut [Node]) -> Option<()>
     Some(())
 }
 
-/// Numbers nodes that are counted. `below` of a node that has its number is the next that is left for those below it.
+/// Gives nodes that are counted their numbers in the preorder. `below` of a node that has its number is the next that is left for
+/// those below it.
 fn assign_counted(nodes: &mut [Node]) -> Option<()>
     requires { AreCounted nodes.old }
     ensures { IfSome result (λ _. ArePreorderOf nodes.old nodes.new) }
@@ -58,7 +59,8 @@ fn assign_counted(nodes: &mut [Node]) -> Option<()>
     Some(())
 }
 
-/// Numbers the nodes in place of their links: the numbers of a node lie within those of the node that its link leads to.
+/// Gives the nodes their intervals in the preorder instead of their links: the interval of a node lies within that of the node that
+/// its link leads to.
 pub(crate) fn assign_preorder(nodes: &mut [Node]) -> Option<()>
     ensures { IfSome result (λ _. ArePreorderOf nodes.old nodes.new) }
 {

@@ -35,7 +35,7 @@ fn with_section<'a>(whole: Module<'a>, section: Section<'a>) -> Module<'a>
     }
 }
 
-/// What the sections up to some place say.
+/// What the sections up to some offset say.
 #[derive(Drop)]
 pub(crate) struct Progress<'a> {
     pub(crate) module: Module<'a>,

@@ -47,7 +47,7 @@ number_again zero (b ∷ bs) rest h le = absurd (omega arith)
 number_again (suc n) (b ∷ []) rest h le = rw (lt-ltb b 128 h) refl
 number_again (suc n) (b ∷ c ∷ bs) rest h le = rw (le-ltb b 128 h.0, number_again n (c ∷ bs) rest h.1 (omega arith)) refl
 
--- a test in the place of a fact
+-- a test instead of a fact
 pub ranged_reads : {A : Type 0} (N : ℕ) (value : ℕ → ℕ → A) (InRange : A → Type 0) (in_range : A → Bool)
     → ((v : A) → in_range v ≡ true → InRange v) → ((v : A) → InRange v → in_range v ≡ true)
     → Reads (λ bytes. ranged value in_range (sums_at (most N) bytes)) (SpellsNumber N (λ bytes. value (groups bytes) (sign bytes)) InRange)

@@ -1,4 +1,4 @@
--- From the front of the bytes after a place to the place after it.
+-- From the front of the bytes after an offset to the offset after it.
 use Rattle.std.proofs.Common.{◌≡◌, ℕ, ◌+◌, ◌-◌, ◌≤◌, List, length, take, drop, Some, None, refl, sym, ap, subst, ◌∙◌, arith}
 use Rattle.std.specs.Prelude.{slice_range}
 use Rattle.std.proofs.lemmas.List.{take_at, take_rest, length-drop, length-append}

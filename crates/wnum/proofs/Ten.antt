@@ -57,7 +57,7 @@ ten_some a b c d e rest s t r none some =
     let fe = front_of_none 0 e rest fd.1 in
     step_some 9 a (b ∷ c ∷ d ∷ e ∷ rest) _ fa.0 (step_some 8 b (c ∷ d ∷ e ∷ rest) _ fb.0 (step_some 7 c (d ∷ e ∷ rest) _ fc.0 (step_some 6 d (e ∷ rest) _ fd.0 (step_some 5 e rest ((s, t), r) fe.0 some)))) ∙ ap (λ (x : Sums). Some x) (regroup a b c d e s t r)
 
--- the same at bytes that are known by their places
+-- the same at bytes that are known by their offsets
 pub at_some : (bytes : List ℕ) (s t : ℕ) (r : List ℕ) → 5 ≤ length bytes → sums_at 5 bytes ≡ None → sums_at 5 (drop 5 bytes) ≡ Some ((s, t), r)
     → sums_at 10 bytes ≡ Some ((five (get_or bytes 0 0) (get_or bytes 1 0) (get_or bytes 2 0) (get_or bytes 3 0) (get_or bytes 4 0) + 34359738368 * s, 34359738368 * t), r)
 at_some (a ∷ b ∷ c ∷ d ∷ e ∷ rest) s t r long none some = ten_some a b c d e rest s t r none some

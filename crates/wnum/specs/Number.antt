@@ -54,10 +54,10 @@ SpellsUnsigned N = SpellsNumber N groups (FitsUnsignedBits N)
 abbrev pub SpellsSigned : ℕ → List ℕ → ℤ → Type 0
 SpellsSigned N = SpellsNumber N signed_groups (FitsSignedBits N)
 
--- 5.1 the bytes from a place up to another spell a value. Ours: the standard has no places
+-- 5.1 the bytes from an offset up to another spell a value. Ours: the standard has no offsets here
 abbrev pub IsSpelledAt : {A : Type 0} → (List ℕ → A → Type 0) → List ℕ → ℕ → A × ℕ → Type 0
 IsSpelledAt spells bytes at found = (at ≤ found.1) × (found.1 ≤ length bytes) × spells (slice_range bytes at found.1) found.0
 
--- 5.1 no front of the bytes from a place on spells a value. Ours: the standard has no places
+-- 5.1 no front of the bytes from an offset on spells a value. Ours: the standard has no offsets here
 abbrev pub NoneSpelledAt : {A : Type 0} → (List ℕ → A → Type 0) → List ℕ → ℕ → Type 0
 NoneSpelledAt {A} spells bytes at = (front rest : List ℕ) (v : A) → drop at bytes ≡ front ++ rest → spells front v → ⊥

@@ -247,7 +247,7 @@ fn joined_s64(low: u64, high: Groups<'_>) -> Option<(i64, &[u8])>
     }
 }
 
-/// The number u32 that is spelled at a place, and the place after it (5.2.2).
+/// The number u32 that is spelled at an offset, and the offset after it (5.2.2).
 pub fn read_u32(bytes: &[u8], at: usize) -> Option<(u32, usize)>
     requires { at ≤ length bytes.now }
     // What is read is spelled so.
@@ -261,7 +261,7 @@ pub fn read_u32(bytes: &[u8], at: usize) -> Option<(u32, usize)>
     }
 }
 
-/// The number s32 that is spelled at a place, and the place after it (5.2.2).
+/// The number s32 that is spelled at an offset, and the offset after it (5.2.2).
 pub fn read_s32(bytes: &[u8], at: usize) -> Option<(i32, usize)>
     requires { at ≤ length bytes.now }
     // What is read is spelled so.
@@ -275,7 +275,7 @@ pub fn read_s32(bytes: &[u8], at: usize) -> Option<(i32, usize)>
     }
 }
 
-/// The number s33 that is spelled at a place, and the place after it (5.2.2).
+/// The number s33 that is spelled at an offset, and the offset after it (5.2.2).
 pub fn read_s33(bytes: &[u8], at: usize) -> Option<(i64, usize)>
     requires { at ≤ length bytes.now }
     // What is read is spelled so.
@@ -289,7 +289,7 @@ pub fn read_s33(bytes: &[u8], at: usize) -> Option<(i64, usize)>
     }
 }
 
-/// The number s64 that is spelled at a place, and the place after it (5.2.2).
+/// The number s64 that is spelled at an offset, and the offset after it (5.2.2).
 pub fn read_s64(bytes: &[u8], at: usize) -> Option<(i64, usize)>
     requires { at ≤ length bytes.now }
     // What is read is spelled so.

@@ -1,6 +1,6 @@
 //! The numbers of WebAssembly: the integers of the binary format in LEB128 (5.2.2), and the integer operators (4.3.2).
 //!
-//! Proved: `read_u32`, `read_s32`, `read_s33` and `read_s64` find the number that is spelled at a place, and `None`
+//! Proved: `read_u32`, `read_s32`, `read_s33` and `read_s64` find the number that is spelled at an offset, and `None`
 //! exactly where no front of the bytes spells one. Every operator is its arithmetic on whole numbers modulo 2^N, traps
 //! included, and its results are words.
 #![tactic(auto)]

@@ -1,4 +1,4 @@
--- Bytes that are read and written from a place on.
+-- Bytes that are read and written from an address on.
 use Rattle.std.proofs.Common.{◌≡◌, ℕ, zero, suc, ◌+◌, ◌<◌, ◌≤◌, Bool, true, false, Some, None, if◌then◌else◌, List, [], ◌∷◌, ◌++◌, length, take, drop, get_or, slice_set, sym, ap, ◌∙◌, arith, length-drop}
 use Rattle.std.specs.Prelude.{nat_le}
 use Rattle.std.proofs.lemmas.Bool.{le-leb}
@@ -7,7 +7,7 @@ use Rattle.wsyntax.specs.Table.{little_endian}
 use Rattle.wsyntax.specs.Execution.Store.{read}
 use Rattle.wsyntax.specs.Execution.Allocation.{overwrite}
 
--- the number in the byte at a place is that byte
+-- the number in the byte at an address is that byte
 one_byte : (bytes : List ℕ) (at : ℕ) → at < length bytes → little_endian (take 1 (drop at bytes)) ≡ get_or bytes at 0
 one_byte [] at h = absurd (omega (arith, h))
 one_byte (b ∷ bytes) zero h = omega arith
@@ -41,7 +41,7 @@ over_more i v (x ∷ source) [] h k e = absurd (omega (arith, k))
 over_more zero v (x ∷ source) (y ∷ old) h k e = ap (λ z. z ∷ old) e
 over_more (suc i) v (x ∷ source) (y ∷ old) h k e = ap (λ (r : List ℕ). x ∷ r) (over_more i v source old (omega (arith, h)) (omega (arith, k)) e)
 
--- one more byte of those from a place on
+-- one more byte of those from an address on
 pub copied_more : (at i v : ℕ) (bytes old : List ℕ) → at + length old ≤ length bytes → i < length old → v ≡ get_or bytes (at + i) 0
     → slice_set (over i (drop at bytes) old) i v ≡ over (suc i) (drop at bytes) old
 copied_more at i v bytes old within below is =

@@ -1,4 +1,4 @@
--- Lists that are overwritten from a place on.
+-- Lists that are overwritten from an offset on.
 use Rattle.std.proofs.Common.{◌≡◌, ℕ, ◌+◌, ◌<◌, ◌≤◌, List, [], ◌∷◌, ◌++◌, length, take, drop, map, get_or, sym, ap, ◌∙◌, arith, length-append, length-drop}
 use Rattle.std.proofs.Math.ListN.{set}
 use Rattle.std.proofs.lemmas.List.{append_assoc, map-append, length-map, take-map, drop-map, drop_more, length-take-le, set_at}

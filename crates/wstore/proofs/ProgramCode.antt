@@ -1,4 +1,4 @@
--- The code of a module without imports: its shapes are those of the bodies, and numbers of types are equal exactly for equal types.
+-- The code of a module without imports: its shapes are those of the bodies, and ids of types are equal exactly for equal types.
 use Rattle.std.proofs.Common.{◌≡◌, ℕ, zero, suc, ◌+◌, ◌<◌, Bool, true, false, nat_eq, List, [], ◌∷◌, length, refl, sym, ap, ◌∙◌, subst, arith}
 use Rattle.std.specs.Prelude.{Some, slice_get, slice_index, replicate}
 use Rattle.std.proofs.lemmas.Bool.{eq-eqb, eqb-true}
@@ -52,7 +52,7 @@ shapes_count types ids [] (c ∷ cs) e = absurd (omega arith)
 shapes_count types ids (y ∷ ys) [] e = refl
 shapes_count types ids (y ∷ ys) (c ∷ cs) e = ap suc (shapes_count types ids ys cs (omega arith))
 
--- Numbers of types.
+-- Ids of types.
 
 untrue : (t : Bool) → (t ≡ true → false ≡ true) → t ≡ false
 untrue true h = sym (h refl)

@@ -1,4 +1,4 @@
--- One step of a loop over segments and their places.
+-- One step of a loop over segments and their offsets.
 use Rattle.std.proofs.Common.{◌≡◌, ℕ, ◌+◌, ◌<◌, ◌≤◌, List, ◌∷◌, length, map, get_or, Some, sym, ap, ◌∙◌, subst, arith}
 use Rattle.std.specs.Prelude.{slice_get}
 use Rattle.std.proofs.lemmas.List.{get_or-map, length-map}
@@ -11,7 +11,7 @@ use Rattle.wsyntax.specs.Execution.Store.{Entry, SetTo}
 use Rattle.wsyntax.specs.Execution.Start.{element_segment, data_segment}
 use Rattle.accepted_module.specs.Segments.{element_segments, data_segments, offsets_of}
 
--- The place of one.
+-- The offset of one.
 
 -- of a list that is mapped twice
 offset_at : {X Y : Type 0} (g : Y → Segment) (f : X → Y) (xs : List X) (i : ℕ) (x : X) (offsets : List ℕ) → offsets ≡ offsets_of (map g (map f xs)) → x ≡ get_or xs i x → i < length xs → get_or offsets i 0 ≡ (g (f x)).offset
@@ -33,7 +33,7 @@ data_placed ds i d offsets all is below = offset_at data_segment data_shape ds i
 
 -- What is within.
 
--- the first segment of those that are left, at its place, of that many items
+-- the first segment of those that are left, at its offset, of that many items
 pub within_here : (n offset count : ℕ) (s : Segment) (all rest : List Segment) → all ≡ s ∷ rest → offset ≡ s.offset → count ≡ length s.items → AllWithin n all → offset + count ≤ n
 within_here n offset count s all rest is at many within =
     let h = subst (AllWithin n) is within in let here : s.offset + length s.items ≤ n = h.0 in omega arith

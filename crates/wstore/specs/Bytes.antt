@@ -9,12 +9,12 @@ abbrev pub size_in : Option Memory → ℕ
 size_in (Some m) = length m.bytes
 size_in None = 0
 
--- these bytes from a place on, if the test holds; an `if` would compute both of its branches
+-- these bytes from an address on, if the test holds; an `if` would compute both of its branches
 abbrev pub taken_if : Bool → List ℕ → ℕ → ℕ → Option (List ℕ)
 taken_if true bytes at count = Some (take count (drop at bytes))
 taken_if false bytes at count = None
 
--- 4.2.8 so many bytes from a place on; None exactly where there is no memory, or where they reach past its end
+-- 4.2.8 so many bytes from an address on; None exactly where there is no memory, or where they reach past its end
 abbrev pub bytes_at : Option Memory → ℕ → ℕ → Option (List ℕ)
 bytes_at (Some m) at count = taken_if (nat_le (at + count) (length m.bytes)) m.bytes at count
 bytes_at None at count = None
@@ -24,12 +24,12 @@ abbrev pub ReadsBytes : Option Memory → ℕ → List ℕ → Bool → List ℕ
 ReadsBytes memory at old true new = bytes_at memory at (length old) ≡ Some new
 ReadsBytes memory at old false new = (bytes_at memory at (length old) ≡ None) × (new ≡ old)
 
--- the memory with these bytes from a place on, if the test holds
+-- the memory with these bytes from an address on, if the test holds
 abbrev pub put_if : Bool → Memory → ℕ → List ℕ → Option Memory
 put_if true m at bytes = Some (record m { bytes = overwrite at bytes m.bytes })
 put_if false m at bytes = None
 
--- 4.2.8 the memory with these bytes from a place on; None exactly where there is none, or where they reach past its end
+-- 4.2.8 the memory with these bytes from an address on; None exactly where there is none, or where they reach past its end
 abbrev pub put_at : Option Memory → ℕ → List ℕ → Option Memory
 put_at (Some m) at bytes = put_if (nat_le (at + length bytes) (length m.bytes)) m at bytes
 put_at None at bytes = None

@@ -18,7 +18,7 @@ found_entry (Some meant.Unset) = Unset
 found_entry (Some (meant.SetTo f)) = Func f
 found_entry None = Outside
 
--- what stands at a place of a table; without a table every place lies outside
+-- what stands at an index of a table; without a table every index lies outside
 abbrev pub entry_at : Option (List meant.Entry) → ℕ → TableElem
 entry_at (Some entries) at = found_entry (slice_get entries at)
 entry_at None at = Outside

@@ -11,7 +11,7 @@ ghost use Rattle.wstore.specs.Views.{KeepsMarks};
 use crate::instance::Instance;
 use memory::LinearMemory;
 
-/// Whether `count` bytes from place `at` on lie within the memory.
+/// Whether `count` bytes from address `at` on lie within the memory.
 fn has_bytes(memory: &LinearMemory, at: u64, count: usize) -> bool
     ensures { result ≡ nat_le (at + count) (length memory.now.memory.bytes) }
 {
@@ -19,7 +19,7 @@ fn has_bytes(memory: &LinearMemory, at: u64, count: usize) -> bool
     at <= size && count as u64 <= size - at
 }
 
-/// Copies the bytes from place `at` on, as many as there is room for.
+/// Copies the bytes from address `at` on, as many as there is room for.
 fn copy_out(memory: &LinearMemory, at: u64, out: &mut [u8])
     requires { at + length out.old ≤ length memory.now.memory.bytes }
     ensures { out.new ≡ take (length out.old) (drop at memory.now.memory.bytes) }
@@ -33,13 +33,13 @@ fn copy_out(memory: &LinearMemory, at: u64, out: &mut [u8])
     }
 }
 
-/// Writes the bytes from place `at` on.
+/// Writes the bytes from address `at` on.
 fn copy_in(memory: &mut LinearMemory, at: u64, bytes: &[u8])
     requires { at + length bytes.now ≤ length memory.old.memory.bytes }
     ensures { memory.new ≡ with_bytes memory.old (overwrite at bytes.now memory.old.memory.bytes) }
 {
     memory.typed();
-    // A place of more than 32 bits is the end of the greatest memory, where no byte fits.
+    // An address of more than 32 bits is the end of the greatest memory, where no byte fits.
     if let Ok(address) = u32::try_from(at) {
         memory.overwrite(address, bytes);
     }
@@ -56,7 +56,7 @@ impl<'a> Instance<'a> {
         }
     }
 
-    /// Copies the bytes of its memory from place `at` on, as many as there is room for. Where they reach past the end, or where it
+    /// Copies the bytes of its memory from address `at` on, as many as there is room for. Where they reach past the end, or where it
     /// has no memory, it answers false, and `out` is as it was. It asks for no memory.
     pub fn read_bytes(&self, at: u64, out: &mut [u8]) -> bool
         ensures { ReadsBytes (seen self.now.parts).memory at out.old result out.new }
@@ -71,7 +71,7 @@ impl<'a> Instance<'a> {
         true
     }
 
-    /// Writes the bytes to its memory from place `at` on. Where they reach past the end, or where it has no memory, it answers
+    /// Writes the bytes to its memory from address `at` on. Where they reach past the end, or where it has no memory, it answers
     /// false, and nothing changes. It asks for no memory.
     pub fn write_bytes(&mut self, at: u64, bytes: &[u8]) -> bool
         ensures memory { StorePuts (seen self.old.parts) at bytes.now result (seen self.new.parts) }

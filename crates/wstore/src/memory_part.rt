@@ -18,7 +18,7 @@ use memory::{CleanMem, LinearMemory};
 use std::alloc::Global;
 use wsyntax::{Data, Limits, Module};
 
-/// Writes the data segments in order, each from its place in `offsets` on.
+/// Writes the data segments in order, each from its offset in `offsets` on.
 fn put_data(memory: &mut LinearMemory, segments: &[Data<'_>], offsets: &[u32])
     requires within { AllWithin (length memory.old.memory.bytes) (data_segments segments.now) }
     requires placed { offsets.now ≡ offsets_of (data_segments segments.now) }

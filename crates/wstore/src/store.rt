@@ -29,7 +29,7 @@ impl<'a> Instance<'a> {
         }
     }
 
-    /// The number in `width` bytes of its memory from place `at` on, little-endian. `None` exactly where they reach past the
+    /// The number in `width` bytes of its memory from address `at` on, little-endian. `None` exactly where they reach past the
     /// end.
     pub fn read(&self, at: u64, width: u32) -> Option<u64>
         requires at { at < 2 ^ 33 }
@@ -42,7 +42,7 @@ impl<'a> Instance<'a> {
         }
     }
 
-    /// Writes the `width` lowest bytes of `bits` to its memory from place `at` on, little-endian. Where they reach past the end
+    /// Writes the `width` lowest bytes of `bits` to its memory from address `at` on, little-endian. Where they reach past the end
     /// it answers false, and nothing changes.
     pub fn write(&mut self, at: u64, width: u32, bits: u64) -> bool
         requires at { at < 2 ^ 33 }
@@ -81,7 +81,7 @@ impl<'a> Instance<'a> {
         }
     }
 
-    /// The entry of its table at place `at`.
+    /// The entry of its table at index `at`.
     pub fn entry(&self, at: u32) -> TableElem
         ensures { result ≡ entry_at (seen self.now.parts).table at }
     {

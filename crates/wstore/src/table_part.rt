@@ -25,7 +25,7 @@ fn put_functions(entries: &mut [TableEntry], offset: usize, functions: &[u32])
     }
 }
 
-/// Writes the element segments in order, each from its place in `offsets` on.
+/// Writes the element segments in order, each from its offset in `offsets` on.
 fn put_elements(entries: &mut [TableEntry], segments: &Elements<'_>, offsets: &[u32])
     requires within { AllWithin (length entries.old) (element_segments segments.now) }
     requires placed { offsets.now ≡ offsets_of (element_segments segments.now) }

@@ -13,7 +13,7 @@ element_of e = record { table = e.table; offset = e.offset.now; functions = e.fu
 abbrev pub element_in : List ℕ → ℕ → Segment → HeldElement
 element_in functions start s = record { table = s.table; offset = s.offset; functions = slice_range functions start s.end }
 
--- the segments whose functions lie one after the other from a place on
+-- the segments whose functions lie one after the other from a position on
 abbrev pub elements_from : List ℕ → ℕ → List Segment → List HeldElement
 elements_from functions start [] = []
 elements_from functions start (s ∷ ss) = element_in functions start s ∷ elements_from functions s.end ss
@@ -23,7 +23,7 @@ abbrev pub FillFrom : List ℕ → ℕ → List Segment → Type 0
 FillFrom functions start [] = start ≡ length functions
 FillFrom functions start (s ∷ ss) = (start ≤ s.end) × FillFrom functions s.end ss
 
--- where the functions of the segment of that number begin
+-- where the functions of the segment of that index begin
 abbrev pub start_at : ℕ → List Segment → ℕ → ℕ
 start_at start ss zero = start
 start_at start [] (suc n) = start

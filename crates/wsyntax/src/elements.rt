@@ -28,7 +28,7 @@ pub(crate) struct Segment<'a> {
 
 const _: () = prove!(size_of::<Segment<'static>>() == 32);
 
-/// Where the functions of the segment of that number begin.
+/// Where the functions of the segment of that index begin.
 fn start_of(segments: &[Segment<'_>], index: usize) -> u32
     requires { index < length segments.now }
     ensures { result ≡ start_at 0 segments.now index }
@@ -40,7 +40,7 @@ fn start_of(segments: &[Segment<'_>], index: usize) -> u32
     }
 }
 
-/// The functions from a place in the list to another.
+/// The functions from a position in the list to another.
 #[inline]
 fn part(functions: &[u32], start: u32, end: u32) -> &[u32]
     requires ordered { start ≤ end }
@@ -50,7 +50,7 @@ fn part(functions: &[u32], start: u32, end: u32) -> &[u32]
     &functions[start as usize..end as usize]
 }
 
-/// Element segments, by their numbers: the functions of all of them in one list, and of each its part of the list. A
+/// Element segments, by their indices: the functions of all of them in one list, and of each its part of the list. A
 /// list of its own would cost a short segment several times its bytes.
 #[derive(Debug, Drop)]
 pub struct Elements<'a> {
@@ -126,7 +126,7 @@ impl<'a> Elements<'a> {
         self.segments.len()
     }
 
-    /// The segment of that number, in constant time; `None` where there is none.
+    /// The segment of that index, in constant time; `None` where there is none.
     #[inline]
     pub fn get(&self, index: usize) -> Option<Element<'_>>
         ensures { option_map element_of result ≡ slice_get self.now index }

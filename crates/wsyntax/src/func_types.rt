@@ -13,7 +13,7 @@ pub struct FuncType<'a> {
     pub results: &'a [ValType],
 }
 
-/// The places of one function type's value types: the parameters end at `middle`, where the results begin.
+/// The positions of one function type's value types: the parameters end at `middle`, where the results begin.
 #[derive(Clone, Copy, Debug)]
 pub(crate) struct TypeRange {
     pub(crate) start: u32,

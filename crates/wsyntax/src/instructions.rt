@@ -179,7 +179,7 @@ pub enum Store {
 /// Where a branch goes on, as the check of its body writes it into the token. It is no part of the instruction.
 #[derive(Clone, Copy, Debug, PartialEq, Eq)]
 pub enum BranchTarget {
-    /// At the token of number `target`, with `arity` operands kept above `height` others.
+    /// At the token of position `target`, with `arity` operands kept above `height` others.
     Short { arity: u8, height: u16, target: u32 },
     /// It is this one of the body's long branches.
     Long(u32),
@@ -231,7 +231,7 @@ pub enum Token {
     End,
     Br(Label),
     BrIf(Label),
-    /// `count` labels from place `first` of the list of targets on, and after them the default.
+    /// `count` labels from position `first` of the list of targets on, and after them the default.
     BrTable {
         count: u32,
         first: usize,

@@ -9,8 +9,8 @@ pub enum StartRefusal {
     TableLimit,
     /// The memory's minimum is above the limit of pages.
     MemoryLimit,
-    /// The first element segment that does not end within the table, by its number from 0.
+    /// The first element segment that does not end within the table, by its index.
     ElementOutside(u32),
-    /// The first data segment that does not end within the memory, by its number from 0.
+    /// The first data segment that does not end within the memory, by its index.
     DataOutside(u32),
 }

@@ -6,7 +6,7 @@ use Rattle.wsyntax.specs.Execution.Values.{Value}
 use Rattle.wsyntax.specs.Execution.Store.{Memory, Entry, Unset, SetTo, Store, page, may_have}
 use Rattle.wsyntax.specs.Execution.ConfigTyped.{ValuesTyped, AreBytes, Has, StoreTyped, global_types}
 
--- function indices for a table, or bytes for a memory, from a place on
+-- function indices for a table, or bytes for a memory, from an offset on
 pub record Segment : Type 0 where
   pub offset : ℕ
   pub items : List ℕ
@@ -19,7 +19,7 @@ pub record Layout : Type 0 where
   pub elements : List Segment
   pub data' : List Segment
 
--- these items from a place on
+-- these items from an offset on
 abbrev pub overwrite : {A : Type 0} → ℕ → List A → List A → List A
 overwrite offset items xs = take offset xs ++ (items ++ drop (offset + length items) xs)
 

@@ -83,11 +83,11 @@ constant_in _ = 0
 abbrev pub first_value : GlobalShape → Held
 first_value g = unwrap_or (value_in g.global_type.val_type (constant_in g.init)) (V32 0)
 
--- 4.5.4 an element segment with its place
+-- 4.5.4 an element segment with its offset
 abbrev pub element_segment : ElementShape → Segment
 element_segment e = record { offset = constant_in e.offset; items = e.functions }
 
--- 4.5.4 a data segment with its place
+-- 4.5.4 a data segment with its offset
 abbrev pub data_segment : DataShape → Segment
 data_segment d = record { offset = constant_in d.offset; items = d.bytes }
 
@@ -117,7 +117,7 @@ pub data StartRefusal : Type 0 where
 abbrev pub table_limit : ℕ
 table_limit = 65536
 
--- the number of the first segment that does not end within `size`; the numbers begin with k
+-- the index of the first segment that does not end within `size`; the indices begin with k
 abbrev pub first_outside : ℕ → ℕ → List Segment → Option ℕ
 first_outside k size [] = None
 first_outside k size (s ∷ ss) = if nat_lt size (s.offset + length s.items) then Some k else first_outside (suc k) size ss

@@ -172,18 +172,18 @@ step C Else (f ∷ fs) =
     when f.is_then (when (ends_with f.gives f.operands) (Some (record f { is_then = false; operands = fresh f.starts } ∷ fs)))
 step C End (f ∷ fs) = when (ends_with f.gives f.operands) (when (may_lack_else f) (Some (pass_on f.gives fs)))
 
--- how the algorithm ends: accepted, or the number of the first token that is refused
+-- how the algorithm ends: accepted, or the position of the first token that is refused
 pub data Verdict : Type 0 where
   Accepted : Verdict
-  -- the number of the first token that is refused
+  -- the position of the first token that is refused
   Refused : ℕ → Verdict
 
--- refuses the token with this number, or goes on
+-- refuses the token at this position, or goes on
 abbrev pub refused_or : ℕ → Option (List Frame) → (List Frame → Verdict) → Verdict
 refused_or k None go = Refused k
 refused_or k (Some fs) go = go fs
 
--- the tokens from the one with this number on; where they end inside a frame, the end that is missing is refused
+-- the tokens from the one at this position on; where they end inside a frame, the end that is missing is refused
 abbrev pub alg_from : Context → List Token → List Frame → ℕ → Verdict
 alg_from C [] [] k = Accepted
 alg_from C [] (f ∷ fs) k = Refused k

@@ -53,11 +53,11 @@ IsRefused C f bytes (IllTyped at) = IsIllTyped C f bytes at
 
 -- All bodies.
 
--- 2.5.1 the index of the function whose body stands at that place: imported ones come first
+-- 2.5.1 the index of the function whose body stands at that position: imported ones come first
 abbrev pub function_at : ModuleShape → ℕ → ℕ
 function_at m position = length (imported_functions m) + position
 
--- each body before that place is accepted
+-- each body before that position is accepted
 abbrev pub AcceptedBefore : ModuleShape → ℕ → Type 0
 AcceptedBefore m position = (k : ℕ) (bytes : List ℕ) → k < position → slice_get m.bodies k ≡ Some bytes → IsAccepted (module_context m) (function_at m k) bytes
 

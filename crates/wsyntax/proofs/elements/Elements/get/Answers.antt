@@ -14,7 +14,7 @@ returns-in_err-segment c =
     ∙ sym (none_from c.self.inside.functions.items 0 c.self.inside.segments.items c.args.index none)
     ∙ ap (λ (es : List HeldElement). slice_get es c.args.index) c.self.view_is
 
--- the segment is the one of that number
+-- the segment is the one of that index
 there : (c : goal.After-deref-3) → slice_get c.self.inside.segments.items c.args.index ≡ Some c.in_ok-segment.segment.now
 there c =
     let read : slice_get c.deref.result.now c.args.index ≡ Some c.in_ok-segment.segment.now = slice_get_read c.deref.result.now _ _ _ refl c.in_ok-segment.ensures.lookup.3.0 c.in_ok-segment.ensures.lookup.1 in
