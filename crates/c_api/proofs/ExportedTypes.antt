@@ -47,14 +47,14 @@ is_typed a name Table index judged e = tt
 is_typed a name Memory index judged e = tt
 is_typed a name Global index judged e = tt
 
--- the export of a number
+-- the export at a position
 shaped_at : (xs : List Export) (k : ℕ) (x : Export) → slice_get xs k ≡ Some x → slice_get (map export_shape xs) k ≡ Some (export_shape x)
 shaped_at xs k x h = slice_get-map export_shape xs k ∙ ap (option_map export_shape) h
 
 contained_at : (xs : List ExportShape) (k : ℕ) (x : ExportShape) → slice_get xs k ≡ Some x → Contains xs x
 contained_at xs k x h = subst (Contains xs) (get_or_from_slice_get xs k x x h) (Contains-get_or xs k x (slice_get_within xs k x h))
 
--- its numbers tell it
+-- its fields tell it
 pub tells : (a : Accepted) (position : ℕ) (x : Export) (old new : GateExport) → ∥ IsJudged (module_shape a.«module») a.context a.bodies.items ∥₁
     → slice_get a.«module».exports.items position ≡ Some x → new ≡ export_fields (told.functions_of a) x.kind x.index → TellsExport a position old new 0
 tells a position x old new judged at same =

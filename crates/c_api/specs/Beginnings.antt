@@ -36,7 +36,7 @@ FailsToBegin a l NoExport = ⊥
 FailsToBegin a l NotAFunction = ⊥
 FailsToBegin a l BadArguments = ⊥
 
--- the numbers of a start that ends well, at the cost of so much fuel
+-- the fields of a start that ends well, at the cost of so much fuel
 abbrev pub begun_fields : ℕ → GateCall
 begun_fields k = record { end = 0; reason = 0; place = 0; fuel = k; results = 0 }
 

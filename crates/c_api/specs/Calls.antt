@@ -22,7 +22,7 @@ EndsCall a name numbers s line =
     (args : List Value) × AreWords args × (map value_fields args ≡ numbers)
     × EndOf (module_shape a.«module») (shapes_of a.bodies.items) (limits_of s) (IsTrue (is_short (Some line))) (record { name = name; args = args }) (end_of line)
 
--- the numbers of that line are written, and the values that there is room for
+-- the fields of that line are written, and the values that there is room for
 abbrev pub TellsCall : (Line → Type 0) → List GateValue → List GateValue → GateCall → Type 0
 TellsCall P old new ended = (line : Line) × P line × (ended ≡ end_fields line) × (new ≡ overlay (values_of line) old)
 

@@ -1,4 +1,4 @@
--- The numbers of how a call ends.
+-- The fields of how a call ends.
 use Rattle.std.specs.Prelude.{ℕ, List, [], length}
 use Rattle.wnum.specs.declared.trap.NumTrap.TheVariants.{DivideByZero, IntegerOverflow}
 use Rattle.wsyntax.specs.declared.value.Value.{Value}
@@ -35,7 +35,7 @@ segment_of (ElementOutside k) = k
 segment_of (DataOutside k) = k
 segment_of r = 0
 
--- an end of which only the number is told
+-- an end of which only the code is told
 abbrev pub plain : ℕ → GateCall
 plain end = record { end = end; reason = 0; place = 0; fuel = 0; results = 0 }
 
@@ -46,7 +46,7 @@ outcome_fields (Trapped trap) fuel = record { end = 1; reason = trap_code trap; 
 outcome_fields OutOfFuel fuel = record { end = 2; reason = 0; place = 0; fuel = fuel; results = 0 }
 outcome_fields OutOfFrames fuel = record { end = 3; reason = 0; place = 0; fuel = fuel; results = 0 }
 
--- how a call ended; numbers that do not belong to the end are 0
+-- how a call ended; fields that do not belong to the end are 0
 abbrev pub end_fields : Line → GateCall
 end_fields (Ran o fuel) = outcome_fields o fuel
 end_fields NoExport = plain 4

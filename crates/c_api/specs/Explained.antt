@@ -1,4 +1,4 @@
--- The numbers and the text of an explanation.
+-- The fields and the text of an explanation.
 use Rattle.std.specs.Prelude.{◌≡◌, ◌⊎◌, ℕ, List, Option, Some, None, option_map}
 use Rattle.wsyntax.specs.Validation.Verdict.{Verdict, IsVerdict}
 use Rattle.wsyntax.specs.Texts.Lines.{verdict_line}
@@ -63,7 +63,7 @@ pub record IsExplanation (bytes : List ℕ) (e : Explanation) (v : Verdict) : Ty
   pub judged : IsVerdict bytes v
   pub so : AreSo bytes e
 
--- the numbers of an explanation of the bytes are written, and the status is that of its verdict; or memory was refused, and nothing is written
+-- the fields of an explanation of the bytes are written, and the status is that of its verdict; or memory was refused, and nothing is written
 abbrev pub Explains : List ℕ → GateExplanation → GateExplanation → ℕ → Type 0
 Explains bytes old new status =
     ((status ≡ 70) × (new ≡ old))

@@ -1,4 +1,4 @@
--- What a module exports, as numbers and texts.
+-- What a module exports, as fields and texts.
 use Rattle.std.specs.Prelude.{◌≡◌, ◌⊎◌, ℕ, ◌<◌, List, length, map, Option, Some, None, slice_get, Contains, IsSome, MatchOption}
 use Rattle.wsyntax.specs.Types.{FuncType}
 use Rattle.wsyntax.specs.declared.ValType.{ValType}
@@ -19,7 +19,7 @@ exports_of a = (module_shape a.«module»).exports
 abbrev pub functions_of : AcceptedModule → List FuncType
 functions_of a = a.context.context.functions
 
--- 2.5.10 the number of a kind
+-- 2.5.10 the code of a kind
 abbrev pub kind_code : ExportKind → ℕ
 kind_code Function = 0
 kind_code Table = 1
@@ -42,7 +42,7 @@ abbrev pub results_of : Option FuncType → ℕ
 results_of None = 0
 results_of (Some t) = length t.results
 
--- the numbers of what is exported, where these are the types of the functions
+-- the fields of what is exported, where these are the types of the functions
 abbrev pub export_fields : List FuncType → ExportKind → ℕ → GateExport
 export_fields functions kind index = record {
   kind = kind_code kind;
@@ -58,7 +58,7 @@ IsTyped functions Table x = Unit {0}
 IsTyped functions Memory x = Unit {0}
 IsTyped functions Global x = Unit {0}
 
--- the numbers of an export are written, and it has a type, where it is a function
+-- the fields of an export are written, and it has a type, where it is a function
 abbrev pub TellsOf : AcceptedModule → GateExport → ℕ → ExportShape → Type 0
 TellsOf a new answered e = (answered ≡ 0) × (new ≡ export_fields (functions_of a) e.kind e.index) × IsTyped (functions_of a) e.kind e.index
 
@@ -66,20 +66,22 @@ TellsOf a new answered e = (answered ≡ 0) × (new ≡ export_fields (functions
 abbrev pub LeavesExport : GateExport → GateExport → ℕ → Type 0
 LeavesExport old new answered = (answered ≡ 4) × (new ≡ old)
 
--- the numbers of the export of that number are written; or there is none
+-- the fields of the export at that position are written; or there is none
 abbrev pub TellsExport : AcceptedModule → ℕ → GateExport → GateExport → ℕ → Type 0
-TellsExport a position old new answered = MatchOption (slice_get (exports_of a) position) (LeavesExport old new answered) (TellsOf a new answered)
+TellsExport a position old new answered =
+    MatchOption (slice_get (exports_of a) position) (LeavesExport old new answered) (TellsOf a new answered)
 
--- the numbers of the export of that name are written; or there is none
+-- the fields of the export of that name are written; or there is none
 abbrev pub FindsExport : AcceptedModule → List ℕ → GateExport → GateExport → ℕ → Type 0
 FindsExport a name old new answered =
     ((e : ExportShape) × Contains (exports_of a) e × (e.item_name ≡ name) × TellsOf a new answered e)
     ⊎ (IsMissing (module_shape a.«module») name × LeavesExport old new answered)
 
--- the name of the export of that number is written, and its length, or the buffer is short; or there is no such export, and nothing is written
+-- the name of the export at that position is written, and its length, or the buffer is short; or there is none, and nothing is written
 abbrev pub TellsName : AcceptedModule → ℕ → List ℕ → List ℕ → ℕ → ℕ → ℕ → Type 0
 TellsName a position old new was now answered =
-    MatchOption (slice_get (exports_of a) position) ((answered ≡ 4) × AreKept old new was now) (λ e. Hands e.item_name 0 old new now answered)
+    MatchOption (slice_get (exports_of a) position) ((answered ≡ 4) × AreKept old new was now)
+        (λ e. Hands e.item_name 0 old new now answered)
 
 -- 5.3.1 the byte of a value type
 abbrev pub type_byte : ValType → ℕ

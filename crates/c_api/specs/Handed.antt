@@ -8,7 +8,7 @@ use Rattle.c_api.specs.declared.report.ReportSlot.{ReportSlot}
 use Rattle.c_api.specs.Statuses.{code_of}
 use Rattle.c_api.specs.Texts.{IsWritten, Misses}
 
--- the handle that is written owns a module with P; or the place is as it was
+-- the handle that is written owns a module with P; or the slot is as it was
 abbrev pub HandsModule : (AcceptedModule → Type 0) → ModuleSlot → ModuleSlot → ℕ → Type 0
 HandsModule P old new answered = ((answered ≡ 0) × IsSomeAnd new.value (λ h. P h.accepted.value)) ⊎ ((answered ≢ 0) × (new ≡ old))
 

@@ -54,7 +54,7 @@ abbrev pub AnswersRead : Live → ℕ → List ℕ → List ℕ → ℕ → Type
 AnswersRead l at old new status =
     ((status ≡ 0) × ReadsBytes (memory_in l) at old true new) ⊎ ((status ≡ 80) × ReadsBytes (memory_in l) at old false new)
 
--- 4.2.8 the bytes stand in its memory from that place on, and all else is as it was
+-- 4.2.8 the bytes stand in its memory from that offset on, and all else is as it was
 abbrev pub Puts : Live → ℕ → List ℕ → Live → Type 0
 Puts old at bytes new =
     (s : Store) × (s' : Store) × (store_in old ≡ Some s) × (store_in new ≡ Some s')

@@ -51,7 +51,7 @@ SharesJudging p was slot answered =
 abbrev pub Goes : Pending → Pending → (Progress → Progress → Type 0) → Type 0
 Goes old new P = (p : Progress) × (q : Progress) × (progress_in old ≡ Some p) × (progress_in new ≡ Some q) × P p q
 
--- the bytes are those of a module that keeps all rules, and of its bodies from the place `first` on, `count` at most, those are judged
+-- the bytes are those of a module that keeps all rules, and of its bodies from the position `first` on, `count` at most, those are judged
 abbrev pub JudgesSome : ℕ → ℕ → Result (Unit {0}) Refusal → Progress → Progress → Type 0
 JudgesSome first count r p q = IsValidShell p.bytes × JudgesFrom first count p q r
 
@@ -63,7 +63,7 @@ abbrev pub TellsJudged : Result (Unit {0}) Refusal → GateVerdict → GateVerdi
 TellsJudged (Ok _) before after answered = (answered ≡ 0) × (after ≡ before)
 TellsJudged (Err r) before after answered = TellsRefusal (verdict_of r) before after answered
 
--- the bodies from the place `first` on, `count` at most, pass; or one is the first that is refused, and that is written; or memory was
+-- the bodies from the position `first` on, `count` at most, pass; or one is the first that is refused, and that is written; or memory was
 abbrev pub AnswersBodies : ℕ → ℕ → Pending → Pending → GateVerdict → GateVerdict → ℕ → Type 0
 AnswersBodies first count old new before after answered =
     ((answered ≡ 0) × (after ≡ before) × Goes old new (JudgesSome first count (Ok tt)))
@@ -81,7 +81,7 @@ AnswersJoin old other new answered =
 
 -- Ending.
 
--- what the handle judged is left, and the module's place is as it was
+-- what the handle judged is left, and the module's slot is as it was
 abbrev pub StaysOpen : Pending → Option Pending → ModuleSlot → ModuleSlot → Type 0
 StaysOpen old left was slot = IsSomeAnd left (λ p. progress_in p ≡ progress_in old) × (slot ≡ was)
 

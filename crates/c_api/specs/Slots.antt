@@ -1,4 +1,4 @@
--- What a place for a handle owns.
+-- What a slot for a handle owns.
 use Rattle.std.specs.Prelude.{Option, Some, None}
 use mir.Syntax.{Ty}
 use base.Fml.{Fml, ftrue}

@@ -24,7 +24,7 @@ SaysStart pages a (NotStarted r) = refusal_in pages a ≡ Some (refusal_of r)
 SaysStart pages a NoMemory = refusal_in pages a ≡ None
 SaysStart pages a line = ⊥
 
--- a limit is out of its range, and nothing is written; or the numbers of that line are written
+-- a limit is out of its range, and nothing is written; or the fields of that line are written
 abbrev pub AnswersStart : GateSettings → AcceptedModule → GateCall → GateCall → ℕ → Type 0
 AnswersStart s a old new answered =
     ((answered ≡ 64) × (in_range s ≡ false) × (new ≡ old))

@@ -1,4 +1,4 @@
--- The numbers of what is answered.
+-- The codes of what is answered.
 use Rattle.std.specs.Prelude.{ℕ}
 use Rattle.batch.specs.declared.status.Status.{Status}
 use Rattle.batch.specs.declared.status.Status.TheVariants.{Good, ModuleRefused, CallsRefused}

@@ -1,4 +1,4 @@
--- The numbers of values.
+-- The fields of values.
 use Rattle.std.specs.Prelude.{◌≡◌, List, [], ◌∷◌, map}
 use Rattle.wsyntax.specs.Execution.Values.{IsWord, AreWords}
 use Rattle.wsyntax.specs.declared.value.Value.{Value}
@@ -10,9 +10,9 @@ abbrev pub value_fields : Value → GateValue
 value_fields (I32 n) = record { width = 32; bits = n }
 value_fields (I64 n) = record { width = 64; bits = n }
 
--- the numbers of no value
+-- the fields of no value
 abbrev pub IsNoValue : GateValue → Type 0
-IsNoValue numbers = (v : Value) → IsWord v → value_fields v ≡ numbers → ⊥
+IsNoValue fields = (v : Value) → IsWord v → value_fields v ≡ fields → ⊥
 
 -- the numbers of no arguments
 abbrev pub AreNoArguments : List GateValue → Type 0

@@ -48,7 +48,7 @@ pub(crate) fn arguments(alloc: Global, numbers: &[GateValue]) -> Result<Args, Ar
     Ok(Args::More(values))
 }
 
-/// Writes the numbers of values to the front of a buffer, as many as there is room for.
+/// Writes the fields of values to the front of a buffer, as many as there is room for.
 fn put_values(values: &[Value], results: &mut [GateValue])
     ensures { results.new ≡ overlay values.now results.old }
 {

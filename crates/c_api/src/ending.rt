@@ -1,4 +1,4 @@
-//! How a call ended, as numbers: `gate_call` of gate.h.
+//! How a call ended, as the fields of `gate_call` of gate.h.
 
 ghost use Rattle.std.specs.Prelude.{◌≡◌};
 ghost use Rattle.batch_text.specs.declared.line.Line.TheVariants.{NotStarted};
@@ -17,7 +17,7 @@ pub struct GateCall {
     pub end: u32,
     /// Of a trap and of a call that was not started, else 0.
     pub reason: u32,
-    /// The number of the segment that lies outside, else 0.
+    /// The position of the segment that lies outside, else 0.
     pub place: u32,
     /// What the call cost, the start function included; 0 where nothing ran.
     pub fuel: u32,
@@ -27,7 +27,7 @@ pub struct GateCall {
 
 const _: () = prove!(size_of::<GateCall>() == 24 && align_of::<GateCall>() == 8);
 
-/// The number of a trap, as `gate_trap` of gate.h has it.
+/// The code of a trap, as `gate_trap` of gate.h has it.
 fn code_of_trap(trap: Trap) -> u32
     ensures { result ≡ trap_code trap }
 {
@@ -42,7 +42,7 @@ fn code_of_trap(trap: Trap) -> u32
     }
 }
 
-/// The number of a refusal, as `gate_not_started` of gate.h has it, and the segment that lies outside, else 0.
+/// The code of a refusal, as `gate_not_started` of gate.h has it, and the segment that lies outside, else 0.
 fn fields_of_refusal(refusal: StartRefusal) -> (u32, u32)
     ensures reason { result.0 ≡ refusal_code refusal }
     ensures place { result.1 ≡ segment_of refusal }
@@ -60,7 +60,7 @@ fn fields_of_refusal(refusal: StartRefusal) -> (u32, u32)
 impl GateCall {
     ghost use Rattle.c_api.specs.Beginnings.{begun_fields};
 
-    /// An end of which only the number is told.
+    /// An end of which only the code is told.
     fn plain(end: u32) -> GateCall
         ensures end { result.end ≡ end }
         ensures reason { result.reason ≡ 0 }

@@ -1,4 +1,4 @@
-//! An explanation as numbers: `gate_explanation` of gate.h.
+//! An explanation as the fields of `gate_explanation` of gate.h.
 
 ghost use Rattle.std.specs.Prelude.{◌≡◌, IfSome, option_map};
 ghost use Rattle.explain.specs.Fields.{body_told, item_told, kind_told, opcode_told, span_told, section_told};
@@ -10,7 +10,7 @@ use crate::judged::GateVerdict;
 use crate::status::{MODULE_REFUSED, OK};
 use explain::{Explanation, ExplanationKind, Span};
 
-/// An explanation. Of what is not told the number is the greatest of its width.
+/// An explanation. Of what is not told the field is the greatest of its width.
 #[repr(C)]
 #[derive(Clone, Copy)]
 pub struct GateExplanation {
@@ -21,7 +21,7 @@ pub struct GateExplanation {
     pub section: u32,
     /// The first byte of the token that is refused, or with which no token begins.
     pub opcode: u32,
-    /// The place of the refused item in its section, from 0; none of a body.
+    /// The position of the refused item in its section, from 0; none of a body.
     pub item: u64,
     /// The bytes of the refused body.
     pub body_from: u64,
@@ -33,7 +33,7 @@ pub struct GateExplanation {
 
 const _: () = prove!(size_of::<GateExplanation>() == 80 && align_of::<GateExplanation>() == 8);
 
-/// The number of a kind, as `gate_why` of gate.h has it.
+/// The code of a kind, as `gate_why` of gate.h has it.
 fn code_of_kind(kind: ExplanationKind) -> u32
     ensures { result ≡ kind_code kind }
 {
@@ -78,7 +78,7 @@ fn short_number(told: Option<u8>) -> u32
     }
 }
 
-/// The numbers of the verdict; `None` where memory was refused.
+/// The fields of the verdict; `None` where memory was refused.
 fn verdict_of(found: &Explanation<'_>) -> Option<GateVerdict>
     ensures { result ≡ option_map fields_of (verdict_told found.now) }
 {
@@ -98,28 +98,28 @@ pub(crate) fn status_with(found: &Explanation<'_>) -> u32
     }
 }
 
-/// The number of what is said.
+/// The code of what is said.
 fn why(found: &Explanation<'_>) -> u32
     ensures { result ≡ kind_code (kind_told found.now) }
 {
     code_of_kind(found.kind())
 }
 
-/// The number of the section.
+/// The id of the section.
 fn section(found: &Explanation<'_>) -> u32
     ensures { result ≡ short (section_told found.now) }
 {
     short_number(found.section())
 }
 
-/// The number of the first byte of the token.
+/// The first byte of the token.
 fn opcode(found: &Explanation<'_>) -> u32
     ensures { result ≡ short (opcode_told found.now) }
 {
     short_number(found.opcode())
 }
 
-/// The number of the item.
+/// The position of the item.
 fn item(found: &Explanation<'_>) -> u64
     ensures { result ≡ wide (item_told found.now) }
 {
@@ -175,7 +175,7 @@ fn to(found: &Explanation<'_>) -> u64
 }
 
 impl GateExplanation {
-    /// The numbers of an explanation; `None` where memory was refused.
+    /// The fields of an explanation; `None` where memory was refused.
     pub(crate) fn of(found: &Explanation<'_>) -> Option<GateExplanation>
         ensures { result ≡ option_map (fields_with found.now) (verdict_told found.now) }
     {

@@ -9,7 +9,7 @@ use crate::text::hand_text;
 use explain::{explain, explanation_text};
 use std::alloc::Global;
 
-/// Judges a module, and says of a refusal where and why. 0: it is accepted; 2: it is refused; either way the numbers are written.
+/// Judges a module, and says of a refusal where and why. 0: it is accepted; 2: it is refused; either way the fields are written.
 /// 70: nothing is written.
 #[unsafe(no_mangle)]
 pub extern "C" fn gate_explain(

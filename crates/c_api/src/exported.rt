@@ -1,4 +1,4 @@
-//! What a module exports, as numbers and texts: `gate_export` of gate.h.
+//! What a module exports, as fields and texts: `gate_export` of gate.h.
 
 ghost use Rattle.std.specs.Prelude.{◌≡◌, ◌≤◌, Some, length, map, slice_get};
 ghost use Rattle.wsyntax.specs.Binary.Types.{val_type_of};
@@ -28,7 +28,7 @@ pub struct GateExport {
 
 const _: () = prove!(size_of::<GateExport>() == 16 && align_of::<GateExport>() == 4);
 
-/// The number of a kind, as `gate_export_kind` of gate.h has it.
+/// The code of a kind, as `gate_export_kind` of gate.h has it.
 fn code_of_kind(kind: ExportKind) -> u32
     ensures { result ≡ kind_code kind }
 {
@@ -55,7 +55,7 @@ fn counts_of(context: &Context, function: u32) -> (u32, u32)
 }
 
 impl GateExport {
-    /// The numbers of what is exported under this context.
+    /// The fields of what is exported under this context.
     fn of(context: &Context, kind: ExportKind, index: u32) -> GateExport
         ensures { result ≡ export_fields context.now.context.functions kind index }
     {
@@ -72,7 +72,7 @@ impl GateExport {
     }
 }
 
-/// Writes the export of that number. 0: it is written; 4: there is none.
+/// Writes the export at that position. 0: it is written; 4: there is none.
 pub(crate) fn tell_export(accepted: &Accepted<'_>, position: u64, export: &mut GateExport) -> u32
     ensures { TellsExport accepted.now position export.old export.new result }
 {
@@ -98,7 +98,7 @@ pub(crate) fn find(accepted: &Accepted<'_>, name: &[u8], export: &mut GateExport
     }
 }
 
-/// Writes the name of the export of that number, where there is room for it, and its length. 0: it is written; 4: there is no such
+/// Writes the name of the export at that position, where there is room for it, and its length. 0: it is written; 4: there is no such
 /// export; 75: there is no room.
 pub(crate) fn tell_name(
     accepted: &Accepted<'_>,

@@ -62,7 +62,7 @@ pub(crate) fn refuse(refusal: Refusal, verdict: &mut GateVerdict) -> u32
     MODULE_REFUSED
 }
 
-/// Writes the line of a verdict. 0: it is written, and its length; 64: the numbers are of no verdict; 70: nothing is written;
+/// Writes the line of a verdict. 0: it is written, and its length; 64: the fields are of no verdict; 70: nothing is written;
 /// 75: the line has `length` bytes, and there is no room for it.
 #[unsafe(no_mangle)]
 pub extern "C" fn gate_verdict_line(

@@ -42,7 +42,7 @@ impl GateInstance {
     }
 }
 
-/// The place of a handle that a call writes. What was there is never read; the handle that is written owns its box.
+/// The slot of a handle that a call writes. What was there is never read; the handle that is written owns its box.
 #[repr(C)]
 #[derive(Drop)]
 pub struct InstanceSlot {

@@ -1,4 +1,4 @@
-//! A verdict as numbers: `gate_verdict` of gate.h.
+//! A verdict as the fields of `gate_verdict` of gate.h.
 
 ghost use Rattle.std.specs.Prelude.{◌≡◌, ◌≢◌, ◌⊎◌, Some, IfSome, IfNone, IsSomeAnd, MatchOption, option_map};
 ghost use Rattle.wsyntax.specs.Validation.Verdict.{Verdict, Accepted, BodyRefused};
@@ -8,7 +8,7 @@ ghost use Rattle.c_api.specs.Verdicts.{fields_of, IsNamed, IsNoVerdict};
 
 use verdict::{BodyRefusal, Refusal};
 
-/// A verdict. Of the numbers after the kind those are set that belong to it, and the others are 0.
+/// A verdict. Of the fields after the kind those are set that belong to it, and the others are 0.
 #[repr(C)]
 #[derive(Clone, Copy, PartialEq, Eq)]
 pub struct GateVerdict {
@@ -92,7 +92,7 @@ impl GateVerdict {
         }
     }
 
-    /// The refusal of that kind with these numbers, of which those that do not belong to the kind are not read. `None` where there
+    /// The refusal of that kind with these fields, of which those that do not belong to the kind are not read. `None` where there
     /// is none, as where a rule has no such number.
     fn refusal(&self) -> Option<Refusal>
         ensures found { (v : Verdict) → IsNamed v → self.now ≡ fields_of v → v ≢ Accepted →
@@ -116,7 +116,7 @@ impl GateVerdict {
         })
     }
 
-    /// What the judge found that these are the numbers of; `None` where they are of no verdict.
+    /// What the judge found that these are the fields of; `None` where they are of no verdict.
     pub(crate) fn judged(&self) -> Option<Result<(), Refusal>>
         ensures some { IfSome result (λ judged. IsSomeAnd (given_verdict judged) (λ v. IsNamed v × (self.now ≡ fields_of v))) }
         ensures none { IfNone result (IsNoVerdict self.now) }

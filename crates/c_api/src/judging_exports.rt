@@ -61,8 +61,8 @@ pub extern "C" fn gate_judging_share(
     JudgingStatus::of(status, pending)
 }
 
-/// Judges `count` bodies from place `first` on, or as many as there are, up to the first that is refused. 0: they pass; 2: the verdict says
-/// which one is refused; 70: nothing is written, and some may be judged.
+/// Judges `count` bodies from position `first` on, or as many as there are, up to the first that is refused. 0: they pass; 2: the verdict
+/// says which one is refused; 70: nothing is written, and some may be judged.
 #[unsafe(no_mangle)]
 pub extern "C" fn gate_judging_bodies(
     alloc: Global,

@@ -1,7 +1,7 @@
-//! The library for C: each export calls a function of the crates below and hands its answer out as plain numbers. It starts no
+//! The library for C: each export calls a function of the crates below and hands its answer out in plain fields. It starts no
 //! thread and waits for none. Its names and structs are those of gate.h.
 //!
-//! Proved: each export writes the numbers or the text of the definition with its status, or answers 4, 64 or 70 and writes
+//! Proved: each export writes the fields or the text of the definition with its status, or answers 4, 64 or 70 and writes
 //! nothing; a call on a handle leaves it alive and the same. What C owes, `gate.h` says, and nothing checks.
 #![tactic(auto)]
 

@@ -46,7 +46,7 @@ pub extern "C" fn gate_module_size(module: GateModule) -> ModuleCount
     ModuleCount::of(count, held)
 }
 
-/// Writes the export of that number, from 0, in the order of the module. 0: it is written; 4: there is none.
+/// Writes the export at that position, from 0, in the order of the module. 0: it is written; 4: there is none.
 #[unsafe(no_mangle)]
 pub extern "C" fn gate_module_export(
     module: GateModule,
@@ -62,7 +62,7 @@ pub extern "C" fn gate_module_export(
     ModuleStatus::of(status, held)
 }
 
-/// Writes the name of the export of that number. 0: it is written, and its length; 4: there is no such export; 75: the name has
+/// Writes the name of the export at that position. 0: it is written, and its length; 4: there is no such export; 75: the name has
 /// `length` bytes, and there is no room for it.
 #[unsafe(no_mangle)]
 pub extern "C" fn gate_module_export_name(

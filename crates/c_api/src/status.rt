@@ -13,7 +13,7 @@ pub(crate) const MODULE_REFUSED: u32 = 2;
 pub(crate) const CALLS_REFUSED: u32 = 3;
 /// There is no such export or function.
 pub(crate) const NOTHING: u32 = 4;
-/// A limit is out of its range, numbers are of no verdict or value, or a handle is of other bytes.
+/// A limit is out of its range, fields are of no verdict or value, or a handle is of other bytes.
 pub(crate) const BAD_ARGUMENT: u32 = 64;
 /// An allocation was refused that the function cannot do without.
 pub(crate) const NO_MEMORY: u32 = 70;
@@ -30,7 +30,7 @@ pub(crate) const NOT_JUDGED: u32 = 83;
 /// Another handle has the check too.
 pub(crate) const SHARED: u32 = 84;
 
-/// The number of the status of an answer.
+/// The code of the status of an answer.
 pub(crate) fn status_code(status: Status) -> u32
     ensures { result ≡ code_of status }
 {

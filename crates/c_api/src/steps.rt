@@ -54,7 +54,7 @@ impl Steps {
         Ok(Steps::none(alloc, judging))
     }
 
-    /// Judges `count` bodies from the place `first` on, or as many as there are, up to the first that is refused.
+    /// Judges `count` bodies from the position `first` on, or as many as there are, up to the first that is refused.
     pub(crate) fn judge(self, alloc: Global, first: u32, count: u32) -> (Steps, Result<(), Refusal>)
         ensures valid { IsValidShell self.judged.bytes }
         ensures judged { JudgesFrom first count self.judged result.0.judged result.1 }

@@ -19,7 +19,7 @@ pub struct GateValue {
 const _: () = prove!(size_of::<GateValue>() == 16 && align_of::<GateValue>() == 8);
 
 impl GateValue {
-    /// The numbers of a value.
+    /// The fields of a value.
     pub(crate) fn of(value: Value) -> GateValue
         ensures { result ≡ value_fields value }
     {
@@ -32,7 +32,7 @@ impl GateValue {
         }
     }
 
-    /// The value that these are the numbers of; `None` where there is none.
+    /// The value that these are the fields of; `None` where there is none.
     pub(crate) fn value(self) -> Option<Value>
         ensures some { IfSome result (λ v. value_fields v ≡ self) }
         ensures word { IfSome result IsWord }

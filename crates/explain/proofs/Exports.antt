@@ -19,12 +19,12 @@ named_later : (f : ℕ) (e : Export) (rest : List Export) → (is_function e.kin
 named_later f e rest (inl k) = rw k refl
 named_later f e rest (inr n) = rw (false_after (is_function e.kind) (e.index == f) (ne_eqb e.index f n)) refl
 
--- it is the one at place i
+-- it is the one at position i
 pub first_here : (f : ℕ) (es : List Export) (i : ℕ) (d : Export) → i < length es → is_function (get_or es i d).kind ≡ true → (get_or es i d).index ≡ f
     → first_name f (map export_shape (drop i es)) ≡ Some (get_or es i d).name.now
 first_here f es i d h k e = rw (drop_more es i d h) (named_here f (get_or es i d) (drop (i + 1) es) k e)
 
--- it is one after place i
+-- it is one after position i
 pub first_later : (f : ℕ) (es : List Export) (i : ℕ) (d : Export) → i < length es → (is_function (get_or es i d).kind ≡ false) ⊎ ((get_or es i d).index ≢ f)
     → first_name f (map export_shape (drop i es)) ≡ first_name f (map export_shape (drop (i + 1) es))
 first_later f es i d h n = rw (drop_more es i d h) (named_later f (get_or es i d) (drop (i + 1) es) n)

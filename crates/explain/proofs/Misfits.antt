@@ -21,7 +21,7 @@ use Rattle.explain.specs.declared.cause.Cause.TheVariants as cause
 use Rattle.explain.specs.Typed.{pops, topmost}
 use Rattle.explain.specs.Causes.{IsAlignedTo, IsCause, IsMisfit, Names, TakesAt, UsesMemory, HasJust, operand_at}
 
--- the place from the other end
+-- the position from the other end
 pub reversed_position : {A : Type 0} (xs : List A) (k i : ℕ) (x d : A) → k < length xs → i ≡ length xs - 1 - k → x ≡ get_or xs i d → slice_get (reverse xs) k ≡ Some x
 reversed_position xs k i x d lt e h =
     slice_get-get_or (reverse xs) k d (omega (arith, length-reverse xs, lt)) ∙ ap Some (get_or-reverse xs k d lt ∙ ap (λ z. get_or xs z d) (sym e) ∙ sym h)

@@ -106,7 +106,8 @@ missing_select position w (x ∷ y ∷ z ∷ r) e h = let q : slice_get selected
 
 missing_drop : (position : ℕ) (w : Option ValType) (known : List (Option ValType)) → slice_get (None ∷ []) position ≡ Some w → length known ≡ position → pop_any (these known false) ≡ None
 missing_drop position w [] e h = refl
-missing_drop position w (x ∷ xs) e h = let q : slice_get (None ∷ []) (length (x ∷ xs)) ≡ Some w = ap (slice_get (None ∷ [])) h ∙ e in absurd cc
+missing_drop position w (x ∷ xs) e h =
+    let q : slice_get (None ∷ []) (length (x ∷ xs)) ≡ Some w = ap (slice_get (None ∷ [])) h ∙ e in absurd cc
 
 wrong_refuses : (ps : List (Option ValType)) (position : ℕ) (w u : ValType) (o : Operands) → slice_get ps position ≡ Some (Some w) → slice_get o.known position ≡ Some (Some u) → same_type u w ≡ false → Refuses ps o
 wrong_refuses ps position w u o e h n = record {

@@ -1,4 +1,4 @@
--- The first place in a list that passes a test, place by place.
+-- The first position in a list that passes a test, position by position.
 use Rattle.std.proofs.Common.{◌≡◌, ℕ, ◌+◌, ◌<◌, ◌≤◌, Bool, true, false, cond, List, [], ◌∷◌, length, drop, map, refl, sym, ap, ◌∙◌}
 use Rattle.std.specs.Prelude.{Some, None, position, slice_get}
 use Rattle.std.specs.List.{position_from}
@@ -6,7 +6,7 @@ use Rattle.std.proofs.lemmas.List.{drop_all, drop_more}
 use Rattle.std.proofs.lemmas.Option.{get_or_from_slice_get}
 use Rattle.std.proofs.lemmas.Iterator.Adapters.{position_from-zero}
 
--- it is the first from place i on, or it comes later
+-- it is the first from position i on, or it comes later
 step : {X : Type 0} (p : X → Bool) (xs : List X) (i : ℕ) (x : X) → i < length xs → slice_get xs i ≡ Some x
     → position_from p i (drop i xs) ≡ cond (p x) (Some i) (position_from p (i + 1) (drop (i + 1) xs))
 step p xs i x l is =
@@ -34,5 +34,6 @@ from_shown shows p i [] = refl
 from_shown shows p i (x ∷ xs) = ap (λ o. cond (p (shows x)) (Some i) o) (from_shown shows p (i + 1) xs)
 
 -- of what the list stands for
-pub position_shown : {A B : Type 0} (shows : A → B) (p : B → Bool) (xs : List A) → position (λ x. p (shows x)) xs ≡ position p (map shows xs)
+pub position_shown : {A B : Type 0} (shows : A → B) (p : B → Bool) (xs : List A)
+    → position (λ x. p (shows x)) xs ≡ position p (map shows xs)
 position_shown shows p xs = position_from_front (λ x. p (shows x)) xs ∙ from_shown shows p 0 xs ∙ sym (position_from_front p (map shows xs))

@@ -16,7 +16,7 @@ option_twice (Some e) = refl
 shown_name : (es : List Export) (k : ℕ) (name : List ℕ) → name_at es k ≡ Some name → option_map (λ e. e.item_name) (slice_get (map export_shape es) k) ≡ Some name
 shown_name es k name is = ap (option_map (λ e. e.item_name)) (slice_get-map export_shape es k) ∙ option_twice (slice_get es k) ∙ is
 
--- the export of that number has the name of an earlier one, and those before it have different names
+-- the export at that position has the name of an earlier one, and those before it have different names
 pub repeated_told : (fs short items : List Export) (position earlier : ℕ) (name : List ℕ) → fs ≡ items → short ≡ take position items → AllPairs (λ a b. a.item_name ≢ b.item_name) (map export_shape short)
     → (earlier < position) × (name_at fs position ≡ Some name) × (name_at fs earlier ≡ Some name) → IsRepeated (map export_shape items) position name earlier
 repeated_told fs short items position earlier name same cut distinct told = record {

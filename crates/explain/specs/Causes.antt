@@ -21,11 +21,11 @@ use Rattle.explain.specs.Typed.{PassesTo, pops}
 
 -- ---- the operands
 
--- 7.3 at that place from the top the token takes an operand of that type; None is one of any type
+-- 7.3 at that position from the top the token takes an operand of that type; None is one of any type
 abbrev pub TakesAt : Context → Token → List Frame → ℕ → Option ValType → Type 0
 TakesAt C t fs position wanted = IsSomeAnd (pops C t fs) (λ ps. slice_get ps position ≡ Some wanted)
 
--- the operand at that place from the top of the first frame
+-- the operand at that position from the top of the first frame
 abbrev pub operand_at : List Frame → ℕ → Option (Option ValType)
 operand_at [] position = None
 operand_at (f ∷ fs) position = slice_get f.operands.known position
@@ -100,7 +100,7 @@ IsCause C t fs (cause.Labels label takes others) =
 IsCause C t fs (cause.Select above below) =
     (t ≡ Do Select) × (operand_at fs 1 ≡ Some (Some above)) × (operand_at fs 2 ≡ Some (Some below)) × (same_type above below ≡ false)
 
--- why the token of that number in the body of function f is refused: the frames are those after the tokens before it, and the cause
+-- why the token at that position of the body of function f is refused: the frames are those after the tokens before it, and the cause
 -- alone refuses it
 pub record IsCauseOf (C : Context) (f : ℕ) (body : List ℕ) (position : ℕ) (why : Cause) : Type 0 where
   pub runs : List LocalRun

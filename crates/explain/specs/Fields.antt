@@ -1,4 +1,4 @@
--- The numbers that an explanation tells.
+-- The fields that an explanation tells.
 use Rattle.std.specs.Prelude.{ℕ, List, Option, Some, None, option_map, slice_get}
 use Rattle.explain.specs.declared.explanation.BodyExplanation.{BodyExplanation}
 use Rattle.explain.specs.declared.explanation.BodyExplanation.TheVariants as fault
@@ -45,7 +45,7 @@ kind_told (told.Rule k item) = kind.Rule
 kind_told (told.Body b) = kind_of_fault b.fault
 kind_told told.Memory = kind.Memory
 
--- ---- the place: from the first byte on up to the byte after the last; where reading stopped these are one
+-- ---- the span: from the first byte on up to the byte after the last; where reading stopped these are one
 
 abbrev pub at_offset : ℕ → Span
 at_offset at = record { from = at; to = at }

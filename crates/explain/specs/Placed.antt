@@ -44,7 +44,7 @@ IsBodyOf imported bodies f body = (position : ℕ) × (f ≡ imported + position
 abbrev pub Declares : List ℕ → ℕ → Type 0
 Declares body count = (runs : List LocalRun) × (code : List ℕ) × (locals.read body ≡ Some (runs, code)) × (count ≡ locals_of runs)
 
--- the places that a fault tells are those of the body of function f, which begins at offset `start`
+-- the locations that a fault tells are those of the body of function f, which begins at offset `start`
 abbrev pub TellsLocations : Context → ℕ → List ℕ → ℕ → BodyExplanation → Type 0
 TellsLocations C f body start (Malformed stop) = IfSome stop (IsStopOf body start)
 TellsLocations C f body start (TooManyLocals count) = IfSome count (Declares body)
@@ -57,7 +57,7 @@ TellsNoLocations (Malformed stop) = stop ≡ None
 TellsNoLocations (TooManyLocals count) = count ≡ None
 TellsNoLocations (IllTyped position found typing cause) = (found ≡ None) × (typing ≡ None) × (cause ≡ None)
 
--- the bytes of the module in the span are the body of the function; without a span no place is told
+-- the bytes of the module in the span are the body of the function; without a span no location is told
 abbrev pub TellsBody : List ℕ → Context → ℕ → List (List ℕ) → ℕ → Option Span → BodyExplanation → Type 0
 TellsBody bytes C imported bodies f None fault = TellsNoLocations fault
 TellsBody bytes C imported bodies f (Some s) fault =

@@ -35,7 +35,7 @@ constant_type (Constant t) = Some t
 constant_type (Get x imported gets) = option_and_then immutable_type gets
 constant_type Other = None
 
--- rules 2 and 3: the type at that place of a list of functions is none of so many
+-- rules 2 and 3: the type at that entry of a list of functions is none of so many
 abbrev pub TellsType : ModuleShape → List ℕ → ℕ → ℕ → ℕ → Type 0
 TellsType m functions entry y types = IsFirst (λ z. z < length m.types) functions entry y × (types ≡ length m.types)
 
@@ -44,7 +44,7 @@ abbrev pub TellsGlobal : List GlobalType → List GlobalShape → ℕ → ValTyp
 TellsGlobal globals gs position t initial =
     (g : GlobalShape) × IsFirst (λ h. ConstantOf globals h.global_type.val_type h.init) gs position g × (g.global_type.val_type ≡ t) × IsInitial globals g.init initial
 
--- rule 10: the export of that number has the name of an earlier one, and those before it have different names
+-- rule 10: the export at that position has the name of an earlier one, and those before it have different names
 pub record IsRepeated (es : List ExportShape) (position : ℕ) (name : List ℕ) (earlier : ℕ) : Type 0 where
   pub order : earlier < position
   pub there : option_map (λ e. e.item_name) (slice_get es position) ≡ Some name
@@ -74,10 +74,11 @@ abbrev pub TellsData : ModuleShape → ℕ → ItemFault → Type 0
 TellsData m position fault =
     (d : DataShape) × IsFirst (DataValid m) m.segments position d × IsDataFault (length (memories_of m)) (imported_globals m) d fault
 
--- the item of that number of its section is the first that breaks the rule, for that
+-- the item at that position of its section is the first that breaks the rule, for that
 abbrev pub TellsFault : ModuleShape → ℕ → ItemFault → Type 0
 TellsFault m position (ImportedType func y types) = TellsType m (imported_functions m) func y types
-TellsFault m position (DefinedType func y types) = TellsType m m.functions position y types × (func ≡ length (imported_functions m) + position)
+TellsFault m position (DefinedType func y types) =
+    TellsType m m.functions position y types × (func ≡ length (imported_functions m) + position)
 TellsFault m position (TableLimits table limits) = IsFirst (λ t. InOrder t.limits) (tables_of m) table (record { limits = limits })
 TellsFault m position (MemoryLimits memory limits) = IsFirst (WithinRange page_range) (memories_of m) memory limits
 TellsFault m position (SecondTable tables) = (tables ≡ length (tables_of m)) × (1 < tables)

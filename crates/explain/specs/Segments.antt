@@ -1,4 +1,4 @@
--- 3.4.5 and 3.4.6 Segments as they are held, by the numbers of items and the imported globals.
+-- 3.4.5 and 3.4.6 Segments as they are held, by how many items there are and the imported globals.
 use Rattle.std.specs.Prelude.{ℕ, ◌<◌, List}
 use Rattle.wsyntax.specs.HeldElement.{HeldElement}
 use Rattle.wsyntax.specs.Modules.{DataShape, data_shape, element_shape}
@@ -22,4 +22,5 @@ IsFirstElement tables functions globals es position fault =
 -- the first data segment that is not valid, and what is wrong with it
 abbrev pub IsFirstData : ℕ → List GlobalType → List Data → ℕ → ItemFault → Type 0
 IsFirstData memories globals ds position fault =
-    (d : Data) × IsFirst (λ s. IsDataValid memories globals (data_shape s)) ds position d × IsDataFault memories globals (data_shape d) fault
+    (d : Data) × IsFirst (λ s. IsDataValid memories globals (data_shape s)) ds position d
+    × IsDataFault memories globals (data_shape d) fault

@@ -76,7 +76,7 @@ abbrev pub IsStuck : Stuck → Type 0
 IsStuck (stuck.Here rest wrong) = Stands wrong rest.now
 IsStuck stuck.Memory = Unit {0}
 
--- something is wrong at the front of these bytes from that place on
+-- something is wrong at the front of these bytes from that offset on
 abbrev pub IsMisread : List ℕ → Misread → Type 0
 IsMisread bytes m = Stands m.wrong (between m.offset (length bytes) bytes)
 
@@ -140,7 +140,7 @@ after_items items (suc n) bytes = after_one_more items (after_items items n byte
 abbrev pub IsVector : Items → List ℕ → List ℕ → Type 0
 IsVector items contents rest = (count : ℕ) × (first : List ℕ) × (u32.read contents ≡ Some (count, first)) × (after_items items count first ≡ Some rest)
 
--- the item of that number is none, and those before it are items
+-- the item at that position is none, and those before it are items
 abbrev pub IsNoItem : Items → List ℕ → ℕ → Type 0
 IsNoItem items contents n =
     (count : ℕ) × (first item : List ℕ) × (u32.read contents ≡ Some (count, first)) × (n < count) × (after_items items n first ≡ Some item) × (after items item ≡ None)
@@ -184,7 +184,7 @@ ContentsCome id contents (outcome.After rest segment) = AreRead id contents rest
 ContentsCome id contents outcome.Unknown = Unit {0}
 ContentsCome id contents (outcome.Stopped l) = IsUnread id contents l.part × Stands l.wrong l.rest.now
 
--- ---- the place
+-- ---- the location
 
 -- what is wrong there is so beyond what its bytes tell: the id is too large or comes too late, or another number of bodies than of functions is read there
 abbrev pub Otherwise : ℕ → Wrong → List ℕ → Type 0

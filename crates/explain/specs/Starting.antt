@@ -2,7 +2,7 @@
 use Rattle.std.specs.Prelude.{◌≡◌, ℕ, suc, List, [], ◌∷◌, ◌++◌, Option, Some, None, codes, option_map, position, slice_get, unwrap_or, if◌then◌else◌}
 use Rattle.std.specs.List.{between}
 use Rattle.wsyntax.specs.Modules.{ModuleShape, BodyShape, import_shape}
-use Rattle.wsyntax.specs.Execution.Start.{StartRefusal, any, body_has_floats, first, or_else, run_has_floats, token_has_floats, type_has_floats}
+use Rattle.wsyntax.specs.Execution.Start.{StartRefusal, body_has_floats, first, or_else, run_has_floats, token_has_floats, type_has_floats}
 use Rattle.wsyntax.specs.Execution.Start as meant
 use Rattle.wsyntax.specs.Texts.Report.{refusal_text}
 use Rattle.wsyntax.specs.Texts.Words.{newline}
@@ -39,7 +39,7 @@ abbrev pub first_in : ℕ → List BodyShape → Option FloatLocation
 first_in f [] = None
 first_in f (b ∷ bs) = if body_has_floats b then Some (float_in f b) else first_in (suc f) bs
 
--- the first function type with floats, else the first global of a float type, else the first place in a body: in a valid module no float stands elsewhere
+-- the first function type with floats, else the first global of a float type, else the first location in a body: in a valid module no float stands elsewhere
 abbrev pub first_float : ModuleShape → List BodyShape → Option FloatLocation
 first_float m bodies =
     or_else (option_map location.Type (position type_has_floats m.types))
@@ -62,7 +62,8 @@ abbrev pub IsStartLine : Option StartRefusal → List ℕ → Type 0
 IsStartLine None line = line ≡ codes "starts" ++ newline
 IsStartLine (Some r) line = BeginsWith (reason_text r) line
 
--- the bytes in some span are the body of function f, and its token of that number is this one
+-- the bytes in some span are the body of function f, and its token at that position is this one
 abbrev pub IsTokenOf : List ℕ → List (List ℕ) → ℕ → ℕ → FoundToken → Type 0
 IsTokenOf bytes bodies f token_position token =
-    (from : ℕ) × (to : ℕ) × (slice_get bodies f ≡ Some (between from to bytes)) × IsTokenAt (between from to bytes) from token_position token
+    (from : ℕ) × (to : ℕ) × (slice_get bodies f ≡ Some (between from to bytes))
+    × IsTokenAt (between from to bytes) from token_position token

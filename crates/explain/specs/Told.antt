@@ -11,7 +11,7 @@ use Rattle.explain.specs.declared.explanation.RefusedFunction.{RefusedFunction}
 use Rattle.explain.specs.declared.explanation.Explanation.{Explanation}
 use Rattle.explain.specs.declared.explanation.Explanation.TheVariants.{Accepted, TooLarge, Malformed, Rule, Body, Memory}
 
--- why a body is refused, without places
+-- why a body is refused, without locations
 abbrev pub refusal_told : BodyExplanation → BodyRefusal
 refusal_told (fault.Malformed stop) = refusal.Malformed
 refusal_told (fault.TooManyLocals count) = refusal.TooManyLocals

@@ -58,7 +58,7 @@ abbrev pub topmost : ℕ → List Frame → List (Option ValType)
 topmost zero fs = []
 topmost (suc n) fs = and_others (take_top fs) (topmost n)
 
--- how many operands of the first frame have a place
+-- how many operands of the first frame have a position
 abbrev pub known_in : List Frame → ℕ
 known_in [] = 0
 known_in (f ∷ fs) = length f.operands.known
@@ -119,7 +119,7 @@ pub record StepsTo (bytes : List ℕ) (old : Checking) (after : List ℕ) (new :
   pub step : step old.inside token old.frames ≡ Some new.frames
   pub same : new ≡ with_frames old new.frames
 
--- of the token of that number in the body of function f: the frames are those after the tokens before it
+-- of the token at that position of the body of function f: the frames are those after the tokens before it
 pub record IsTypingOf (C : Context) (f : ℕ) (body : List ℕ) (position : ℕ) (told : Typing) : Type 0 where
   pub runs : List LocalRun
   pub code : List ℕ

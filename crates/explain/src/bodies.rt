@@ -24,7 +24,7 @@ fn code_section(bytes: &[u8]) -> Option<Span> {
     None
 }
 
-/// Where the body at that place of the section of bodies may stand.
+/// Where the body at that position of the section of bodies may stand.
 fn proposed(bytes: &[u8], position: usize) -> Option<Span> {
     let section = code_section(bytes)?;
     let (_count, first) = number_at(bytes, section.from)?;
@@ -35,7 +35,7 @@ fn proposed(bytes: &[u8], position: usize) -> Option<Span> {
     sized_at(bytes, at)
 }
 
-/// Where the body stands in the module, whose place among the bodies that is; `None` where other bytes stand there.
+/// Where the body stands in the module, whose position among the bodies that is; `None` where other bytes stand there.
 pub(crate) fn body_span(bytes: &[u8], position: usize, body: &[u8]) -> Option<Span>
     ensures { IfSome result (λ s. between s.from s.to bytes.now ≡ body.now) }
 {

@@ -87,7 +87,7 @@ pub enum ItemFault<'a> {
     },
     /// The offset of an element segment is no constant expression of type i32.
     ElementOffset(Initial),
-    /// The function at that place of an element segment is none of so many.
+    /// The function at that position of an element segment is none of so many.
     ElementFunction {
         position: usize,
         func: u32,
@@ -107,7 +107,7 @@ pub enum ItemFault<'a> {
 pub struct BrokenItem<'a> {
     /// The id of the section in which it stands (5.5.2).
     pub section: u8,
-    /// Its number in the section, from 0.
+    /// Its position in the section, from 0.
     pub position: usize,
     /// The offset of its first byte in the module.
     pub at: Option<usize>,

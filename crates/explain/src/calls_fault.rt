@@ -141,7 +141,7 @@ fn line_fault(line: &[u8]) -> LineFault<'_> {
     LineFault::Bad
 }
 
-/// The text from the line of that place on, the first being 0.
+/// The text from the line at that position on, the first being 0.
 fn from_line(text: &[u8], position: usize) -> Option<&[u8]> {
     let mut rest = text;
     for _ in 0..position {
@@ -151,7 +151,7 @@ fn from_line(text: &[u8], position: usize) -> Option<&[u8]> {
     Some(rest)
 }
 
-/// What is wrong with the line of that place, the first being 0.
+/// What is wrong with the line at that position, the first being 0.
 fn fault_at(text: &[u8], position: usize) -> LineFault<'_> {
     if position >= LINE_LIMIT {
         return LineFault::TooMany;

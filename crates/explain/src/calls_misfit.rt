@@ -18,7 +18,7 @@ pub(crate) enum Misfit {
     Arguments { func: u32, passes: Vec<ValType> },
 }
 
-/// The first call that does not fit, by its place, and why.
+/// The first call that does not fit, by its position, and why.
 #[derive(Drop)]
 pub(crate) struct CallMisfit {
     pub(crate) position: usize,

@@ -13,7 +13,7 @@ pub enum Space {
     Labels,
 }
 
-/// Why a token is ill typed. A place is that of an operand, from 0 on top.
+/// Why a token is ill typed. A position is that of an operand, from 0 on top.
 #[derive(Drop)]
 pub enum Cause {
     /// It takes an operand of one type, and finds one of another.

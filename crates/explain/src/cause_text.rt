@@ -33,23 +33,23 @@ fn push_taken(
     text.push_str(wanted_words(wanted))
 }
 
-/// A place from the top.
+/// A position from the top.
 fn push_position(text: &mut String, position: usize) -> Result<(), AllocError> {
     match position {
         0 => text.push_str(" on top"),
         1 => text.push_str(" below the top"),
-        _ => write!(text, " below {place} others"),
+        _ => write!(text, " below {position} others"),
     }
 }
 
-/// The place of an operand that is missing, which is the height of the stack.
+/// The position of an operand that is missing, which is the height of the stack.
 fn push_missing(text: &mut String, position: usize) -> Result<(), AllocError> {
     match position {
         0 => text.push_str(", and the stack of the block is empty"),
         1 => text.push_str(" below the top, and the block has 1 operand"),
         _ => write!(
             text,
-            " below {place} others, and the block has {place} operands"
+            " below {position} others, and the block has {position} operands"
         ),
     }
 }
@@ -105,13 +105,13 @@ fn push_left_over(text: &mut String, found: &FoundToken, count: usize) -> Result
     text.push_str(name_of_byte(found.opcode))
 }
 
-/// A label of a branch table, and the first place at which it names it, from 0.
+/// A label of a branch table, and the first position at which it names it, from 0.
 fn push_label(text: &mut String, found: &FoundToken, label: u32) -> Result<(), AllocError> {
     write!(text, "label {label} of the branch table")?;
     let position = found.targets.iter().position(|target| *target == label);
     match position {
         Some(position) if position + 1 == found.targets.len() => text.push_str(", its default,"),
-        Some(position) => write!(text, ", at place {place},"),
+        Some(position) => write!(text, ", at place {position},"),
         None => Ok(()),
     }
 }

@@ -39,7 +39,7 @@ fn misfit(takes: &[Option<ValType>], finds: &[Option<ValType>]) -> Option<Cause>
     None
 }
 
-/// The type of the operand at a place from the top, where it is known. The lowest comes first.
+/// The type of the operand at a position from the top, where it is known. The lowest comes first.
 fn type_at(finds: &[Option<ValType>], position: usize) -> Option<ValType>
     ensures { IfSome result (λ t. slice_get (reverse finds.now) position ≡ Some (Some t)) }
 {

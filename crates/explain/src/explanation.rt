@@ -102,7 +102,7 @@ pub struct FoundToken {
     pub targets: Vec<u32>,
 }
 
-/// Why a body is refused. What is `None` could not be found; nothing false is said in its place.
+/// Why a body is refused. What is `None` could not be found; nothing false is said instead.
 #[derive(Drop)]
 pub enum BodyExplanation<'a> {
     /// Its bytes spell no body.
@@ -163,7 +163,7 @@ impl BodyExplanation<'_> {
     ghost use Rattle.std.specs.Prelude.{◌≡◌};
     ghost use Rattle.explain.specs.Told.{refusal_told};
 
-    /// The same without places.
+    /// The same without locations.
     pub fn refusal(&self) -> BodyRefusal
         ensures { result ≡ refusal_told self.now }
     {

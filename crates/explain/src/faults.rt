@@ -1,9 +1,9 @@
-//! Why a body is refused: by its verdict alone, and with its places.
+//! Why a body is refused: by its verdict alone, and with its locations.
 ghost use Rattle.std.specs.Prelude.{◌≡◌, IfOk, IfSome, Some, None, map, slice_get};
 ghost use Rattle.wsyntax.specs.Binary.Sections.{locals_of};
 ghost use Rattle.verdict.specs.declared.refusal.BodyRefusal.TheVariants as refusal;
 ghost use Rattle.explain.specs.Told.{refusal_told};
-ghost use Rattle.explain.specs.Placed.{Declares, TellsBody, TellsNoLocations, TellsLocations};
+ghost use Rattle.explain.specs.Placed.{Declares, TellsBody, TellsLocations, TellsNoLocations};
 
 use crate::bodies::body_span;
 use crate::explanation::{BodyExplanation, Span};
@@ -54,7 +54,7 @@ fn declared_locals(alloc: Global, body: &[u8]) -> Result<Option<u64>, AllocError
     }
 }
 
-/// The token of that number, its typing and its cause, in a body that begins at offset `start`.
+/// The token at that position, its typing and its cause, in a body that begins at offset `start`.
 fn placed_token<'a>(
     alloc: Global,
     context: &Context,
@@ -116,7 +116,7 @@ pub(crate) struct Located<'a> {
     pub(crate) fault: BodyExplanation<'a>,
 }
 
-/// A body whose place is not known.
+/// A body whose span is not known.
 pub(crate) fn not_located<'a>(refusal: BodyRefusal) -> Located<'a>
     ensures refusal { refusal_told result.fault ≡ refusal }
     ensures locations { (result.span ≡ None) × TellsNoLocations result.fault }
@@ -127,7 +127,7 @@ pub(crate) fn not_located<'a>(refusal: BodyRefusal) -> Located<'a>
     }
 }
 
-/// The body at that place of the bodies of a module.
+/// The body at that position of the bodies of a module.
 fn body_at<'a>(bodies: &Vec<&'a [u8]>, position: usize) -> Option<&'a [u8]>
     ensures { IfSome result (λ body. slice_get (map (λ s. s.now) bodies.now.items) position ≡ Some body.now) }
 {

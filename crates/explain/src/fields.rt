@@ -1,4 +1,4 @@
-//! The numbers of an explanation, one by one, for readers that no variant concerns. `None` says that a number is not told.
+//! The fields of an explanation, one by one, for readers that no variant concerns. `None` says that a field is not told.
 ghost use Rattle.std.specs.Prelude.{◌≡◌, option_map};
 ghost use Rattle.explain.specs.Fields.{at_offset, item_of_part, kind_of_fault, kind_of_no_module};
 ghost use Rattle.explain.specs.Fields.{kind_of_stop, opcode_of_fault, opcode_of_stop, span_of_fault, span_of_no_module};
@@ -101,19 +101,19 @@ fn no_module_span(what: NoModule) -> Option<Span>
 {
     match what {
         NoModule::Magic { at, .. } | NoModule::Version { at, .. } => Some(offset_alone(at)),
-        NoModule::Sections(Some(span)) => Some(offset_alone(span.at)),
+        NoModule::Sections(Some(location)) => Some(offset_alone(location.at)),
         _ => None,
     }
 }
 
 /// The id of the section where reading stopped.
-fn section_id(span: &Location) -> Option<u8>
-    ensures { result ≡ option_map (λ s. s.id) span.now.section }
+fn section_id(location: &Location) -> Option<u8>
+    ensures { result ≡ option_map (λ s. s.id) location.now.section }
 {
-    Some(span.section?.id)
+    Some(location.section?.id)
 }
 
-/// The place of an item in its section.
+/// The position of an item in its section.
 fn item_position(part: SectionPart) -> Option<usize>
     ensures { result ≡ item_of_part part }
 {
@@ -221,7 +221,7 @@ impl Explanation<'_> {
     {
         match self {
             Explanation::Body(_) => Some(CODE_SECTION),
-            Explanation::Malformed(NoModule::Sections(Some(span))) => section_id(span),
+            Explanation::Malformed(NoModule::Sections(Some(location))) => section_id(location),
             Explanation::Rule {
                 item: Some(item),
                 ..
@@ -230,12 +230,14 @@ impl Explanation<'_> {
         }
     }
 
-    /// The place of the refused item in its section, from 0; of bodies the verdict has the function in its stead.
+    /// The position of the refused item in its section, from 0; of bodies the verdict has the function instead.
     pub fn item(&self) -> Option<usize>
         ensures { result ≡ item_told self.now }
     {
         match self {
-            Explanation::Malformed(NoModule::Sections(Some(span))) => item_position(span.part),
+            Explanation::Malformed(NoModule::Sections(Some(location))) => item_position(
+                location.part,
+            ),
             Explanation::Rule {
                 item: Some(item),
                 ..

@@ -12,7 +12,7 @@ fn is_of_kind(import: ImportKind, kind: ExportKind) -> bool {
     }
 }
 
-/// The number of the import that adds the item of that index to the space of that kind.
+/// The position of the import that adds the item of that index to the space of that kind.
 pub(crate) fn import_of(imports: &[Import<'_>], kind: ExportKind, index: usize) -> Option<usize> {
     let mut left = index;
     for (position, import) in imports.iter().enumerate() {

@@ -155,7 +155,7 @@ fn after_item(alloc: Global, section: u8, bytes: &[u8]) -> Result<&[u8], Fault> 
     after.ok_or(Fault::Malformed)
 }
 
-/// The bytes of a module from the item of that number of a section on; the section of the start function has no count.
+/// The bytes of a module from the item at that position of a section on; the section of the start function has no count.
 fn from_item(alloc: Global, bytes: &[u8], section: u8, position: usize) -> Result<&[u8], Fault> {
     let inside = inside(bytes, section).ok_or(Fault::Malformed)?;
     if section == START {
@@ -168,7 +168,7 @@ fn from_item(alloc: Global, bytes: &[u8], section: u8, position: usize) -> Resul
     Ok(rest)
 }
 
-/// The offset of the item of that number of a section. That it is that item's, no contract says.
+/// The offset of the item at that position of a section. That it is that item's, no contract says.
 pub(crate) fn item_offset(
     alloc: Global,
     bytes: &[u8],

@@ -35,7 +35,7 @@ pub(crate) fn offset_of(start: usize, body: &[u8], left: &[u8]) -> Option<usize>
     start.checked_add(body.len().saturating_sub(left.len()))
 }
 
-/// The token of that number in a body that begins at offset `start`; Malformed where there is none.
+/// The token at that position of a body that begins at offset `start`; Malformed where there is none.
 pub(crate) fn find_token(
     alloc: Global,
     body: &[u8],

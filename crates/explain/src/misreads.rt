@@ -12,7 +12,7 @@ const MOST_OF_I32: usize = 5;
 
 const MOST_OF_I64: usize = 10;
 
-/// What is wrong, and the place of the first byte of it.
+/// What is wrong, and the offset of the first byte of it.
 #[derive(Clone, Copy)]
 pub(crate) struct Misread {
     pub(crate) offset: usize,

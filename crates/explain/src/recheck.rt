@@ -11,8 +11,8 @@ ghost use Rattle.explain.specs.Typed.{IsTypingIn, IsTypingOf, PassesTo, StepsTo,
 use crate::cause::Cause;
 use crate::causes::{name_cause, operand_cause};
 use crate::explanation::{FoundToken, FunctionSignature, Span};
-use crate::operands::{Operands, takes_of};
 use crate::locations::offset_of;
+use crate::operands::{Operands, takes_of};
 use crate::trail::{Trail, puts};
 use crate::typing::{OpenBlock, Typing};
 use std::alloc::{AllocError, Global};
@@ -219,7 +219,7 @@ fn told_of_token(
     }
 }
 
-/// What is told of the token of that number in a body that begins at offset `start`; Malformed where there is none.
+/// What is told of the token at that position of a body that begins at offset `start`; Malformed where there is none.
 pub(crate) fn find_told(
     alloc: Global,
     context: &Context,

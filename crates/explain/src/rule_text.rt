@@ -7,19 +7,19 @@ use crate::type_text::{push_signature, type_name};
 use std::alloc::AllocError;
 use wsyntax::{ExportKind, GlobalType, Limits, PAGE_RANGE, ValType};
 
-/// An item of a section, by its number there.
+/// An item of a section, by its position there.
 fn push_by_position(text: &mut String, section: u8, position: usize) -> Result<(), AllocError> {
     match section {
-        IMPORT => write!(text, "import {number}"),
-        EXPORT => write!(text, "export {number}"),
+        IMPORT => write!(text, "import {position}"),
+        EXPORT => write!(text, "export {position}"),
         START => text.push_str("start"),
-        ELEMENT => write!(text, "element segment {number}"),
-        DATA => write!(text, "data segment {number}"),
-        _ => write!(text, "number {number} of section {section}"),
+        ELEMENT => write!(text, "element segment {position}"),
+        DATA => write!(text, "data segment {position}"),
+        _ => write!(text, "number {position} of section {section}"),
     }
 }
 
-/// An item: by its index where the module defines it, or else by its number in its section.
+/// An item: by its index where the module defines it, or else by its position in its section.
 fn push_item(text: &mut String, item: &BrokenItem<'_>) -> Result<(), AllocError> {
     if item.section == IMPORT {
         return push_by_position(text, item.section, item.position);
@@ -161,14 +161,14 @@ fn push_outer_fault(text: &mut String, item: &BrokenItem<'_>) -> Result<(), Allo
             index,
             count,
         } => {
-            write!(text, "export {number} ")?;
+            write!(text, "export {position} ")?;
             push_name(text, name)?;
             let kind = kind_name(*kind);
             write!(text, " names {kind} {index}")?;
             push_count(text, *count, kind)
         }
         ItemFault::ExportedName { name, earlier } => {
-            write!(text, "export {number} ")?;
+            write!(text, "export {position} ")?;
             push_name(text, name)?;
             write!(text, " has the name of export {earlier}")
         }
@@ -189,30 +189,30 @@ fn push_fault(text: &mut String, item: &BrokenItem<'_>) -> Result<(), AllocError
     let position = item.position;
     match &item.fault {
         ItemFault::ElementTable { table, tables } => {
-            write!(text, "element segment {number} is of table {table}")?;
+            write!(text, "element segment {position} is of table {table}")?;
             push_count(text, *tables, "table")
         }
         ItemFault::ElementOffset(offset) => {
-            write!(text, "element segment {number}: its offset is ")?;
+            write!(text, "element segment {position}: its offset is ")?;
             push_initial(text, *offset, ValType::I32)
         }
         ItemFault::ElementFunction {
-            position,
+            position: entry,
             func,
             functions,
         } => {
             write!(
                 text,
-                "element segment {number}: its entry {place} is function {func}"
+                "element segment {position}: its entry {entry} is function {func}"
             )?;
             push_count(text, *functions, "function")
         }
         ItemFault::DataMemory { memory, memories } => {
-            write!(text, "data segment {number} is of memory {memory}")?;
+            write!(text, "data segment {position} is of memory {memory}")?;
             push_count(text, *memories, "memory")
         }
         ItemFault::DataOffset(offset) => {
-            write!(text, "data segment {number}: its offset is ")?;
+            write!(text, "data segment {position}: its offset is ")?;
             push_initial(text, *offset, ValType::I32)
         }
         _ => push_outer_fault(text, item),

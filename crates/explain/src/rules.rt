@@ -19,7 +19,7 @@ use wcontext::Spaces;
 use wdecode::{DecodeFault, decode_module};
 use wsyntax::Module;
 
-/// The first item of a module that breaks the rule of that number, which is not that on the names of exports, its place aside.
+/// The first item of a module that breaks the rule of that number, which is not that on the names of exports, its offset aside.
 fn item_by_spaces<'a>(
     alloc: Global,
     module: &Module<'a>,
@@ -44,7 +44,7 @@ fn item_by_spaces<'a>(
     }
 }
 
-/// The first item of a module that breaks the rule of that number, its place aside.
+/// The first item of a module that breaks the rule of that number, its offset aside.
 fn item_in<'a>(
     alloc: Global,
     module: Module<'a>,
@@ -59,7 +59,7 @@ fn item_in<'a>(
     }
 }
 
-/// The first item of a module that breaks the rule of that number, and its place among the bytes.
+/// The first item of a module that breaks the rule of that number, and its offset.
 fn placed_item<'a>(
     alloc: Global,
     bytes: &[u8],

@@ -20,7 +20,7 @@ pub enum SectionPart {
     Name,
     /// How many items it has.
     Count,
-    /// The item of that number, from 0.
+    /// The item at that position, from 0.
     Item(u32),
     /// The index of the start function.
     Start,
@@ -49,9 +49,9 @@ pub enum Wanted {
     DataSize,
     Instruction,
     BlockType,
-    /// The byte 00 after the type of `call_indirect`, in whose place later standards have the index of a table.
+    /// The byte 00 after the type of `call_indirect`, instead of which later standards have the index of a table.
     TableByte,
-    /// The byte 00 after `memory.size` and `memory.grow`, in whose place later standards have the index of a memory.
+    /// The byte 00 after `memory.size` and `memory.grow`, instead of which later standards have the index of a memory.
     MemoryByte,
     Alignment,
     Offset,
@@ -123,8 +123,8 @@ pub enum Wrong {
 /// A segment that begins with another number than 0, as only those of later standards do in a valid module.
 #[derive(Clone, Copy, Debug, PartialEq, Eq)]
 pub struct OtherSegment {
-    /// Its number among the segments, from 0.
-    pub number: u32,
+    /// Its position among the segments, from 0.
+    pub position: u32,
     pub first: u32,
     /// The offset of its first byte.
     pub at: usize,

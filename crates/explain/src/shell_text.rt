@@ -2,7 +2,7 @@
 
 use crate::opcode_names::{feature_of_byte, name_of_later, named_after_fc};
 use crate::quoting::push_hex;
-use crate::shell_location::{FoundSection, OtherSegment, Location, SectionPart, Wanted, Wrong};
+use crate::shell_location::{FoundSection, Location, OtherSegment, SectionPart, Wanted, Wrong};
 use crate::shell_words::{
     Origin, is_plural, item_name, later_byte, later_section, later_segment, section_name,
     wanted_bytes, wanted_words,
@@ -35,7 +35,7 @@ fn push_part(text: &mut String, part: SectionPart, id: u8) -> Result<(), AllocEr
         SectionPart::Count => text.push_str("its count"),
         SectionPart::Start => text.push_str("its index"),
         SectionPart::End => text.push_str("after its items"),
-        SectionPart::Item(number) => write!(text, "{} {number}", item_name(id)),
+        SectionPart::Item(position) => write!(text, "{} {position}", item_name(id)),
     }
 }
 
@@ -260,17 +260,21 @@ fn push_wrong(text: &mut String, location: Location, id: u8) -> Result<(), Alloc
     }
 }
 
-/// A segment of a later standard, in place of what reading it by Core 1.0 stopped at; whether it is one.
+/// A segment of a later standard, instead of what reading it by Core 1.0 stopped at; whether it is one.
 fn push_segment(text: &mut String, id: u8, segment: OtherSegment) -> Result<bool, AllocError> {
     let Some((name, origin)) = later_segment(id, segment.first) else {
         return Ok(false);
     };
-    let OtherSegment { number, first, at } = segment;
+    let OtherSegment {
+        position,
+        first,
+        at,
+    } = segment;
     let item = item_name(id);
-    write!(text, "item      {item} {number}, byte {at} (0x{at:x})\n")?;
+    write!(text, "item      {item} {position}, byte {at} (0x{at:x})\n")?;
     write!(
         text,
-        "because   {item} {number} begins with {first:02x}, as {name}"
+        "because   {item} {position} begins with {first:02x}, as {name}"
     )?;
     push_origin(text, origin)?;
     Ok(true)

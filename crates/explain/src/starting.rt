@@ -12,7 +12,7 @@ use accepted_module::{Accepted, InitialState, memory_pages, table_size};
 use checked_body::{CheckedBody, is_float, token_has_floats, type_has_floats};
 use wsyntax::{FuncTypes, Global, Import, LocalRun, Module, TABLE_LIMIT, Token};
 
-/// Where f32 or f64 stands first in a module without imports, in which the index of a function is the place of its body.
+/// Where f32 or f64 stands first in a module without imports, in which the index of a function is the position of its body.
 #[derive(Clone, Copy)]
 pub enum FloatLocation {
     /// In the function type of that index.
@@ -21,7 +21,7 @@ pub enum FloatLocation {
     Global(usize),
     /// In that run of the declared locals of that function.
     Local { func: usize, run: usize },
-    /// In the token of that number of the body of that function.
+    /// In the token at that position of the body of that function.
     Token { func: usize, position: usize },
 }
 
@@ -36,9 +36,9 @@ pub enum NotStarting<'a> {
     TableLimit(u32),
     /// Its memory has at least so many pages.
     MemoryLimit(u32),
-    /// The element segment of that number ends past the table.
+    /// The element segment at that position ends past the table.
     ElementOutside(u32),
-    /// The data segment of that number ends past the memory.
+    /// The data segment at that position ends past the memory.
     DataOutside(u32),
 }
 
@@ -66,7 +66,7 @@ fn float_global(globals: &[Global<'_>]) -> Option<usize>
         .position(|global| is_float(global.global_type.val_type))
 }
 
-/// The number of the first run of locals that are floats.
+/// The position of the first run of locals that are floats.
 fn float_run(runs: &[LocalRun]) -> Option<usize>
     ensures { result ≡ position run_has_floats runs.now }
 {
@@ -74,7 +74,7 @@ fn float_run(runs: &[LocalRun]) -> Option<usize>
         .position(|run| run.count > 0 && is_float(run.val_type))
 }
 
-/// The number of the first token that has floats.
+/// The position of the first token that has floats.
 fn float_token(tokens: &[Token]) -> Option<usize>
     ensures { result ≡ position (λ t. token_has_floats (decoded_as [] t)) tokens.now }
 {

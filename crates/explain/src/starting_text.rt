@@ -9,8 +9,8 @@ ghost use Rattle.explain.specs.Starting.{IsStartLine, IsTokenOf, reason_text, re
 use crate::bodies::body_span;
 use crate::explanation::FoundToken;
 use crate::functions::first_export;
-use crate::names::name_of;
 use crate::locations::find_token;
+use crate::names::name_of;
 use crate::quoting::push_name;
 use crate::starting::{FloatLocation, NotStarting, not_starting};
 use crate::token_text::push_token;
@@ -20,7 +20,7 @@ use std::alloc::{AllocError, Global};
 use wdecode::Fault;
 use wsyntax::{Import, ImportKind, Module, PAGE, TABLE_LIMIT};
 
-/// The token of that number of the body of that function of a module without imports, where it is found.
+/// The token at that position of the body of that function of a module without imports, where it is found.
 fn token_of(
     alloc: Global,
     bytes: &[u8],
@@ -110,7 +110,7 @@ fn push_float_token(
     position: usize,
 ) -> Result<(), AllocError> {
     push_named(text, bytes, module, func)?;
-    write!(text, " token {number}")?;
+    write!(text, " token {position}")?;
     if let Some(found) = token_of(alloc, bytes, module, func, position)? {
         text.push_str(" ")?;
         push_token(text, &found)?;
@@ -169,10 +169,10 @@ fn push_floats(
     alloc: Global,
     bytes: &[u8],
     accepted: &Accepted<'_>,
-    offset: Option<FloatLocation>,
+    location: Option<FloatLocation>,
 ) -> Result<(), AllocError> {
     let module = accepted.module();
-    match offset {
+    match location {
         Some(FloatLocation::Type(index)) => push_float_type(text, module, index),
         Some(FloatLocation::Global(index)) => push_float_global(text, module, index),
         Some(FloatLocation::Local { func, run }) => push_float_locals(
@@ -232,7 +232,7 @@ fn push_named_reason(
 ) -> Result<(), AllocError> {
     match why {
         NotStarting::Import(import) => push_import(text, import),
-        NotStarting::Floats(offset) => push_floats(text, alloc, bytes, accepted, *offset),
+        NotStarting::Floats(location) => push_floats(text, alloc, bytes, accepted, *location),
         NotStarting::TableLimit(entries) => {
             write!(
                 text,

@@ -55,8 +55,8 @@ fn later_at<'a>(bytes: &'a [u8]) -> Option<Later<'a>> {
 
 /// Bytes as digits of base 16, with blanks between them.
 fn push_opcode(text: &mut String, opcode: &[u8]) -> Result<(), AllocError> {
-    for (offset, byte) in opcode.iter().enumerate() {
-        text.push_str(if offset == 0 { "" } else { " " })?;
+    for (position, byte) in opcode.iter().enumerate() {
+        text.push_str(if position == 0 { "" } else { " " })?;
         push_hex(text, *byte)?;
     }
     Ok(())
@@ -78,7 +78,7 @@ fn push_later(text: &mut String, later: Later<'_>) -> Result<(), AllocError> {
 /// What is wrong within bytes that begin at that offset.
 fn push_misread_at(text: &mut String, at: usize, misread: Misread) -> Result<(), AllocError> {
     let offset = at.saturating_add(misread.offset);
-    write!(text, "; byte {place} (0x{place:x}): ")?;
+    write!(text, "; byte {offset} (0x{offset:x}): ")?;
     push_misread(text, misread.wrong)
 }
 

@@ -71,7 +71,7 @@ fn push_function(text: &mut String, body: &RefusedFunction<'_>) -> Result<(), Al
 
 /// The line on the token that is refused.
 fn push_found(text: &mut String, position: usize, found: &FoundToken) -> Result<(), AllocError> {
-    write!(text, "token     {number} ")?;
+    write!(text, "token     {position} ")?;
     push_token(text, found)?;
     let from = found.span.from;
     let to = found.span.to;

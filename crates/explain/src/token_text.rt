@@ -29,7 +29,7 @@ fn push_labels(text: &mut String, labels: &[u32]) -> Result<(), AllocError> {
     Ok(())
 }
 
-/// The place of a load or a store.
+/// The offset and the alignment of a load or a store.
 fn push_access(text: &mut String, align: u32, offset: u32) -> Result<(), AllocError> {
     write!(text, " offset={offset}")?;
     if align < 32 {

@@ -1,6 +1,6 @@
 //! Which tokens opened the open blocks, and which gave their operands: kept while a body is checked anew.
 //!
-//! Of a token only the place of its bytes is kept, four bytes, and it is read again where it is told. So what is kept of the blocks
+//! Of a token only the offset of its bytes is kept, four bytes, and it is read again where it is told. So what is kept of the blocks
 //! and operands of a body is little beside what the checker has of them.
 
 use crate::typing::{BlockKind, Giver, Opening};
@@ -14,7 +14,7 @@ use wsyntax::{Token, ValType};
 struct GivenRun {
     /// How many operands lie below them, of all open blocks.
     below: usize,
-    /// The number of the token.
+    /// The position of the token.
     position: u32,
     /// Where it begins in the code.
     at: u32,
@@ -187,7 +187,7 @@ impl<'a> Trail<'a> {
         })
     }
 
-    /// The run of operands in which that one lies, of those that are known, at or after the run of that place.
+    /// The run of operands in which that one lies, of those that are known, at or after the run at that position.
     fn run_from(&self, run: usize, operand: usize) -> usize {
         let next = run.saturating_add(1);
         match self.held.get(next) {

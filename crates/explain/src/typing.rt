@@ -26,7 +26,7 @@ pub struct OpenBlock {
     pub signature: FunctionSignature,
 }
 
-/// A token that gave an operand: its number, and the first of its bytes.
+/// A token that gave an operand: its position, and the first of its bytes.
 #[derive(Clone, Copy)]
 pub struct Giver {
     pub position: usize,

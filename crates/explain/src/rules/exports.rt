@@ -57,7 +57,7 @@ fn keeps_names(alloc: Global, module: &Module<'_>) -> Result<bool, AllocError>
     }
 }
 
-/// The name of the export of that number.
+/// The name of the export at that position.
 fn name_of<'a>(exports: &[Export<'a>], position: usize) -> Option<&'a [u8]>
     ensures { option_map (λ n. n.now) result ≡ name_at exports.now position }
 {
@@ -65,7 +65,7 @@ fn name_of<'a>(exports: &[Export<'a>], position: usize) -> Option<&'a [u8]>
     Some(export.name)
 }
 
-/// The name of the export of that number, where an earlier one has it.
+/// The name of the export at that position, where an earlier one has it.
 fn shared_name<'a>(exports: &[Export<'a>], position: usize, earlier: usize) -> Option<&'a [u8]>
     ensures { IfSome result (λ name. (earlier < position) × (name_at exports.now position ≡ Some name.now)
         × (name_at exports.now earlier ≡ Some name.now)) }

@@ -10,7 +10,7 @@ use crate::item_offsets::{FUNCTION, IMPORT};
 use wcontext::Spaces;
 use wsyntax::{ExportKind, Module};
 
-/// The first of these indices that is not below `count`, and its place.
+/// The first of these indices that is not below `count`, and its position.
 pub(crate) fn first_unknown(indices: &[u32], count: usize) -> Option<(usize, u32)>
     ensures { MatchOption result (All (λ y. y < count) indices.now) (λ x. IsFirst (λ y. y < count) indices.now x.0 x.1) }
 {

@@ -10,7 +10,7 @@ use crate::item_offsets::GLOBAL;
 use wcontext::Spaces;
 use wsyntax::{Global, GlobalType, Module, ValType};
 
-/// The first global whose first value is no constant expression of its type, under these imported globals: its number, that
+/// The first global whose first value is no constant expression of its type, under these imported globals: its position, that
 /// type, and its first value.
 fn first_global(
     globals: &[Global<'_>],

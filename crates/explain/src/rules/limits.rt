@@ -35,7 +35,7 @@ fn first_memory(memories: &[Limits]) -> Option<(usize, Limits)>
     None
 }
 
-/// The section and the number in it of the item of that index in the space of that kind, of which so many are imported, and
+/// The section and the position in it of the item of that index in the space of that kind, of which so many are imported, and
 /// the others are those of the section `own`.
 fn location_in(
     module: &Module<'_>,
@@ -50,13 +50,13 @@ fn location_in(
     }
 }
 
-/// The section and the number in it of the table of that index.
+/// The section and the position in it of the table of that index.
 fn table_location(module: &Module<'_>, spaces: &Spaces, table: usize) -> Option<(u8, usize)> {
     let imported = spaces.tables.len().saturating_sub(module.tables.len());
     location_in(module, ExportKind::Table, TABLE, imported, table)
 }
 
-/// The section and the number in it of the memory of that index.
+/// The section and the position in it of the memory of that index.
 fn memory_location(module: &Module<'_>, spaces: &Spaces, memory: usize) -> Option<(u8, usize)> {
     let imported = spaces.memories.len().saturating_sub(module.memories.len());
     location_in(module, ExportKind::Memory, MEMORY, imported, memory)

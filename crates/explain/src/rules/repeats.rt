@@ -4,20 +4,20 @@
 use std::alloc::{AllocError, Global};
 use wsyntax::Export;
 
-/// A name of more bytes than this is long: with a one above them and a number of 32 bits below, so many fit in one number.
+/// A name of more bytes than this is long: with a one above them and a position of 32 bits below, so many fit in one number.
 const SHORT: usize = 11;
 
-/// How many numbers an export may have.
+/// How many positions an export may have.
 const POSITIONS: u128 = 4_294_967_296;
 
-/// Two exports of one name, by their numbers.
+/// Two exports of one name, by their positions.
 #[derive(Clone, Copy)]
 pub(crate) struct Repeat {
     pub(crate) later: usize,
     pub(crate) earlier: usize,
 }
 
-/// The names of exports with their numbers. A short name is kept as one number of both: to compare two of them, neither is looked up.
+/// The names of exports with their positions. A short name is kept as one key of both: to compare two of them, neither is looked up.
 #[derive(Drop)]
 struct Keyed<'a> {
     short: Vec<u128>,
@@ -33,17 +33,17 @@ fn count_short(exports: &[Export<'_>]) -> usize {
     count
 }
 
-/// The number of a short name: its bytes, and a one above them.
+/// The key of a short name: its bytes, and a one above them.
 fn key_of(name: &[u8]) -> u128 {
-    let mut position = 1u128;
+    let mut key = 1u128;
     for byte in name {
-        position = position << 8 | u128::from(*byte);
+        key = key << 8 | u128::from(*byte);
     }
-    position
+    key
 }
 
 impl<'a> Keyed<'a> {
-    /// The names of exports, each with the number of its export.
+    /// The names of exports, each with the position of its export.
     fn of(alloc: Global, exports: &[Export<'a>]) -> Result<Self, AllocError> {
         let short = count_short(exports);
         let mut keyed = Keyed {
@@ -56,9 +56,7 @@ impl<'a> Keyed<'a> {
             if name.len() > SHORT {
                 keyed.long.push((name, position))?;
             } else {
-                keyed
-                    .short
-                    .push(key_of(name) << 32 | u128::from(position))?;
+                keyed.short.push(key_of(name) << 32 | u128::from(position))?;
             }
         }
         Ok(keyed)

@@ -82,7 +82,7 @@ fn part_read<'a>(
     }
 }
 
-/// The segment of that number, where it begins with another number than 0.
+/// The segment at that position, where it begins with another number than 0.
 fn later_segment<'a>(items: Items, position: u32, bytes: &'a [u8]) -> Option<LaterSegment<'a>> {
     if items != Items::Elements && items != Items::Segments {
         return None;

@@ -5,7 +5,7 @@ ghost use Rattle.explain.specs.Shells.{IsWrong, Stands, TellsLocation, TellsStep
 use crate::explanation::Span;
 use crate::shell::contents::{ContentsEnd, Lapse, LaterSegment, after_contents};
 use crate::shell::primitives::{Stuck, sized_at};
-use crate::shell_location::{FoundSection, OtherSegment, Location, SectionPart, Wanted, Wrong};
+use crate::shell_location::{FoundSection, Location, OtherSegment, SectionPart, Wanted, Wrong};
 use std::alloc::{AllocError, Global};
 
 /// How many bytes the magic and the version are.
@@ -37,7 +37,7 @@ pub(crate) struct Walk {
 #[derive(Clone, Copy)]
 pub(crate) enum Step {
     After(Walk),
-    /// Reading stopped; `None` where the place is not known.
+    /// Reading stopped; `None` where the location is not known.
     Stopped(Option<Location>),
 }
 
@@ -49,10 +49,14 @@ fn segment_in(to: usize, lapse: Lapse<'_>) -> Option<OtherSegment> {
         rest,
     } = lapse.segment?;
     let at = to.saturating_sub(rest.len());
-    Some(OtherSegment { position, first, at })
+    Some(OtherSegment {
+        position,
+        first,
+        at,
+    })
 }
 
-/// The place where reading stopped in that section, whose end the bytes left there come before.
+/// The location where reading stopped in that section, whose end the bytes left there come before.
 fn told(bytes: &[u8], section: FoundSection, lapse: Lapse<'_>) -> Option<Location>
     requires id { slice_get bytes.now section.span.from ≡ Some section.id }
     requires wrong { IsWrong section.id lapse.rest.now lapse.wrong }
@@ -86,10 +90,10 @@ fn wrong_id(id: u8, last: u8) -> Option<Wrong>
     None
 }
 
-/// The number that contents begin with.
-fn first_number(contents: &[u8]) -> u32 {
+/// The count that contents begin with.
+fn first_count(contents: &[u8]) -> u32 {
     match wnum::front_u32(contents) {
-        Some((position, _rest)) => position,
+        Some((count, _rest)) => count,
         None => 0,
     }
 }
@@ -153,12 +157,12 @@ fn walk_after(walk: Walk, section: FoundSection, contents: &[u8]) -> Walk {
         at: section.span.to,
         last: if id == CUSTOM { last } else { id },
         functions: if id == FUNCTIONS {
-            first_number(contents)
+            first_count(contents)
         } else {
             functions
         },
         bodies: if id == BODIES {
-            first_number(contents)
+            first_count(contents)
         } else {
             bodies
         },
@@ -255,7 +259,7 @@ fn step_at(
     }
 }
 
-/// The place at the end of a module that has other numbers of functions and of bodies.
+/// The location at the end of a module that has other numbers of functions and of bodies.
 fn end_location(bytes: &[u8], walk: Walk) -> Option<Location>
     ensures { IfSome result (TellsLocation bytes.now) }
 {

@@ -7,4 +7,5 @@ pub loop-position-preserved : goal.loop-position-preserved
 loop-position-preserved c = All-more (λ y. y < c.args.count) c.args.indices.now c.loop-position.position 0 c.loop-position-test.true c.loop-position.invariant c.if-index-count.false
 
 pub returns : goal.returns
-returns c = all_right (λ y. y < c.args.count) c.args.indices.now c.loop-position.position c.loop-position-test.false c.loop-position.invariant
+returns c =
+    all_right (λ y. y < c.args.count) c.args.indices.now c.loop-position.position c.loop-position-test.false c.loop-position.invariant
