@@ -25,8 +25,8 @@ impl Part {
         let mut text = String::with_capacity(alloc, lines.len().saturating_mul(USUAL_LINE))?;
         let mut total = Total::new();
         for (position, line) in lines.iter().enumerate() {
-            let number = first + position;
-            write!(text, "{number} ")?;
+            let call_index = first + position;
+            write!(text, "{call_index} ")?;
             push_end(&mut text, line)?;
             text.push_str("\n")?;
             total.count(line);

@@ -1,4 +1,4 @@
--- What the words of the command line say of numbers.
+-- The values of options, as the words of the command line say them.
 -- Of the words before the first `--`, the first that begins with the option says its number.
 use Rattle.std.specs.Prelude.{◌≡◌, ◌≢◌, ◌⊎◌, ℕ, ◌+◌, ◌<◌, List, [], ◌++◌, length, slice_index_or, codes, pos}
 use Rattle.std.specs.List.{All, AllWithin, before_first}
@@ -31,7 +31,8 @@ IsOptionText words option default text =
 
 -- the words say this number of the option with this name and default
 abbrev pub IsOptionNumber : List (List ℕ) → List ℕ → List ℕ → ℕ → Type 0
-IsOptionNumber words name default n = (text : List ℕ) × IsOptionText (option_words words) (codes "--" ++ name) default text × IsDecimal n text
+IsOptionNumber words name default n =
+    (text : List ℕ) × IsOptionText (option_words words) (codes "--" ++ name) default text × IsDecimal n text
 
 -- the words say these limits of a call
 abbrev pub SaysLimits : List (List ℕ) → ℕ → ℕ → ℕ → Type 0
@@ -41,4 +42,5 @@ SaysLimits words fuel frames pages =
 
 -- the words say how many threads work, and how much each takes at once
 abbrev pub SaysPlan : List (List ℕ) → ℕ → ℕ → Type 0
-SaysPlan words workers piece = IsOptionNumber words (codes "workers") (codes "4") workers × IsOptionNumber words (codes "piece") (codes "16") piece
+SaysPlan words workers piece =
+    IsOptionNumber words (codes "workers") (codes "4") workers × IsOptionNumber words (codes "piece") (codes "16") piece

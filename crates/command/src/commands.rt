@@ -6,8 +6,8 @@ use std::alloc::{AllocError, Global};
 use std::ops::Range;
 use wsyntax::{FRAMES_LIMIT, FUEL_LIMIT, LOCAL_LIMIT, MODULE_LIMIT, PAGES_LIMIT};
 
-/// The version, the commit that the program is built from, and the toolchain that proves it. A release puts the commit in the
-/// place of the twelve dashes.
+/// The version, the commit that the program is built from, and the toolchain that proves it. In a release the commit
+/// replaces the twelve dashes.
 const VERSION: &str = "0.2.0 (commit ------------, rattle-kit-13f)";
 
 /// The default of `--workers`, the number of threads.

@@ -9,9 +9,9 @@ mod commands;
 mod fault;
 mod matched;
 mod names;
+mod option_values;
 mod reading;
 mod request;
-mod option_values;
 mod words;
 
 pub use commands::help_names_limits;

@@ -8,8 +8,8 @@ use crate::commands::{
 };
 use crate::fault::{WordsFault, usage};
 use crate::names::{file_names, input_path, is_list, says_flag};
-use crate::request::Request;
 use crate::option_values::option_number;
+use crate::request::Request;
 use crate::words::{contains_word, find_word};
 use clap::ArgMatches;
 use pieces::Plan;

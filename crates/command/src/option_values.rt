@@ -1,6 +1,6 @@
-//! What the words say of numbers.
+//! The values of options, as the words say them.
 ghost use Rattle.std.specs.Prelude.{◌≡◌, ◌⊎◌, [], ◌++◌, IfSome, MatchOption, Some, codes, map, option_map};
-ghost use Rattle.command.specs.Options.{IsDecimal, LacksOption, IsOptionNumber, IsOptionText, option_words};
+ghost use Rattle.command.specs.Options.{IsDecimal, IsOptionNumber, IsOptionText, LacksOption, option_words};
 
 /// The number that the words say of the option with this name and default. `None` where they say none.
 pub fn option_number(words: &[&str], name: &str, default: &str) -> Option<u32>

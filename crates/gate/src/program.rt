@@ -104,7 +104,7 @@ fn obey<'a, R: Threads + Wait + Sync, S: Source, O: Write>(
     }
 }
 
-//// The status of an answer.
+/// The code with which the program exits after an answer.
 fn exit_code(status: Status) -> u8
     ensures { result ≡ answer_status status }
 {

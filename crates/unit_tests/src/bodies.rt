@@ -31,9 +31,9 @@ fn count_of(alloc: Global, bytes: &[u8]) -> Option<usize> {
 }
 
 /// This token of the body.
-fn token_at(alloc: Global, bytes: &[u8], place: usize) -> Option<Token> {
+fn token_at(alloc: Global, bytes: &[u8], position: usize) -> Option<Token> {
     let body = decode_body(alloc, bytes).ok()?;
-    body.code.tokens.get(place).copied()
+    body.code.tokens.get(position).copied()
 }
 
 /// The type of a loop that is spelled so, where it is one.
@@ -78,8 +78,8 @@ const FAULTS: [(&[u8], Option<BodyFault>); 10] = [
 
 #[test]
 fn bodies_have_their_faults(rt: HostRuntime) {
-    for (place, case) in FAULTS.iter().enumerate() {
-        assert!(rt; fault_of(rt.alloc(), case.0) == case.1, "case {place}");
+    for (position, case) in FAULTS.iter().enumerate() {
+        assert!(rt; fault_of(rt.alloc(), case.0) == case.1, "case {position}");
     }
 }
 
@@ -99,10 +99,10 @@ const TOKENS: [(&[u8], usize, Token); 3] = [
 
 #[test]
 fn tokens_have_their_positions(rt: HostRuntime) {
-    for (bytes, place, token) in TOKENS {
+    for (bytes, position, token) in TOKENS {
         assert!(rt;
-            token_at(rt.alloc(), bytes, place) == Some(token),
-            "token {place}"
+            token_at(rt.alloc(), bytes, position) == Some(token),
+            "token {position}"
         );
     }
 }
@@ -133,8 +133,8 @@ const BLOCK_TYPES: [(&[u8], Option<BlockType>); 11] = [
 
 #[test]
 fn block_types(rt: HostRuntime) -> Result<(), Fail> {
-    for (place, case) in BLOCK_TYPES.iter().enumerate() {
-        assert!(rt; block_type(rt.alloc(), case.0)? == case.1, "case {place}");
+    for (position, case) in BLOCK_TYPES.iter().enumerate() {
+        assert!(rt; block_type(rt.alloc(), case.0)? == case.1, "case {position}");
     }
     Ok(())
 }

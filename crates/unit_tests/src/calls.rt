@@ -157,11 +157,11 @@ const REPORTS: [(&[End], &str); 7] = [
 
 #[test]
 fn reports_word_by_word(rt: HostRuntime) -> Result<(), Fail> {
-    for (place, case) in REPORTS.iter().enumerate() {
+    for (position, case) in REPORTS.iter().enumerate() {
         let lines = lines_of(rt.alloc(), case.0)?;
         assert!(rt;
             report(rt.alloc(), &lines)?.as_str() == case.1,
-            "report {place}"
+            "report {position}"
         );
     }
     Ok(())
@@ -255,10 +255,10 @@ const BAD_LINES: [&[u8]; 31] = [
 
 #[test]
 fn other_lines_are_bad(rt: HostRuntime) {
-    for (place, line) in BAD_LINES.iter().enumerate() {
+    for (position, line) in BAD_LINES.iter().enumerate() {
         assert!(rt;
             fault_of(rt.alloc(), line) == Some(CallsFault::Line(1)),
-            "line {place}"
+            "line {position}"
         );
     }
     assert!(rt; fault_of(rt.alloc(), b"add\nadd") == Some(CallsFault::Line(2)));
@@ -346,10 +346,10 @@ const CUTS: [(&[u8], usize, &[&[u8]]); 4] = [
 
 #[test]
 fn a_text_is_cut_behind_newlines(rt: HostRuntime) -> Result<(), Fail> {
-    for (place, case) in CUTS.iter().enumerate() {
+    for (position, case) in CUTS.iter().enumerate() {
         assert!(rt;
             cuts_into(rt.alloc(), case.0, case.1, case.2)?,
-            "cut {place}"
+            "cut {position}"
         );
     }
     Ok(())

@@ -81,10 +81,10 @@ fn assert_cases<R: Abort>(
 ) -> Result<(), Fail> {
     let context = check_module(alloc, module)?;
     assert!(rt; context.function(0).is_some());
-    for (place, case) in cases.iter().enumerate() {
+    for (position, case) in cases.iter().enumerate() {
         let (tokens, targets, wanted) = *case;
         let refused = refused_in(alloc, &context, tokens, targets)?;
-        assert!(rt; refused == wanted, "case {place}");
+        assert!(rt; refused == wanted, "case {position}");
     }
     Ok(())
 }
@@ -157,7 +157,7 @@ fn table_of(
     alloc: Global,
     module: &Module<'_>,
     tokens: &[Token],
-    place: usize,
+    position: usize,
 ) -> Option<(Branch, usize, usize)>
     requires closed { IsTrue (closes [] tokens.now) }
     requires within { IsTrue (list_all (lies_within 0) tokens.now) }
@@ -170,10 +170,10 @@ fn table_of(
     let mut checker = Checker::new(alloc, &context);
     let checked = check_body(alloc, &mut checker, 0, body).ok()?;
     let tokens = checked.tokens();
-    if place >= tokens.len() {
+    if position >= tokens.len() {
         return None;
     }
-    let entry = entry_at(tokens, checked.long(), place);
+    let entry = entry_at(tokens, checked.long(), position);
     Some((entry, tokens.len(), checked.height()))
 }
 

@@ -79,8 +79,8 @@ fn assert_steps<R: Abort>(
     memory: &mut LinearMemory,
     steps: &[MemoryStep],
 ) -> Result<(), Fail> {
-    for (place, step) in steps.iter().enumerate() {
-        assert!(rt; answers(memory, *step)?, "step {place}");
+    for (position, step) in steps.iter().enumerate() {
+        assert!(rt; answers(memory, *step)?, "step {position}");
     }
     Ok(())
 }

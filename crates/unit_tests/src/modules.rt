@@ -143,10 +143,10 @@ const SECTIONS: [(&[u8], bool); 11] = [
 
 #[test]
 fn sizes_and_orders(rt: HostRuntime) -> Result<(), Fail> {
-    for (place, case) in SECTIONS.iter().enumerate() {
+    for (position, case) in SECTIONS.iter().enumerate() {
         assert!(rt;
             is_malformed_behind_header(rt.alloc(), case.0)? == case.1,
-            "case {place}"
+            "case {position}"
         );
     }
     Ok(())

@@ -56,7 +56,8 @@ refusal_found bytes m x D j position bodies d keeps same outside is lt =
     let s = module_shape m in
     let first : j ≡ length (imported_functions s) = is ∙ ap (λ (y : IndexedContext). y.imported) keeps.context in
     sym (refusal_there (module_context s) D (length (imported_functions s)) j position bodies d outside first lt
-    ∙ ap (λ (bs : List (List ℕ)). body_refusal_at (module_context s) (length (imported_functions s)) bs position) (ap (map (λ b. b.now)) same))
+    ∙ ap (λ (bs : List (List ℕ)). body_refusal_at (module_context s) (length (imported_functions s)) bs position)
+        (ap (map (λ b. b.now)) same))
 
 pub body_is_kept : OneShell → (bytes : List ℕ) (m : Module) (x : IndexedContext) (D : Context) (j position : ℕ) (bodies : List (Bor (List ℕ))) (d : Bor (List ℕ)) (checked : CheckedBody) → KeepsRules bytes m x → bodies ≡ m.bodies.items
     → D ≡ module_context (module_shape m) → j ≡ x.imported → position < length bodies → body_refusal_of D (j + position) (get_or bodies position d).now ≡ None → IsCheckedFrom D (j + position) (get_or bodies position d).now checked
@@ -246,7 +247,8 @@ funcs_fit bytes now m x count j keeps is counted first =
     omega arith
 
 pub standing_refused : (bytes : List ℕ) (m : Module) (x : IndexedContext) (p : Progress) (count gap j : ℕ) (r : RefusedBody) (y : Refusal) → KeepsRules bytes m x → bytes ≡ p.bytes → IsSound p → IsFirstGap p.passed count gap
-    → j ≡ x.imported → p.refused ≡ Some r → r.position ≤ gap → y ≡ Body (j + r.position) r.refusal → IsSomeAnd (verdict_of y) (IsVerdict p.bytes)
+    → j ≡ x.imported → p.refused ≡ Some r → r.position ≤ gap → y ≡ Body (j + r.position) r.refusal
+    → IsSomeAnd (verdict_of y) (IsVerdict p.bytes)
 standing_refused bytes m x p count gap j r y keeps is sound g first some within e =
     let s = module_shape m in
     let recorded = sound s (subst (λ (b : List ℕ). Shell b s) is keeps.known.whole.shell) in

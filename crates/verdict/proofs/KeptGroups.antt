@@ -28,7 +28,8 @@ use Rattle.verdict.proofs.Groups.{groups_pass, pass_before, refusal_there}
 -- ---- one body more
 
 pub stand_more : (C : Context) (imported : ℕ) (bodies : List (List ℕ)) (first position : ℕ) (kept : List CheckedBody) (checked : CheckedBody) → StandFrom C imported bodies first kept
-    → first + length kept ≡ position → IsCheckedAt C imported bodies position checked → StandFrom C imported bodies first (kept ++ checked ∷ [])
+    → first + length kept ≡ position → IsCheckedAt C imported bodies position checked
+    → StandFrom C imported bodies first (kept ++ checked ∷ [])
 stand_more C imported bodies first position kept checked before at here k x e =
     elim (last_or_before kept checked x k e) [
       | inl h ↦ before k x h
@@ -158,7 +159,8 @@ pub first_body : (C D : Context) (i j position : ℕ) (bodies : List (Bor (List 
     → IsFirstBody C i (map (λ b. b.now) bodies) x
 first_body C D i j position bodies d (Body f c) same is lt before a =
     let n = length-map bodies (λ (b : Bor (List ℕ)). b.now) in
-    (position, omega (arith, n, lt), a.0 ∙ ap (λ (k : ℕ). k + position) is, sym (refusal_there C D i j position bodies d same is lt) ∙ a.1, before)
+    (position, omega (arith, n, lt), a.0 ∙ ap (λ (k : ℕ). k + position) is,
+    sym (refusal_there C D i j position bodies d same is lt) ∙ a.1, before)
 first_body C D i j position bodies d TooLarge same is lt before a = absurd a
 first_body C D i j position bodies d Malformed same is lt before a = absurd a
 first_body C D i j position bodies d (Rule k) same is lt before a = absurd a

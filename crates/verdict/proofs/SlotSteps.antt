@@ -59,7 +59,8 @@ none_marked kept count marks is = record {
 }
 
 -- a position among those of the bodies
-pub position_among : (kept : List KeptBody) (j : ℕ) (b : KeptBody) → slice_get kept j ≡ Some b → Contains (map (λ b. b.position) kept) b.position
+pub position_among : (kept : List KeptBody) (j : ℕ) (b : KeptBody) → slice_get kept j ≡ Some b
+    → Contains (map (λ b. b.position) kept) b.position
 position_among kept j b e =
     let at : slice_get (map (λ b. b.position) kept) j ≡ Some b.position = slice_get-map (λ (b : KeptBody). b.position) kept j ∙ ap (option_map (λ (b : KeptBody). b.position)) e in
     (j, slice_get_within _ j b.position at, get_or_from_slice_get _ j b.position b.position at)
@@ -168,6 +169,7 @@ next_below all before rest b count below split =
     let parts : All (λ b. b.position < count) (before ++ b ∷ rest) = subst (λ (bs : List KeptBody). All (λ b. b.position < count) bs) split below in
     last_of before rest b count parts
   where
-    last_of : (before rest : List KeptBody) (b : KeptBody) (count : ℕ) → All (λ b. b.position < count) (before ++ b ∷ rest) → b.position < count
+    last_of : (before rest : List KeptBody) (b : KeptBody) (count : ℕ) → All (λ b. b.position < count) (before ++ b ∷ rest)
+        → b.position < count
     last_of [] rest b count h = h 0 b (omega arith)
     last_of (x ∷ before) rest b count h = last_of before rest b count (λ k d lt. h (suc k) d (omega arith))

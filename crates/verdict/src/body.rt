@@ -23,7 +23,7 @@ pub(crate) enum Known {
     Refusal(BodyRefusal),
 }
 
-/// Looks at the token at that position, at which `left` bytes are left: what is known after it.
+/// Looks at the token at position `at`, where `left` bytes are left: what is known after it.
 fn look(
     checker: &mut Checker<'_>,
     targets: &[u32],

@@ -37,7 +37,8 @@ impl<'a, W> KeptBodies<'a, W> {
         requires outside { checker.old.outside ≡ self.now.context.now.context }
         ensures outside { checker.new.outside ≡ self.now.context.now.context }
         ensures verdict { MatchResult result
-            (λ checked. (body_refusal_at self.now.context.now.context self.now.imported (map (λ b. b.now) self.now.bodies.now) position ≡ None)
+            (λ checked.
+            (body_refusal_at self.now.context.now.context self.now.imported (map (λ b. b.now) self.now.bodies.now) position ≡ None)
             × IsCheckedAt self.now.context.now.context self.now.imported (map (λ b. b.now) self.now.bodies.now) position checked)
             (AllowsRefusal (IsBodyRefusal (self.now.imported + position)
             (body_refusal_at self.now.context.now.context self.now.imported (map (λ b. b.now) self.now.bodies.now) position))) }

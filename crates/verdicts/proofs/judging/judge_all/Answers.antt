@@ -19,5 +19,6 @@ loop-position-preserved g c =
     let items = c.in_ok-push.ensures.items in
     rw items (
     one_more c.args.modules.now c.loop-position.position (get_or c.args.modules.now c.loop-position.position none) c.loop-position.verdicts.items c.settled-judged.result c.loop-position-test.true
-    (slice_get-get_or c.args.modules.now c.loop-position.position none c.loop-position-test.true) c.loop-position.invariant c.settled-judged.ensures
+    (slice_get-get_or c.args.modules.now c.loop-position.position none c.loop-position-test.true) c.loop-position.invariant
+    c.settled-judged.ensures
     )

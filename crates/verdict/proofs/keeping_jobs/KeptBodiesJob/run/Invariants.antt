@@ -9,7 +9,8 @@ invariant-loop-position g l =
     let bodies = map (λ b. b.now) l.self.bodies.now in
     record {
       outside : l.checker.outside ≡ C;
-      passed : (k : ℕ) → IsInGroup l.self.size (length bodies) l.index k → k < l.position → body_refusal_at C l.self.imported bodies k ≡ None;
+      passed : (k : ℕ) → IsInGroup l.self.size (length bodies) l.index k → k < l.position
+          → body_refusal_at C l.self.imported bodies k ≡ None;
       count : l.index * l.self.size + length l.kept.items ≡ l.position;
       each : StandFrom C l.self.imported bodies (l.index * l.self.size) l.kept.items;
     }
