@@ -1,9 +1,6 @@
 -- Counts of calls, and of others after them.
-use Rattle.std.proofs.Common.{◌≡◌, ℕ, suc, ◌+◌, ◌<◌, List, [], ◌∷◌, ◌++◌, length, take, get_or, sym, ap, ◌∙◌, arith, length-append, append_assoc}
-use Rattle.std.proofs.lemmas.List.{map-append, take_more}
+use Rattle.std.proofs.Common.{◌≡◌, ℕ, suc, ◌+◌, List, [], ◌∷◌, ◌++◌, length, sym, ap, ◌∙◌, arith, length-append, append_assoc}
 use Rattle.wsyntax.specs.Texts.Report.{CallEnd, Tally, none, plus, tally_of, total_of, call_line, call_lines}
-use Rattle.batch_text.specs.Ends.{end_of, ends_of}
-use Rattle.batch_text.specs.declared.line.Line.{Line}
 use Rattle.batch.specs.Streams.{Counts}
 use Rattle.batch_text.specs.Totals.{tally as counts}
 use Rattle.batch_text.specs.declared.total.Total.{Total as Counted}
