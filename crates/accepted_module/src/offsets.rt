@@ -20,7 +20,10 @@ pub(crate) fn offset_of(offset: &ConstExpr<'_>) -> u32
 }
 
 /// The offset of each element segment in its table.
-pub(crate) fn element_offsets(alloc: Global, segments: &Elements<'_>) -> Result<Vec<u32>, AllocError>
+pub(crate) fn element_offsets(
+    alloc: Global,
+    segments: &Elements<'_>,
+) -> Result<Vec<u32>, AllocError>
     requires { All (λ s. IsOffset s.offset) segments.now }
     ensures { IfOk result (λ v. v.items ≡ map element_offset segments.now) }
 {

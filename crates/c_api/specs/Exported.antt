@@ -81,7 +81,7 @@ FindsExport a name old new answered =
 abbrev pub TellsName : AcceptedModule → ℕ → List ℕ → List ℕ → ℕ → ℕ → ℕ → Type 0
 TellsName a position old new was now answered =
     MatchOption (slice_get (exports_of a) position) ((answered ≡ 4) × AreKept old new was now)
-        (λ e. Hands e.item_name 0 old new now answered)
+    (λ e. Hands e.item_name 0 old new now answered)
 
 -- 5.3.1 the byte of a value type
 abbrev pub type_byte : ValType → ℕ

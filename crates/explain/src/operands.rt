@@ -44,7 +44,11 @@ fn asked_by(alloc: Global, context: &Context, rule: OperandRule) -> Result<Opera
             takes,
             gives: _,
         }
-        | OperandRule::Terminates { has_index, takes } => listed(alloc, context.list(takes), has_index),
+        | OperandRule::Terminates { has_index, takes } => listed(
+            alloc,
+            context.list(takes),
+            has_index,
+        ),
         OperandRule::Drop => Vec::from_slice(alloc, &[None]),
         OperandRule::Select => Vec::from_slice(alloc, &[None, None, Some(ValType::I32)]),
     }

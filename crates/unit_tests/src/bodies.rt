@@ -134,7 +134,10 @@ const BLOCK_TYPES: [(&[u8], Option<BlockType>); 11] = [
 #[test]
 fn block_types(rt: HostRuntime) -> Result<(), Fail> {
     for (position, case) in BLOCK_TYPES.iter().enumerate() {
-        assert!(rt; block_type(rt.alloc(), case.0)? == case.1, "case {position}");
+        assert!(rt;
+            block_type(rt.alloc(), case.0)? == case.1,
+            "case {position}"
+        );
     }
     Ok(())
 }

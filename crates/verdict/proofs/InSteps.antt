@@ -57,7 +57,7 @@ refusal_found bytes m x D j position bodies d keeps same outside is lt =
     let first : j ≡ length (imported_functions s) = is ∙ ap (λ (y : IndexedContext). y.imported) keeps.context in
     sym (refusal_there (module_context s) D (length (imported_functions s)) j position bodies d outside first lt
     ∙ ap (λ (bs : List (List ℕ)). body_refusal_at (module_context s) (length (imported_functions s)) bs position)
-        (ap (map (λ b. b.now)) same))
+    (ap (map (λ b. b.now)) same))
 
 pub body_is_kept : OneShell → (bytes : List ℕ) (m : Module) (x : IndexedContext) (D : Context) (j position : ℕ) (bodies : List (Bor (List ℕ))) (d : Bor (List ℕ)) (checked : CheckedBody) → KeepsRules bytes m x → bodies ≡ m.bodies.items
     → D ≡ module_context (module_shape m) → j ≡ x.imported → position < length bodies → body_refusal_of D (j + position) (get_or bodies position d).now ≡ None → IsCheckedFrom D (j + position) (get_or bodies position d).now checked

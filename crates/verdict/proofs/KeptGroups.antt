@@ -158,9 +158,13 @@ pub first_body : (C D : Context) (i j position : ℕ) (bodies : List (Bor (List 
     → PassBefore C i (map (λ b. b.now) bodies) position → AllowsRefusal (IsBodyRefusal (j + position) (body_refusal_of D (j + position) (get_or bodies position d).now)) x
     → IsFirstBody C i (map (λ b. b.now) bodies) x
 first_body C D i j position bodies d (Body f c) same is lt before a =
-    let n = length-map bodies (λ (b : Bor (List ℕ)). b.now) in
-    (position, omega (arith, n, lt), a.0 ∙ ap (λ (k : ℕ). k + position) is,
-    sym (refusal_there C D i j position bodies d same is lt) ∙ a.1, before)
+    let n = length-map bodies (λ (b : Bor (List ℕ)). b.now) in (
+      position,
+      omega (arith, n, lt),
+      a.0 ∙ ap (λ (k : ℕ). k + position) is,
+      sym (refusal_there C D i j position bodies d same is lt) ∙ a.1,
+      before,
+    )
 first_body C D i j position bodies d TooLarge same is lt before a = absurd a
 first_body C D i j position bodies d Malformed same is lt before a = absurd a
 first_body C D i j position bodies d (Rule k) same is lt before a = absurd a

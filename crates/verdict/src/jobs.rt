@@ -43,7 +43,12 @@ pub(crate) fn judge_at(
 {
     let imported = head.context.imported_functions() as u32;
     let bodies = head.front.module.bodies.as_slice();
-    judge_body(alloc, scratch, imported + position, bodies[position as usize])
+    judge_body(
+        alloc,
+        scratch,
+        imported + position,
+        bodies[position as usize],
+    )
 }
 
 impl<'a, 'b, W> ModuleParts<'a, 'b, W> {

@@ -107,7 +107,11 @@ impl Nodes {
         };
         let below = parent.below;
         if below < FORKS {
-            return if below % 4 == type_key(t) { below / 4 } else { 0 };
+            return if below % 4 == type_key(t) {
+                below / 4
+            } else {
+                0
+            };
         }
         match self.forks.get((below - FORKS) as usize) {
             Some(fork) => fork.children[type_key(t) as usize],

@@ -43,5 +43,5 @@ returns-clause-answer g c =
     let first = (c.args.index - 1) * size in
     let count = length-map h.front.«module».bodies.items (λ b. b.now) in
     let whole = subst (λ (n : ℕ). first + min size (n - first) ≤ c.loop-position.position) (sym count)
-        (omega (arith, c.loop-position-test.false)) in
+    (omega (arith, c.loop-position-test.false)) in
     (group_part h size c.args.index c.loop-position.position ne whole c.loop-position.invariant.passed, tt)
