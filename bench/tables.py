@@ -219,11 +219,25 @@ def judging_plot():
                 [(name, [took, took / times]) for name, took, times in kinds + others], True, None, 'run')
 
 
+def within(values):
+    return f'{min(values):.1f} to {max(values):.1f}'
+
+
+def judged_generated():
+    """How many times its check it takes to judge generated code, by kind and size."""
+    return [number(row, 'times_check') for row in rows_of('judging', measure='judging') if row['name'].startswith('generated')]
+
+
+def judged_programs():
+    """The same of the real programs."""
+    return [number(row, 'times_check') for row in rows_of('judging', measure='judging', form='program')]
+
+
 def judging_list():
-    generated = [number(row, 'times_check') for row in rows_of('judging', measure='judging') if row['name'].startswith('generated')]
-    worst = most_seconds('judging*', 'judging')
+    generated, worst = judged_generated(), most_seconds('judging*', 'judging')
     return '\n'.join([
-        f'- Generated code: {min(generated):.1f} to {max(generated):.1f} times as long as its check.',
+        f'- Real programs: {within(judged_programs())} times as long as their check.',
+        f'- Generated code: {within(generated)} times as long as its check.',
         f'- Most time: {worst:.1f} s for 16 MB.',
         f'- Most memory: {most("judging*", "memory_lengths", "judging"):.0f} lengths of the module.'])
 
@@ -253,21 +267,23 @@ def process_beside_v8(name):
 
 def aims():
     """What speed and memory were aimed at, beside what is measured."""
-    generated = [times for row in ('functions of 200 bytes', 'functions of 100,000 bytes', 'one function', 'functions of ten bytes')
-                 for times in judged(f'generated, {row}', 'times_check')]
     lengths = [judged(name, 'memory_lengths')[-1]
                for name in ('generated, functions of 200 bytes', 'generated, functions of ten bytes', 'functions of two bytes')]
     processes = [process_beside_v8(name) for name in ('web server', 'sqlite', 'lua')]
+    fresh = [number(row, 'least') for module in ('nothing', 'a page, segment, store, load')
+             for row in rows_of('batch', module=module, engine='gate', workers='1')]
     pages = min(number(row, 'least') for row in rows_of('large_pages', measure='judging'))
     start = next(number(row, 'least_us') for row in rows_of('embedding', engine='gate', what='process', bytes='41'))
     return table(['what', 'now', 'aim', 'why not more (bench/LAB.md)'], [
         ['kernels: JavaScriptCore\'s interpreter beside `gate`', f'{mean_kernel("JavaScriptCore"):.2f}', '1.45',
          'tokens of 8 bytes for 16, proved and built, took 1.4 times as long'],
         ['kernels: computed gotos in C', f'{mean_kernel("C goto"):.2f}', '1', 'the same; and a turn counts itself, which C does not'],
-        ['judging, generated code, beside its check', f'{min(generated):.1f} to {max(generated):.1f}', '2.0',
+        ['judging, real programs; generated code, beside the check', f'{within(judged_programs())}; {within(judged_generated())}', '2.0',
          f'fresh memory: with large pages {pages:.2f} of the time'],
         ['memory, judged: functions of 200, of ten, of two bytes', '; '.join(f'{n:.0f}' for n in lengths), '5.5; 9; 20',
          '16 bytes a token, and 136 a body'],
+        ['a call on a fresh instance, us: of nothing; with a page and a segment', '; '.join(cell(n, '.2f') for n in fresh), '0.23; 0.47',
+         '-'],
         ['a process, four workers, beside V8 in process: Go server; sqlite; lua', '; '.join(cell(n, '.2f') for n in processes),
          '1.6; 1.0; 0.8', f'a process that checks 41 bytes takes {start:.0f} us']])
 

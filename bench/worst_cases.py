@@ -3,8 +3,8 @@
 For each family and size, of that of its forms which costs most a byte: nanoseconds a byte of `gate check` with one worker (the
 best of three processes, its start and the reading included), how many times those of a hot loop's code and of the mean of the
 programs (--programs, else of generated code) of that size, the peak memory in lengths of the module, the form, and the verdict.
-A verdict that is not the form's ends the run. Then, for what is accepted, what it costs to judge it for `gate run`, and last what
-calls of such modules cost, in microseconds. `--judging` measures what it costs to judge alone.
+A verdict that is not the form's ends the run. Then, for what is accepted and for the programs, what it costs to judge it for `gate run`,
+and last what calls of such modules cost, in microseconds. `--judging` measures what it costs to judge alone.
 
 With --results FILE.tsv the rows are written too: each says whether it is of the check, of judging, or of a call.
 """
@@ -28,6 +28,8 @@ COLUMNS = ['measure', 'name', 'form', 'megabytes', 'ns_a_byte', 'times_loop', 't
 LIMIT = 120
 SLOW = 'more than two minutes'
 TIMES = 3
+GENERATED = {'many': 'functions of 200 bytes', 'large': 'functions of 100,000 bytes', 'one': 'one function',
+             'tiny': 'functions of ten bytes'}
 
 
 def hot_loop(size):
@@ -93,12 +95,18 @@ class Check:
             self.line(name, form, length, cost, memory, verdict)
 
 
-def check(words, path, recorder):
-    checked = Check(words.gate, path, recorder)
+def programs_of(words):
+    # The programs with their names.
     programs = []
     for program in words.programs:
         with open(program, 'rb') as file:
-            programs.append((os.path.basename(program), file.read()))
+            programs.append((os.path.basename(program).removesuffix('.wasm'), file.read()))
+    return programs
+
+
+def check(words, path, recorder):
+    checked = Check(words.gate, path, recorder)
+    programs = programs_of(words)
     print(f'{"check":32}{"MB":>6}{"ns/byte":>9}{"loop":>7}{"mean":>7}{"memory":>8}  {"form":14} verdict')
     for size in words.sizes:
         checked.ordinary(int(size * 1e6), programs)
@@ -108,30 +116,42 @@ def check(words, path, recorder):
 
 def accepted_modules(size, seed, only):
     # Ordinary code, and the families in their accepted forms, with their names and forms.
-    for kind in ['many', 'large', 'one', 'tiny']:
-        yield f'generated: {kind}', 'accepted', module(kind, size, seed)
+    for kind, name in GENERATED.items():
+        yield f'generated, {name}', 'accepted', module(kind, size, seed)
     for name in only or KEPT | FAMILIES:
         for form in (KEPT | FAMILIES)[name][0]:
             if form.endswith('accepted'):
                 yield name, form, module_of(name, form, size, seed)
 
 
+class Judging:
+    """What it takes to judge a module for `gate run`, a line a module: of a call of no export, so that nothing is run."""
+
+    def __init__(self, gate, path, calls_path, recorder):
+        self.gate, self.path, self.calls_path, self.recorder = gate, path, calls_path, recorder
+        write(calls_path, b'no-such\n')
+
+    def line(self, name, form, megabytes, contents):
+        write(self.path, contents)
+        kept = [self.gate, 'run', self.path, self.calls_path, '--workers', '1']
+        (seconds, out), (checked, verdict) = best_of(kept), best_of([self.gate, 'check', self.path, '--workers', '1'])
+        if not out.startswith('0 ') or verdict != 'accepted\n':
+            sys.exit(f'{name}, {form}: {out[:80]!r}, {verdict!r}')
+        length, times = len(contents), seconds / checked
+        cost, memory = seconds / length * 1e9, peak(kept) / length
+        print(f'{name + ", " + form:48}{length / 1e6:6.1f}{cost:9.1f}{times:7.1f}{memory:8.1f}', flush=True)
+        self.recorder.add(measure='judging', name=name, form=form, megabytes=megabytes, ns_a_byte=cost, times_check=times,
+                          memory_lengths=memory, verdict='accepted')
+
+
 def judging(words, path, calls_path, recorder):
-    # A call of no export: all of the module is judged and kept, and nothing is run.
-    write(calls_path, b'no-such\n')
+    judged = Judging(words.gate, path, calls_path, recorder)
     print(f'{"to judge for run":48}{"MB":>6}{"ns/byte":>9}{"check":>7}{"memory":>8}')
+    for name, contents in programs_of(words):
+        judged.line(name, 'program', round(len(contents) / 1e6, 1), contents)
     for size in words.sizes:
         for name, form, contents in accepted_modules(int(size * 1e6), words.seed, words.only):
-            write(path, contents)
-            kept = [words.gate, 'run', path, calls_path, '--workers', '1']
-            (seconds, out), (checked, verdict) = best_of(kept), best_of([words.gate, 'check', path, '--workers', '1'])
-            if not out.startswith('0 ') or verdict != 'accepted\n':
-                sys.exit(f'{name}, {form}: {out[:80]!r}, {verdict!r}')
-            length, times = len(contents), seconds / checked
-            cost, memory = seconds / length * 1e9, peak(kept) / length
-            print(f'{name + ", " + form:48}{length / 1e6:6.1f}{cost:9.1f}{times:7.1f}{memory:8.1f}', flush=True)
-            recorder.add(measure='judging', name=name, form=form, megabytes=size, ns_a_byte=cost, times_check=times,
-                         memory_lengths=memory, verdict='accepted')
+            judged.line(name, form, size, contents)
 
 
 def run_module(code, pages=0, locals_of=b'\x00', data=None, table=0):
