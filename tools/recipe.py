@@ -1,11 +1,11 @@
 """Says whether a new instruction stands in every place that the recipe names: crates/wsyntax/README.md.
 
     $ python3 -m tools.recipe I64Extend32U                   an operator, beside I64Extend32S
-    $ python3 -m tools.recipe MemoryFill --like MemoryGrow   another instruction, beside one that resembles it
+    $ python3 -m tools.recipe MemoryMost --like MemoryGrow   another instruction, beside one that resembles it
 
 It compares with a relative, which already stands everywhere: in each file that has a name of the relative (I64Extend32S, I64_EXTEND32_S,
-i64.extend32_s) the same form of the new name has to stand. The other files of a step have to differ from the commit --base; those that
-are asked for only `where` something holds are told apart. With --check it is the recipe that is held to the relatives: each file in
+i64.extend32_s) the same form of the new name has to stand. The other files of a step, and something in each folder that it names, have to
+differ from the commit --base; those that are asked for only `where` something holds are told apart. With --check it is the recipe that is held to the relatives: each file in
 which one stands has to be in a step, and each path of a step has to be there.
 """
 import os
@@ -23,10 +23,10 @@ RELATIVES = {OPERATOR: 'I64Extend32S', OTHER: 'MemoryGrow'}
 # What has a prefix of its own in the text format.
 TYPED = re.compile(r'(I32|I64|F32|F64|Memory|Local|Global)([A-Z].*)')
 # Where a name stands for another reason than a step: edits of single functions, modules that use an instruction, what is measured.
-ELSEWHERE = ('bench/results/', 'bench/LAB.md', 'CHANGELOG.md', 'docs/', 'examples/', 'tests/instances', 'tests/interface', 'tests/explain',
-             'tests/wrong_', RECIPE, 'tools/recipe.py')
+ELSEWHERE = ('bench/results/', 'bench/LAB.md', 'bench/interpreter.c', 'bench/kernels.wat', 'CHANGELOG.md', 'docs/', 'examples/',
+             'tests/instances', 'tests/interface', 'tests/explain', 'tests/wrong_', RECIPE, 'tools/recipe.py')
 # What stands there of a relative alone: theorems on growth.
-OWN = {'MemoryGrow': {'crates/soundness/specs/Growth.antt'}}
+OWN = {name: {'crates/soundness/specs/Growth.antt'} for name in ('MemoryGrow', 'MemorySize')}
 COMMENT = re.compile(r'\s*(//|--|#).*')
 CLAUSE = re.compile(r'(?<=[;.])\s|\n   - ')
 PATH = re.compile(r'`([\w./-]+)`|(?<![\w`/])((?:[\w-]+/)+[\w.-]+\w|[A-Z]+\.md)')
@@ -89,9 +89,17 @@ class Step:
         return any(path == it or path.startswith(it + '/') and it.count('/') > 1 for it in self.paths)
 
     def left(self, done):
-        """The files of the step that are not among these, each with whether it is asked for always."""
+        """The files of the step that are not among these, and its folders with none of them, each with whether it is asked for always. A
+        whole crate, or all of its code or proofs, is no folder of the step."""
+        inside = {folder for path in done for folder in parents(path)}
         return {path: is_sure and not self.is_conditional for path, is_sure in self.paths.items()
-                if os.path.isfile(os.path.join(ROOT, path)) and path not in done}
+                if path not in done | inside and (os.path.isfile(os.path.join(ROOT, path)) or path.count('/') > 2)}
+
+
+def parents(path):
+    """The folders above a path."""
+    parts = path.split('/')
+    return ['/'.join(parts[:count]) for count in range(1, len(parts))]
 
 
 def steps(recipe):
@@ -122,6 +130,7 @@ def missing(name, relative, recipe, base):
     done = changed(base).union(*map(places, forms(relative)))
     for step in taken:
         left = step.left(done)
+        done |= left.keys()
         faults += [f'{path} is as it was ({step.name})' for path, is_sure in left.items() if is_sure]
         unsure = [path for path, is_sure in left.items() if not is_sure]
         notes += [f'{step.name}: {", ".join(unsure)}'] if unsure else []
@@ -133,6 +142,8 @@ def main(words):
         faults, notes = check(), []
     else:
         relative = words.like or RELATIVES[OPERATOR]
+        if not places(relative):
+            sys.exit(f'recipe.py: {relative} stands nowhere; it is the name of a relative in the code')
         is_operator = relative in read('crates/wsyntax/src/operator_rows.rt')
         faults, notes = missing(words.name, relative, OPERATOR if is_operator else OTHER, words.base)
     if notes:
@@ -150,4 +161,6 @@ if __name__ == '__main__':
     chosen = taken.parse_args()
     if not chosen.name and not chosen.check:
         taken.error('NAME is missing')
+    if chosen.name and not re.fullmatch(r'[A-Z]\w*', chosen.name):
+        taken.error(f'{chosen.name} is no name in the code, such as {RELATIVES[OPERATOR]}')
     sys.exit(main(chosen))
