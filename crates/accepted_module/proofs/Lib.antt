@@ -1,4 +1,4 @@
-pub mod Offsets
+pub mod ConstantOffsets
 pub mod FirstOutside
 pub mod Words
 pub mod Numbers

@@ -1,6 +1,6 @@
 use Rattle.wsyntax.specs.Elements.{element_of}
 use Rattle.accepted_module.specs.Segments.{element_offset}
-use Rattle.accepted_module.proofs.Offsets.{element_has_offset}
+use Rattle.accepted_module.proofs.ConstantOffsets.{element_has_offset}
 use Rattle.accepted_module.proofs.Words.{one_more_read}
 use Rattle.accepted_module.proofs.offsets.element_offsets.Goals as goal
 

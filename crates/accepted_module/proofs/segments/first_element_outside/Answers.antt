@@ -2,7 +2,7 @@ use Rattle.std.proofs.Common.{refl}
 use Rattle.wsyntax.specs.Elements.{element_of}
 use Rattle.wsyntax.specs.Modules.{element_shape}
 use Rattle.wsyntax.specs.Execution.Start.{element_segment}
-use Rattle.accepted_module.proofs.Offsets.{element_has_offset}
+use Rattle.accepted_module.proofs.ConstantOffsets.{element_has_offset}
 use Rattle.accepted_module.proofs.FirstOutside.{outside_here, inside_here, elements_from}
 use Rattle.accepted_module.proofs.segments.first_element_outside.Goals as goal
 

@@ -5,7 +5,7 @@ use Rattle.wsyntax.specs.Execution.Store.{page}
 use Rattle.soundness.specs.Slots.{bits}
 use Rattle.accepted_module.specs.Segments.{element_segments, data_segments, data_offset}
 use Rattle.accepted_module.specs.Sizes.{memory_pages}
-use Rattle.accepted_module.proofs.Offsets.{elements_have_offsets, data_have_offsets}
+use Rattle.accepted_module.proofs.ConstantOffsets.{elements_have_offsets, data_have_offsets}
 use Rattle.accepted_module.proofs.Words.{words_of, element_offsets_of, data_offsets_of}
 use Rattle.accepted_module.proofs.initial_state.InitialState.of.Goals as goal
 
