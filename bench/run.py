@@ -39,6 +39,9 @@ COLUMNS = ['what', 'engine', 'unit', 'least', 'most', 'times_gate']
 NAMES = {'gate': 'gate', 'switch': 'C switch', 'goto': 'C goto', 'wabt': 'wabt', 'jsc': 'JavaScriptCore', 'node': 'V8'}
 KERNELS = [('fib', 27), ('sums', 5_000_000), ('sieve', 20), ('words', 150), ('mixing', 2_000_000), ('collatz', 20_000),
            ('cases', 2_500_000), ('table', 3_000_000), ('globals', 5_000_000), ('sorting', 10), ('hashing', 60)]
+# What a kernel is called in a file of results, where its name does not say what it is of.
+SHOWN = {'fib': 'fib (calls)', 'sums': 'sums (locals)', 'sieve': 'sieve (bytes)', 'mixing': 'mixing (i64)', 'cases': 'cases (br_table)',
+         'table': 'table (call_indirect)'}
 NODE = """const fs=require('fs');const m=new WebAssembly.Module(fs.readFileSync(process.argv[1]));
 let best=1e9,r;for(let i=0;i<3;i++){const f=new WebAssembly.Instance(m).exports[process.argv[2]];
 const s=process.hrtime.bigint();r=f(+process.argv[3]);const t=Number(process.hrtime.bigint()-s)/1e6;if(t<best)best=t}
@@ -177,7 +180,7 @@ def show_jumps(gate):
 def record(recorder, name, turns):
     # A row for each engine, with how many times as long as `gate` it takes by the least of its times.
     for engine, took in turns.items():
-        recorder.add(what=name, engine=NAMES[engine], unit='ms', least=min(took), most=max(took), times_gate=min(took) / min(turns['gate']))
+        recorder.add(what=SHOWN.get(name, name), engine=NAMES[engine], unit='ms', least=min(took), most=max(took), times_gate=min(took) / min(turns['gate']))
 
 
 def main(gate, results):

@@ -282,24 +282,27 @@ def aims():
          f'fresh memory: with large pages {pages:.2f} of the time'],
         ['memory, judged: functions of 200, of ten, of two bytes', '; '.join(f'{n:.0f}' for n in lengths), '5.5; 9; 20',
          '16 bytes a token, and 136 a body'],
-        ['a call on a fresh instance, us: of nothing; with a page and a segment', '; '.join(cell(n, '.2f') for n in fresh), '0.23; 0.47',
-         '-'],
+        ['a call on a fresh instance, us: nothing; a page and a segment', '; '.join(cell(n, '.2f') for n in fresh), '0.23; 0.47',
+         'another machine'],
         ['a process, four workers, beside V8 in process: Go server; sqlite; lua', '; '.join(cell(n, '.2f') for n in processes),
          '1.6; 1.0; 0.8', f'a process that checks 41 bytes takes {start:.0f} us']])
 
 
 # What was measured, when, on what.
 
-def head_line(name):
-    """Which commit a file of results is of, when and where it was measured, and beside which peers."""
+def head_line(name, before):
+    """Which commit a file of results is of, when and where it was measured, and beside which peers; a file goes before it, or None."""
     head = results(name).head
     machine = head['processor'] or 'machine not noted'
+    if before and results(before).head['processor'] == machine:
+        machine = 'same machine'
     words = [f'commit {head["commit"]}', head['date'], machine, head['peers'] and f'beside {head["peers"]}']
     return f'- `{name}.tsv`: ' + '; '.join(word for word in words if word) + '.'
 
 
 def sources():
-    return '\n'.join(map(head_line, ('check', 'kernels', 'batch', 'families', 'judging')))
+    names = ('check', 'kernels', 'batch', 'judging', 'families')
+    return '\n'.join(map(head_line, names, (None,) + names))
 
 
 def summary():
