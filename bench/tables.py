@@ -282,8 +282,8 @@ def aims():
          f'fresh memory: with large pages {pages:.2f} of the time'],
         ['memory, judged: functions of 200, of ten, of two bytes', '; '.join(f'{n:.0f}' for n in lengths), '5.5; 9; 20',
          '16 bytes a token, and 136 a body'],
-        ['a call on a fresh instance, us: nothing; a page and a segment', '; '.join(cell(n, '.2f') for n in fresh), '0.23; 0.47',
-         'another machine'],
+        ['a call on a fresh instance, us: nothing; a page and a segment', '; '.join(cell(n, '.2f') for n in fresh),
+         '0.23 to 0.47', '-'],
         ['a process, four workers, beside V8 in process: Go server; sqlite; lua', '; '.join(cell(n, '.2f') for n in processes),
          '1.6; 1.0; 0.8', f'a process that checks 41 bytes takes {start:.0f} us']])
 
