@@ -180,7 +180,8 @@ def show_jumps(gate):
 def record(recorder, name, turns):
     # A row for each engine, with how many times as long as `gate` it takes by the least of its times.
     for engine, took in turns.items():
-        recorder.add(what=SHOWN.get(name, name), engine=NAMES[engine], unit='ms', least=min(took), most=max(took), times_gate=min(took) / min(turns['gate']))
+        recorder.add(what=SHOWN.get(name, name), engine=NAMES[engine], unit='ms', least=min(took), most=max(took),
+                     times_gate=min(took) / min(turns['gate']))
 
 
 def main(gate, results):

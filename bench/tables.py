@@ -260,9 +260,10 @@ def judged(name, column):
 
 
 def process_beside_v8(name):
-    """How many times as fast a process of four workers checks a program as V8 does in process with all its threads; None if unmeasured."""
+    """How many times as fast a process of four workers checks a program as V8 does in process with all threads; None if unmeasured."""
     programs = {label: speeds for label, kind, speeds, _ in check_rows() if kind == 'program'}
-    return next((beside(speeds, ('gate process', '4'), ('V8', 'all')) for label, speeds in programs.items() if label.startswith(name)), None)
+    found = (beside(speeds, ('gate process', '4'), ('V8', 'all')) for label, speeds in programs.items() if label.startswith(name))
+    return next(found, None)
 
 
 def aims():

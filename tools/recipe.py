@@ -5,8 +5,8 @@
 
 It compares with a relative, which already stands everywhere: in each file that has a name of the relative (I64Extend32S, I64_EXTEND32_S,
 i64.extend32_s) the same form of the new name has to stand. The other files of a step, and something in each folder that it names, have to
-differ from the commit --base; those that are asked for only `where` something holds are told apart. With --check it is the recipe that is held to the relatives: each file in
-which one stands has to be in a step, and each path of a step has to be there.
+differ from the commit --base; those that are asked for only `where` something holds are told apart. With --check it is the recipe that is
+held to the relatives: each file in which one stands has to be in a step, and each path of a step has to be there.
 """
 import os
 import re
