@@ -12,3 +12,4 @@ pub mod CheckedBodies
 pub mod Lendings
 pub mod TypeOrder
 pub mod GivenIds
+pub mod Refusals

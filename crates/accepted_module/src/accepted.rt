@@ -15,14 +15,15 @@ ghost use Rattle.soundness.specs.Instances.{SegmentsAreBytes};
 
 use crate::exports::position_of;
 use crate::initial_state::InitialState;
+use crate::refusal::refusal;
 use checked_body::{CheckedBody, FrameLayout};
 use soundness::instances::start_is_plain;
 use wcontext::Context;
-use wsyntax::{ExportKind, Module};
+use wsyntax::{ExportKind, Module, StartRefusal};
 
 /// A module that is accepted, with its context and its checked bodies, and its exports in the order of their names. It
 /// borrows the bytes that were judged. Whoever holds one knows what `accepted_holds` says.
-#[derive(Debug, Drop)]
+#[derive(Drop)]
 pub struct Accepted<'a> {
     pub(crate) module: Module<'a>,
     pub(crate) context: Context,
@@ -58,6 +59,8 @@ impl<'a> Accepted<'a> {
     ghost use Rattle.wsyntax.specs.Binary.Sections.{locals_of};
     ghost use Rattle.accepted_module.specs.TypeIds.{function_type_id};
     ghost use Rattle.accepted_module.specs.Kept.{body_at, body_index};
+    ghost use Rattle.wsyntax.specs.Execution.Start.{start_refusal};
+    ghost use Rattle.wsyntax.specs.StartRefusals.{refusal_of};
 
     /// What holds of every accepted module, for a proof that is handed one: no rule is broken, the context is that of the
     /// module, and of each function there is the checked body, which declares few locals, is typed under that context,
@@ -164,6 +167,13 @@ impl<'a> Accepted<'a> {
         ensures { result.now ≡ self.now.layout }
     {
         &self.layout
+    }
+
+    /// Why there is no instance whose memory may have that many pages (4.5.4), the refusal of the least number where there are several.
+    pub fn start_refusal(&self, pages: u32) -> Option<StartRefusal>
+        ensures { option_map refusal_of result ≡ start_refusal pages (module_shape self.now.module) (shapes_of self.now.bodies.items) }
+    {
+        refusal(&self.module, &self.layout, self.uses_floats, pages)
     }
 
     /// The number of declared locals of the function of that index, imported ones counted, its parameters aside; `None`

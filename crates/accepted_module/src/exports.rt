@@ -18,10 +18,7 @@ fn name_at<'a>(exports: &[Export<'a>], position: usize) -> &'a [u8]
 }
 
 /// The positions of exports, in the order of their names. The time is near linear in the length of the names, whatever they are.
-pub(crate) fn positions_by_name(
-    alloc: Global,
-    exports: &[Export<'_>],
-) -> Result<Vec<usize>, AllocError>
+pub fn positions_by_name(alloc: Global, exports: &[Export<'_>]) -> Result<Vec<usize>, AllocError>
     ensures each { IfOk result (λ v. IsPermutation (range_with_len 0 (length exports.now)) v.items) }
     ensures ascending { IfOk result (λ v. AreAscending exports.now v.items) }
 {

@@ -7,7 +7,7 @@ use wsyntax::{Module, PAGE};
 
 /// What each instance of a module starts from (4.5.4), whatever its settings are. It is that of a module without imports,
 /// whose constant expressions are constants.
-#[derive(Debug, Drop)]
+#[derive(Drop)]
 pub struct InitialState {
     globals: Vec<u64>,
     element_offsets: Vec<u32>,

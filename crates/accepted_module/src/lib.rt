@@ -16,11 +16,13 @@ mod globals;
 mod initial_state;
 mod making;
 mod offsets;
+mod refusal;
 mod segments;
 mod shapes;
 mod sizes;
 mod type_ids;
 
 pub use accepted::Accepted;
+pub use exports::positions_by_name;
 pub use initial_state::InitialState;
 pub use sizes::{memory_pages, table_size};

@@ -1,4 +1,5 @@
 pub mod Calls
+pub mod LineFaults
 pub mod Ends
 pub mod Reading
 pub mod Totals

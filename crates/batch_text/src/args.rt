@@ -6,7 +6,7 @@ use wsyntax::Value;
 
 /// The arguments of a call. As most calls have few, up to two take no memory of their own.
 // PERF: memory for each call's arguments was a quarter of a short call. A `smallvec` would want a default value.
-#[derive(Debug, Drop)]
+#[derive(Drop)]
 pub enum Args {
     Empty,
     One([Value; 1]),

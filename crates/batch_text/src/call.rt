@@ -10,7 +10,7 @@ use crate::value::read_value;
 use std::alloc::{AllocError, Global};
 
 /// A call of an export: its name, whose bytes are those of the text, and its arguments.
-#[derive(Debug, Drop)]
+#[derive(Drop)]
 pub struct Call<'a> {
     pub name: &'a [u8],
     pub args: Args,

@@ -1,7 +1,7 @@
 use wsyntax::{Outcome, StartRefusal};
 
 /// How a call ended: a line of the report.
-#[derive(Debug, Drop, PartialEq, Eq)]
+#[derive(Drop, PartialEq, Eq)]
 pub enum Line {
     /// It was run, at the cost of `fuel`, that of the start function included.
     Ran { outcome: Outcome, fuel: u32 },

@@ -3,7 +3,7 @@ ghost use Rattle.std.specs.Prelude.{◌≡◌, count_by};
 ghost use Rattle.batch_text.specs.Reading.{SplitsBefore, is_mark};
 
 /// The bytes before the first mark, and the rest, which is empty where there is no mark.
-pub(crate) fn split_before(text: &[u8], mark: u8) -> (&[u8], &[u8])
+pub fn split_before(text: &[u8], mark: u8) -> (&[u8], &[u8])
     ensures { SplitsBefore mark text.now result.0.now result.1.now }
 {
     let end = text.iter().position(|byte| *byte == mark);

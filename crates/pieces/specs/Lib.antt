@@ -13,4 +13,3 @@ pub mod Working
 pub mod SideBySide
 pub mod Crew
 pub mod TryAll
-pub mod TestJobs

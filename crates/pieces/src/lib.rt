@@ -39,6 +39,3 @@ pub use settling::{Settled, settle};
 pub use share::Share;
 pub use trying::{TryFault, try_all};
 pub use watch::{Quiet, Stage, Watch};
-
-#[cfg(test)]
-mod tests;

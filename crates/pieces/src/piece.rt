@@ -3,7 +3,7 @@ ghost use Rattle.std.specs.Prelude.{◌≡◌, ◌<◌};
 ghost use Rattle.pieces.specs.Cuts.{pieces, first_of, end_of};
 
 /// The indices from `first` up to `end`, which is left out.
-#[derive(Clone, Copy, Debug, PartialEq, Eq, Drop)]
+#[derive(Clone, Copy, PartialEq, Eq, Drop)]
 pub struct Piece {
     pub first: u32,
     pub end: u32,

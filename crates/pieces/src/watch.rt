@@ -1,7 +1,7 @@
 //! Who looks on while jobs run.
 
 /// What a job is about to run.
-#[derive(Clone, Copy, Debug, PartialEq, Eq, Drop)]
+#[derive(Clone, Copy, PartialEq, Eq, Drop)]
 pub enum Stage {
     /// One of the bodies that are judged.
     Body,

@@ -1,3 +1,4 @@
+pub mod Firsts
 pub mod Shapes
 pub mod Constants
 pub mod Counted

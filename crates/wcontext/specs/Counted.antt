@@ -1,8 +1,8 @@
 -- 2.5.1 How much the index spaces of a module hold, and 3.4 what is asked by it.
--- It counts each index space, and has the types of the imported globals and whether the start function is plain. By it a data segment
--- is valid (3.4.6).
-use Rattle.std.specs.Prelude.{◌≡◌, ◌↔◌, ℕ, ◌<◌, length, IsTrue}
-use Rattle.wsyntax.specs.Modules.{ModuleShape, DataShape}
+-- It counts each index space, and has the types of the imported globals and whether the start function is plain. By it segments are
+-- valid (3.4.5, 3.4.6).
+use Rattle.std.specs.Prelude.{◌≡◌, ◌↔◌, ℕ, ◌<◌, length, IsTrue, All}
+use Rattle.wsyntax.specs.Modules.{ModuleShape, DataShape, ElementShape}
 use Rattle.wsyntax.specs.Validation.ModuleContext.{imported_globals, functions_of, tables_of, memories_of, globals_of}
 use Rattle.wsyntax.specs.Validation.Rules.{ConstantOf, StartsPlainly}
 use Rattle.wsyntax.specs.declared.ValType.TheVariants.{I32}
@@ -25,6 +25,10 @@ counted c Function = c.functions
 counted c Table = c.tables
 counted c Memory = c.memories
 counted c Global = c.globals
+
+-- 3.4.5 the segment's table exists, its offset is a constant expression of type i32, its functions exist
+abbrev pub IsElementValid : SpaceSizes → ElementShape → Type 0
+IsElementValid c s = (s.table < c.tables) × ConstantOf c.constant_globals.items I32 s.offset × All (λ f. f < c.functions) s.functions
 
 -- 3.4.6 the segment's memory exists, its offset is a constant expression of type i32
 abbrev pub IsSegmentValid : SpaceSizes → DataShape → Type 0

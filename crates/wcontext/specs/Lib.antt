@@ -1,8 +1,8 @@
+pub mod Firsts
 pub mod Lists
 pub mod Indexed
 pub mod Constants
 pub mod Spaces
-pub mod Segments
 pub mod Counted
 pub mod Nodes
 pub mod Trie

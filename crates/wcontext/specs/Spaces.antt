@@ -1,9 +1,7 @@
 -- 2.5.1 The index spaces of a module, as they are gathered.
-use Rattle.std.specs.Prelude.{◌≡◌, ℕ, length}
+use Rattle.std.specs.Prelude.{◌≡◌, length}
 use Rattle.wsyntax.specs.Modules.{ModuleShape}
 use Rattle.wsyntax.specs.Validation.ModuleContext.{imported_functions, imported_globals, functions_of, tables_of, memories_of, globals_of}
-use Rattle.wsyntax.specs.declared.module.ExportKind.{ExportKind}
-use Rattle.wsyntax.specs.declared.module.ExportKind.TheVariants.{Function, Table, Memory, Global}
 use Rattle.wcontext.specs.declared.spaces.Spaces.{Spaces}
 
 -- they are the index spaces of that module
@@ -14,10 +12,3 @@ pub record AreSpacesOf (m : ModuleShape) (s : Spaces) : Type 0 where
   pub memories : s.memories.items ≡ memories_of m
   pub globals : s.globals.items ≡ globals_of m
   pub imported_globals : s.imported_globals ≡ length (imported_globals m)
-
--- the number of items in the space of that kind
-abbrev pub counted : Spaces → ExportKind → ℕ
-counted s Function = length s.functions.items
-counted s Table = length s.tables.items
-counted s Memory = length s.memories.items
-counted s Global = length s.globals.items

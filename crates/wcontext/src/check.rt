@@ -30,13 +30,13 @@ fn keeps_early(module: &Module<'_>, spaces: &Spaces, rule: u32) -> bool
 {
     match rule {
         1 => true,
-        2 => rules::imports_typed(module, spaces),
-        3 => rules::functions_typed(module),
-        4 => rules::tables_limited(module, spaces),
-        5 => rules::memories_limited(module, spaces),
+        2 => rules::first_untyped_import(module, spaces).is_none(),
+        3 => rules::first_untyped_function(module).is_none(),
+        4 => rules::first_unordered_table(module, spaces).is_none(),
+        5 => rules::first_unlimited_memory(module, spaces).is_none(),
         6 => rules::one_table(module, spaces),
         7 => rules::one_memory(module, spaces),
-        _ => rules::globals_constant(module, spaces),
+        _ => rules::first_inconstant_global(module, spaces).is_none(),
     }
 }
 
@@ -53,10 +53,10 @@ fn keeps_late<'a>(
     ensures { IfOk result (λ b. IsTrue b ↔ Keeps (module_shape «module».now) rule) }
 {
     match rule {
-        9 => Ok(rules::exports_exist(module, counts)),
+        9 => Ok(rules::first_missing_export(module, counts).is_none()),
         10 => rules::exports_distinct(names, module),
         11 => Ok(counts.starts_plainly),
-        _ => Ok(rules::elements_valid(module, counts)),
+        _ => Ok(rules::first_invalid_element(module, counts).is_none()),
     }
 }
 
@@ -114,8 +114,8 @@ pub fn check_module(alloc: Global, module: &Module<'_>) -> Result<Context, Modul
     let (context, counts) = check_rules_before_code(alloc, module)?;
     let mut names = NameRoom::with_capacity(alloc, 0)?;
     check_rules_after_code(&mut names, module, &counts)?;
-    if !rules::segments_valid(module, &counts) {
-        return Err(ModuleFault::Rule(SEGMENTS_RULE));
+    match rules::first_invalid_segment(module, &counts) {
+        None => Ok(context),
+        Some(_) => Err(ModuleFault::Rule(SEGMENTS_RULE)),
     }
-    Ok(context)
 }

@@ -1,11 +1,10 @@
-//! Constant expressions (3.3.7.2), and where a module has them.
-ghost use Rattle.std.specs.Prelude.{◌≡◌, ◌↔◌, IsTrue, All, Some, option_and_then};
+//! Constant expressions (3.3.7.2).
+ghost use Rattle.std.specs.Prelude.{◌≡◌, ◌↔◌, IsTrue, Some, option_and_then};
 ghost use Rattle.wsyntax.specs.Modules.{initial_tokens};
 ghost use Rattle.wsyntax.specs.Validation.Rules.{ConstantOf};
-ghost use Rattle.wcontext.specs.Segments.{IsGlobalConstant};
 ghost use Rattle.wcontext.specs.Constants.{constant_type};
 
-use wsyntax::{ConstExpr, Global, GlobalType, Token, ValType};
+use wsyntax::{ConstExpr, GlobalType, Token, ValType};
 
 /// The type of the value that an instruction of a constant expression leaves (3.3.7.2), under these imported globals.
 fn constant_type(token: &Token, globals: &[GlobalType]) -> Option<ValType>
@@ -36,7 +35,7 @@ fn leaves(only: Option<Token>, of_type: ValType, globals: &[GlobalType]) -> bool
 }
 
 /// Whether an expression is a constant expression of that type (3.3.7.2), under these imported globals.
-fn is_constant(initial: &ConstExpr<'_>, of_type: ValType, globals: &[GlobalType]) -> bool
+pub fn is_constant(initial: &ConstExpr<'_>, of_type: ValType, globals: &[GlobalType]) -> bool
     ensures { IsTrue result ↔ ConstantOf globals.now of_type (initial_tokens initial.now) }
 {
     leaves(initial.constant_instruction(), of_type, globals)
@@ -52,16 +51,4 @@ pub fn is_offset(offset: &ConstExpr<'_>, globals: &[GlobalType]) -> bool
         ConstExpr::I32Const(_) => true,
         _ => leaves(offset.constant_instruction(), ValType::I32, globals),
     }
-}
-
-/// Whether each global's first value is a constant expression of its type (3.4.4), under these imported globals.
-pub fn are_constant(globals: &[Global<'_>], imported: &[GlobalType]) -> bool
-    ensures { IsTrue result ↔ All (IsGlobalConstant imported.now) globals.now }
-{
-    for global in globals {
-        if !is_constant(&global.init, global.global_type.val_type, imported) {
-            return false;
-        }
-    }
-    true
 }

@@ -8,10 +8,10 @@ use wsyntax::{FuncType, FuncTypes, GlobalType, Module, ValType};
 /// What the bodies of a module's functions are checked under (3.1.1): it owns all that it looks up, so it does not
 /// borrow the module. Each look-up takes constant time. Indices of functions and globals count the imported ones
 /// first.
-#[derive(Debug, Drop)]
+#[derive(Drop)]
 pub struct Context {
     types: FuncTypes,
-    /// The prefixes of the long lists; `None` where they are compared instead, or where memory for them was refused.
+    /// The prefixes of the long lists; `None` where they are compared instead.
     pub(crate) ends: Option<SuffixTree>,
     functions: Vec<u32>,
     imported: usize,
@@ -53,7 +53,7 @@ impl Context {
         ensures { IfOk result (λ c. c ≡ indexed_context (module_shape «module».now)) }
     {
         let types = module.types.copy(alloc)?;
-        let ends = SuffixTree::new(alloc, &types, &module.bodies);
+        let ends = SuffixTree::new(alloc, &types, &module.bodies)?;
         Ok(Context {
             types,
             ends,

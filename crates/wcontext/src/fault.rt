@@ -1,7 +1,8 @@
 ghost use Rattle.std.specs.Prelude.{◌≡◌};
 ghost use Rattle.wcontext.specs.declared.fault.ModuleFault.TheVariants.{Memory};
+ghost use Rattle.wcontext.specs.declared.fault.NoTree.TheVariants as no_tree;
 
-use std::alloc::AllocError;
+use std::alloc::{AllocError, AllocFailed};
 use thiserror::Error;
 
 /// Why a module has no context.
@@ -19,5 +20,30 @@ impl From<AllocError> for ModuleFault {
 
     fn from(_error: AllocError) -> ModuleFault {
         ModuleFault::Memory
+    }
+}
+
+/// Why long lists have no tree.
+#[derive(Clone, Copy)]
+pub(crate) enum NoTree {
+    /// A growth was refused.
+    Memory,
+    /// They have more prefixes than there are numbers for, which no module within its length has.
+    TooMany,
+}
+
+impl From<AllocError> for NoTree {
+    ghost from_gives = { λ _ e. e ≡ no_tree.Memory };
+
+    fn from(_error: AllocError) -> NoTree {
+        NoTree::Memory
+    }
+}
+
+impl<T: Drop> From<AllocFailed<T>> for NoTree {
+    ghost from_gives = { λ _ e. e ≡ no_tree.Memory };
+
+    fn from(_error: AllocFailed<T>) -> NoTree {
+        NoTree::Memory
     }
 }

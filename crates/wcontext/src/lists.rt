@@ -4,7 +4,7 @@ ghost use Rattle.std.specs.Prelude.{◌≡◌, [], ◌∷◌, true};
 use wsyntax::ValType;
 
 /// A list of value types, by the position where a module writes it.
-#[derive(Clone, Copy, Debug)]
+#[derive(Clone, Copy)]
 pub enum TypeList {
     /// No type.
     Nothing,
@@ -17,14 +17,14 @@ pub enum TypeList {
 }
 
 /// The two lists of a function type (2.3.3), by their positions.
-#[derive(Clone, Copy, Debug)]
+#[derive(Clone, Copy)]
 pub struct ListPair {
     pub params: TypeList,
     pub results: TypeList,
 }
 
 /// The first `count` types of a list.
-#[derive(Clone, Copy, Debug)]
+#[derive(Clone, Copy)]
 pub struct TypePrefix {
     pub list: TypeList,
     pub count: u32,

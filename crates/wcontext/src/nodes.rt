@@ -1,9 +1,10 @@
 //! The nodes of a trie of lists of types, with the links of Aho and Corasick.
-ghost use Rattle.std.specs.Prelude.{◌≡◌, ◌<◌, [], ◌∷◌, IfSome};
+ghost use Rattle.std.specs.Prelude.{◌≡◌, ◌+◌, ◌<◌, [], ◌∷◌, length, IfSome, IfOk};
 ghost use Rattle.wcontext.specs.Nodes.{type_key, HasChild, AreChildren, PutsChild, FindsSuffix};
 ghost use Rattle.wcontext.specs.Nodes.{AreNodes, KeepsTexts, IsNodeAfter, GivesLinks};
 
-use std::alloc::Global;
+use crate::fault::NoTree;
+use std::alloc::{AllocError, Global};
 use wsyntax::ValType;
 
 /// How many value types there are.
@@ -14,7 +15,7 @@ const FORKS: u32 = 1 << 31;
 
 /// What is kept of a node. Its interval replaces its link and its children, so that a trie and the intervals of its
 /// nodes are never in memory at once.
-#[derive(Clone, Copy, Debug)]
+#[derive(Clone, Copy)]
 pub(crate) struct Node {
     /// Where a look-up that finds no child here goes on: at the node's link, or farther up the links, past nodes whose only child
     /// is by the same type as this node's. Once the nodes are in order, its number in the preorder.
@@ -69,16 +70,16 @@ fn by_same_type(below: u32, other: u32) -> bool {
 
 impl Nodes {
     /// Node 0, and room for `more` nodes, made of `lists` lists.
-    pub(crate) fn new(alloc: Global, more: usize, lists: usize) -> Option<Nodes>
-        ensures { IfSome result (AreNodes ([] ∷ [])) }
+    pub(crate) fn new(alloc: Global, more: u32, lists: usize) -> Result<Nodes, AllocError>
+        ensures { IfOk result (AreNodes ([] ∷ [])) }
     {
-        let room = more.checked_add(1)?;
-        let mut nodes = Vec::with_capacity(alloc, room).ok()?;
-        nodes.push(Node { above: 0, below: 0 }).ok()?;
-        let mut links = Vec::with_capacity(alloc, room).ok()?;
-        links.push(0).ok()?;
-        let forks = Vec::with_capacity(alloc, lists).ok()?;
-        Some(Nodes {
+        let room = more as usize + 1;
+        let mut nodes = Vec::with_capacity(alloc, room)?;
+        nodes.push(Node { above: 0, below: 0 })?;
+        let mut links = Vec::with_capacity(alloc, room)?;
+        links.push(0)?;
+        let forks = Vec::with_capacity(alloc, lists)?;
+        Ok(Nodes {
             nodes,
             links,
             forks,
@@ -183,27 +184,35 @@ impl Nodes {
         Some(())
     }
 
+    /// What lies below a node that gets the next fork.
+    fn next_fork(&self) -> Option<u32>
+        ensures { IfSome result (λ below. below ≡ FORKS + length self.now.forks.items) }
+    {
+        FORKS.checked_add(u32::try_from(self.forks.len()).ok()?)
+    }
+
     /// Makes a node the child of another by that type, and puts all of that one's children into a new fork.
-    fn put_fork(&mut self, node: u32, t: ValType, child: u32) -> Option<()>
-        ensures { IfSome result (λ _. PutsChild self.old self.new node t child) }
+    fn put_fork(&mut self, node: u32, t: ValType, child: u32) -> Result<(), NoTree>
+        ensures { IfOk result (λ _. PutsChild self.old self.new node t child) }
     {
         let mut children = self.children(node);
         children[type_key(t) as usize] = child;
-        let position = FORKS.checked_add(u32::try_from(self.forks.len()).ok()?)?;
+        let position = self.next_fork().ok_or(NoTree::TooMany)?;
         if node as usize >= self.nodes.len() {
-            return None;
+            return Err(NoTree::TooMany);
         }
-        self.forks.push(Fork { children }).ok()?;
+        self.forks.push(Fork { children })?;
         self.nodes[node as usize].below = position;
-        Some(())
+        Ok(())
     }
 
     /// Makes a node the child of another by that type, by which it has none.
-    fn put_child(&mut self, node: u32, t: ValType, child: u32) -> Option<()>
-        ensures { IfSome result (λ _. PutsChild self.old self.new node t child) }
+    fn put_child(&mut self, node: u32, t: ValType, child: u32) -> Result<(), NoTree>
+        ensures { IfOk result (λ _. PutsChild self.old self.new node t child) }
     {
-        if self.nodes.get(node as usize)?.below == 0 {
-            self.put_only(node, t, child)
+        let parent = self.nodes.get(node as usize).ok_or(NoTree::TooMany)?;
+        if parent.below == 0 {
+            self.put_only(node, t, child).ok_or(NoTree::TooMany)
         } else {
             self.put_fork(node, t, child)
         }
@@ -211,30 +220,28 @@ impl Nodes {
 
     /// The node of the types of `node` and then `t`, which is made where there is none. Nodes are made in the order of their
     /// lengths, so that each shorter suffix has its node already, and a node that may get children lies on no way up that was
-    /// passed. `None` where memory is refused, and for a node that gets no more children.
+    /// passed. `TooMany` for a node that gets no more children too.
     #[inline]
-    pub(crate) fn after(&mut self, node: u32, t: ValType) -> Option<u32>
-        ensures { IfSome result (λ d. IsNodeAfter self.old self.new node t d) }
+    pub(crate) fn after(&mut self, node: u32, t: ValType) -> Result<u32, NoTree>
+        ensures { IfOk result (λ d. IsNodeAfter self.old self.new node t d) }
     {
         let child = self.child(node, t);
         if child > 0 {
-            return Some(child);
+            return Ok(child);
         }
         if node < self.current_level {
-            return None;
+            return Err(NoTree::TooMany);
         }
         let link = self.longest_suffix(node, t);
-        let made = u32::try_from(self.nodes.len()).ok()?;
-        self.links.push(link).ok()?;
-        self.nodes
-            .push(Node {
-                above: link,
-                below: 0,
-            })
-            .ok()?;
+        let made = u32::try_from(self.nodes.len()).ok().ok_or(NoTree::TooMany)?;
+        self.links.push(link)?;
+        self.nodes.push(Node {
+            above: link,
+            below: 0,
+        })?;
         self.put_child(node, t, made)?;
-        self.pass_link(node)?;
-        Some(made)
+        self.pass_link(node).ok_or(NoTree::TooMany)?;
+        Ok(made)
     }
 
     /// The nodes with their links above them.

@@ -45,8 +45,8 @@ impl Context {
     }
 
     /// Whether the types of `short` are a suffix of those of `long`. It takes constant time, but where a prefix has fewer
-    /// than 256 types, where the bodies are too short to ask much, or where memory was refused: then they are compared.
-    /// No contract says that `false` is right.
+    /// than 256 types, or where the bodies are too short to ask much: then they are compared. No contract says that `false` is
+    /// right.
     pub fn is_suffix(&self, short: TypePrefix, long: TypePrefix) -> bool
         ensures { result ≡ true → IsSuffix (prefix_of self.now.context.types short) (prefix_of self.now.context.types long) }
     {

@@ -1,6 +1,6 @@
 use crate::imports::{imported_functions, imported_globals, imported_memories, imported_tables};
 use std::alloc::{AllocError, Global};
-use wsyntax::{ExportKind, GlobalType, Limits, Module, Table};
+use wsyntax::{GlobalType, Limits, Module, Table};
 
 /// The index spaces of a module (2.5.1): what is imported, and then what the module defines.
 #[derive(Drop)]
@@ -18,7 +18,7 @@ impl Spaces {
     ghost use Rattle.std.specs.Prelude.{◌≡◌, ◌≤◌, IfOk, take, vec_len};
     ghost use Rattle.wsyntax.specs.Modules.{module_shape};
     ghost use Rattle.wsyntax.specs.Validation.ModuleContext.{functions_of, tables_of, memories_of, globals_of};
-    ghost use Rattle.wcontext.specs.Spaces.{AreSpacesOf, counted};
+    ghost use Rattle.wcontext.specs.Spaces.{AreSpacesOf};
 
     /// The index spaces of that module.
     pub fn new(alloc: Global, module: &Module<'_>) -> Result<Spaces, AllocError>
@@ -76,17 +76,5 @@ impl Spaces {
         ensures { result.now ≡ take self.now.imported_globals self.now.globals.items }
     {
         &self.globals[..self.imported_globals]
-    }
-
-    /// The number of items in the space of that kind.
-    pub fn count(&self, kind: ExportKind) -> usize
-        ensures { result ≡ counted self.now kind }
-    {
-        match kind {
-            ExportKind::Function => self.functions.len(),
-            ExportKind::Table => self.tables.len(),
-            ExportKind::Memory => self.memories.len(),
-            ExportKind::Global => self.globals.len(),
-        }
     }
 }

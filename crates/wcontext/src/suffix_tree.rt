@@ -1,34 +1,37 @@
 //! Which prefixes of long lists are suffixes of which: it is found out once, so that each question takes constant time.
-ghost use Rattle.std.specs.Prelude.{◌≡◌, ◌<◌, true, IfSome};
+ghost use Rattle.std.specs.Prelude.{◌≡◌, ◌↔◌, ◌+◌, ◌<◌, true, length, Err, IfSome, IfOk, IsErr};
+ghost use Rattle.std.specs.Result.{result_ok};
 ghost use Rattle.wcontext.specs.SuffixTree.{PutsList, IsGatheredFrom, IsSuffixTree, HoldsPrefix, IsStart, TellsSuffix};
+ghost use Rattle.wcontext.specs.declared.fault.NoTree.TheVariants as no_tree;
 
+use crate::fault::NoTree;
 use crate::lists::TypeList;
 use crate::nodes::Node;
 use crate::trie::{Reading, Trie};
 use crate::tuning::{COMPARED, LONG};
 use crate::walk::assign_preorder;
-use std::alloc::Global;
+use std::alloc::{AllocError, Global};
 use wsyntax::{FuncTypes, ValType};
 
 /// The start of a list that is not in the tree.
 const NONE: u32 = u32::MAX;
 
 /// The positions of the first prefixes of a function type's lists.
-#[derive(Clone, Copy, Debug)]
+#[derive(Clone, Copy)]
 pub(crate) struct Starts {
     params: u32,
     results: u32,
 }
 
 /// The numbers in the preorder of a prefix and of those that it is a suffix of: from its own on, up to `end`.
-#[derive(Clone, Copy, Debug)]
+#[derive(Clone, Copy)]
 struct Interval {
     start: u32,
     end: u32,
 }
 
 /// The prefixes of long lists, each with the interval of those that it is a suffix of.
-#[derive(Debug, Drop)]
+#[derive(Drop)]
 pub(crate) struct SuffixTree {
     /// Of each function type.
     starts: Vec<Starts>,
@@ -106,63 +109,104 @@ fn size_of_all(bodies: &[&[u8]]) -> usize {
     size
 }
 
+/// Where the prefixes of a list end that begin there.
+fn end_of(start: u32, types: &[ValType]) -> Option<u32>
+    ensures { IfSome result (λ end. end ≡ start + length types.now) }
+{
+    start.checked_add(u32::try_from(types.len()).ok()?)
+}
+
 impl<'a> Gathered<'a> {
     /// Puts a list after the others, if it is long enough, and says where its prefixes begin; `NONE` where it is not.
-    fn add_list(&mut self, types: &'a [ValType]) -> Option<u32>
-        ensures add_list { IfSome result (λ start. PutsList self.old self.new types.now start) }
+    fn add_list(&mut self, types: &'a [ValType]) -> Result<u32, NoTree>
+        ensures add_list { IfOk result (λ start. PutsList self.old self.new types.now start) }
         ensures starts { self.new.starts ≡ self.old.starts }
     {
         if types.len() < self.least {
-            return Some(NONE);
+            return Ok(NONE);
         }
         let start = self.prefixes;
-        let more = u32::try_from(types.len()).ok()?;
-        self.lists.push(Reading::new(types, start)).ok()?;
-        self.prefixes = start.checked_add(more)?;
-        Some(start)
+        let end = end_of(start, types).ok_or(NoTree::TooMany)?;
+        self.lists.push(Reading::new(types, start))?;
+        self.prefixes = end;
+        Ok(start)
     }
 
     /// The lists of at least that many types, which are at most `count`.
-    fn of(alloc: Global, types: &'a FuncTypes, least: usize, count: usize) -> Option<Gathered<'a>>
-        ensures { IfSome result (IsGatheredFrom types.now) }
+    fn of(
+        alloc: Global,
+        types: &'a FuncTypes,
+        least: usize,
+        count: usize,
+    ) -> Result<Gathered<'a>, NoTree>
+        ensures { IfOk result (IsGatheredFrom types.now) }
     {
         let mut gathered = Gathered {
             least,
-            starts: Vec::with_capacity(alloc, types.len()).ok()?,
-            lists: Vec::with_capacity(alloc, count).ok()?,
+            starts: Vec::with_capacity(alloc, types.len())?,
+            lists: Vec::with_capacity(alloc, count)?,
             prefixes: 0,
         };
         for y in 0..types.len() {
-            let signature = types.get(y)?;
+            let Some(signature) = types.get(y) else {
+                return Err(NoTree::TooMany);
+            };
             let params = gathered.add_list(signature.params)?;
             let results = gathered.add_list(signature.results)?;
-            gathered.starts.push(Starts { params, results }).ok()?;
+            gathered.starts.push(Starts { params, results })?;
         }
-        Some(gathered)
+        Ok(gathered)
+    }
+}
+
+/// A tree that was made, if there is one: without memory there is an error instead.
+fn tree_if_any(made: Result<SuffixTree, NoTree>) -> Result<Option<SuffixTree>, AllocError>
+    ensures tree { IfOk result (λ tree. tree ≡ result_ok made) }
+    ensures refused { IsErr result ↔ made ≡ Err no_tree.Memory }
+{
+    match made {
+        Ok(tree) => Ok(Some(tree)),
+        Err(NoTree::Memory) => Err(AllocError),
+        Err(NoTree::TooMany) => Ok(None),
     }
 }
 
 impl SuffixTree {
-    /// The tree of the long lists. Lists that the bodies are too short to have compared often are left out (`COMPARED`). `None`
-    /// where no list is left, or where memory is refused.
-    pub(crate) fn new(alloc: Global, types: &FuncTypes, bodies: &[&[u8]]) -> Option<SuffixTree>
-        ensures { IfSome result (IsSuffixTree types.now) }
+    /// The tree of the lists of at least that many types, which are at most `count`.
+    fn of(
+        alloc: Global,
+        types: &FuncTypes,
+        least: usize,
+        count: usize,
+    ) -> Result<SuffixTree, NoTree>
+        ensures { IfOk result (IsSuffixTree types.now) }
     {
-        let long = LongLists::of(types);
-        let least = long.least_taken(bodies)?;
-        let gathered = Gathered::of(alloc, types, least, long.count)?;
-        let Trie { nodes, prefixes } = Trie::read(
-            alloc,
-            gathered.lists,
-            gathered.prefixes as usize,
-        )?;
+        let gathered = Gathered::of(alloc, types, least, count)?;
+        let count = gathered.prefixes;
+        let Trie { nodes, prefixes } = Trie::read(alloc, gathered.lists, count)?;
         let mut nodes = nodes.linked();
-        assign_preorder(&mut nodes)?;
-        Some(SuffixTree {
+        assign_preorder(&mut nodes).ok_or(NoTree::TooMany)?;
+        Ok(SuffixTree {
             starts: gathered.starts,
             prefixes,
             nodes,
         })
+    }
+
+    /// The tree of the long lists. Lists that the bodies are too short to have compared often are left out (`COMPARED`). `None`
+    /// where no list is left, or too many prefixes are; a refused growth is an error, since lists without a tree take long.
+    pub(crate) fn new(
+        alloc: Global,
+        types: &FuncTypes,
+        bodies: &[&[u8]],
+    ) -> Result<Option<SuffixTree>, AllocError>
+        ensures { IfOk result (λ tree. IfSome tree (IsSuffixTree types.now)) }
+    {
+        let long = LongLists::of(types);
+        match long.least_taken(bodies) {
+            Some(least) => tree_if_any(SuffixTree::of(alloc, types, least, long.count)),
+            None => Ok(None),
+        }
     }
 
     /// Where the prefixes of a list begin; `None` where it is not in the tree.

@@ -1,11 +1,12 @@
 //! The prefixes of long lists of types, which are read into a trie.
-ghost use Rattle.std.specs.Prelude.{◌≡◌, ◌+◌, ◌<◌, ◌≤◌, length, replicate, IfSome};
+ghost use Rattle.std.specs.Prelude.{◌≡◌, ◌+◌, ◌<◌, ◌≤◌, length, replicate, IfSome, IfOk};
 ghost use Rattle.wcontext.specs.Trie.{BeginsBlock, BeginsBlocks, ReadsType, ReadsColumn, ReadsBlock, PutsPrefixes, PutsBlock};
 ghost use Rattle.wcontext.specs.Trie.{IsNew, AreNodesOf};
 
+use crate::fault::NoTree;
 use crate::nodes::Nodes;
 use crate::tuning::WIDTH;
-use std::alloc::Global;
+use std::alloc::{AllocError, Global};
 use wsyntax::ValType;
 
 /// A list that is read type by type.
@@ -69,20 +70,20 @@ fn begin_block(lists: &mut [Reading<'_>], base: usize)
 }
 
 /// `count` prefixes, of which none was read.
-fn unread_prefixes(alloc: Global, count: usize) -> Option<Vec<u32>>
-    ensures { IfSome result (λ prefixes. prefixes.items ≡ replicate count 0) }
+fn unread_prefixes(alloc: Global, count: u32) -> Result<Vec<u32>, AllocError>
+    ensures { IfOk result (λ prefixes. prefixes.items ≡ replicate count 0) }
 {
-    let mut prefixes = Vec::with_capacity(alloc, count).ok()?;
-    prefixes.resize(count, 0).ok()?;
-    Some(prefixes)
+    let mut prefixes = Vec::with_capacity(alloc, count as usize)?;
+    prefixes.resize(count as usize, 0)?;
+    Ok(prefixes)
 }
 
 impl Trie {
     /// `count` prefixes of `lists` lists, of which none was read.
-    fn new(alloc: Global, count: usize, lists: usize) -> Option<Trie>
-        ensures { IfSome result (λ t. IsNew t) }
+    fn new(alloc: Global, count: u32, lists: usize) -> Result<Trie, AllocError>
+        ensures { IfOk result (λ t. IsNew t) }
     {
-        Some(Trie {
+        Ok(Trie {
             prefixes: unread_prefixes(alloc, count)?,
             nodes: Nodes::new(alloc, count, lists)?,
         })
@@ -90,41 +91,48 @@ impl Trie {
 
     /// Reads the type at `i` of a list's block, which begins at `base`, if the list has one there.
     #[inline]
-    fn read_type(&mut self, list: &mut Reading<'_>, base: usize, i: usize) -> Option<()>
-        ensures read { IfSome result (λ _. ReadsType self.old.nodes self.new.nodes list.old list.new base i) }
+    fn read_type(&mut self, list: &mut Reading<'_>, base: usize, i: usize) -> Result<(), NoTree>
+        requires { i < WIDTH }
+        ensures read { IfOk result (λ _. ReadsType self.old.nodes self.new.nodes list.old list.new base i) }
         ensures prefixes { self.new.prefixes ≡ self.old.prefixes }
     {
-        if base.checked_add(i)? >= list.types.len() {
-            return Some(());
+        if base.saturating_add(i) >= list.types.len() {
+            return Ok(());
         }
-        let t = *list.block.get(i)?;
+        let t = list.block[i];
         let node = self.nodes.after(list.node, t)?;
         list.node = node;
         list.nodes[i] = node;
-        Some(())
+        Ok(())
     }
 
     /// Reads the type at `i` of each list's block.
-    fn read_column(&mut self, lists: &mut [Reading<'_>], base: usize, i: usize) -> Option<()>
-        ensures read { IfSome result (λ _. ReadsColumn self.old.nodes self.new.nodes lists.old lists.new base i) }
+    fn read_column(
+        &mut self,
+        lists: &mut [Reading<'_>],
+        base: usize,
+        i: usize,
+    ) -> Result<(), NoTree>
+        requires { i < WIDTH }
+        ensures read { IfOk result (λ _. ReadsColumn self.old.nodes self.new.nodes lists.old lists.new base i) }
         ensures prefixes { self.new.prefixes ≡ self.old.prefixes }
     {
-        self.nodes.start_level()?;
+        self.nodes.start_level().ok_or(NoTree::TooMany)?;
         for k in 0..lists.len() {
             self.read_type(&mut lists[k], base, i)?;
         }
-        Some(())
+        Ok(())
     }
 
     /// Reads the blocks of the lists, which begin at `base`.
-    fn read_block(&mut self, lists: &mut [Reading<'_>], base: usize) -> Option<()>
-        ensures read { IfSome result (λ _. ReadsBlock self.old.nodes self.new.nodes lists.old lists.new base 16) }
+    fn read_block(&mut self, lists: &mut [Reading<'_>], base: usize) -> Result<(), NoTree>
+        ensures read { IfOk result (λ _. ReadsBlock self.old.nodes self.new.nodes lists.old lists.new base 16) }
         ensures prefixes { self.new.prefixes ≡ self.old.prefixes }
     {
         for i in 0..WIDTH {
             self.read_column(lists, base, i)?;
         }
-        Some(())
+        Ok(())
     }
 
     /// Puts the nodes of a list's block to the list's prefixes.
@@ -153,21 +161,25 @@ impl Trie {
         Some(())
     }
 
-    /// Reads the lists, whose prefixes have that many positions. `None` where memory is refused.
-    pub(crate) fn read(alloc: Global, mut lists: Vec<Reading<'_>>, prefixes: usize) -> Option<Trie>
-        ensures { IfSome result (λ trie. AreNodesOf lists.entry.items trie) }
+    /// Reads the lists, whose prefixes have that many positions.
+    pub(crate) fn read(
+        alloc: Global,
+        mut lists: Vec<Reading<'_>>,
+        prefixes: u32,
+    ) -> Result<Trie, NoTree>
+        ensures { IfOk result (λ trie. AreNodesOf lists.entry.items trie) }
     {
         let mut trie = Trie::new(alloc, prefixes, lists.len())?;
         for block in 0..usize::MAX / WIDTH {
             let base = block * WIDTH;
             lists.retain(|list| list.types.len() > base);
             if lists.is_empty() {
-                return Some(trie);
+                return Ok(trie);
             }
             begin_block(&mut lists, base);
             trie.read_block(&mut lists, base)?;
-            trie.end_block(&lists, base)?;
+            trie.end_block(&lists, base).ok_or(NoTree::TooMany)?;
         }
-        None
+        Err(NoTree::TooMany)
     }
 }

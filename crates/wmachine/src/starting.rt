@@ -1,12 +1,12 @@
 //! The start function of a fresh instance, and a call after it.
 
-ghost use Rattle.std.specs.Prelude.{◌≡◌, ◌≤◌, true, IfOk, IfSome, OnOk, OnErr};
+ghost use Rattle.std.specs.Prelude.{◌≡◌, ◌≤◌, true, None, IsErr, IfOk, IfSome, OnOk, OnErr};
 ghost use Rattle.wsyntax.specs.Outcomes.{outcome_of};
 ghost use Rattle.wsyntax.specs.Execution.Start.{fresh_store};
 ghost use Rattle.interpreter.specs.Buffers.{room_with};
 ghost use Rattle.wstore.specs.CallLimits.{limits_of};
 ghost use Rattle.wstore.specs.Views.{module_in, bodies_in, context_in, store_in};
-ghost use Rattle.wmachine.specs.Calls.{HasParams, GivesTyped};
+ghost use Rattle.wmachine.specs.Calls.{HasParams, GivesTyped, MayWant};
 ghost use Rattle.wmachine.specs.Starts.{StartEndsOnEach, StartsOnEach, EndsOnEach, HasNoValues};
 
 use crate::fuel::Fuel;
@@ -16,7 +16,7 @@ use wstore::{Instance, Settings};
 use wsyntax::{Outcome, Value};
 
 /// How a call ended, after the start function.
-#[derive(Debug, Drop, PartialEq, Eq)]
+#[derive(Drop, PartialEq, Eq)]
 pub struct Ended {
     /// The end of the call, or that of the start function where this did not end in values.
     pub outcome: Outcome,
@@ -25,7 +25,7 @@ pub struct Ended {
 }
 
 /// How the start function ended.
-#[derive(Debug, Drop, PartialEq, Eq)]
+#[derive(Drop, PartialEq, Eq)]
 pub struct Begun {
     /// Its end, where that is not in values. `None` where it is, or where there is no start function.
     pub end: Option<Outcome>,
@@ -48,7 +48,9 @@ fn run_start(
     ensures limit { fuel.new.limit ≡ fuel.old.limit }
     ensures room { room_with instance.old.parts.memory instance.old.lent ≤ room_with instance.new.parts.memory instance.new.lent }
     ensures of { instance.new.accepted.now ≡ instance.old.accepted.now }
+    ensures failed { instance.old.failed ≡ true → IfOk result (λ end. ((module_in instance.old).start ≡ None) × (end ≡ None)) }
     ensures fails { OnErr result (instance.new.failed ≡ true) }
+    ensures needed { OnErr result (MayWant instance.old settings.fuel settings.frames) }
     ensures kept { OnOk result (instance.new.failed ≡ instance.old.failed) }
 {
     let accepted = instance.accepted();
@@ -77,7 +79,9 @@ pub fn start(
     ensures other { IfOk result (λ b. IfSome b.end (λ o. HasNoValues (outcome_of o))) }
     ensures room { room_with instance.old.parts.memory instance.old.lent ≤ room_with instance.new.parts.memory instance.new.lent }
     ensures of { instance.new.accepted.now ≡ instance.old.accepted.now }
+    ensures failed { instance.old.failed ≡ true → OnOk result ((module_in instance.old).start ≡ None) }
     ensures fails { OnErr result (instance.new.failed ≡ true) }
+    ensures needed { OnErr result (MayWant instance.old settings.fuel settings.frames) }
     ensures kept { OnOk result (instance.new.failed ≡ instance.old.failed) }
 {
     settings.in_range();
@@ -108,7 +112,9 @@ pub fn start_and_invoke(
     ensures typed { IfOk result (λ e. GivesTyped (context_in instance.old) function (outcome_of e.outcome)) }
     ensures room { room_with instance.old.parts.memory instance.old.lent ≤ room_with instance.new.parts.memory instance.new.lent }
     ensures of { instance.new.accepted.now ≡ instance.old.accepted.now }
+    ensures failed { instance.old.failed ≡ true → IsErr result }
     ensures fails { OnErr result (instance.new.failed ≡ true) }
+    ensures needed { OnErr result (MayWant instance.old settings.fuel settings.frames) }
 {
     settings.in_range();
     let Some(mut fuel) = Fuel::new(settings.fuel()) else {

@@ -3,7 +3,6 @@ pub mod Globals
 pub mod Held
 pub mod Judging
 pub mod LaidOut
-pub mod Refusals
 pub mod Programs
 pub mod ProgramCode
 pub mod TypedCalls

@@ -1,5 +1,5 @@
 /// What stands at an index of a table (4.2.7).
-#[derive(Clone, Copy, Debug, PartialEq, Eq)]
+#[derive(Clone, Copy, PartialEq, Eq)]
 pub enum TableElem {
     /// The index lies past the end.
     Outside,

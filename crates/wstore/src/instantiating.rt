@@ -11,7 +11,6 @@ ghost use Rattle.wstore.specs.Views.{store_in};
 use crate::fault::{NotStarted, StartFault};
 use crate::fresh::fresh_parts;
 use crate::instance::Instance;
-use crate::refusal::refusal;
 use crate::settings::Settings;
 use accepted_module::Accepted;
 use memory::CleanMem;
@@ -47,7 +46,7 @@ pub fn instantiate<'a>(
     let module = accepted.module();
     let layout = accepted.layout();
     let pages = settings.pages();
-    if let Some(refusal) = refusal(module, layout, accepted.has_floats(), pages) {
+    if let Some(refusal) = accepted.start_refusal(pages) {
         return Err(NotStarted {
             fault: StartFault::Refused(refusal),
             clean,

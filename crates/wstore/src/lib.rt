@@ -18,7 +18,6 @@ mod instance;
 mod instantiating;
 mod judged;
 mod memory_part;
-mod refusal;
 mod settings;
 mod store;
 mod table_part;

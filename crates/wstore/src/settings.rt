@@ -4,7 +4,7 @@ ghost use Rattle.wstore.specs.Settings.{AreSettings};
 use wsyntax::{FRAMES_LIMIT, FUEL_LIMIT, PAGES_LIMIT};
 
 /// The limits of each call: units of fuel, at most 1,000,000,000; frames, 1 to 4,096; and pages of memory, at most 1,024.
-#[derive(Clone, Copy, Debug, PartialEq, Eq)]
+#[derive(Clone, Copy, PartialEq, Eq)]
 pub struct Settings {
     fuel: u32,
     frames: u32,

@@ -6,7 +6,7 @@ use crate::instructions::{Load, Store};
 use crate::types::ValType::{self, F32, F64, I32, I64};
 
 /// What a load or a store says of its access, the immediates apart (2.4.4).
-#[derive(Clone, Copy, Debug, PartialEq, Eq)]
+#[derive(Clone, Copy, PartialEq, Eq)]
 pub struct AccessRow {
     /// The type of the value that is loaded or stored.
     pub of_type: ValType,

@@ -10,7 +10,7 @@ use std::mem::size_of;
 
 /// An element segment (2.5.7) that is lent: the index of its table, the expression of its offset, and the indices of its
 /// functions.
-#[derive(Clone, Copy, Debug)]
+#[derive(Clone, Copy)]
 pub struct Element<'a> {
     pub table: u32,
     pub offset: &'a ConstExpr<'a>,
@@ -19,7 +19,7 @@ pub struct Element<'a> {
 
 /// The table and the offset of one segment, and where its functions end in the list: they begin where those of the segment
 /// before it end.
-#[derive(Clone, Copy, Debug)]
+#[derive(Clone, Copy)]
 pub(crate) struct Segment<'a> {
     pub(crate) table: u32,
     pub(crate) end: u32,
@@ -52,7 +52,7 @@ fn part(functions: &[u32], start: u32, end: u32) -> &[u32]
 
 /// Element segments, by their indices: the functions of all of them in one list, and of each its part of the list. A
 /// list of its own would cost a short segment several times its bytes.
-#[derive(Debug, Drop)]
+#[derive(Drop)]
 pub struct Elements<'a> {
     functions: Vec<u32>,
     segments: Vec<Segment<'a>>,

@@ -7,14 +7,14 @@ use std::alloc::{AllocError, Global as Alloc};
 use std::marker::Model;
 
 /// A function type (2.3.3) that is lent: the types of the parameters and of the results, each list as it is written.
-#[derive(Clone, Copy, Debug)]
+#[derive(Clone, Copy)]
 pub struct FuncType<'a> {
     pub params: &'a [ValType],
     pub results: &'a [ValType],
 }
 
 /// The positions of one function type's value types: the parameters end at `middle`, where the results begin.
-#[derive(Clone, Copy, Debug)]
+#[derive(Clone, Copy)]
 pub(crate) struct TypeRange {
     pub(crate) start: u32,
     pub(crate) middle: u32,
@@ -22,7 +22,7 @@ pub(crate) struct TypeRange {
 }
 
 /// Function types, by their indices: the value types of all of them in one list, and of each its part of the list.
-#[derive(Debug, Drop)]
+#[derive(Drop)]
 pub struct FuncTypes {
     values: Vec<ValType>,
     ranges: Vec<TypeRange>,

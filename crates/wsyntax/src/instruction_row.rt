@@ -2,7 +2,7 @@
 use crate::types::ValType;
 
 /// What follows an opcode (5.4).
-#[derive(Clone, Copy, Debug, PartialEq, Eq)]
+#[derive(Clone, Copy, PartialEq, Eq)]
 pub enum Immediates {
     Nothing,
     BlockType,
@@ -25,7 +25,7 @@ pub enum Immediates {
 }
 
 /// What the table of instructions says of an opcode (5.4).
-#[derive(Clone, Copy, Debug, PartialEq, Eq)]
+#[derive(Clone, Copy, PartialEq, Eq)]
 pub struct Row {
     pub imm: Immediates,
     /// Of a numeric instruction, as the type is written: the last is the topmost of the stack. Empty of the others, whose

@@ -3,7 +3,7 @@ use crate::types::ValType;
 use std::mem::size_of;
 
 /// What a block takes and leaves, as it is spelled (2.4.5; `Index`, of a type, is of Core 2.0).
-#[derive(Clone, Copy, Debug, PartialEq, Eq)]
+#[derive(Clone, Copy, PartialEq, Eq)]
 pub enum BlockType {
     Empty,
     Value(ValType),
@@ -11,7 +11,7 @@ pub enum BlockType {
 }
 
 /// A numeric operator (2.4.1), in the order of the opcodes from `45` to `C4` (the last five are of Core 2.0).
-#[derive(Clone, Copy, Debug, PartialEq, Eq)]
+#[derive(Clone, Copy, PartialEq, Eq)]
 pub enum Operator {
     I32Eqz,
     I32Eq,
@@ -144,7 +144,7 @@ pub enum Operator {
 }
 
 /// A load (2.4.4), in the order of the opcodes from `28` to `35`.
-#[derive(Clone, Copy, Debug, PartialEq, Eq)]
+#[derive(Clone, Copy, PartialEq, Eq)]
 pub enum Load {
     I32Load,
     I64Load,
@@ -163,7 +163,7 @@ pub enum Load {
 }
 
 /// A store (2.4.4), in the order of the opcodes from `36` to `3E`.
-#[derive(Clone, Copy, Debug, PartialEq, Eq)]
+#[derive(Clone, Copy, PartialEq, Eq)]
 pub enum Store {
     I32Store,
     I64Store,
@@ -177,7 +177,7 @@ pub enum Store {
 }
 
 /// Where a branch goes on, as the check of its body writes it into the token. It is no part of the instruction.
-#[derive(Clone, Copy, Debug, PartialEq, Eq)]
+#[derive(Clone, Copy, PartialEq, Eq)]
 pub enum BranchTarget {
     /// At the token of position `target`, with `arity` operands kept above `height` others.
     Short { arity: u8, height: u16, target: u32 },
@@ -186,7 +186,7 @@ pub enum BranchTarget {
 }
 
 /// The label of a branch (2.4.5), and where the branch goes on.
-#[derive(Clone, Copy, Debug, PartialEq, Eq)]
+#[derive(Clone, Copy, PartialEq, Eq)]
 pub struct Label {
     pub index: u32,
     pub destination: BranchTarget,
@@ -213,7 +213,7 @@ impl Label {
 
 /// One flat instruction (2.4): an instruction without a body, with its immediates, or one of the words that open,
 /// part and close the others. Where branches, an `if` and an `else` go on is written there once the body is checked.
-#[derive(Clone, Copy, Debug, PartialEq, Eq)]
+#[derive(Clone, Copy, PartialEq, Eq)]
 pub enum Token {
     Unreachable,
     Nop,

@@ -12,7 +12,7 @@ use std::alloc::Global as Alloc;
 use std::mem::size_of;
 
 /// An expression (2.4.6), flat: its tokens, the last `end` included, and the targets of its branch tables.
-#[derive(Debug, Drop)]
+#[derive(Drop)]
 pub struct Expression {
     pub tokens: Vec<Token>,
     pub targets: Vec<u32>,
@@ -21,7 +21,7 @@ pub struct Expression {
 }
 
 /// The expression of a first value (2.5.6) or of an offset (2.5.7, 2.5.8).
-#[derive(Clone, Copy, Debug)]
+#[derive(Clone, Copy)]
 pub enum ConstExpr<'a> {
     I32Const(i32),
     I64Const(i64),
@@ -54,20 +54,20 @@ impl<'a> ConstExpr<'a> {
 }
 
 /// A table (2.5.4), whose entries are function references.
-#[derive(Clone, Copy, Debug, PartialEq, Eq)]
+#[derive(Clone, Copy, PartialEq, Eq)]
 pub struct Table {
     pub limits: Limits,
 }
 
 /// A global (2.5.6) and the expression of its first value.
-#[derive(Clone, Copy, Debug)]
+#[derive(Clone, Copy)]
 pub struct Global<'a> {
     pub global_type: GlobalType,
     pub init: ConstExpr<'a>,
 }
 
 /// A data segment (2.5.8): the index of its memory, the expression of its offset, and its bytes, which lie in the input.
-#[derive(Clone, Copy, Debug)]
+#[derive(Clone, Copy)]
 pub struct Data<'a> {
     pub memory: u32,
     pub offset: ConstExpr<'a>,
@@ -75,7 +75,7 @@ pub struct Data<'a> {
 }
 
 /// What an export names (2.5.10).
-#[derive(Clone, Copy, Debug, PartialEq, Eq)]
+#[derive(Clone, Copy, PartialEq, Eq)]
 pub enum ExportKind {
     Function,
     Table,
@@ -84,7 +84,7 @@ pub enum ExportKind {
 }
 
 /// An export (2.5.10): the index in the space of its kind.
-#[derive(Clone, Copy, Debug)]
+#[derive(Clone, Copy)]
 pub struct Export<'a> {
     pub name: &'a [u8],
     pub kind: ExportKind,
@@ -92,7 +92,7 @@ pub struct Export<'a> {
 }
 
 /// What an import asks for (2.5.11): of a function, the index of its type.
-#[derive(Clone, Copy, Debug, PartialEq, Eq)]
+#[derive(Clone, Copy, PartialEq, Eq)]
 pub enum ImportKind {
     Function(u32),
     Table(Table),
@@ -101,7 +101,7 @@ pub enum ImportKind {
 }
 
 /// An import (2.5.11).
-#[derive(Clone, Copy, Debug)]
+#[derive(Clone, Copy)]
 pub struct Import<'a> {
     pub module: &'a [u8],
     pub name: &'a [u8],
@@ -109,14 +109,14 @@ pub struct Import<'a> {
 }
 
 /// So many declared locals of one type (5.5.13).
-#[derive(Clone, Copy, Debug, PartialEq, Eq)]
+#[derive(Clone, Copy, PartialEq, Eq)]
 pub struct LocalRun {
     pub count: u32,
     pub val_type: ValType,
 }
 
 /// The declared locals and the expression of a defined function (2.5.3).
-#[derive(Debug, Drop)]
+#[derive(Drop)]
 pub struct Body {
     pub runs: Vec<LocalRun>,
     pub code: Expression,
@@ -124,7 +124,7 @@ pub struct Body {
 
 /// A module (2.5), but for the insides of the bodies, which stay slices of the input. Indices of functions, tables,
 /// memories and globals count the imported ones first.
-#[derive(Debug, Drop)]
+#[derive(Drop)]
 pub struct Module<'a> {
     pub types: FuncTypes,
     pub imports: Vec<Import<'a>>,

@@ -4,7 +4,7 @@ ghost use Rattle.wsyntax.specs.Table.{opcode_of};
 use crate::instructions::{Load, Operator, Store};
 
 /// What an opcode names, its immediates apart (5.4).
-#[derive(Clone, Copy, Debug, PartialEq, Eq)]
+#[derive(Clone, Copy, PartialEq, Eq)]
 pub enum Opcode {
     Unreachable,
     Nop,

@@ -10,14 +10,14 @@ use crate::instructions::Operator;
 use crate::types::ValType::{self, F32, F64, I32, I64};
 
 /// How many operands a numeric operator takes.
-#[derive(Clone, Copy, Debug, PartialEq, Eq)]
+#[derive(Clone, Copy, PartialEq, Eq)]
 pub enum Arity {
     One,
     Two,
 }
 
 /// The type of a numeric operator (3.3.1): its operands are of one type, and it leaves one result.
-#[derive(Clone, Copy, Debug, PartialEq, Eq)]
+#[derive(Clone, Copy, PartialEq, Eq)]
 pub struct OperatorRow {
     pub arity: Arity,
     pub operand: ValType,

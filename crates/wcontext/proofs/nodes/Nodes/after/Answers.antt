@@ -1,4 +1,5 @@
-use Rattle.std.proofs.Common.{◌≡◌, ◌∷◌, [], ◌++◌, length, arith, refl}
+use Rattle.std.proofs.Common.{◌≡◌, ◌∷◌, [], ◌++◌, length, arith, refl, rules}
+use Rattle.wcontext.specs.Nodes.{KeepsTexts}
 use Rattle.wcontext.specs.declared.nodes.Node.{Node}
 use Rattle.wcontext.specs.declared.nodes.Nodes.{Nodes}
 use Rattle.wcontext.proofs.Links.{found_after, made_after}
@@ -16,4 +17,5 @@ returns c texts are within =
     let nodes : mid.nodes.items ≡ old.nodes.items ++ n ∷ [] = grind arith in
     let links : mid.links.items ≡ old.links.items ++ n.above ∷ [] = grind arith in
     let after = made_after old mid c.put_child.new.self c.args.node c.in_ok-made.made c.args.t n texts are within (c.longest_suffix-link.ensures texts are within) refl made nodes links refl c.in_ok-put_child.ensures in
-    (after.0, c.in_ok-pass_link.ensures (texts ++ after.0) after.1, after.2, after.3)
+    let kept : KeepsTexts c.put_child.new.self c.pass_link.new.self = search rules in
+    (after.0, kept (texts ++ after.0) after.1, after.2, after.3)

@@ -1,17 +1,16 @@
-use Rattle.std.proofs.Common.{◌≡◌, ◌++◌, length, take, drop, arith, subst, sym}
-use Rattle.std.proofs.lemmas.List.{take_at}
-use Rattle.wcontext.specs.Walk.{ArePreorderOf}
-use Rattle.wcontext.proofs.Gathering.{ends_read}
+use Rattle.std.proofs.Common.{◌≡◌, Option, Result, Ok, Err, sym, subst}
+use Rattle.std.specs.Prelude.{IfSome, IfOk}
+use Rattle.std.specs.declared.alloc.AllocError.{AllocError}
+use Rattle.std.specs.Result.{result_ok}
+use Rattle.wcontext.specs.declared.fault.NoTree.{NoTree}
+use Rattle.wcontext.specs.declared.suffix_tree.SuffixTree.{SuffixTree}
 use Rattle.wcontext.proofs.suffix_tree.SuffixTree.new.Goals as goal
 
-pub returns : goal.returns
-returns c =
-    let g = c.in_ok-gathered.ensures in
-    let all = g.0 in
-    let trie = c.in_ok-nodes.field-0 in
-    let old = c.linked-nodes.result in
-    let ordered = c.assign_preorder.new.nodes in
-    let size : length ordered ≡ old.len = grind arith in
-    let kept : take old.len (ordered ++ drop (length ordered) old.items) ≡ ordered = take_at ordered (drop (length ordered) old.items) old.len size in
-    let given : ArePreorderOf old.items ordered = subst (λ l. ArePreorderOf l ordered) c.deref_mut.ensures.value c.in_ok-assign_preorder.ensures in
-    (all, ends_read all c.in_ok-gathered.gathered.lists.items trie old.items _ g.1.unread c.in_ok-nodes.ensures c.linked-nodes.ensures (subst (ArePreorderOf old.items) (sym kept) given), g.2)
+-- a tree that was made is kept
+kept : (made : Result SuffixTree NoTree) (r : Result (Option SuffixTree) AllocError) (P : SuffixTree → Type 0) → IfOk made P → IfOk r (λ tree. tree ≡ result_ok made) → IfOk r (λ tree. IfSome tree P)
+kept made (Err e) P h is = tt
+kept (Ok t) (Ok tree) P h is = subst (λ o. IfSome o P) (sym is) h
+kept (Err e) (Ok tree) P h is = subst (λ o. IfSome o P) (sym is) tt
+
+pub returns-in-Some : goal.returns-in-Some
+returns-in-Some c = kept _ _ _ c.of.ensures c.tree_if_any.ensures.tree

@@ -31,5 +31,5 @@ loop-block-preserved c =
     let last : take c.retain.new.self.len (rest ++ more) ≡ rest = take_at rest more c.retain.new.self.len two in
     let begins : BeginsBlocks left begun base = subst (λ l. BeginsBlocks l begun base) c.deref_mut.ensures.value c.begin_block.ensures in
     let step : ReadsBlock old.nodes mid.nodes begun rest base 16 = subst (λ l. ReadsBlock old.nodes mid.nodes l rest base 16) kept (search rules) in
-    let puts : PutsBlock mid.prefixes.items new.prefixes.items (take c.retain.new.self.len (rest ++ more)) base = subst (λ l. PutsBlock mid.prefixes.items new.prefixes.items l base) c.deref.ensures.value c.in_ok-end_block.ensures.prefixes in
+    let puts : PutsBlock mid.prefixes.items new.prefixes.items (take c.retain.new.self.len (rest ++ more)) base = subst (λ l. PutsBlock mid.prefixes.items new.prefixes.items l base) c.deref.ensures.value (search rules) in
     block_read lists left begun (take c.retain.new.self.len (rest ++ more)) old mid new base ((c.loop-block.block + 1) * 16) before begins (subst (λ l. ReadsBlock old.nodes mid.nodes begun l base 16) (sym last) step) c.in_ok-read_block.ensures.prefixes puts c.end_block.ensures.nodes (omega arith)

@@ -1,12 +1,15 @@
-use Rattle.std.proofs.Common.{◌<◌, ◌≤◌, length, arith, refl, ◌∙◌}
+use Rattle.std.proofs.Common.{◌<◌, ◌≤◌, length, arith, refl, rules, ◌∙◌}
+use Rattle.wcontext.specs.Nodes.{KeepsTexts}
 use Rattle.wcontext.proofs.Tries.{none_of_column, next_read, all_read}
 use Rattle.wcontext.proofs.trie.Trie.read_column.Goals as goal
 
 pub loop-k-init : goal.loop-k-init
-loop-k-init c = record {
-  prefixes = refl;
-  read = none_of_column c.args.self.now.nodes c.start_level.new.self c.args.lists.now c.args.base c.args.i c.in_ok-start_level.ensures;
-}
+loop-k-init c =
+    let kept : KeepsTexts c.args.self.now.nodes c.start_level.new.self = search rules in
+    record {
+      prefixes = refl;
+      read = none_of_column c.args.self.now.nodes c.start_level.new.self c.args.lists.now c.args.base c.args.i kept;
+    }
 
 pub loop-k-preserved : goal.loop-k-preserved
 loop-k-preserved c =
