@@ -13,10 +13,10 @@ use Rattle.wsyntax.specs.Validation.Algorithm.{Verdict, Accepted, Refused, alg}
 use Rattle.wsyntax.specs.Validation.Laws.{AcceptedIsTyped, RefusedAtFirstFault}
 use Rattle.wsyntax.specs.Validation.ModuleContext.{function_context}
 use Rattle.wsyntax.specs.Validation.Verdict.{IsAccepted, IsRefused, result_of}
-use Rattle.verdict.specs.declared.refusal.BodyRefusal.{BodyRefusal}
-use Rattle.verdict.specs.declared.refusal.BodyRefusal.TheVariants.{Malformed, TooManyLocals, IllTyped}
+use Rattle.refusal.specs.declared.refusal.BodyRefusal.{BodyRefusal}
+use Rattle.refusal.specs.declared.refusal.BodyRefusal.TheVariants.{Malformed, TooManyLocals, IllTyped}
 use Rattle.verdict.specs.Judged.{typing_refusal, shape_refusal, read_refusal, body_refusal_of}
-use Rattle.verdict.specs.Refusals.{fault_of}
+use Rattle.refusal.specs.Refusals.{fault_of}
 
 some_is : {A : Type 0} (a c : A) → Some a ≡ Some c → a ≡ c
 some_is a c e = cc

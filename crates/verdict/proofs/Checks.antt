@@ -13,7 +13,7 @@ use Rattle.wsyntax.specs.Validation.Verdict.{result_of}
 use Rattle.checked_body.specs.declared.body.CheckedBody.{CheckedBody}
 use Rattle.checked_body.specs.Bodies.{IsTypedAs, FitsAs}
 use Rattle.wcheck.specs.Refusals.{IsFaultyAt}
-use Rattle.verdict.specs.declared.refusal.BodyRefusal.TheVariants.{IllTyped}
+use Rattle.refusal.specs.declared.refusal.BodyRefusal.TheVariants.{IllTyped}
 use Rattle.verdict.specs.Judged.{body_refusal_of}
 use Rattle.accepted_module.specs.Judgement.{IsCheckedFrom}
 use Rattle.verdict.proofs.Bodies.{tree_of, refusal_typing}

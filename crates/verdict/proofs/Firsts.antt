@@ -13,12 +13,12 @@ use Rattle.wsyntax.specs.Validation.Context.{Context}
 use Rattle.wsyntax.specs.Validation.ModuleContext.{module_context, imported_functions, IndexedContext, indexed_context}
 use Rattle.wsyntax.specs.Validation.Rules.{LeastBroken}
 use Rattle.wsyntax.specs.Validation.Verdict.{IsModule, IsVerdict, Accepted, AcceptedBefore, FirstRefused}
-use Rattle.verdict.specs.declared.refusal.BodyRefusal.{BodyRefusal}
-use Rattle.verdict.specs.declared.refusal.Refusal.{Refusal}
-use Rattle.verdict.specs.declared.refusal.Refusal.TheVariants.{TooLarge, Malformed, Rule, Body, Memory}
+use Rattle.refusal.specs.declared.refusal.BodyRefusal.{BodyRefusal}
+use Rattle.refusal.specs.declared.refusal.Refusal.{Refusal}
+use Rattle.refusal.specs.declared.refusal.Refusal.TheVariants.{TooLarge, Malformed, Rule, Body, Memory}
 use Rattle.verdict.specs.Heads.{Known}
 use Rattle.verdict.specs.Judged.{body_refusal_of, given_refusal, body_refusal_at, PassBefore, IsFirstBody}
-use Rattle.verdict.specs.Refusals.{fault_of, verdict_of, of_decoding, of_rules}
+use Rattle.refusal.specs.Refusals.{fault_of, verdict_of, of_decoding, of_rules}
 use Rattle.verdict.proofs.Sizes.{functions_fit}
 use Rattle.verdict.proofs.Bodies.{accepted_where_none, refused_where_some}
 
@@ -29,7 +29,7 @@ at_position C imported bodies position bytes o is e = sym (ap (given_refusal C (
 accepted_before : (bytes : List ℕ) (m : ModuleShape) (position : ℕ) → Known bytes m → PassBefore (module_context m) (length (imported_functions m)) m.bodies position → AcceptedBefore m position
 accepted_before bytes m position k before j b lt is = accepted_where_none k.reads k.typed _ _ b (at_position _ _ m.bodies j b None is (before j lt))
 
-pub all_accepted : (bytes : List ℕ) (m : ModuleShape) → Known bytes m → PassBefore (module_context m) (length (imported_functions m)) m.bodies (length m.bodies) → IsVerdict bytes Accepted
+all_accepted : (bytes : List ℕ) (m : ModuleShape) → Known bytes m → PassBefore (module_context m) (length (imported_functions m)) m.bodies (length m.bodies) → IsVerdict bytes Accepted
 unfolding IsVerdict
 all_accepted bytes m k before = (m, k.whole, k.rules, accepted_before bytes m (length m.bodies) k before)
 
@@ -47,7 +47,7 @@ first_refused bytes m f c position k lt is e before =
       before = accepted_before bytes m position k before;
     }
 
-pub body_refused : (bytes : List ℕ) (m : ModuleShape) (r : Refusal) → Known bytes m → IsFirstBody (module_context m) (length (imported_functions m)) m.bodies r → IfSome (verdict_of r) (IsVerdict bytes)
+body_refused : (bytes : List ℕ) (m : ModuleShape) (r : Refusal) → Known bytes m → IsFirstBody (module_context m) (length (imported_functions m)) m.bodies r → IfSome (verdict_of r) (IsVerdict bytes)
 unfolding IsVerdict
 body_refused bytes m (Body f c) k h = (m, k.whole, k.rules, first_refused bytes m f c h.0 k h.1 h.2 h.3 h.4)
 body_refused bytes m Memory k h = tt

@@ -8,12 +8,12 @@ use Rattle.std.proofs.lemmas.Option.{slice_get-map, slice_get-get_or}
 use mathlib.Core.Logic.{dite}
 use native.Mathlib.Decide.{dec_lt}
 use Rattle.wsyntax.specs.Validation.Context.{Context}
-use Rattle.verdict.specs.declared.refusal.BodyRefusal.{BodyRefusal}
-use Rattle.verdict.specs.declared.refusal.Refusal.{Refusal}
-use Rattle.verdict.specs.declared.refusal.Refusal.TheVariants.{TooLarge, Malformed, Rule, Body, Memory}
+use Rattle.refusal.specs.declared.refusal.BodyRefusal.{BodyRefusal}
+use Rattle.refusal.specs.declared.refusal.Refusal.{Refusal}
+use Rattle.refusal.specs.declared.refusal.Refusal.TheVariants.{TooLarge, Malformed, Rule, Body, Memory}
 use Rattle.verdict.specs.Judged.{body_refusal_of, given_refusal, body_refusal_at, IsBodyRefusal, PassBefore}
 use Rattle.verdict.specs.Groups.{IsInGroup, GroupPasses, IsFirstOfGroup, GroupRefused}
-use Rattle.verdict.specs.Refusals.{AllowsRefusal}
+use Rattle.refusal.specs.Refusals.{AllowsRefusal}
 
 -- ---- each position is one of a group
 

@@ -5,9 +5,9 @@ use Rattle.std.proofs.lemmas.Result.{MatchResult-weaker}
 use Rattle.wsyntax.specs.Validation.Context.{Context}
 use Rattle.checked_body.specs.declared.body.CheckedBody.{CheckedBody}
 use Rattle.accepted_module.specs.Judgement.{IsCheckedFrom, IsCheckedAt}
-use Rattle.verdict.specs.declared.refusal.Refusal.{Refusal}
+use Rattle.refusal.specs.declared.refusal.Refusal.{Refusal}
 use Rattle.verdict.specs.Judged.{body_refusal_of, given_refusal, body_refusal_at, IsBodyRefusal}
-use Rattle.verdict.specs.Refusals.{AllowsRefusal}
+use Rattle.refusal.specs.Refusals.{AllowsRefusal}
 use Rattle.verdict.proofs.Groups.{bytes_there}
 
 -- what was found of the bytes of a body is found of the body

@@ -16,11 +16,11 @@ use Rattle.pieces.specs.declared.trying.TryFault.TheVariants as run
 use Rattle.wsyntax.specs.Validation.Context.{Context}
 use Rattle.checked_body.specs.declared.body.CheckedBody.{CheckedBody}
 use Rattle.accepted_module.specs.Judgement.{IsCheckedAt, AreChecked}
-use Rattle.verdict.specs.declared.refusal.Refusal.{Refusal}
-use Rattle.verdict.specs.declared.refusal.Refusal.TheVariants.{TooLarge, Malformed, Rule, Body, Memory}
+use Rattle.refusal.specs.declared.refusal.Refusal.{Refusal}
+use Rattle.refusal.specs.declared.refusal.Refusal.TheVariants.{TooLarge, Malformed, Rule, Body, Memory}
 use Rattle.verdict.specs.Judged.{body_refusal_of, body_refusal_at, IsBodyRefusal, PassBefore, IsFirstBody}
 use Rattle.verdict.specs.Groups.{IsInGroup, GroupPasses, IsFirstOfGroup, GroupRefused, StandFrom, AreOfGroup}
-use Rattle.verdict.specs.Refusals.{AllowsRefusal, of_run}
+use Rattle.refusal.specs.Refusals.{AllowsRefusal, of_run}
 use Rattle.verdict.proofs.CheckedBodies.{last_or_before}
 use Rattle.verdict.proofs.Firsts.{each_passes}
 use Rattle.verdict.proofs.Groups.{groups_pass, pass_before, refusal_there}

@@ -12,13 +12,9 @@ pub mod OnePass
 pub mod WholeBodies
 pub mod Checks
 pub mod OneVerdict
-pub mod Judgements
 pub mod Rules
 pub mod CheckedBodies
 pub mod KeptGroups
 pub mod KeptAt
-pub mod SlotSteps
-pub mod InSteps
-pub mod Recorded
 pub mod FrontTokens
 pub mod KeptPass

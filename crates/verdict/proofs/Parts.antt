@@ -21,14 +21,14 @@ use Rattle.wcontext.specs.declared.fault.ModuleFault.TheVariants as rules
 use Rattle.wdecode.specs.declared.front.ModuleHead.{ModuleHead}
 use Rattle.verdict.specs.declared.head.Head.{Head}
 use Rattle.wsyntax.specs.Validation.Context.{Context}
-use Rattle.verdict.specs.declared.refusal.BodyRefusal.{BodyRefusal}
-use Rattle.verdict.specs.declared.refusal.Refusal.{Refusal}
-use Rattle.verdict.specs.declared.refusal.Refusal.TheVariants.{TooLarge, Malformed, Rule, Body, Memory}
+use Rattle.refusal.specs.declared.refusal.BodyRefusal.{BodyRefusal}
+use Rattle.refusal.specs.declared.refusal.Refusal.{Refusal}
+use Rattle.refusal.specs.declared.refusal.Refusal.TheVariants.{TooLarge, Malformed, Rule, Body, Memory}
 use Rattle.verdict.specs.Judged.{body_refusal_of, body_refusal_at, IsBodyRefusal}
 use Rattle.verdict.specs.Groups.{IsInGroup, IsFirstOfGroup}
 use Rattle.verdict.specs.Heads.{IsWhole, UniqueWhole, Decoded, Known, IsHead, RestPasses, RestRefused, IsEarlyRefusal}
 use Rattle.verdict.specs.Parts.{bodies_of, body_refusal_in, BodiesPass, parts_of, PartPasses, PartRefused, IsFirstPart, HasRun}
-use Rattle.verdict.specs.Refusals.{AllowsRefusal, verdict_of, of_rules, of_run, in_job}
+use Rattle.refusal.specs.Refusals.{AllowsRefusal, verdict_of, of_rules, of_run, in_job}
 use Rattle.verdict.proofs.Firsts.{each_passes, judged}
 use Rattle.verdict.proofs.Groups.{refusal_there, group_refused, groups_pass, pass_before}
 use Rattle.verdict.proofs.RefusalSteps.{job_refused}

@@ -3,9 +3,9 @@ use Rattle.std.proofs.Common.{◌≡◌, sym, subst}
 use Rattle.std.specs.Prelude.{Result, Ok, Err, MatchResult, IsErrAnd}
 use Rattle.pieces.specs.declared.job.JobFault.{JobFault}
 use Rattle.pieces.specs.Faults.{AllowsFault}
-use Rattle.verdict.specs.declared.refusal.Refusal.{Refusal}
-use Rattle.verdict.specs.declared.refusal.Refusal.TheVariants.{TooLarge, Malformed, Rule, Body, Memory}
-use Rattle.verdict.specs.Refusals.{AllowsRefusal, in_job}
+use Rattle.refusal.specs.declared.refusal.Refusal.{Refusal}
+use Rattle.refusal.specs.declared.refusal.Refusal.TheVariants.{TooLarge, Malformed, Rule, Body, Memory}
+use Rattle.refusal.specs.Refusals.{AllowsRefusal, in_job}
 
 -- of what is refused that holds
 pub handed_on : {T E : Type 0} (P : T → Type 0) (Q : E → Type 0) (r : Result T E) (x : E) → IsErrAnd r (λ y. y ≡ x) → Q x → MatchResult r P Q

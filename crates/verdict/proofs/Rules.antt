@@ -3,22 +3,22 @@ use Rattle.std.proofs.Common.{Bor, ◌≡◌, ℕ, ◌+◌, ◌<◌, ◌≤◌, 
 use Rattle.std.specs.Prelude.{Result, MatchResult, IfSome, All, slice_get}
 use Rattle.std.proofs.lemmas.List.{length-map}
 use Rattle.wsyntax.specs.declared.module.Module.{Module}
-use Rattle.wsyntax.specs.Modules.{module_shape}
-use Rattle.wsyntax.specs.Binary.Shell.{module_limit}
-use Rattle.wsyntax.specs.Validation.ModuleContext.{IndexedContext}
+use Rattle.wsyntax.specs.Modules.{ModuleShape, module_shape}
+use Rattle.wsyntax.specs.Binary.Shell.{Shell, module_limit}
+use Rattle.wsyntax.specs.Validation.ModuleContext.{IndexedContext, indexed_context, module_context, imported_functions}
+use Rattle.wsyntax.specs.Validation.Rules.{NoneBroken}
 use Rattle.wsyntax.specs.Validation.Verdict.{IsVerdict, Accepted as accepted_verdict}
 use Rattle.checked_body.specs.declared.body.CheckedBody.{CheckedBody}
 use Rattle.accepted_module.specs.declared.accepted.Accepted.{Accepted}
 use Rattle.accepted_module.specs.Judgement.{AreChecked, IsJudged}
 use Rattle.accepted_module.specs.Small.{IsSmall}
 use Rattle.accepted_module.specs.Kept.{IsAcceptedFrom}
-use Rattle.verdict.specs.declared.refusal.Refusal.{Refusal}
+use Rattle.refusal.specs.declared.refusal.Refusal.{Refusal}
 use Rattle.verdict.specs.Judged.{PassBefore, IsFirstBody}
-use Rattle.verdict.specs.Refusals.{verdict_of}
+use Rattle.refusal.specs.Refusals.{verdict_of}
 use Rattle.verdict.specs.Rules.{KeepsRules}
 use Rattle.verdict.proofs.Firsts.{judged, indices_fit}
 use Rattle.verdict.proofs.Groups.{bytes_there}
-use Rattle.verdict.proofs.Judgements.{is_judged, accepted_from}
 use Rattle.verdict.proofs.Parts.{each_has_type}
 use Rattle.verdict.proofs.Sizes.{body_fits}
 use Rattle.verdict.proofs.Smallness.{is_small}
@@ -52,6 +52,18 @@ pub verdict_so : {T : Type 0} (bytes : List ℕ) (m : Module) (x : IndexedContex
 verdict_so bytes m x bodies r keeps same found =
     judged bytes (module_shape m) x (map (λ b. b.now) bodies) (length bodies) r keeps.known keeps.context (ap (map (λ b. b.now)) same) (as_many m bodies same) found
 
+-- the bodies were checked under the context that was made, and are those of the module
+is_judged : (m : ModuleShape) (x : IndexedContext) (bodies : List (List ℕ)) (n : ℕ) (all : List CheckedBody) → NoneBroken m → x ≡ indexed_context m → length m.functions ≡ length m.bodies → bodies ≡ m.bodies → n ≡ length m.bodies → AreChecked x.context x.imported bodies n all → IsJudged m x all
+is_judged m x bodies n all rules is paired same count checked =
+    record {
+      rules = rules;
+      context = is;
+      paired = paired;
+      bodies = subst (λ (y : IndexedContext). AreChecked y.context y.imported m.bodies (length m.bodies) all) is
+          (subst (λ (k : ℕ). AreChecked x.context x.imported m.bodies k all) count
+          (subst (λ (bs : List (List ℕ)). AreChecked x.context x.imported bs n all) same checked));
+    }
+
 pub judged_so : (bytes : List ℕ) (m : Module) (x : IndexedContext) (bodies : List (Bor (List ℕ))) (all : List CheckedBody) → KeepsRules bytes m x → bodies ≡ m.bodies.items
     → AreChecked x.context x.imported (map (λ b. b.now) bodies) (length bodies) all → IsJudged (module_shape m) x all
 judged_so bytes m x bodies all keeps same checked =
@@ -60,6 +72,16 @@ judged_so bytes m x bodies all keeps same checked =
 pub small_so : (bytes : List ℕ) (m : Module) (x : IndexedContext) (bodies : List (Bor (List ℕ))) (all : List CheckedBody) → KeepsRules bytes m x → bodies ≡ m.bodies.items
     → AreChecked x.context x.imported (map (λ b. b.now) bodies) (length bodies) all → IsSmall (module_shape m) all
 small_so bytes m x bodies all keeps same checked = is_small bytes (module_shape m) x all keeps.known.whole (judged_so bytes m x bodies all keeps same checked)
+
+-- a value that is made of what was judged is the one that the bytes spell
+accepted_from : (bytes : List ℕ) (m : Module) (x : IndexedContext) (all : Vec CheckedBody Global) (a : Accepted) → (a.«module» ≡ m) × (a.context ≡ x) × (a.bodies ≡ all)
+    → Shell bytes (module_shape m) → IsJudged (module_shape m) x all.items → IsAcceptedFrom bytes a
+accepted_from bytes m x all a made shell judged = record {
+  shell = subst (λ (n : Module). Shell bytes (module_shape n)) (sym made.0) shell;
+  context = made.1 ∙ judged.context ∙ ap (λ (n : Module). indexed_context (module_shape n)) (sym made.0);
+  bodies = subst (λ (n : Module). let s = module_shape n in AreChecked (module_context s) (length (imported_functions s)) s.bodies (length s.bodies) a.bodies.items) (sym made.0)
+      (subst (λ (v : Vec CheckedBody Global). let s = module_shape m in AreChecked (module_context s) (length (imported_functions s)) s.bodies (length s.bodies) v.items) (sym made.2) judged.bodies);
+}
 
 pub accepted_so : (bytes : List ℕ) (m : Module) (x : IndexedContext) (bodies : List (Bor (List ℕ))) (all : Vec CheckedBody Global) (a : Accepted) → KeepsRules bytes m x → bodies ≡ m.bodies.items
     → AreChecked x.context x.imported (map (λ b. b.now) bodies) (length bodies) all.items → (a.«module» ≡ m) × (a.context ≡ x) × (a.bodies ≡ all) → IsAcceptedFrom bytes a

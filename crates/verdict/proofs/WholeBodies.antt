@@ -19,8 +19,8 @@ use Rattle.wcheck.specs.Checking.{Checking, begun, with_frames}
 use Rattle.wdecode.specs.declared.fault.Fault.{Fault}
 use Rattle.wdecode.specs.declared.fault.Fault.TheVariants as fault
 use Rattle.wdecode.specs.Gives.{Fails}
-use Rattle.verdict.specs.declared.refusal.BodyRefusal.{BodyRefusal}
-use Rattle.verdict.specs.declared.refusal.BodyRefusal.TheVariants.{Malformed, TooManyLocals, IllTyped}
+use Rattle.refusal.specs.declared.refusal.BodyRefusal.{BodyRefusal}
+use Rattle.refusal.specs.declared.refusal.BodyRefusal.TheVariants.{Malformed, TooManyLocals, IllTyped}
 use Rattle.verdict.specs.declared.body.Known.{Known}
 use Rattle.verdict.specs.declared.body.Known.TheVariants.{Nothing, Stop, Refusal}
 use Rattle.verdict.specs.declared.passing.Passing.{Passing}

@@ -7,9 +7,9 @@ use native.Mathlib.Decide.{dec_le}
 use Rattle.wsyntax.specs.Validation.Context.{Context}
 use Rattle.checked_body.specs.declared.body.CheckedBody.{CheckedBody}
 use Rattle.accepted_module.specs.Judgement.{IsCheckedAt}
-use Rattle.verdict.specs.declared.refusal.BodyRefusal.{BodyRefusal}
-use Rattle.verdict.specs.declared.refusal.Refusal.{Refusal}
-use Rattle.verdict.specs.declared.refusal.Refusal.TheVariants.{TooLarge, Malformed, Rule, Body, Memory}
+use Rattle.refusal.specs.declared.refusal.BodyRefusal.{BodyRefusal}
+use Rattle.refusal.specs.declared.refusal.Refusal.{Refusal}
+use Rattle.refusal.specs.declared.refusal.Refusal.TheVariants.{TooLarge, Malformed, Rule, Body, Memory}
 use Rattle.verdict.specs.Judged.{body_refusal_at, none_and_some, one_body_refusal}
 
 -- of `count` bodies the one at `position` is one of the group

@@ -9,11 +9,11 @@ use Rattle.wsyntax.specs.Validation.Algorithm.{alg, Accepted, Refused}
 use Rattle.wsyntax.specs.Validation.Algorithm as algorithm
 use Rattle.wsyntax.specs.Validation.ModuleContext.{function_context}
 use Rattle.wsyntax.specs.Validation.Verdict.{result_of}
-use Rattle.verdict.specs.declared.refusal.BodyRefusal.{BodyRefusal}
-use Rattle.verdict.specs.declared.refusal.BodyRefusal.TheVariants.{Malformed, TooManyLocals, IllTyped}
-use Rattle.verdict.specs.declared.refusal.Refusal.{Refusal}
-use Rattle.verdict.specs.declared.refusal.Refusal.TheVariants.{TooLarge, Rule, Body, Memory}
-use Rattle.verdict.specs.declared.refusal.Refusal.TheVariants as refusal
+use Rattle.refusal.specs.declared.refusal.BodyRefusal.{BodyRefusal}
+use Rattle.refusal.specs.declared.refusal.BodyRefusal.TheVariants.{Malformed, TooManyLocals, IllTyped}
+use Rattle.refusal.specs.declared.refusal.Refusal.{Refusal}
+use Rattle.refusal.specs.declared.refusal.Refusal.TheVariants.{TooLarge, Rule, Body, Memory}
+use Rattle.refusal.specs.declared.refusal.Refusal.TheVariants as refusal
 
 -- the tokens, by the algorithm
 abbrev pub typing_refusal : algorithm.Verdict → Option BodyRefusal

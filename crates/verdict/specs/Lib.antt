@@ -1,4 +1,3 @@
-pub mod Refusals
 pub mod Judged
 pub mod Groups
 pub mod Heads
@@ -7,8 +6,5 @@ pub mod Parts
 pub mod OnePass
 pub mod WholeBodies
 pub mod Laws
-pub mod Slots
-pub mod Steps
-pub mod JudgedBodies
 pub mod FrontTokens
 pub mod Keeping

@@ -2,9 +2,9 @@
 use Rattle.std.specs.Prelude.{◌≡◌, ℕ, zero, suc, List, Option, length, Result, MatchResult}
 use Rattle.std.specs.Int.{div_ceil}
 use Rattle.wsyntax.specs.Modules.{module_shape}
-use Rattle.verdict.specs.declared.refusal.BodyRefusal.{BodyRefusal}
-use Rattle.verdict.specs.declared.refusal.Refusal.{Refusal}
-use Rattle.verdict.specs.declared.refusal.Refusal.TheVariants.{TooLarge, Malformed, Rule, Body, Memory}
+use Rattle.refusal.specs.declared.refusal.BodyRefusal.{BodyRefusal}
+use Rattle.refusal.specs.declared.refusal.Refusal.{Refusal}
+use Rattle.refusal.specs.declared.refusal.Refusal.TheVariants.{TooLarge, Malformed, Rule, Body, Memory}
 use Rattle.verdict.specs.declared.head.Head.{Head}
 use Rattle.verdict.specs.Judged.{body_refusal_at, PassBefore, IsFirstBody}
 use Rattle.verdict.specs.Groups.{GroupPasses, GroupRefused, passes_or_refused, one_first}

@@ -11,8 +11,8 @@ use Rattle.verdict.specs.declared.body.Known.{Known}
 use Rattle.verdict.specs.declared.body.Known.TheVariants.{Nothing, Stop, Refusal}
 use Rattle.verdict.specs.declared.passing.Passing.{Passing}
 use Rattle.verdict.specs.declared.passing.Passing.TheVariants.{Passed, Stopped, Unknown}
-use Rattle.verdict.specs.declared.refusal.BodyRefusal.{BodyRefusal}
-use Rattle.verdict.specs.declared.refusal.BodyRefusal.TheVariants.{Malformed}
+use Rattle.refusal.specs.declared.refusal.BodyRefusal.{BodyRefusal}
+use Rattle.refusal.specs.declared.refusal.BodyRefusal.TheVariants.{Malformed}
 use Rattle.verdict.specs.Judged.{typing_refusal, body_refusal_of}
 use Rattle.verdict.specs.OnePass.{StopsAt}
 

@@ -1,11 +1,11 @@
 ghost use Rattle.std.specs.Prelude.{◌≡◌, ◌+◌, ◌<◌, None, IfOk, MatchResult, length};
 ghost use Rattle.wsyntax.specs.Modules.{decoded_as};
 ghost use Rattle.verdict.specs.Judged.{body_refusal_of, IsBodyRefusal};
-ghost use Rattle.verdict.specs.Refusals.{AllowsRefusal};
+ghost use Rattle.refusal.specs.Refusals.{AllowsRefusal};
 ghost use Rattle.verdict.specs.WholeBodies.{AtEnd, GivesRefusal, GoesOn, Judges};
 
 use crate::passing::{Passing, Scratch};
-use crate::refusal::{BodyRefusal, Refusal};
+use refusal::{BodyRefusal, Refusal};
 use smallvec::SmallVec;
 use std::alloc::{AllocError, Global};
 use wcheck::Checker;

@@ -2,15 +2,15 @@ ghost use Rattle.std.specs.Prelude.{◌≡◌, MatchResult, IfOk, IfSome, All, v
 ghost use Rattle.wsyntax.specs.Validation.Verdict.{IsVerdict, Accepted};
 ghost use Rattle.verdict.specs.Heads.{EarlyRulesHold};
 ghost use Rattle.verdict.specs.Parts.{HasRun};
-ghost use Rattle.verdict.specs.Refusals.{verdict_of};
+ghost use Rattle.refusal.specs.Refusals.{verdict_of};
 
 use crate::grouping::groups_for;
 use crate::head::Head;
 use crate::jobs::{ModuleParts, judge_at};
 use crate::passing::Scratch;
-use crate::refusal::Refusal;
 use crate::rest::judge_rest;
 use pieces::{Plan, Watch, try_all};
+use refusal::Refusal;
 use std::alloc::{AllocError, Global};
 use std::sync::Wait;
 use std::thread::Threads;

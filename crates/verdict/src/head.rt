@@ -4,9 +4,9 @@ ghost use Rattle.wsyntax.specs.Modules.{module_shape};
 ghost use Rattle.wsyntax.specs.Validation.ModuleContext.{indexed_context};
 ghost use Rattle.wsyntax.specs.Validation.Verdict.{IsVerdict};
 ghost use Rattle.verdict.specs.Heads.{UniqueWhole, IsHead, IsEarlyRefusal};
-ghost use Rattle.verdict.specs.Refusals.{verdict_of};
+ghost use Rattle.refusal.specs.Refusals.{verdict_of};
 
-use crate::refusal::Refusal;
+use refusal::Refusal;
 use soundness::validation::{accepted_is_typed, refused_at_first_fault};
 use std::alloc::Global;
 use wcontext::{Context, ModuleFault, SpaceSizes, check_rules_before_code};

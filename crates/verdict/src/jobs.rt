@@ -2,15 +2,15 @@ ghost use Rattle.std.specs.Prelude.{◌≡◌, ◌+◌, ◌<◌, None, MatchResu
 ghost use Rattle.verdict.specs.Judged.{IsBodyRefusal};
 ghost use Rattle.verdict.specs.Heads.{EarlyRulesHold};
 ghost use Rattle.verdict.specs.Parts.{bodies_of, body_refusal_in, parts_of};
-ghost use Rattle.verdict.specs.Refusals.{AllowsRefusal};
+ghost use Rattle.refusal.specs.Refusals.{AllowsRefusal};
 
 use crate::body::judge_body;
 use crate::grouping::positions_of;
 use crate::head::Head;
 use crate::passing::Scratch;
-use crate::refusal::Refusal;
 use crate::rest::judge_rest;
 use pieces::{Job, JobFault, Stage, Watch};
+use refusal::Refusal;
 use std::alloc::Global;
 use std::sync::Wait;
 

@@ -5,15 +5,15 @@ ghost use Rattle.verdict.specs.Judged.{PassBefore, IsFirstBody};
 ghost use Rattle.accepted_module.specs.Judgement.{AreChecked};
 ghost use Rattle.accepted_module.specs.Kept.{IsAcceptedFrom};
 ghost use Rattle.verdict.specs.Rules.{KeepsRules};
-ghost use Rattle.verdict.specs.Refusals.{verdict_of};
+ghost use Rattle.refusal.specs.Refusals.{verdict_of};
 
 use crate::grouping::groups_for;
 use crate::keeping::checked_body;
 use crate::keeping_jobs::KeptBodies;
-use crate::refusal::Refusal;
 use accepted_module::Accepted;
 use checked_body::CheckedBody;
 use pieces::{Plan, Quiet, Stage, Watch, try_all};
+use refusal::Refusal;
 use soundness::validation::{accepted_is_typed, refused_at_first_fault};
 use std::alloc::{AllocError, Global};
 use std::sync::Wait;
@@ -129,10 +129,7 @@ fn judge_bodies_alone<W: Watch>(
 }
 
 /// The module of these bytes, where it keeps all rules, and the context of its bodies.
-pub(crate) fn decode_and_check<'a>(
-    alloc: Global,
-    bytes: &'a [u8],
-) -> Result<(Module<'a>, Context), Refusal>
+fn decode_and_check<'a>(alloc: Global, bytes: &'a [u8]) -> Result<(Module<'a>, Context), Refusal>
     ensures { MatchResult result (λ m. KeepsRules bytes.now m.0 m.1) (λ r. IfSome (verdict_of r) (IsVerdict bytes.now)) }
 {
     grammar_is_read();

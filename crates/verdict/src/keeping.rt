@@ -1,11 +1,11 @@
 ghost use Rattle.std.specs.Prelude.{◌≡◌, ◌<◌, ◌^◌, None, MatchResult, length};
 ghost use Rattle.verdict.specs.Judged.{body_refusal_of, IsBodyRefusal};
-ghost use Rattle.verdict.specs.Refusals.{AllowsRefusal};
+ghost use Rattle.refusal.specs.Refusals.{AllowsRefusal};
 ghost use Rattle.accepted_module.specs.Judgement.{IsCheckedFrom};
 
 use crate::keeping_pass::passed_body;
-use crate::refusal::{BodyRefusal, Refusal};
 use checked_body::CheckedBody;
+use refusal::{BodyRefusal, Refusal};
 use soundness::validation::{refused_at_first_fault, typed_is_accepted};
 use std::alloc::Global;
 use wcheck::{CheckFault, Checker, check_body};

@@ -1,13 +1,13 @@
 ghost use Rattle.std.specs.Prelude.{◌≡◌, ◌+◌, ◌<◌, ◌^◌, None, MatchResult, All, length, map};
 ghost use Rattle.accepted_module.specs.Judgement.{IsCheckedAt};
 ghost use Rattle.verdict.specs.Judged.{body_refusal_at, IsBodyRefusal};
-ghost use Rattle.verdict.specs.Refusals.{AllowsRefusal};
+ghost use Rattle.refusal.specs.Refusals.{AllowsRefusal};
 
 use crate::grouping::positions_of;
 use crate::keeping::checked_body;
-use crate::refusal::Refusal;
 use checked_body::CheckedBody;
 use pieces::{Job, JobFault, Stage, Watch};
+use refusal::Refusal;
 use std::alloc::Global;
 use std::sync::Wait;
 use wcheck::Checker;

@@ -1,10 +1,10 @@
 //! What is asked of a module beside its bodies, once these can be judged.
 ghost use Rattle.std.specs.Prelude.{MatchResult};
 ghost use Rattle.verdict.specs.Heads.{EarlyRulesHold, RestPasses, RestRefused};
-ghost use Rattle.verdict.specs.Refusals.{AllowsRefusal};
+ghost use Rattle.refusal.specs.Refusals.{AllowsRefusal};
 
 use crate::head::Head;
-use crate::refusal::Refusal;
+use refusal::Refusal;
 use std::alloc::Global;
 use wcontext::{NameRoom, SEGMENTS_RULE, SpaceSizes, check_rules_after_code};
 use wdecode::{Fault, SegmentRule};

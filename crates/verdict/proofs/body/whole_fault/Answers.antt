@@ -2,7 +2,7 @@ use Rattle.std.proofs.Common.{ltb, refl, ap, sym, subst, ◌∙◌, Option}
 use Rattle.std.proofs.lemmas.Result.{err_from_is_err_and}
 use Rattle.wsyntax.specs.Binary.Sections.{locals_of}
 use Rattle.wsyntax.specs.Binary.Shell.{local_limit}
-use Rattle.verdict.specs.declared.refusal.BodyRefusal.{BodyRefusal}
+use Rattle.refusal.specs.declared.refusal.BodyRefusal.{BodyRefusal}
 use Rattle.verdict.specs.WholeBodies.{GivesRefusal}
 use Rattle.verdict.proofs.WholeBodies.{refusal_none, refusal_many, refusal_few}
 use Rattle.verdict.proofs.body.whole_fault.Goals as goal

@@ -1,5 +1,5 @@
 use Rattle.verdict.specs.Parts.{IsFirstPart}
-use Rattle.verdict.specs.Refusals.{of_run}
+use Rattle.refusal.specs.Refusals.{of_run}
 use Rattle.verdict.proofs.Parts.{all_passed, first_part}
 use Rattle.verdict.proofs.RefusalSteps.{handed_on}
 use Rattle.verdict.proofs.examining.judge_parts.Goals as goal

@@ -2,7 +2,7 @@ use Rattle.std.proofs.Common.{Bor, ◌≡◌, ◌+◌, ℕ, List, None, map, sub
 use Rattle.std.specs.Prelude.{MatchResult}
 use Rattle.std.proofs.lemmas.List.{length-map}
 use Rattle.verdict.specs.Judged.{body_refusal_at, IsBodyRefusal}
-use Rattle.verdict.specs.Refusals.{AllowsRefusal}
+use Rattle.refusal.specs.Refusals.{AllowsRefusal}
 use Rattle.verdict.proofs.Parts.{body_there}
 use Rattle.verdict.proofs.jobs.judge_at.Goals as goal
 

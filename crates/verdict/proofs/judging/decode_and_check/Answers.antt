@@ -1,6 +1,6 @@
 use Rattle.std.proofs.Common.{arith}
 use Rattle.wsyntax.specs.Modules.{module_shape}
-use Rattle.verdict.specs.Refusals.{of_decoding, of_rules}
+use Rattle.refusal.specs.Refusals.{of_decoding, of_rules}
 use Rattle.verdict.proofs.Firsts.{decoded, not_decoded, not_kept, refused_so}
 use Rattle.verdict.proofs.SegmentBytes.{segments_are_bytes}
 use Rattle.verdict.proofs.judging.decode_and_check.Goals as goal

@@ -1,6 +1,6 @@
 use Rattle.std.proofs.Common.{map}
 use Rattle.verdict.specs.Judged.{IsFirstBody}
-use Rattle.verdict.specs.Refusals.{of_run}
+use Rattle.refusal.specs.Refusals.{of_run}
 use Rattle.verdict.proofs.KeptGroups.{groups_passed, groups_kept, group_stopped}
 use Rattle.verdict.proofs.RefusalSteps.{handed_on}
 use Rattle.verdict.proofs.judging.judge_bodies.Goals as goal

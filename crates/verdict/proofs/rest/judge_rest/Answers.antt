@@ -2,7 +2,7 @@ use Rattle.std.proofs.Common.{Err, refl, ap}
 use Rattle.wsyntax.specs.Modules.{module_shape}
 use Rattle.wdecode.specs.Fronts.{with_segments}
 use Rattle.wdecode.specs.declared.fault.Fault.{Fault}
-use Rattle.verdict.specs.Refusals.{of_rules}
+use Rattle.refusal.specs.Refusals.{of_rules}
 use Rattle.verdict.proofs.Parts.{late_rule}
 use Rattle.verdict.proofs.RefusalSteps.{handed_on}
 use Rattle.verdict.proofs.Rests.{least_of_whole, none_of_whole, segments_broken}

@@ -1,6 +1,6 @@
 use Rattle.std.proofs.Common.{arith}
 use Rattle.wsyntax.specs.Modules.{module_shape}
-use Rattle.verdict.specs.Refusals.{of_decoding}
+use Rattle.refusal.specs.Refusals.{of_decoding}
 use Rattle.verdict.proofs.Firsts.{within_limit, not_decoded, refused_so}
 use Rattle.verdict.proofs.Parts.{is_early, one_whole, fewer, no_module, none_spelled}
 use Rattle.verdict.proofs.head.Head.of.Goals as goal

@@ -1,7 +1,0 @@
--- The verdicts so far.
-use Rattle.std.proofs.Common.{map, take}
-use Rattle.verdicts.specs.Verdicts.{AreVerdicts}
-use Rattle.verdicts.proofs.judging.judge_all.Given as goal
-
-abbrev pub invariant-loop-position : goal.invariant-loop-position
-invariant-loop-position g l = AreVerdicts (map (λ b. b.now) (take l.position l.modules)) l.verdicts.items
