@@ -1,27 +1,28 @@
 -- What is told of a module and of a text of calls.
-use Rattle.std.proofs.Common.{◌≡◌, ℕ, Bool, true, List, Option, Some, None, Result, Ok, Err, IfOk, IfSome, refl, sym, ◌∙◌}
+use Rattle.std.proofs.Common.{◌≡◌, ◌≢◌, ℕ, Bool, true, List, Option, Some, None, Result, Ok, Err, IfOk, IfSome, refl, sym, ◌∙◌}
 use Rattle.std.specs.Prelude.{IsSomeAnd, string_bytes}
 use Rattle.std.specs.declared.alloc.AllocError.{AllocError}
-use Rattle.wsyntax.specs.Texts.Calls.{TooLong, BadLine, Good}
+use Rattle.wsyntax.specs.Texts.Calls.{Call, TooLong, BadLine, Good, IsCalls}
 use Rattle.wsyntax.specs.Texts.Lines.{verdict_line}
 use Rattle.wsyntax.specs.Validation.Verdict.{Verdict, Accepted, TooLarge, Malformed, RuleBroken, BodyRefused, IsVerdict}
-use Rattle.explain.specs.CallFaults.{IsFault}
+use Rattle.batch_text.specs.Calls.{ReadsCalls}
+use Rattle.batch_text.specs.declared.fault.CallsFault.{CallsFault}
+use Rattle.batch_text.specs.declared.fault.CallsFault.TheVariants as fault
 use Rattle.explain.specs.CallsTold.{RefusedBy, TellsBoth, TellsRefusal, is_refused}
-use Rattle.explain.specs.Texts.{BeginsWith}
-use Rattle.explain.specs.declared.calls_fault.TextFault.{TextFault}
-use Rattle.explain.specs.declared.calls_fault.TextFault.TheVariants as fault
+use Rattle.explain_text.specs.Texts.{BeginsWith}
 use Rattle.explain.specs.declared.explaining_calls.CallsExplanation.{CallsExplanation}
 use Rattle.explain.specs.declared.explaining_calls.Refused.{Refused}
 use Rattle.explain.specs.declared.explaining_calls.Refused.TheVariants.{Module, Calls}
 
 -- the calls of an accepted module
 
-pub bad_calls : (text : List ℕ) (f : TextFault) → IsFault text (Some f) → RefusedBy text Accepted (Some Calls)
-bad_calls text (fault.TooLarge bytes) h = (TooLong, h.0, refl)
-bad_calls text (fault.Line k why) h = (BadLine k, h, refl)
+pub bad_calls : (text : List ℕ) (f : CallsFault) → f ≢ fault.Memory → ReadsCalls text (Err f) → RefusedBy text Accepted (Some Calls)
+bad_calls text fault.TooLarge some h = (TooLong, h, refl)
+bad_calls text (fault.Line k) some h = (BadLine k, h, refl)
+bad_calls text fault.Memory some h = absurd (some refl)
 
-pub good_calls : (text : List ℕ) → IsFault text None → RefusedBy text Accepted None
-good_calls text h = (Good h.0, h.1, refl)
+pub good_calls : (text : List ℕ) (calls : List Call) → IsCalls text (Good calls) → RefusedBy text Accepted None
+good_calls text calls h = (Good calls, h, refl)
 
 -- both
 

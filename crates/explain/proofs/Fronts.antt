@@ -6,7 +6,7 @@ use Rattle.wsyntax.specs.Modules.{ModuleShape, DataShape, module_shape}
 use Rattle.wsyntax.specs.Binary.Shell.{Shell}
 use Rattle.wdecode.specs.declared.front.ModuleHead.{ModuleHead}
 use Rattle.wdecode.specs.Fronts.{EndsFront, with_segments}
-use Rattle.explain.specs.declared.explanation.RefusedFunction.{RefusedFunction}
+use Rattle.explanation.specs.declared.explanation.RefusedFunction.{RefusedFunction}
 use Rattle.explain.specs.Placed.{IsSo, IsSoIn}
 
 -- data segments are not spoken of

@@ -1,16 +1,2 @@
-pub mod Exports
-pub mod Firsts
-pub mod Fronts
-pub mod Initials
-pub mod Lefts
-pub mod Typings
-pub mod Misfits
-pub mod Misses
-pub mod Shells
-pub mod Repeats
-pub mod RuleFaults
-pub mod Positions
-pub mod Refusals
 pub mod CallsTold
-pub mod FloatLocations
-pub mod ExportLines
+pub mod Fronts

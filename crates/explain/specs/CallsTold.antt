@@ -3,7 +3,7 @@ use Rattle.std.specs.Prelude.{◌≡◌, ℕ, Bool, true, false, List, Option, S
 use Rattle.wsyntax.specs.Texts.Calls.{CallsText, Good, IsCalls}
 use Rattle.wsyntax.specs.Texts.Lines.{verdict_line}
 use Rattle.wsyntax.specs.Validation.Verdict.{Verdict, Accepted, IsVerdict}
-use Rattle.explain.specs.Texts.{BeginsWith}
+use Rattle.explain_text.specs.Texts.{BeginsWith}
 use Rattle.explain.specs.declared.explaining_calls.Refused.{Refused}
 use Rattle.explain.specs.declared.explaining_calls.Refused.TheVariants.{Module, Calls}
 

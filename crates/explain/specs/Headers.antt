@@ -1,12 +1,12 @@
 -- 5.5.15 What the first bytes tell of bytes that spell no module.
 use Rattle.std.specs.Prelude.{◌≡◌, ◌≢◌, ◌<◌, ◌≤◌, ℕ, List, [], ◌∷◌, Some, IfSome, length, slice_get}
 use Rattle.wsyntax.specs.Binary.Shell.{header}
-use Rattle.explain.specs.declared.explanation.Form.{Form}
-use Rattle.explain.specs.declared.explanation.Form.TheVariants.{Component, Xz, Zstd, Elf, Objects, Bitcode}
-use Rattle.explain.specs.declared.explanation.NoModule.{NoModule}
-use Rattle.explain.specs.declared.explanation.NoModule.TheVariants.{Text, Gzip, Short, Magic, Version, Sections}
-use Rattle.explain.specs.Shells.{TellsLocation}
-use Rattle.explain.specs.Texts.{BeginsWith}
+use Rattle.explanation.specs.declared.explanation.Form.{Form}
+use Rattle.explanation.specs.declared.explanation.Form.TheVariants.{Component, Xz, Zstd, Elf, Objects, Bitcode}
+use Rattle.explanation.specs.declared.explanation.NoModule.{NoModule}
+use Rattle.explanation.specs.declared.explanation.NoModule.TheVariants.{Text, Gzip, Short, Magic, Version, Sections}
+use Rattle.explain_bytes.specs.Shells.{TellsLocation}
+use Rattle.explain_text.specs.Texts.{BeginsWith}
 
 -- the first bytes of another form: of a component its magic, version and layer, of the others what their tools ask for
 abbrev pub first_bytes : Form → List ℕ

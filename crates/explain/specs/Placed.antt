@@ -1,44 +1,32 @@
 -- What an explanation says of a refused body, or of an item that breaks a rule, is so of the module that the bytes spell.
-use Rattle.std.specs.Prelude.{◌≡◌, ◌+◌, ℕ, Bool, true, false, List, [], ◌∷◌, Option, Some, None, IfSome, slice_get, ◌&&◌, ◌==◌, length, if◌then◌else◌}
+use Rattle.std.specs.Prelude.{◌≡◌, ◌+◌, ℕ, List, [], ◌∷◌, Option, Some, None, IfSome, slice_get, ◌&&◌, ◌==◌, length, if◌then◌else◌}
 use Rattle.std.specs.List.{between}
 use Rattle.wsyntax.specs.declared.module.LocalRun.{LocalRun}
-use Rattle.wsyntax.specs.declared.module.ExportKind.{ExportKind}
-use Rattle.wsyntax.specs.declared.module.ExportKind.TheVariants.{Function, Table, Memory, Global}
-use Rattle.wsyntax.specs.Modules.{ModuleShape, ExportShape}
+use Rattle.wsyntax.specs.Modules.{ModuleShape}
 use Rattle.wsyntax.specs.Binary.Sections.{locals, locals_of}
 use Rattle.wsyntax.specs.Binary.Shell.{Shell}
 use Rattle.wsyntax.specs.Validation.Context.{Context}
 use Rattle.wsyntax.specs.Validation.ModuleContext.{module_context, imported_functions}
-use Rattle.explain.specs.declared.explanation.Span.{Span}
-use Rattle.explain.specs.declared.explanation.BodyExplanation.{BodyExplanation}
-use Rattle.explain.specs.declared.explanation.BodyExplanation.TheVariants.{Malformed, TooManyLocals, IllTyped}
-use Rattle.explain.specs.declared.explanation.RefusedFunction.{RefusedFunction}
-use Rattle.explain.specs.declared.explanation.Explanation.{Explanation}
-use Rattle.explain.specs.declared.explanation.Explanation.TheVariants as told
+use Rattle.explanation.specs.declared.explanation.Span.{Span}
+use Rattle.explanation.specs.declared.explanation.BodyExplanation.{BodyExplanation}
+use Rattle.explanation.specs.declared.explanation.BodyExplanation.TheVariants.{Malformed, TooManyLocals, IllTyped}
+use Rattle.explanation.specs.declared.explanation.RefusedFunction.{RefusedFunction}
+use Rattle.explanation.specs.declared.explanation.Explanation.{Explanation}
+use Rattle.explanation.specs.declared.explanation.Explanation.TheVariants as told
+use Rattle.explanation.specs.Functions.{first_name, type_told}
 use Rattle.explain.specs.Headers.{TellsHeader}
-use Rattle.explain.specs.Locations.{IsStopOf, IsTokenAt}
-use Rattle.explain.specs.Typed.{IsTypingOf, type_told}
-use Rattle.explain.specs.Causes.{IsCauseOf}
-use Rattle.explain.specs.Rules.{Breaks}
-
--- ---- the function
-
-abbrev pub is_function : ExportKind → Bool
-is_function Function = true
-is_function Table = false
-is_function Memory = false
-is_function Global = false
-
--- 2.5.10 the name of the first export of the function of that index
-abbrev pub first_name : ℕ → List ExportShape → Option (List ℕ)
-first_name f [] = None
-first_name f (e ∷ es) = if is_function e.kind && e.index == f then Some e.item_name else first_name f es
+use Rattle.explain_bytes.specs.Locations.{IsStopOf, IsTokenAt}
+use Rattle.explain_bytes.specs.Shells.{IsBodyAt}
+use Rattle.explain_typing.specs.Typed.{IsTypingOf}
+use Rattle.explain_typing.specs.Causes.{IsCauseOf}
+use Rattle.explain_rules.specs.Rules.{Breaks}
 
 -- ---- the body
 
--- 2.5.1 these bytes are the body of the function of that index: the imported ones come first
-abbrev pub IsBodyOf : ℕ → List (List ℕ) → ℕ → List ℕ → Type 0
-IsBodyOf imported bodies f body = (position : ℕ) × (f ≡ imported + position) × (slice_get bodies position ≡ Some body)
+-- 2.5.1 in the span stands the body of the function of that index, byte by byte: the imported ones come first
+abbrev pub IsBodyOf : List ℕ → ℕ → List (List ℕ) → ℕ → Span → Type 0
+IsBodyOf bytes imported bodies f s =
+    (position : ℕ) × (f ≡ imported + position) × (slice_get bodies position ≡ Some (between s.from s.to bytes)) × IsBodyAt bytes position s
 
 -- 5.5.13 so many locals are declared
 abbrev pub Declares : List ℕ → ℕ → Type 0
@@ -49,7 +37,7 @@ abbrev pub TellsLocations : Context → ℕ → List ℕ → ℕ → BodyExplana
 TellsLocations C f body start (Malformed stop) = IfSome stop (IsStopOf body start)
 TellsLocations C f body start (TooManyLocals count) = IfSome count (Declares body)
 TellsLocations C f body start (IllTyped position found typing cause) =
-    IfSome found (IsTokenAt body start position) × IfSome typing (IsTypingOf C f body position) × IfSome cause (IsCauseOf C f body position)
+    IfSome found (IsTokenAt body start position) × IfSome typing (IsTypingOf C f body start position) × IfSome cause (IsCauseOf C f body position)
 
 -- it tells none
 abbrev pub TellsNoLocations : BodyExplanation → Type 0
@@ -57,11 +45,11 @@ TellsNoLocations (Malformed stop) = stop ≡ None
 TellsNoLocations (TooManyLocals count) = count ≡ None
 TellsNoLocations (IllTyped position found typing cause) = (found ≡ None) × (typing ≡ None) × (cause ≡ None)
 
--- the bytes of the module in the span are the body of the function; without a span no location is told
+-- the body of the function stands in the span; without a span no location is told
 abbrev pub TellsBody : List ℕ → Context → ℕ → List (List ℕ) → ℕ → Option Span → BodyExplanation → Type 0
 TellsBody bytes C imported bodies f None fault = TellsNoLocations fault
 TellsBody bytes C imported bodies f (Some s) fault =
-    IsBodyOf imported bodies f (between s.from s.to bytes) × TellsLocations C f (between s.from s.to bytes) s.from fault
+    IsBodyOf bytes imported bodies f s × TellsLocations C f (between s.from s.to bytes) s.from fault
 
 -- no more is told than the verdict
 pub record KnowsNothing (r : RefusedFunction) : Type 0 where

@@ -2,19 +2,16 @@
 ghost use Rattle.std.specs.Prelude.{◌≡◌, ◌++◌, IfOk, Some, string_bytes};
 ghost use Rattle.wsyntax.specs.Validation.Verdict.{Accepted as IsGood, Verdict};
 ghost use Rattle.wsyntax.specs.Texts.Lines.{verdict_line};
-ghost use Rattle.explain.specs.Texts.{BeginsWith};
-ghost use Rattle.explain.specs.Told.{verdict_told};
+ghost use Rattle.explain_text.specs.Texts.{BeginsWith};
+ghost use Rattle.explanation.specs.Told.{verdict_told};
 ghost use Rattle.explain.specs.CallsTold.{RefusedBy, TellsBoth, TellsRefusal, is_refused};
 
-use crate::calls_fault::{CallsRead, calls_or_fault};
-use crate::calls_misfit::first_misfit;
-use crate::calls_text::{push_calls_fault, push_misfit};
 use crate::explaining::explain;
-use crate::explanation::Explanation;
-use crate::starting_text::push_not_starting;
-use crate::text::explanation_text;
 use accepted_module::Accepted;
-use batch_text::Call;
+use batch_text::{Call, CallsFault, read_calls};
+use explain_run::{first_misfit, push_calls_fault, push_misfit, push_not_starting};
+use explain_text::explanation_text;
+use explanation::Explanation;
 use std::alloc::{AllocError, Global};
 use verdict::judge_alone;
 
@@ -69,14 +66,15 @@ fn push_calls(
 ) -> Result<Option<Refused>, AllocError>
     ensures { IfOk result (RefusedBy calls.now IsGood) }
 {
-    match calls_or_fault(alloc, calls)? {
-        CallsRead::Bad(fault) => {
-            push_calls_fault(text, fault)?;
-            Ok(Some(Refused::Calls))
-        }
-        CallsRead::Calls(read) => {
+    match read_calls(alloc, calls) {
+        Ok(read) => {
             push_hindered(text, alloc, bytes, accepted, &read, pages)?;
             Ok(None)
+        }
+        Err(CallsFault::Memory) => Err(AllocError),
+        Err(fault) => {
+            push_calls_fault(text, calls, fault)?;
+            Ok(Some(Refused::Calls))
         }
     }
 }

@@ -1,16 +1,15 @@
 //! Why a body is refused: by its verdict alone, and with its locations.
 ghost use Rattle.std.specs.Prelude.{◌≡◌, IfOk, IfSome, Some, None, map, slice_get};
 ghost use Rattle.wsyntax.specs.Binary.Sections.{locals_of};
-ghost use Rattle.verdict.specs.declared.refusal.BodyRefusal.TheVariants as refusal;
-ghost use Rattle.explain.specs.Told.{refusal_told};
+ghost use Rattle.refusal.specs.declared.refusal.BodyRefusal.TheVariants as refusal;
+ghost use Rattle.explanation.specs.Told.{refusal_told};
 ghost use Rattle.explain.specs.Placed.{Declares, TellsBody, TellsLocations, TellsNoLocations};
 
-use crate::bodies::body_span;
-use crate::explanation::{BodyExplanation, Span};
-use crate::recheck::{Told, find_told};
-use crate::stops::stop_of;
+use explain_bytes::{body_span, stop_of};
+use explain_typing::{Told, find_told};
+use explanation::{BodyExplanation, Span};
+use refusal::BodyRefusal;
 use std::alloc::{AllocError, Global};
-use verdict::BodyRefusal;
 use wcontext::Context;
 use wdecode::{Fault, locals_at};
 use wsyntax::LocalRun;

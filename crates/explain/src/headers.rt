@@ -2,7 +2,7 @@
 ghost use Rattle.std.specs.Prelude.{◌≡◌, IfSome};
 ghost use Rattle.explain.specs.Headers.{HasForm, IsOther, TellsHeader};
 
-use crate::explanation::{Form, NoModule};
+use explanation::{Form, NoModule};
 
 /// The magic and the version of a module (5.5.15).
 const HEADER: [u8; 8] = [0x00, 0x61, 0x73, 0x6D, 0x01, 0x00, 0x00, 0x00];

@@ -1,6 +1,6 @@
 use Rattle.std.proofs.Common.{◌≡◌, true, rules}
 use Rattle.std.specs.Prelude.{string_bytes}
-use Rattle.explain.specs.Told.{verdict_told}
+use Rattle.explanation.specs.Told.{verdict_told}
 use Rattle.explain.proofs.CallsTold.{refusal_is_told}
 use Rattle.explain.proofs.explaining_calls.explain_refused.Goals as goal
 

@@ -1,5 +1,0 @@
-use Rattle.std.proofs.Common.{◌≤◌, length}
-use Rattle.explain.proofs.causes.misfit.Given as goal
-
-abbrev pub invariant-loop-position : goal.invariant-loop-position
-invariant-loop-position l = l.position ≤ length l.finds

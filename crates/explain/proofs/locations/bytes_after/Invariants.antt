@@ -1,6 +1,0 @@
-use Rattle.std.proofs.Common.{◌≡◌, Some}
-use Rattle.explain.specs.Locations.{left_after}
-use Rattle.explain.proofs.locations.bytes_after.Given as goal
-
-abbrev pub invariant-loop-at : goal.invariant-loop-at
-invariant-loop-at l = left_after l.at l.bytes ≡ Some l.rest

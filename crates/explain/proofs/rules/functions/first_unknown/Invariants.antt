@@ -1,6 +1,0 @@
-use Rattle.std.proofs.Common.{take, ◌<◌}
-use Rattle.std.specs.List.{All}
-use Rattle.explain.proofs.rules.functions.first_unknown.Given as goal
-
-abbrev pub invariant-loop-position : goal.invariant-loop-position
-invariant-loop-position l = All (λ y. y < l.count) (take l.position l.indices)

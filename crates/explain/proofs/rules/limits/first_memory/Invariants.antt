@@ -1,7 +1,0 @@
-use Rattle.std.proofs.Common.{take}
-use Rattle.std.specs.List.{All}
-use Rattle.wsyntax.specs.Validation.Rules.{WithinRange}
-use Rattle.explain.proofs.rules.limits.first_memory.Given as goal
-
-abbrev pub invariant-loop-index : goal.invariant-loop-index
-invariant-loop-index l = All (WithinRange 65536) (take l.index l.memories)

@@ -1,6 +1,0 @@
-use Rattle.wsyntax.specs.Binary.Types.{val_type}
-use Rattle.explain.proofs.Shells.{goes_on}
-use Rattle.explain.proofs.shell.type_items.val_types_in.Goals as goal
-
-pub loop-preserved : goal.loop-preserved
-loop-preserved c = goes_on val_type.read c.args.count c.loop.counter c.loop.rest.now c.in_ok-rest.rest.now _ c.loop-test.true c.in_ok-rest.ensures c.loop.invariant

@@ -1,0 +1,65 @@
+//! Where a token of a body stands among its bytes.
+ghost use Rattle.std.specs.Prelude.{◌≡◌, ◌+◌, ◌-◌, IfOk, IfSome, Some, length};
+ghost use Rattle.explain_bytes.specs.Locations.{IsLeft, IsTokenAt, left_after};
+
+use explanation::{FoundToken, Span};
+use std::alloc::Global;
+use wdecode::{Fault, locals_at, token_at};
+
+/// What is left of the bytes after so many tokens.
+fn bytes_after<'a>(alloc: Global, bytes: &'a [u8], count: usize) -> Result<&'a [u8], Fault>
+    ensures { IfOk result (λ rest. left_after count bytes.now ≡ Some rest.now) }
+{
+    let mut targets = Vec::new(alloc);
+    let mut rest = bytes;
+    for at in 0..count {
+        targets.clear();
+        let (_token, after) = token_at(&mut targets, rest)?;
+        rest = after;
+    }
+    Ok(rest)
+}
+
+/// What is left of a body after its locals and so many tokens.
+fn left_of<'a>(alloc: Global, body: &'a [u8], position: usize) -> Result<&'a [u8], Fault>
+    ensures { IfOk result (λ rest. IsLeft body.now position rest.now) }
+{
+    let (_runs, code) = locals_at(alloc, body)?;
+    bytes_after(alloc, code, position)
+}
+
+/// The offset of the bytes that are left of a body, which begins at offset `start`.
+pub fn offset_of(start: usize, body: &[u8], left: &[u8]) -> Option<usize>
+    ensures { IfSome result (λ at. at ≡ start + (length body.now - length left.now)) }
+{
+    start.checked_add(body.len().saturating_sub(left.len()))
+}
+
+/// The token at that position of a body that begins at offset `start`; Malformed where there is none.
+pub fn find_token(
+    alloc: Global,
+    body: &[u8],
+    start: usize,
+    position: usize,
+) -> Result<FoundToken, Fault>
+    ensures { IfOk result (IsTokenAt body.now start position) }
+{
+    let before = left_of(alloc, body, position)?;
+    let [opcode, ..] = before else {
+        return Err(Fault::Malformed);
+    };
+    let mut targets = Vec::new(alloc);
+    let (token, after) = token_at(&mut targets, before)?;
+    match (
+        offset_of(start, body, before),
+        offset_of(start, body, after),
+    ) {
+        (Some(from), Some(to)) => Ok(FoundToken {
+            span: Span { from, to },
+            opcode: *opcode,
+            token,
+            targets,
+        }),
+        _ => Err(Fault::Malformed),
+    }
+}

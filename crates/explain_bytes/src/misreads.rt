@@ -1,0 +1,239 @@
+//! What is wrong with the immediates of a token (5.4), or with the locals of a body (5.5.13), that cannot be read.
+ghost use Rattle.std.specs.Prelude.{◌≡◌, ◌⊎◌, IfErr, IfSome};
+ghost use Rattle.explanation.specs.declared.shell_location.Wanted.TheVariants.{MemoryByte, TableByte};
+ghost use Rattle.explain_bytes.specs.Shells.{IsMisread, IsNoConstant, IsStuck, Stands};
+
+use crate::shell::primitives::{Stuck, after_index, number_at, wrong_byte};
+use crate::shell::type_items::after_val_type;
+use explanation::{Wanted, Wrong};
+
+/// The most bytes of a number s32, and of a number s64 (5.2.2).
+const MOST_OF_I32: usize = 5;
+
+const MOST_OF_I64: usize = 10;
+
+/// What is wrong, and the offset of the first byte of it.
+#[derive(Clone, Copy)]
+pub struct Misread {
+    pub offset: usize,
+    pub wrong: Wrong,
+}
+
+/// What is wrong with bytes that begin with no constant of that type, which has so many bytes at most.
+fn wrong_constant(bytes: &[u8], wanted: Wanted, most: usize) -> Wrong
+    requires { IsNoConstant wanted bytes.now }
+    ensures { Stands result bytes.now }
+{
+    if bytes.is_empty() {
+        return Wrong::Ends(wanted);
+    }
+    for byte in bytes.get(..most).unwrap_or(bytes) {
+        if *byte < 0x80 {
+            return Wrong::LargeConstant(wanted);
+        }
+    }
+    if bytes.len() < most {
+        Wrong::CutConstant(wanted)
+    } else {
+        Wrong::LongConstant(wanted)
+    }
+}
+
+/// The bytes after a constant i32.
+fn after_i32<'a>(bytes: &'a [u8]) -> Result<&'a [u8], Stuck<'a>>
+    ensures { IfErr result IsStuck }
+{
+    match wnum::front_s32(bytes) {
+        Some((_number, rest)) => Ok(rest),
+        None => Err(Stuck::Here {
+            rest: bytes,
+            wrong: wrong_constant(bytes, Wanted::I32, MOST_OF_I32),
+        }),
+    }
+}
+
+/// The bytes after a constant i64.
+fn after_i64<'a>(bytes: &'a [u8]) -> Result<&'a [u8], Stuck<'a>>
+    ensures { IfErr result IsStuck }
+{
+    match wnum::front_s64(bytes) {
+        Some((_number, rest)) => Ok(rest),
+        None => Err(Stuck::Here {
+            rest: bytes,
+            wrong: wrong_constant(bytes, Wanted::I64, MOST_OF_I64),
+        }),
+    }
+}
+
+/// What is wrong with bytes that are too few for a float.
+fn wrong_float(bytes: &[u8], wanted: Wanted) -> Wrong
+    requires { IsNoConstant wanted bytes.now }
+    ensures { Stands result bytes.now }
+{
+    if bytes.is_empty() {
+        Wrong::Ends(wanted)
+    } else {
+        Wrong::CutConstant(wanted)
+    }
+}
+
+/// The bytes after a constant f32.
+fn after_f32<'a>(bytes: &'a [u8]) -> Result<&'a [u8], Stuck<'a>>
+    ensures { IfErr result IsStuck }
+{
+    match bytes.get(4..) {
+        Some(rest) => Ok(rest),
+        None => Err(Stuck::Here {
+            rest: bytes,
+            wrong: wrong_float(bytes, Wanted::F32),
+        }),
+    }
+}
+
+/// The bytes after a constant f64.
+fn after_f64<'a>(bytes: &'a [u8]) -> Result<&'a [u8], Stuck<'a>>
+    ensures { IfErr result IsStuck }
+{
+    match bytes.get(8..) {
+        Some(rest) => Ok(rest),
+        None => Err(Stuck::Here {
+            rest: bytes,
+            wrong: wrong_float(bytes, Wanted::F64),
+        }),
+    }
+}
+
+/// The bytes after the byte 00.
+fn after_zero<'a>(bytes: &'a [u8], wanted: Wanted) -> Result<&'a [u8], Stuck<'a>>
+    requires { (wanted ≡ TableByte) ⊎ (wanted ≡ MemoryByte) }
+    ensures { IfErr result IsStuck }
+{
+    match bytes {
+        [0x00, rest @ ..] => Ok(rest),
+        _ => Err(wrong_byte(bytes, wanted)),
+    }
+}
+
+/// The bytes after the type of a block: 40, a value type, or the index of a type, whose first byte is none of a negative number.
+fn after_block_type<'a>(bytes: &'a [u8]) -> Result<&'a [u8], Stuck<'a>>
+    ensures { IfErr result IsStuck }
+{
+    match bytes {
+        [0x7F | 0x7E | 0x7D | 0x7C | 0x00..=0x40, rest @ ..] => Ok(rest),
+        [0x80..=0xFF, ..] => after_index(bytes),
+        _ => Err(wrong_byte(bytes, Wanted::BlockType)),
+    }
+}
+
+/// The bytes after the labels of a branch table and its default.
+fn after_labels<'a>(bytes: &'a [u8]) -> Result<&'a [u8], Stuck<'a>>
+    ensures { IfErr result IsStuck }
+{
+    let (count, mut rest) = number_at(bytes, Wanted::Count)?;
+    for _ in 0..count {
+        rest = after_index(rest)?;
+    }
+    after_index(rest)
+}
+
+/// The bytes after the type and the table of an indirect call.
+fn after_indirect<'a>(bytes: &'a [u8]) -> Result<&'a [u8], Stuck<'a>>
+    ensures { IfErr result IsStuck }
+{
+    let rest = after_index(bytes)?;
+    after_zero(rest, Wanted::TableByte)
+}
+
+/// The bytes after the alignment and the offset of a load or a store.
+fn after_access<'a>(bytes: &'a [u8]) -> Result<&'a [u8], Stuck<'a>>
+    ensures { IfErr result IsStuck }
+{
+    let (_align, rest) = number_at(bytes, Wanted::Alignment)?;
+    let (_offset, after) = number_at(rest, Wanted::Offset)?;
+    Ok(after)
+}
+
+/// The bytes after the immediates of the instruction of that opcode.
+fn after_immediates<'a>(opcode: u8, bytes: &'a [u8]) -> Result<&'a [u8], Stuck<'a>>
+    ensures { IfErr result IsStuck }
+{
+    match opcode {
+        0x02..=0x04 => after_block_type(bytes),
+        0x0C | 0x0D | 0x10 | 0x20..=0x24 => after_index(bytes),
+        0x0E => after_labels(bytes),
+        0x11 => after_indirect(bytes),
+        0x28..=0x3E => after_access(bytes),
+        0x3F | 0x40 => after_zero(bytes, Wanted::MemoryByte),
+        0x41 => after_i32(bytes),
+        0x42 => after_i64(bytes),
+        0x43 => after_f32(bytes),
+        0x44 => after_f64(bytes),
+        _ => Ok(bytes),
+    }
+}
+
+/// The bytes after a run of locals: how many, and their type.
+fn after_run<'a>(bytes: &'a [u8]) -> Result<&'a [u8], Stuck<'a>>
+    ensures { IfErr result IsStuck }
+{
+    let (_count, rest) = number_at(bytes, Wanted::Count)?;
+    after_val_type(rest)
+}
+
+/// The bytes after the runs of locals of a body.
+fn after_runs<'a>(bytes: &'a [u8]) -> Result<&'a [u8], Stuck<'a>>
+    ensures { IfErr result IsStuck }
+{
+    let (count, mut rest) = number_at(bytes, Wanted::Count)?;
+    for _ in 0..count {
+        rest = after_run(rest)?;
+    }
+    Ok(rest)
+}
+
+/// What is wrong among the bytes; `None` where it is at the front of no end of them.
+fn placed(bytes: &[u8], stuck: Stuck<'_>) -> Option<Misread>
+    requires { IsStuck stuck }
+    ensures { IfSome result (IsMisread bytes.now) }
+{
+    let Stuck::Here { rest, wrong } = stuck else {
+        return None;
+    };
+    let end = bytes.len();
+    let offset = end.saturating_sub(rest.len());
+    let found = bytes.get(offset..end)?;
+    if found != rest {
+        return None;
+    }
+    Some(Misread { offset, wrong })
+}
+
+/// Why the immediates cannot be read of the token that the bytes begin with; `None` where they can.
+pub(crate) fn immediates_stuck<'a>(bytes: &'a [u8]) -> Option<Stuck<'a>>
+    ensures { IfSome result IsStuck }
+{
+    let [opcode, rest @ ..] = bytes else {
+        return None;
+    };
+    match after_immediates(*opcode, rest) {
+        Ok(_) => None,
+        Err(stuck) => Some(stuck),
+    }
+}
+
+/// What is wrong with the immediates of the token that the bytes begin with; `None` where they can be read.
+pub fn misread_token(bytes: &[u8]) -> Option<Misread>
+    ensures { IfSome result (IsMisread bytes.now) }
+{
+    placed(bytes, immediates_stuck(bytes)?)
+}
+
+/// What is wrong with the locals of a body; `None` where they can be read.
+pub fn misread_locals(body: &[u8]) -> Option<Misread>
+    ensures { IfSome result (IsMisread body.now) }
+{
+    match after_runs(body) {
+        Ok(_) => None,
+        Err(stuck) => placed(body, stuck),
+    }
+}

@@ -1,0 +1,4 @@
+pub mod Positions
+pub mod FloatLocations
+pub mod FirstImports
+pub mod ExportLines

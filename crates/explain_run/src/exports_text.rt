@@ -1,0 +1,116 @@
+//! The text of the exports of an accepted module: a line for each, and whether an instance starts.
+ghost use Rattle.std.specs.Prelude.{◌≡◌, ◌++◌, IfOk, OnOk, flat_map, map, slice_get, string_bytes};
+ghost use Rattle.wsyntax.specs.Modules.{export_shape, module_shape};
+ghost use Rattle.wsyntax.specs.Execution.Start.{start_refusal};
+ghost use Rattle.accepted_module.specs.Judgement.{shapes_of};
+ghost use Rattle.explain_text.specs.Types.{func_type_text, global_type_text};
+ghost use Rattle.explain_run.specs.Exports.{export_line, function_text, global_text, item_text, kind_word, IsExportsText};
+
+use crate::starting_text::start_line;
+use accepted_module::Accepted;
+use explain_text::{push_lists, push_name, type_name};
+use std::alloc::{AllocError, Global};
+use wcontext::Context;
+use wsyntax::{Export, ExportKind, GlobalType};
+
+/// The word of what an export names (2.5.10).
+fn kind_name(kind: ExportKind) -> &'static str
+    ensures { result.now ≡ kind_word kind }
+{
+    match kind {
+        ExportKind::Function => "function",
+        ExportKind::Table => "table",
+        ExportKind::Memory => "memory",
+        ExportKind::Global => "global",
+    }
+}
+
+/// The type of the function of that index, with a blank before it.
+fn push_function_type(text: &mut String, context: &Context, index: u32) -> Result<(), AllocError>
+    ensures { OnOk result (string_bytes text.new ≡ string_bytes text.old ++ function_text (slice_get context.now.context.functions index)) }
+{
+    match context.function(index) {
+        None => Ok(()),
+        Some(found) => {
+            text.push_str(" ")?;
+            push_lists(text, found.params, found.results)
+        }
+    }
+}
+
+/// A global type, with a blank before it.
+fn push_global_type(text: &mut String, of_type: GlobalType) -> Result<(), AllocError>
+    ensures { OnOk result (string_bytes text.new ≡ string_bytes text.old ++ global_text of_type) }
+{
+    text.push_str(" ")?;
+    text.push_str(type_name(of_type.val_type))?;
+    if of_type.mutable {
+        text.push_str(" mut")?;
+    }
+    Ok(())
+}
+
+/// The type of an item, with a blank before it: of a function and of a global.
+fn push_item(
+    text: &mut String,
+    context: &Context,
+    kind: ExportKind,
+    index: u32,
+) -> Result<(), AllocError>
+    ensures { OnOk result (string_bytes text.new ≡ string_bytes text.old ++ item_text context.now.context kind index) }
+{
+    match kind {
+        ExportKind::Function => push_function_type(text, context, index),
+        ExportKind::Table | ExportKind::Memory => Ok(()),
+        ExportKind::Global => match context.global(index) {
+            None => Ok(()),
+            Some(of_type) => push_global_type(text, of_type),
+        },
+    }
+}
+
+/// The line of an export.
+fn push_export(text: &mut String, context: &Context, export: &Export<'_>) -> Result<(), AllocError>
+    ensures { OnOk result (string_bytes text.new ≡ string_bytes text.old ++ export_line context.now.context (export_shape export.now)) }
+{
+    text.push_str(kind_name(export.kind))?;
+    write!(text, " {} ", export.index)?;
+    push_name(text, export.name)?;
+    push_item(text, context, export.kind, export.index)?;
+    text.push_str("\n")
+}
+
+/// The lines of exports.
+fn push_exports(
+    text: &mut String,
+    context: &Context,
+    exports: &[Export<'_>],
+) -> Result<(), AllocError>
+    ensures { OnOk result (string_bytes text.new
+        ≡ string_bytes text.old ++ flat_map (λ e. export_line context.now.context (export_shape e)) exports.now) }
+{
+    for export in exports {
+        push_export(text, context, export)?;
+    }
+    Ok(())
+}
+
+/// A line for each export of an accepted module, in their order, and after them whether an instance of it starts whose
+/// memory may have so many pages. The module was judged from these bytes: where they are others, the byte of a token is
+/// another too.
+pub fn text_of_exports(
+    alloc: Global,
+    bytes: &[u8],
+    accepted: &Accepted<'_>,
+    pages: u32,
+) -> Result<String, AllocError>
+    ensures { IfOk result (λ text. IsExportsText accepted.now.context.context
+        (start_refusal pages (module_shape accepted.now.module) (shapes_of accepted.now.bodies.items))
+        (module_shape accepted.now.module).exports (string_bytes text)) }
+{
+    let mut text = String::new(alloc);
+    push_exports(&mut text, accepted.context(), &accepted.module().exports)?;
+    let last = start_line(alloc, bytes, accepted, pages)?;
+    text.push_str(last.as_str())?;
+    Ok(text)
+}

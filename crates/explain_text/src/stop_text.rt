@@ -1,0 +1,71 @@
+//! Why reading a malformed body stopped, in words.
+
+use crate::sentence::Word::{Address, Bytes, Number, Opcode};
+use crate::sentence::say;
+use crate::shell_text::{FC, push_opcode, push_wrong};
+use explain_bytes::{Misread, misread_locals, misread_token};
+use explanation::{StopLocation, Stopped};
+use std::alloc::AllocError;
+
+/// The number after the byte `fc` that the bytes begin with, and the bytes of both.
+fn number_after_fc(bytes: &[u8]) -> Option<(u32, &[u8])> {
+    let [FC, rest @ ..] = bytes else {
+        return None;
+    };
+    let (number, after) = wnum::front_u32(rest)?;
+    let opcode = bytes.get(..bytes.len().saturating_sub(after.len()))?;
+    Some((number, opcode))
+}
+
+/// What is wrong within bytes that begin at that offset.
+fn push_misread(text: &mut String, at: usize, misread: Misread) -> Result<(), AllocError> {
+    let offset = at.saturating_add(misread.offset);
+    say(text, "; byte {} ({}): ", &[Number(offset), Address(offset)])?;
+    push_wrong(text, misread.wrong, "the body ends", 0)
+}
+
+/// Why no token begins with the bytes, which begin at that offset.
+fn push_no_token(text: &mut String, at: usize, bytes: &[u8]) -> Result<(), AllocError> {
+    let [first, ..] = bytes else {
+        return Ok(());
+    };
+    if let Some((number, opcode)) = number_after_fc(bytes) {
+        say(text, "because   {}", &[Bytes(opcode)])?;
+        return push_opcode(text, FC, Some(number));
+    }
+    write!(text, "because   {first:02x}")?;
+    match misread_token(bytes) {
+        Some(misread) => {
+            say(text, " is {}", &[Opcode(*first)])?;
+            push_misread(text, at, misread)
+        }
+        None => push_opcode(text, *first, None),
+    }
+}
+
+/// Why the locals cannot be read of a body that begins at that offset.
+fn push_no_locals(text: &mut String, at: usize, body: &[u8]) -> Result<(), AllocError> {
+    text.push_str("because   its declared locals cannot be read")?;
+    match misread_locals(body) {
+        Some(misread) => push_misread(text, at, misread),
+        None => text.push_str("\n"),
+    }
+}
+
+/// Why reading a malformed body stopped.
+pub(crate) fn push_stop(text: &mut String, stop: StopLocation<'_>) -> Result<(), AllocError> {
+    if stop.why != Stopped::Locals {
+        let words = [Number(stop.tokens), Number(stop.at), Address(stop.at)];
+        say(text, "token     {}, byte {} ({})\n", &words)?;
+    }
+    let sentence = match stop.why {
+        Stopped::Locals => return push_no_locals(text, stop.at, stop.rest),
+        Stopped::Token => return push_no_token(text, stop.at, stop.rest),
+        Stopped::Else => "because   it is an else that stands in no if\n",
+        Stopped::Left if stop.rest.len() == 1 =>
+            "because   the body ended before it: {} byte is left\n",
+        Stopped::Left => "because   the body ended before it: {} bytes are left\n",
+        Stopped::Short => "because   the body ends there, before its last end\n",
+    };
+    say(text, sentence, &[Number(stop.rest.len())])
+}

@@ -1,0 +1,204 @@
+//! The text of an explanation: the line of the verdict, and then lines of a key, padded to ten columns, and what it says.
+ghost use Rattle.std.specs.Prelude.{◌≡◌, IfOk, IsSomeAnd, string_bytes};
+ghost use Rattle.wsyntax.specs.Texts.Lines.{verdict_line};
+ghost use Rattle.explain_text.specs.Texts.{BeginsWith};
+ghost use Rattle.explanation.specs.Told.{verdict_told};
+
+use crate::cause_text::push_cause;
+use crate::rule_text::push_broken_item;
+use crate::sentence::Word::{Address, Hex, Name, Number, Signature, Text};
+use crate::sentence::say;
+use crate::shell_text::push_location;
+use crate::stop_text::push_stop;
+use crate::token_text::push_token;
+use crate::typing_text::push_typing;
+use explanation::{
+    BodyExplanation, Explanation, Form, FoundToken, NoModule, RefusedFunction, Span,
+};
+use refusal::body_line;
+use std::alloc::{AllocError, Global};
+use wsyntax::{LOCAL_LIMIT, MODULE_LIMIT};
+
+/// The line of the verdict; there is none where memory was refused.
+fn first_line(alloc: Global, explanation: &Explanation<'_>) -> Result<String, AllocError>
+    ensures { IfOk result (λ line. IsSomeAnd (verdict_told explanation.now) (λ v. string_bytes line ≡ verdict_line v)) }
+{
+    match explanation {
+        Explanation::Accepted => String::from_str(alloc, "accepted\n"),
+        Explanation::TooLarge { .. } => String::from_str(alloc, "refused too-large\n"),
+        Explanation::Malformed(_) => String::from_str(alloc, "refused malformed\n"),
+        Explanation::Rule { rule, .. } => format!(in alloc; "refused rule {rule}\n"),
+        Explanation::Body(body) => body_line(alloc, body.func, body.fault.refusal()),
+        Explanation::Memory => Err(AllocError),
+    }
+}
+
+/// The line on the function.
+fn push_function(text: &mut String, body: &RefusedFunction<'_>) -> Result<(), AllocError> {
+    write!(text, "function  {}", body.func)?;
+    if let Some(name) = body.name {
+        say(text, " {}", &[Name(name)])?;
+    }
+    if let Some(export) = body.export {
+        say(text, ", exported as {}", &[Name(export)])?;
+    }
+    if let Some(signature) = &body.signature {
+        say(text, ", {}", &[Signature(signature)])?;
+    }
+    if let Some(span) = body.span {
+        say(
+            text,
+            ", bytes {} to {}",
+            &[Number(span.from), Number(span.to)],
+        )?;
+    }
+    text.push_str("\n")
+}
+
+/// The line on the token that is refused.
+fn push_found(text: &mut String, position: usize, found: &FoundToken) -> Result<(), AllocError> {
+    let Span { from, to } = found.span;
+    write!(text, "token     {position} ")?;
+    push_token(text, found)?;
+    say(
+        text,
+        ", bytes {} to {} ({})\n",
+        &[Number(from), Number(to), Address(from)],
+    )
+}
+
+/// The lines on why a body is refused.
+fn push_fault(text: &mut String, fault: &BodyExplanation<'_>) -> Result<(), AllocError> {
+    match fault {
+        BodyExplanation::Malformed { stop: Some(stop) } => push_stop(text, *stop),
+        BodyExplanation::TooManyLocals { count: Some(count) } => {
+            write!(
+                text,
+                "because   it declares {count} locals, and {LOCAL_LIMIT} are the most\n"
+            )
+        }
+        BodyExplanation::IllTyped {
+            position,
+            found: Some(found),
+            typing,
+            cause,
+        } => {
+            push_found(text, *position, found)?;
+            if let Some(typing) = typing {
+                push_typing(text, typing)?;
+            }
+            match cause {
+                Some(cause) => push_cause(text, found, cause),
+                None => Ok(()),
+            }
+        }
+        _ => Ok(()),
+    }
+}
+
+/// What bytes of another form are, and what to do.
+fn form_hint(form: Form) -> &'static str {
+    match form {
+        Form::Component =>
+            "hint      this is a component; gate takes core modules, as wasm32-unknown-unknown makes them\n",
+        Form::Xz => "hint      this is an xz archive; unpack it with unxz\n",
+        Form::Zstd => "hint      this is a Zstandard archive; unpack it with unzstd\n",
+        Form::Elf =>
+            "hint      this is an ELF file, of another machine; build with --target=wasm32 (docs/GUESTS.md)\n",
+        Form::Objects =>
+            "hint      this is an archive of object files; wasm-ld makes a module of them\n",
+        Form::Bitcode => "hint      this is LLVM bitcode; build without -emit-llvm and -flto\n",
+    }
+}
+
+/// What is said of bytes that spell no module.
+fn no_module_sentence(no_module: NoModule) -> &'static str {
+    match no_module {
+        NoModule::Text => "hint      this is the text format; wat2wasm makes a module of it\n",
+        NoModule::Gzip => "hint      this is a gzip archive; unpack it with gunzip\n",
+        NoModule::Short =>
+            "because   a module begins with 00 61 73 6d 01 00 00 00, and the bytes end before\n",
+        NoModule::Magic { .. } =>
+            "because   byte {} is {}, and a module begins with 00 61 73 6d\n{}",
+        NoModule::Version { .. } => "because   byte {} is {}, and the version is 01 00 00 00\n{}",
+        NoModule::Sections(_) =>
+            "because   after its first eight bytes, which are right, it has no sections of a module\n",
+    }
+}
+
+/// The lines on bytes that spell no module.
+fn push_no_module(text: &mut String, no_module: NoModule) -> Result<(), AllocError> {
+    match no_module {
+        NoModule::Sections(Some(location)) => push_location(text, location),
+        NoModule::Magic { at, found, form } | NoModule::Version { at, found, form } => {
+            let hint = Text(form.map_or("", form_hint));
+            say(
+                text,
+                no_module_sentence(no_module),
+                &[Number(at), Hex(found as u32), hint],
+            )
+        }
+        _ => text.push_str(no_module_sentence(no_module)),
+    }
+}
+
+/// A module rule in words.
+fn rule_words(rule: u32) -> &'static str {
+    match rule {
+        2 => "the type index of each imported function exists",
+        3 => "the type index of each defined function exists",
+        4 => "each table's minimum is at most its maximum, where there is one",
+        5 => "each memory has at most 65,536 pages, and its minimum is at most its maximum",
+        6 => "there is at most one table, imported ones counted",
+        7 => "there is at most one memory, imported ones counted",
+        8 => "each global's first value is a constant expression of its type",
+        9 => "each exported index exists in the space of its kind",
+        10 => "the names of exports are distinct",
+        11 => "the start function exists and has type [] -> []",
+        12 =>
+            "each element segment's table exists, its offset is a constant i32, its functions exist",
+        13 => "each data segment's memory exists, and its offset is a constant i32",
+        _ => "the module is valid",
+    }
+}
+
+/// The lines after that of the verdict.
+fn push_details(text: &mut String, explanation: &Explanation<'_>) -> Result<(), AllocError> {
+    match explanation {
+        Explanation::Accepted | Explanation::Memory => Ok(()),
+        Explanation::TooLarge { bytes } => {
+            write!(
+                text,
+                "because   it has {bytes} bytes, and {MODULE_LIMIT} are the most\n"
+            )
+        }
+        Explanation::Malformed(no_module) => push_no_module(text, *no_module),
+        Explanation::Rule {
+            item: Some(item),
+            ..
+        } => push_broken_item(text, item),
+        Explanation::Rule { rule, item: None } => {
+            say(
+                text,
+                "because   this has to hold: {}\n",
+                &[Text(rule_words(*rule))],
+            )
+        }
+        Explanation::Body(body) => {
+            push_function(text, body)?;
+            push_fault(text, &body.fault)
+        }
+    }
+}
+
+/// The text of an explanation: the line of the verdict, and then lines of a key and what it says. There is none where memory
+/// was refused.
+pub fn explanation_text(alloc: Global, explanation: &Explanation<'_>) -> Result<String, AllocError>
+    ensures { IfOk result (λ text. IsSomeAnd (verdict_told explanation.now) (λ v. BeginsWith (verdict_line v) (string_bytes text))) }
+{
+    let mut text = first_line(alloc, explanation)?;
+    let mut details = String::new(alloc);
+    push_details(&mut details, explanation)?;
+    text.push_str(details.as_str())?;
+    Ok(text)
+}

@@ -1,0 +1,4 @@
+pub mod Typings
+pub mod Misfits
+pub mod Misses
+pub mod Openings

@@ -1,0 +1,49 @@
+//! What is told of an ill-typed token: what it takes, what it finds, which tokens gave it, and in which blocks it stands.
+
+use crate::explanation::FunctionSignature;
+use wsyntax::{Token, ValType};
+
+/// What opened a block.
+#[derive(Clone, Copy, PartialEq, Eq)]
+pub enum BlockKind {
+    Block,
+    Loop,
+    If,
+    Else,
+}
+
+/// The token that opened a block: the offset of its first byte in the module.
+#[derive(Clone, Copy)]
+pub struct Opening {
+    pub kind: BlockKind,
+    pub at: usize,
+}
+
+/// A block that is open.
+#[derive(Drop)]
+pub struct OpenBlock {
+    pub opening: Option<Opening>,
+    pub signature: FunctionSignature,
+}
+
+/// A token that gave an operand: its position, and the first of its bytes.
+#[derive(Clone, Copy)]
+pub struct Giver {
+    pub position: usize,
+    pub opcode: u8,
+    pub token: Token,
+}
+
+/// What is told of an ill-typed token. Of operands the lowest comes first, so the last is on top.
+#[derive(Drop)]
+pub struct Typing {
+    /// What it takes; `None` is an operand of any type. Of a token that names what is not there neither `takes` nor `finds` is told.
+    pub takes: Vec<Option<ValType>>,
+    /// The topmost operands of the innermost block, as many as it takes, where there are so many; at the end of a block also those that are
+    /// left over, no more than 64. `None` is an operand of unreachable code, of which the type is not known.
+    pub finds: Vec<Option<ValType>>,
+    /// The tokens that gave these.
+    pub given_by: Vec<Giver>,
+    /// The open blocks, the innermost first, no more than eight. The function is none.
+    pub within: Vec<OpenBlock>,
+}
