@@ -7,7 +7,7 @@
  *          and memset. Where malloc or realloc answers NULL, a function goes on without that block if it can. If it cannot, it answers
  *          GATE_NO_MEMORY and writes nothing. A call of a module that runs short ends by itself, and the function answers GATE_OK: the
  *          text has its line `no-memory`, a gate_call has GATE_CALL_NO_MEMORY. Only the blocks of handles stay behind.
- *          Nothing of a caller's bytes is kept after a call; gate_module_new and gate_judging_new alone have them read later too.
+ *          Nothing of a caller's bytes is kept after a call; gate_module_new alone has them read later too.
  * State    It has none: no variable that is written, no thread, no lock, no file, no signal handler, no output. It never ends the
  *          process, and never jumps out of a call.
  * Stack    A call takes less than 16 KB of it, whatever the module: 13 KB are the most that was measured. That is not proved.
@@ -18,16 +18,16 @@
  *          meanwhile, in this process or in another one (of a mapped file). A length is below 2^63 bytes. A null pointer is allowed
  *          with length 0 only. `verdict` of gate_verdict_line and `settings` are never null.
  * Written  `out` and `results` have room for as many elements as their room says, and are null with room 0 only. A room, too, is below
- *          2^63 bytes. `verdict`, `explanation`, `length`, `kept`, `module`, `other`, `found`, `ended`, `instance`, `size`, `value`,
- *          `judging` and `bodies` are never null. None of them overlaps another one, or anything that the call reads. All pointers are
- *          aligned as their types ask.
- * Handles  A gate_report, gate_module, gate_instance or gate_judging is one that the library wrote and that is not freed yet: { NULL } is
- *          none. Who got it, frees it, once; a copy of the struct is the same handle. Its `at` is the library's. The two handles of
- *          gate_judging_join are not the same.
+ *          2^63 bytes. `verdict`, `explanation`, `length`, `kept`, `module`, `other`, `found`, `ended`, `instance`, `size` and
+ *          `value` are never null. None of them overlaps another one, or anything that the call reads. All pointers are aligned as their
+ *          types ask.
+ * Handles  A gate_report, gate_module or gate_instance is one that the library wrote and that is not freed yet: { NULL } is none, and a
+ *          call with it reads address 0. gate_report_drop and its like free a handle, and take { NULL } too. Who got it, frees it, once;
+ *          a copy of the struct is the same handle. Its `at` is the library's.
  * Threads  A handle is in one call at a time; any thread may make that call. It goes from thread to thread by a lock, by the start or
  *          the join of a thread, or by a sequentially consistent atomic, so that each call happens before the next one.
- *          gate_module_share gives another thread a handle of its own of the same module, and gate_judging_share of the same check. Else
- *          all calls may run at once, on the same bytes too.
+ *          gate_module_share gives another thread a handle of its own of the same module. Else all calls may run at once, on the same
+ *          bytes too.
  * Heap     malloc, realloc and free are of one allocator, and neither throw nor jump out of a call. A block is aligned to each power of
  *          two up to 16 that divides its size, as to 8 for 24 bytes.
  * Signals  No call from a signal handler, and none in the child of a fork of a process with several threads before it calls exec, since
@@ -35,8 +35,8 @@
  * Machine  An x86-64 processor of level v2 (SSE4.2, POPCNT). The shared library says so to the loader, which may refuse it on an older
  *          one. Else a call ends in SIGILL there.
  * Time     No call has a limit of time, and none can be stopped. A check takes time in proportion to the module's length, for some
- *          modules many times as much as for ordinary ones; fuel bounds a call. A host that needs a limit gives the call a process, or
- *          judges bodies a few at a time: gate_judging_bodies.
+ *          modules many times as much as for ordinary ones. Fuel bounds the function entries and loop turns of a call, not what lies
+ *          between two of them. A host bounds a check by the module's length, and gives a call that needs a limit a process.
  *
  * What stays
  *
@@ -112,15 +112,12 @@ enum gate_status {
     GATE_MODULE_REFUSED = 2,  /* the module is refused, and verdict or text say why */
     GATE_CALLS_REFUSED = 3,   /* the text of calls is refused, and the text says why */
     GATE_NOTHING = 4,         /* there is no such export or function; nothing is written */
-    GATE_BAD_ARGUMENT = 64,   /* a limit is out of its range, numbers are of no verdict or value, or a handle is of other bytes; nothing is
-                                 written */
+    GATE_BAD_ARGUMENT = 64,   /* a limit is out of its range, or numbers are of no verdict or value; nothing is written */
     GATE_NO_MEMORY = 70,      /* a block was refused that the function cannot do without; nothing is written */
     GATE_SHORT_BUFFER = 75,   /* *length bytes are wanted; out is as it was */
     GATE_OUTSIDE = 80,        /* bytes do not lie in the memory of an instance; nothing is done */
     GATE_NO_INSTANCE = 81,    /* there is no instance */
     GATE_NO_GLOBAL = 82,      /* no global is exported under the name; nothing is written */
-    GATE_NOT_JUDGED = 83,     /* a body on which the verdict hangs was not judged; nothing is written */
-    GATE_SHARED = 84,         /* another handle of the same check is neither joined nor freed; nothing is written */
     /* The same by names that say what they are of: GATE_BAD_ARGUMENTS is an end. */
     GATE_STATUS_OK = GATE_OK,
     GATE_STATUS_MODULE_REFUSED = GATE_MODULE_REFUSED,
@@ -131,9 +128,7 @@ enum gate_status {
     GATE_STATUS_SHORT_BUFFER = GATE_SHORT_BUFFER,
     GATE_STATUS_OUTSIDE = GATE_OUTSIDE,
     GATE_STATUS_NO_INSTANCE = GATE_NO_INSTANCE,
-    GATE_STATUS_NO_GLOBAL = GATE_NO_GLOBAL,
-    GATE_STATUS_NOT_JUDGED = GATE_NOT_JUDGED,
-    GATE_STATUS_SHARED = GATE_SHARED
+    GATE_STATUS_NO_GLOBAL = GATE_NO_GLOBAL
 };
 
 enum gate_kind {
@@ -206,7 +201,7 @@ enum gate_why {
 #define GATE_NONE UINT64_MAX
 #define GATE_NONE_32 UINT32_MAX
 
-/* Offsets count bytes of the module from 0; each `to` is the one after the last byte. */
+/* Offsets count bytes of the module from 0. body_to, and the `to` of a token, is the one after its last byte. */
 typedef struct gate_explanation {
     gate_verdict verdict;         /* that of gate_check */
     uint32_t why;                 /* gate_why */
@@ -214,7 +209,7 @@ typedef struct gate_explanation {
     uint32_t opcode;              /* the first byte of the token that is refused, or with which no token begins */
     uint64_t item;                /* the place in that section, from 0; of a body verdict.function says which */
     uint64_t body_from, body_to;  /* the refused body, without its size */
-    uint64_t from, to;            /* the token, or the item; where reading stopped both are that offset */
+    uint64_t from, to;            /* the token; of an item both are its first byte; where reading stopped both are that offset */
 } gate_explanation;
 
 /* Judges a module, and says of a refusal where and why.
@@ -491,57 +486,6 @@ GATE_INLINE void gate_instance_drop(gate_instance instance) {
     if (instance.at) gate_instance_free(instance);
 }
 
-/* A check in steps, with the host's own threads, progress, limit of time and stop: since revision 1. First all of a module but its bodies
- * is judged, then its bodies in any order and on any threads, each by its place from 0, and at last the verdict is that of gate_check. What
- * a handle judged is its own until the handle is joined to another one. */
-typedef struct gate_judging { void *at; } gate_judging;
-
-/* Judges all of a module but its bodies. The bytes stay readable and as they are until the last handle of this check, and of the module
- * that it gives, is freed.
- *   GATE_OK              *judging has a handle, and *bodies says how many bodies there are to judge; verdict is as it was. The caller frees
- *                        the handle by gate_judging_free, where gate_judging_end or gate_judging_join does not
- *   GATE_MODULE_REFUSED  verdict says why; the others are as they were, and the bytes are the caller's again
- *   GATE_NO_MEMORY       nothing is written */
-uint32_t gate_judging_new(const uint8_t *bytes, size_t bytes_length, gate_verdict *verdict, gate_judging *judging, uint32_t *bodies)
-    GATE_READS(1, 2) GATE_NOT_NULL((3, 4, 5)) GATE_ANSWERS;
-
-/* Gives another handle of the same check, for another thread: it has judged no body. What it judges counts once it is joined.
- *   GATE_OK         *other has it
- *   GATE_NO_MEMORY  nothing is written */
-uint32_t gate_judging_share(gate_judging judging, gate_judging *other) GATE_NOT_NULL((2)) GATE_ANSWERS;
-
-/* Judges `count` bodies from place `first` on, or as many as there are, up to the first that is refused. A body that is judged twice does
- * no harm.
- *   GATE_OK              none of them is refused
- *   GATE_MODULE_REFUSED  verdict says which one is, and why. It is that of the module where no body before `first` is refused
- *   GATE_NO_MEMORY       nothing is written; what was judged before counts */
-uint32_t gate_judging_bodies(gate_judging judging, uint32_t first, uint32_t count, gate_verdict *verdict)
-    GATE_NOT_NULL((4)) GATE_ANSWERS;
-
-/* Adds what another handle judged, and frees that one, whatever is answered.
- *   GATE_OK
- *   GATE_BAD_ARGUMENT  it is of other bytes; what this handle judged is as it was
- *   GATE_NO_MEMORY     likewise */
-uint32_t gate_judging_join(gate_judging judging, gate_judging other) GATE_ANSWERS;
-
-/* The verdict of the whole: that of gate_check.
- *   GATE_OK              verdict->kind is GATE_ACCEPTED, *module has a handle of the module, as of gate_module_new, and `judging` is freed.
- *                        No body is judged again
- *   GATE_MODULE_REFUSED  verdict is that of the first body that is refused: all bodies before it were judged
- *   GATE_NOT_JUDGED      a body on which the verdict hangs was not judged; nothing is written
- *   GATE_SHARED          all bodies were judged, but another handle of the check is neither joined nor freed; nothing is written
- *   GATE_NO_MEMORY       nothing is written. What was judged may be lost: each call of the handle answers GATE_NO_MEMORY then
- * With all but GATE_OK the handle stays, and is to be freed. */
-uint32_t gate_judging_end(gate_judging judging, gate_verdict *verdict, gate_module *module) GATE_NOT_NULL((2, 3)) GATE_ANSWERS;
-
-/* Frees a handle, and with the last one all that was judged. */
-void gate_judging_free(gate_judging judging);
-
-/* The same, but for { NULL } nothing. */
-GATE_INLINE void gate_judging_drop(gate_judging judging) {
-    if (judging.at) gate_judging_free(judging);
-}
-
 #undef GATE_READS
 #undef GATE_WRITES
 #undef GATE_NOT_NULL
@@ -581,7 +525,6 @@ GATE_HOLDS(offsetof(gate_explanation, opcode) == 32 && offsetof(gate_explanation
 GATE_HOLDS(offsetof(gate_explanation, body_from) == 48 && offsetof(gate_explanation, body_to) == 56);
 GATE_HOLDS(offsetof(gate_explanation, from) == 64 && offsetof(gate_explanation, to) == 72);
 GATE_IS(gate_instance, 8, 8);
-GATE_IS(gate_judging, 8, 8);
 #undef GATE_HOLDS
 #undef GATE_IS
 #endif

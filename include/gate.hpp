@@ -1,7 +1,7 @@
 /// gate.h for C++17 and later: handles that free themselves, containers in place of pointers, exceptions in place of statuses.
 ///
 ///     gate::Module module(bytes);                                             // throws gate::Refused
-///     gate::Call call = module.call("add", {gate_i32(40), gate_i32(2)});      // call.results[0].bits == 42
+///     gate_value sum = module.call("add", {gate_i32(40), gate_i32(2)}).value(); // sum.bits == 42; throws gate::CallError
 ///     gate::Instance instance = module.instance();                            // goes on from call to call; throws gate::NoInstance
 ///
 /// Where a block of memory is refused std::bad_alloc is thrown, and where a limit or a value is out of its range std::invalid_argument.
@@ -150,9 +150,6 @@ struct FunctionType { std::vector<std::uint8_t> params, results; };
 /// What is exported under a name; the type is that of a function.
 struct Export { std::string name; gate_export item; FunctionType type; };
 
-/// How a call ended; with GATE_END_VALUES all results are there.
-struct Call { gate_call ended; std::vector<gate_value> results; };
-
 /// How a call ended, as the line of a report says it, but for its values and its fuel: `trap unreachable`.
 inline std::string words(const gate_call &ended) {
     static constexpr const char *ENDS[] = {"values", "trap", "out-of-fuel", "out-of-frames", "no-export", "not-a-function",
@@ -166,6 +163,28 @@ inline std::string words(const gate_call &ended) {
     const bool has_place = ended.reason == GATE_ELEMENT_OUTSIDE || ended.reason == GATE_DATA_OUTSIDE;
     return end + ' ' + REASONS[ended.reason] + (has_place ? ' ' + std::to_string(ended.place) : "");
 }
+
+/// A call did not give what is asked for: one value, or none. `ended` says how it ended, and so does what(), as `trap unreachable`.
+struct CallError : std::runtime_error {
+    explicit CallError(const gate_call &how)
+        : std::runtime_error((how.end == GATE_END_VALUES ? "not what is asked for: " : "") + words(how)), ended(how) {}
+    gate_call ended;
+};
+
+/// How a call ended; with GATE_END_VALUES all results are there.
+struct Call {
+    gate_call ended;
+    std::vector<gate_value> results;
+    /// The one value of a call that gave one; throws CallError.
+    gate_value value() const {
+        if (results.size() != 1) throw CallError(ended);
+        return results[0];
+    }
+    /// That a function without results came to its end; throws CallError.
+    void no_value() const {
+        if (ended.end != GATE_END_VALUES || !results.empty()) throw CallError(ended);
+    }
+};
 
 /// There is no instance; `ended` says why: GATE_END_NOT_STARTED, GATE_END_NO_MEMORY, or how the start function ended.
 struct NoInstance : std::runtime_error {
@@ -307,6 +326,17 @@ public:
     Call call(std::string_view name, std::initializer_list<gate_value> args) { return call(name, args, settings_); }
     Call call(std::string_view name, std::initializer_list<gate_value> args, const gate_settings &settings) {
         return call(name, Values(args.begin(), args.size()), settings);
+    }
+    /// As call, and after each end but values a reset, which a plug-in of a compiler wants: a trap leaves its stack pointer where it was.
+    Call call_or_reset(std::string_view name, Values args, const gate_settings &settings) {
+        Call made = call(name, args, settings);
+        if (made.ended.end != GATE_END_VALUES) reset();
+        return made;
+    }
+    Call call_or_reset(std::string_view name, Values args) { return call_or_reset(name, args, settings_); }
+    Call call_or_reset(std::string_view name, std::initializer_list<gate_value> args) { return call_or_reset(name, args, settings_); }
+    Call call_or_reset(std::string_view name, std::initializer_list<gate_value> args, const gate_settings &settings) {
+        return call_or_reset(name, Values(args.begin(), args.size()), settings);
     }
     /// How many bytes its memory has; 0 where it has none.
     std::uint64_t memory_size() {

@@ -20,10 +20,10 @@ use Rattle.batch_text.specs.declared.fault.CallsFault.{CallsFault}
 use Rattle.batch_text.specs.declared.fault.CallsFault.TheVariants as fault
 use Rattle.accepted_module.specs.Kept.{IsAcceptedFrom}
 use Rattle.accepted_module.specs.Judgement.{shapes_of}
-use Rattle.verdict.specs.Refusals.{verdict_of, fault_of}
+use Rattle.refusal.specs.Refusals.{verdict_of, fault_of}
 use Rattle.accepted_module.specs.declared.accepted.Accepted.{Accepted as AcceptedModule}
-use Rattle.verdict.specs.declared.refusal.Refusal.{Refusal}
-use Rattle.verdict.specs.declared.refusal.Refusal.TheVariants as refusal
+use Rattle.refusal.specs.declared.refusal.Refusal.{Refusal}
+use Rattle.refusal.specs.declared.refusal.Refusal.TheVariants as refusal
 use Rattle.wstore.specs.declared.settings.Settings.{Settings}
 use Rattle.wstore.specs.CallLimits.{limits_of}
 use Rattle.batch.specs.Ends.{is_short, AreEnds}

@@ -42,10 +42,6 @@ abbrev pub is_short : Option Line → Bool
 is_short (Some NoMemory) = true
 is_short _ = false
 
--- the line says how the call ends, whatever the limits
-abbrev pub RefusedAs : Accepted → Call → Line → Type 0
-RefusedAs a c line = (l : Limits) → EndOf (module_shape a.«module») (shapes_of a.bodies.items) l (IsTrue (is_short (Some line))) (call_of c) (end_of line)
-
 -- ---- the calls of a batch
 
 -- the line says how the call ends; where it says that memory ran out, the call ran out of it

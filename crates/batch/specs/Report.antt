@@ -3,8 +3,8 @@ use Rattle.std.specs.Prelude.{◌≡◌, ℕ, List, Option, Some, Result, Ok, Er
 use Rattle.std.specs.Io.KnownBytes.{Keeps, Appends}
 use Rattle.wsyntax.specs.Validation.Verdict.{Verdict, Accepted}
 use Rattle.wsyntax.specs.Texts.Lines.{verdict_line}
-use Rattle.verdict.specs.declared.refusal.Refusal.{Refusal}
-use Rattle.verdict.specs.Refusals.{verdict_of}
+use Rattle.refusal.specs.declared.refusal.Refusal.{Refusal}
+use Rattle.refusal.specs.Refusals.{verdict_of}
 use Rattle.batch.specs.Output.{AppendsFront}
 use Rattle.batch.specs.declared.status.Status.{Status}
 use Rattle.batch.specs.declared.status.Status.TheVariants.{Good, ModuleRefused}

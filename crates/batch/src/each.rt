@@ -4,14 +4,15 @@ ghost use Rattle.std.specs.Prelude.{length};
 
 use crate::runner::Runner;
 use batch_text::{Call, Line};
-use memory::Ticket;
+use memory::{Pool, Ticket};
 use pieces::{Job, JobFault, Stage, Watch};
 use std::sync::Wait;
 
-/// The calls of a batch. One index of the job is one call.
+/// The calls of a batch. One index of the job is one call. The pool is asked only where the module has a memory.
 #[derive(Drop)]
 pub(crate) struct EachCall<'a, 'w, W> {
     pub(crate) runner: Runner<'a>,
+    pub(crate) pool: &'a Pool,
     pub(crate) calls: &'a [Call<'a>],
     pub(crate) watch: &'w W,
 }
@@ -28,7 +29,7 @@ impl<'a, 'w, W: Watch> Job for EachCall<'a, 'w, W> {
 
     ghost limit = { λ j. length j.calls.now };
 
-    ghost belongs = { λ j t. IsTicketOf j.runner.pool.now t };
+    ghost belongs = { λ j t. IsTicketOf j.pool.now t };
 
     ghost passes = { λ j i. Unit {0} };
 
@@ -43,10 +44,10 @@ impl<'a, 'w, W: Watch> Job for EachCall<'a, 'w, W> {
             Ok(function) => function,
             Err(line) => return Ok(line),
         };
-        let clean = self.runner.lend(rt, ticket);
+        let clean = self.runner.lend(rt, self.pool, ticket);
         self.watch.lent(index, clean.len());
         let (line, clean) = self.runner.line(call, function, clean);
-        self.runner.give_back(rt, ticket, clean);
+        self.runner.give_back(rt, self.pool, ticket, clean);
         Ok(line)
     }
 

@@ -2,10 +2,9 @@
 
 ghost use Rattle.std.specs.Prelude.{◌≡◌, ◌≢◌, ◌<◌, IfOk};
 ghost use Rattle.batch_text.specs.declared.fault.CallsFault.TheVariants.{Memory};
-ghost use Rattle.batch_text.specs.Reading.{SplitsBefore};
 ghost use Rattle.batch.specs.Streams.{EndsLines, IsFront};
 
-use batch_text::{Call, CallsFault, read_calls};
+use batch_text::{Call, CallsFault, read_calls, split_before};
 use soundness::texts::one_calls;
 use std::alloc::{AllocError, Global};
 
@@ -20,21 +19,13 @@ pub(crate) enum Front<'t> {
     Unended,
 }
 
-/// The bytes before the first newline, and the rest, which is empty where there is no newline.
-fn split_line(text: &[u8]) -> (&[u8], &[u8])
-    ensures { SplitsBefore 0x0A text.now result.0.now result.1.now }
-{
-    let end = text.iter().position(|byte| *byte == b'\n');
-    text.split_at(end.unwrap_or(text.len()))
-}
-
 /// Where the first lines of a text end, which are no more than that many.
 fn end_of_lines(text: &[u8], most: usize) -> usize
     ensures { EndsLines most text.now result }
 {
     let mut end = 0;
     for _ in 0..most {
-        let (line, behind) = split_line(&text[end..]);
+        let (line, behind) = split_before(&text[end..], b'\n');
         if behind.is_empty() {
             return end;
         }

@@ -7,7 +7,7 @@ ghost use Rattle.batch.specs.Groups.{AreGroups, AddsGroups};
 use crate::group::Group;
 use crate::runner::Runner;
 use batch_text::{Call, Part};
-use memory::Ticket;
+use memory::{Pool, Ticket};
 use pieces::{Job, JobFault, Stage, Watch};
 use std::alloc::{AllocError, Global};
 use std::sync::Wait;
@@ -56,10 +56,12 @@ pub(crate) fn groups_of<'s, 't>(
 }
 
 /// The calls of a batch in groups of consecutive ones. One index of the job is one group, and its result the part of the
-/// report that has its lines. The calls of a group have one memory in turn, which is lent once.
+/// report that has its lines. The calls of a group have one memory in turn, which is lent once,
+/// where the module has a memory.
 #[derive(Drop)]
 pub(crate) struct GroupedCalls<'a, 's, 't, 'w, W> {
     pub(crate) runner: Runner<'a>,
+    pub(crate) pool: &'a Pool,
     pub(crate) groups: &'s [Group<'s, 't>],
     pub(crate) watch: &'w W,
 }
@@ -76,7 +78,7 @@ impl<'a, 's, 't, 'w, W: Watch> Job for GroupedCalls<'a, 's, 't, 'w, W> {
 
     ghost limit = { λ j. length j.groups.now };
 
-    ghost belongs = { λ j t. IsTicketOf j.runner.pool.now t };
+    ghost belongs = { λ j t. IsTicketOf j.pool.now t };
 
     ghost passes = { λ j g. Unit {0} };
 
@@ -89,7 +91,7 @@ impl<'a, 's, 't, 'w, W: Watch> Job for GroupedCalls<'a, 's, 't, 'w, W> {
         let Ok(mut lines) = Vec::with_capacity(self.runner.alloc, group.calls.len()) else {
             return Err(JobFault::Memory);
         };
-        let mut clean = self.runner.lend(rt, ticket);
+        let mut clean = self.runner.lend(rt, self.pool, ticket);
         for (position, call) in group.calls.iter().enumerate() {
             let call_index = group.first + position as u32;
             self.watch.note(Stage::Call, call_index);
@@ -106,7 +108,7 @@ impl<'a, 's, 't, 'w, W: Watch> Job for GroupedCalls<'a, 's, 't, 'w, W> {
                 return Err(JobFault::Memory);
             }
         }
-        self.runner.give_back(rt, ticket, clean);
+        self.runner.give_back(rt, self.pool, ticket, clean);
         let Ok(part) = Part::of(self.runner.alloc, group.first as usize, &lines) else {
             return Err(JobFault::Memory);
         };

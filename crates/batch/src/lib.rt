@@ -6,7 +6,6 @@
 #![tactic(auto)]
 
 mod answering;
-mod call;
 mod each;
 mod front;
 mod group;
@@ -25,11 +24,7 @@ mod sliced;
 mod slices;
 mod status;
 mod stream_fault;
-#[cfg(test)]
-mod stream_tests;
 mod streaming;
-#[cfg(test)]
-mod tests;
 mod tuning;
 
 pub use answering::answer;
@@ -39,7 +34,7 @@ pub use line::verdict_line;
 pub use memory::CleanMem;
 pub use output::{WriteFailed, write_text};
 pub use pieces::{Plan, Quiet, Watch};
-pub use report::report_verdict;
+pub use report::{report_verdict, write_verdict};
 pub use runner::call_alone;
 pub use running::run_batch;
 pub use sequential::{Answer, answer_alone, answer_on_alone};

@@ -1,13 +1,12 @@
 //! The verdict line, made in memory.
 
 ghost use Rattle.std.specs.Prelude.{◌≡◌, IfOk, IsSomeAnd, string_bytes};
-ghost use Rattle.wsyntax.specs.Validation.Verdict.{BodyRefused};
 ghost use Rattle.wsyntax.specs.Texts.Lines.{verdict_line as meant_line};
-ghost use Rattle.verdict.specs.Refusals.{fault_of};
 ghost use Rattle.batch.specs.Report.{given_verdict};
 
+use refusal::body_line;
 use std::alloc::{AllocError, Global};
-use verdict::{BodyRefusal, Refusal};
+use verdict::Refusal;
 
 /// The line of the verdict that the judge gave, with its newline. Where it gave none, for it was out of memory, there is no
 /// line either.
@@ -21,18 +20,5 @@ pub fn verdict_line(alloc: Global, judged: Result<(), Refusal>) -> Result<String
         Err(Refusal::Rule(rule)) => format!(in alloc; "refused rule {rule}\n"),
         Err(Refusal::Body { func, refusal }) => body_line(alloc, func, refusal),
         Err(Refusal::Memory) => Err(AllocError),
-    }
-}
-
-/// The line of a body that is refused.
-fn body_line(alloc: Global, func: u32, refusal: BodyRefusal) -> Result<String, AllocError>
-    ensures { IfOk result (λ line. string_bytes line ≡ meant_line (BodyRefused func (fault_of refusal))) }
-{
-    match refusal {
-        BodyRefusal::Malformed => format!(in alloc; "refused body {func} malformed\n"),
-        BodyRefusal::TooManyLocals => format!(in alloc; "refused body {func} too-many-locals\n"),
-        BodyRefusal::IllTyped { at } => format!(in alloc;
-            "refused body {func} ill-typed at {at}\n"
-        ),
     }
 }

@@ -31,8 +31,8 @@ pub fn report_verdict<R: Threads + Wait + Sync, W: Watch + Sync, O: Write>(
     write_verdict(alloc, judged, out)
 }
 
-/// Writes the line of the verdict that the judge gave.
-pub(crate) fn write_verdict<O: Write>(
+/// Writes the line of the verdict that the judge gave; its faults are those of `report_verdict`.
+pub fn write_verdict<O: Write>(
     alloc: Global,
     judged: Result<(), Refusal>,
     out: &mut O,

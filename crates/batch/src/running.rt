@@ -41,10 +41,10 @@ pub fn run_batch<R: Threads + Wait + Sync, W: Watch + Sync>(
         alloc,
         accepted,
         settings,
-        pool: &pool,
     };
     let job = EachCall {
         runner,
+        pool: &pool,
         calls,
         watch,
     };
@@ -77,10 +77,10 @@ pub(crate) fn run_groups<R: Threads + Wait + Sync, W: Watch + Sync>(
         alloc,
         accepted,
         settings,
-        pool: &pool,
     };
     let job = GroupedCalls {
         runner,
+        pool: &pool,
         groups: &groups,
         watch,
     };

@@ -1,7 +1,7 @@
 use thiserror::Error;
 
 /// What was written.
-#[derive(Clone, Copy, Debug, PartialEq, Eq)]
+#[derive(Clone, Copy, PartialEq, Eq)]
 pub enum Status {
     /// The module is accepted.
     Good,

@@ -157,8 +157,9 @@ impl Rounds<'_> {
 ///
 /// - With `Good`, what is written is the report of the whole text, by the definition of each line, however many there are
 ///   (`written`). Where the text is no longer than a text of calls may be, it is what `answer` writes (`answer`).
-/// - With `CallsRefused`, the lines of the calls before the first bad line are written, and then `calls line K refused`: the same
-///   K as of `answer`. But `answer` would have run none of the calls, and would have written `accepted` instead of their lines.
+/// - With `CallsRefused`, the lines of the calls before the first bad line are written, and then `calls line K refused`. Where the
+///   text is within the limits of `answer`, its K is this one; but `answer` would have run none of the calls, and would have written
+///   `accepted` in place of their lines.
 ///   Bad is a line that says no call, that has no newline, or that has more bytes with it than a text of calls may have.
 /// - With `Read` and `Memory`, whole lines are written, those of the first calls; with `Write`, a beginning of all that.
 ///

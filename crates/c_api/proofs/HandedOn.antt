@@ -89,7 +89,7 @@ abbrev pub WithBox : (w : Width) (R : RattleType) → ℕ → (Loose R).D → Li
 WithBox w R n d vs = fsep (Numbered w n d.alloc vs) (box_owns (ghosts.dealloc_token d.alloc) R d.at d.value)
 
 module _ {M : Type 1} {𝓤 : Ura M} {𝓛 : Logic 𝓤} {K : Type 0} {Γ : List (Item 𝓤)} {G : Goal 𝓤 𝓛.H} where
-  pub number_in : K → (w : Width) (n : ℕ) → n < 2 ^ bits w → (a : Global) (h : Val) → Step K 𝓛 (‵ (Numbered w n a (both (vint w n) h ∷ [])) ∷ Γ) G (‵ ((heap.the_row).own_val a (h ∷ [])) ∷ Γ) G
+  number_in : K → (w : Width) (n : ℕ) → n < 2 ^ bits w → (a : Global) (h : Val) → Step K 𝓛 (‵ (Numbered w n a (both (vint w n) h ∷ [])) ∷ Γ) G (‵ ((heap.the_row).own_val a (h ∷ [])) ∷ Γ) G
   number_in t w n small a h = step (λ s. let v : Val = both (vint w n) h in
       nothing t $ move t (1 ∷ 0 ∷ []) $ fjoin t $ flt_i t n (2 ^ bits w) small $ feq_i t (List Val) (vint w n ∷ []) (vint w n ∷ []) refl $ fjoin t $ fjoin t $ feq_i t (List Val) (v ∷ []) (v ∷ []) refl $ fjoin t $
       fpack t (Valss (UInt w ∷ heap.the_row ∷ [])) (within (numbered w) (n, (a, tt)) (v ∷ [])) (vint w n ∷ [], (h ∷ [], tt)) $ s)

@@ -7,5 +7,4 @@ pub mod Instances
 pub mod InstanceOperations
 pub mod CallsThatGoOn
 pub mod PutBack
-pub mod Judgings
 pub mod Sums

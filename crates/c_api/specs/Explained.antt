@@ -2,13 +2,13 @@
 use Rattle.std.specs.Prelude.{◌≡◌, ◌⊎◌, ℕ, List, Option, Some, None, option_map}
 use Rattle.wsyntax.specs.Validation.Verdict.{Verdict, IsVerdict}
 use Rattle.wsyntax.specs.Texts.Lines.{verdict_line}
-use Rattle.explain.specs.declared.explanation.Explanation.{Explanation}
-use Rattle.explain.specs.declared.fields.ExplanationKind.{ExplanationKind}
-use Rattle.explain.specs.declared.fields.ExplanationKind.TheVariants as kind
-use Rattle.explain.specs.Fields.{body_told, item_told, kind_told, opcode_told, span_told, section_told}
+use Rattle.explanation.specs.declared.explanation.Explanation.{Explanation}
+use Rattle.explanation.specs.declared.fields.ExplanationKind.{ExplanationKind}
+use Rattle.explanation.specs.declared.fields.ExplanationKind.TheVariants as kind
+use Rattle.explanation.specs.Fields.{body_told, item_told, kind_told, opcode_told, span_told, section_told}
 use Rattle.explain.specs.Placed.{AreSo}
-use Rattle.explain.specs.Texts.{BeginsWith}
-use Rattle.explain.specs.Told.{verdict_told}
+use Rattle.explain_text.specs.Texts.{BeginsWith}
+use Rattle.explanation.specs.Told.{verdict_told}
 use Rattle.c_api.specs.declared.explained.GateExplanation.{GateExplanation}
 use Rattle.c_api.specs.Texts.{AreKept, Hands}
 use Rattle.c_api.specs.Verdicts.{fields_of, status_of}

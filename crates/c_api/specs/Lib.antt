@@ -15,7 +15,5 @@ pub mod Beginnings
 pub mod CallsOn
 pub mod Instances
 pub mod Made
-pub mod Steps
-pub mod Judgings
 pub mod Sizes
 pub mod Builds

@@ -1,5 +1,5 @@
 -- The fields of verdicts.
-use Rattle.std.specs.Prelude.{◌≡◌, ◌≤◌, ◌⊎◌, ℕ, List, Option, Some, None}
+use Rattle.std.specs.Prelude.{◌≡◌, ◌≤◌, ◌⊎◌, ℕ, List}
 use Rattle.wsyntax.specs.Validation.Verdict.{Verdict, Accepted, TooLarge, Malformed, RuleBroken, BodyRefused, BodyMalformed, TooManyLocals, IllTyped, IsVerdict}
 use Rattle.wsyntax.specs.Texts.Lines.{verdict_line}
 use Rattle.c_api.specs.Texts.{AreKept, Hands}
@@ -35,11 +35,6 @@ Tells bytes new status = (v : Verdict) × IsVerdict bytes v × (new ≡ fields_o
 -- or memory was refused, and nothing is written
 abbrev pub Answers : List ℕ → GateVerdict → GateVerdict → ℕ → Type 0
 Answers bytes old new status = ((status ≡ 70) × (new ≡ old)) ⊎ Tells bytes new status
-
--- the fields of the verdict of a refusal are written; or memory was refused, and nothing is
-abbrev pub TellsRefusal : Option Verdict → GateVerdict → GateVerdict → ℕ → Type 0
-TellsRefusal (Some v) old new status = (status ≡ 2) × (new ≡ fields_of v)
-TellsRefusal None old new status = (status ≡ 70) × (new ≡ old)
 
 -- a rule has a number from 2 to 13
 abbrev pub IsNamed : Verdict → Type 0

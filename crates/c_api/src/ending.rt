@@ -8,12 +8,30 @@ use batch_text::{Line, Outcome, StartRefusal};
 use wnum::NumTrap;
 use wsyntax::Trap;
 
+// The numbers of `gate_end` of gate.h.
+const END_VALUES: u32 = 0;
+
+const END_TRAP: u32 = 1;
+
+const END_OUT_OF_FUEL: u32 = 2;
+
+const END_OUT_OF_FRAMES: u32 = 3;
+
+const END_NO_EXPORT: u32 = 4;
+
+const END_NOT_A_FUNCTION: u32 = 5;
+
+const END_BAD_ARGUMENTS: u32 = 6;
+
+const END_NOT_STARTED: u32 = 7;
+
+const END_NO_MEMORY: u32 = 8;
+
 /// How a call ended.
 #[repr(C)]
 #[derive(Clone, Copy)]
 pub struct GateCall {
-    /// 0 values, 1 trap, 2 out of fuel, 3 out of frames, 4 no such export, 5 an export that is no function, 6 arguments of other
-    /// types, 7 not started, 8 out of memory.
+    /// One of the numbers of `gate_end`.
     pub end: u32,
     /// Of a trap and of a call that was not started, else 0.
     pub reason: u32,
@@ -98,7 +116,7 @@ impl GateCall {
     pub(crate) fn begun(fuel: u32) -> GateCall
         ensures { result ≡ begun_fields fuel }
     {
-        GateCall::ran(0, 0, fuel, 0)
+        GateCall::ran(END_VALUES, 0, fuel, 0)
     }
 
     /// The end of a call that ran and came to this.
@@ -106,10 +124,10 @@ impl GateCall {
         ensures { result ≡ outcome_fields outcome.now fuel }
     {
         match outcome {
-            Outcome::Values(values) => GateCall::ran(0, 0, fuel, values.len() as u64),
-            Outcome::Trapped(trap) => GateCall::ran(1, code_of_trap(*trap), fuel, 0),
-            Outcome::OutOfFuel => GateCall::ran(2, 0, fuel, 0),
-            Outcome::OutOfFrames => GateCall::ran(3, 0, fuel, 0),
+            Outcome::Values(values) => GateCall::ran(END_VALUES, 0, fuel, values.len() as u64),
+            Outcome::Trapped(trap) => GateCall::ran(END_TRAP, code_of_trap(*trap), fuel, 0),
+            Outcome::OutOfFuel => GateCall::ran(END_OUT_OF_FUEL, 0, fuel, 0),
+            Outcome::OutOfFrames => GateCall::ran(END_OUT_OF_FRAMES, 0, fuel, 0),
         }
     }
 
@@ -119,7 +137,7 @@ impl GateCall {
     {
         let (reason, place) = fields_of_refusal(refusal);
         GateCall {
-            end: 7,
+            end: END_NOT_STARTED,
             reason,
             place,
             fuel: 0,
@@ -133,11 +151,11 @@ impl GateCall {
     {
         match line {
             Line::Ran { outcome, fuel } => GateCall::of_outcome(outcome, *fuel),
-            Line::NoExport => GateCall::plain(4),
-            Line::NotAFunction => GateCall::plain(5),
-            Line::BadArguments => GateCall::plain(6),
+            Line::NoExport => GateCall::plain(END_NO_EXPORT),
+            Line::NotAFunction => GateCall::plain(END_NOT_A_FUNCTION),
+            Line::BadArguments => GateCall::plain(END_BAD_ARGUMENTS),
             Line::NotStarted(refusal) => GateCall::not_started(*refusal),
-            Line::NoMemory => GateCall::plain(8),
+            Line::NoMemory => GateCall::plain(END_NO_MEMORY),
         }
     }
 }

@@ -1,8 +1,8 @@
 //! An explanation as the fields of `gate_explanation` of gate.h.
 
 ghost use Rattle.std.specs.Prelude.{◌≡◌, IfSome, option_map};
-ghost use Rattle.explain.specs.Fields.{body_told, item_told, kind_told, opcode_told, span_told, section_told};
-ghost use Rattle.explain.specs.Told.{verdict_told};
+ghost use Rattle.explanation.specs.Fields.{body_told, item_told, kind_told, opcode_told, span_told, section_told};
+ghost use Rattle.explanation.specs.Told.{verdict_told};
 ghost use Rattle.c_api.specs.Explained.{kind_code, fields_with, short, wide};
 ghost use Rattle.c_api.specs.Verdicts.{fields_of, status_of};
 

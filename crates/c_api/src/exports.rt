@@ -3,14 +3,14 @@
 ghost use Rattle.std.specs.Prelude.{◌≡◌, ◌≢◌, ◌⊎◌, ℕ, List, IfSome, string_bytes};
 ghost use Rattle.accepted_module.specs.Kept.{IsAcceptedFrom};
 ghost use Rattle.wsyntax.specs.Validation.Verdict.{IsVerdict};
-ghost use Rattle.verdict.specs.Refusals.{verdict_of};
+ghost use Rattle.refusal.specs.Refusals.{verdict_of};
 ghost use Rattle.c_api.specs.Calls.{AnswersCall, EndsCall};
 ghost use Rattle.c_api.specs.Handed.{HandsModule};
 ghost use Rattle.c_api.specs.Handles.{IsAnswered};
 ghost use Rattle.c_api.specs.Runs.{HandsAnswer, IsAnswerOf, IsAnswerTo};
 ghost use Rattle.c_api.specs.Statuses.{code_of};
 ghost use Rattle.c_api.specs.Texts.{Hands};
-ghost use Rattle.c_api.specs.Verdicts.{Answers, HandsLine, TellsRefusal};
+ghost use Rattle.c_api.specs.Verdicts.{Answers, HandsLine};
 
 use crate::calling::{call, tell_end};
 use crate::ending::GateCall;
@@ -50,8 +50,7 @@ pub extern "C" fn gate_check(alloc: Global, bytes: &[u8], verdict: &mut GateVerd
 }
 
 /// Writes the verdict of a refusal.
-pub(crate) fn refuse(refusal: Refusal, verdict: &mut GateVerdict) -> u32
-    ensures told { TellsRefusal (verdict_of refusal) verdict.old verdict.new result }
+fn refuse(refusal: Refusal, verdict: &mut GateVerdict) -> u32
     ensures fields { (bytes : List ℕ) → IfSome (verdict_of refusal) (IsVerdict bytes) → Answers bytes verdict.old verdict.new result }
     ensures refused { result ≢ 0 }
 {

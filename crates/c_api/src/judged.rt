@@ -2,7 +2,7 @@
 
 ghost use Rattle.std.specs.Prelude.{◌≡◌, ◌≢◌, ◌⊎◌, Some, IfSome, IfNone, IsSomeAnd, MatchOption, option_map};
 ghost use Rattle.wsyntax.specs.Validation.Verdict.{Verdict, Accepted, BodyRefused};
-ghost use Rattle.verdict.specs.Refusals.{fault_of, verdict_of};
+ghost use Rattle.refusal.specs.Refusals.{fault_of, verdict_of};
 ghost use Rattle.batch.specs.Report.{given_verdict};
 ghost use Rattle.c_api.specs.Verdicts.{fields_of, IsNamed, IsNoVerdict};
 

@@ -1,8 +1,9 @@
 //! The library for C: each export calls a function of the crates below and hands its answer out in plain fields. It starts no
 //! thread and waits for none. Its names and structs are those of gate.h.
 //!
-//! Proved: each export writes the fields or the text of the definition with its status, or answers 4, 64 or 70 and writes
-//! nothing; a call on a handle leaves it alive and the same. What C owes, `gate.h` says, and nothing checks.
+//! Proved: each export writes the fields or the text of the definition with its status. With 4, 64 or 70 it writes nothing; 75 writes
+//! the length that is wanted, 81 how a call ended. A handle that is not freed stays alive, and what it holds changes only by the calls
+//! that are for that: calls, writes and resets of an instance. What C owes, `gate.h` says, and nothing checks.
 #![tactic(auto)]
 
 mod beginning;
@@ -20,14 +21,11 @@ mod held;
 mod instance;
 mod instance_exports;
 mod judged;
-mod judging;
-mod judging_exports;
 mod kept;
 mod live;
 mod loose;
 mod module;
 mod operating;
-mod pending;
 mod queries;
 mod report;
 mod sending;
@@ -35,7 +33,6 @@ mod settings;
 mod size;
 mod starting;
 mod status;
-mod steps;
 mod text;
 mod value;
 
@@ -46,12 +43,9 @@ pub use exported::GateExport;
 pub use held::Held;
 pub use instance::{GateInstance, InstanceSlot, InstanceStatus};
 pub use judged::GateVerdict;
-pub use judging::{GateJudging, JudgingEnd, JudgingSlot, JudgingStatus};
 pub use kept::Kept;
 pub use live::Live;
 pub use module::{GateModule, ModuleSlot, ModuleStatus};
-pub use pending::Pending;
 pub use report::{GateReport, ReportSlot, ReportStatus};
 pub use settings::GateSettings;
-pub use steps::Steps;
 pub use value::GateValue;

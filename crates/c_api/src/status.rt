@@ -13,7 +13,7 @@ pub(crate) const MODULE_REFUSED: u32 = 2;
 pub(crate) const CALLS_REFUSED: u32 = 3;
 /// There is no such export or function.
 pub(crate) const NOTHING: u32 = 4;
-/// A limit is out of its range, fields are of no verdict or value, or a handle is of other bytes.
+/// A limit is out of its range, or fields are of no verdict or value.
 pub(crate) const BAD_ARGUMENT: u32 = 64;
 /// An allocation was refused that the function cannot do without.
 pub(crate) const NO_MEMORY: u32 = 70;
@@ -25,10 +25,6 @@ pub(crate) const OUTSIDE: u32 = 80;
 pub(crate) const NO_INSTANCE: u32 = 81;
 /// No global is exported under that name.
 pub(crate) const NO_GLOBAL: u32 = 82;
-/// A body on which the verdict hangs was not judged.
-pub(crate) const NOT_JUDGED: u32 = 83;
-/// Another handle has the check too.
-pub(crate) const SHARED: u32 = 84;
 
 /// The code of the status of an answer.
 pub(crate) fn status_code(status: Status) -> u32

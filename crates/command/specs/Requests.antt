@@ -50,18 +50,18 @@ abbrev pub AreStreamed : List (List ℕ) → List ℕ → List ℕ → Type 0
 AreStreamed words path calls =
     ((name : List ℕ) × AreOperands words path name × (calls ≡ input_path name)) ⊎ (IsOperand words path × (calls ≡ codes "/dev/stdin"))
 
--- the paths of a request are words after the command's name, the module's before that of the calls, and `-` as that of an explained or listed module is standard input; the names of a check of many files are all those that the words have; the words say its numbers and options; and a text is given only where a word asks for one
+-- the first word is the name of the request's command; its paths are words after that, the module's before that of the calls, and `-` as that of an explained or listed module is standard input; the names of a check of many files are all those that the words have; the words say its numbers and options; and a text is given only where a word asks for one
 abbrev pub IsRequestOf : List (List ℕ) → Request → Type 0
-IsRequestOf words (Check path plan) = IsOperand words path.now × SaysPlan words plan.workers plan.piece
+IsRequestOf words (Check path plan) = (first_word words ≡ codes "check") × IsOperand words path.now × SaysPlan words plan.workers plan.piece
 IsRequestOf words (CheckAll names folders plan) =
-    (map (λ n. n.now) names.items ≡ file_names words) × (folders ≡ says_folders words) × SaysPlan words plan.workers plan.piece
+    (first_word words ≡ codes "check-all") × (map (λ n. n.now) names.items ≡ file_names words) × (folders ≡ says_folders words) × SaysPlan words plan.workers plan.piece
 IsRequestOf words (CheckListed is_null folders plan) =
-    (file_names words ≡ codes "-" ∷ []) × (is_null ≡ says_null words) × (folders ≡ says_folders words) × SaysPlan words plan.workers plan.piece
-IsRequestOf words (Explain path) = IsInput words path.now
-IsRequestOf words (ExplainCalls path calls) = AreInputs words path.now calls.now
-IsRequestOf words (Exports path) = IsInput words path.now
+    (first_word words ≡ codes "check-all") × (file_names words ≡ codes "-" ∷ []) × (is_null ≡ says_null words) × (folders ≡ says_folders words) × SaysPlan words plan.workers plan.piece
+IsRequestOf words (Explain path) = (first_word words ≡ codes "explain") × IsInput words path.now
+IsRequestOf words (ExplainCalls path calls) = (first_word words ≡ codes "explain") × AreInputs words path.now calls.now
+IsRequestOf words (Exports path) = (first_word words ≡ codes "exports") × IsInput words path.now
 IsRequestOf words (Run path calls settings plan) =
-    AreOperands words path.now calls.now × (SaysLimits words settings.fuel settings.frames settings.pages × SaysPlan words plan.workers plan.piece)
+    (first_word words ≡ codes "run") × AreOperands words path.now calls.now × (SaysLimits words settings.fuel settings.frames settings.pages × SaysPlan words plan.workers plan.piece)
 IsRequestOf words (Stream path calls settings plan) =
-    AreStreamed words path.now calls.now × (SaysLimits words settings.fuel settings.frames settings.pages × SaysPlan words plan.workers plan.piece)
+    (first_word words ≡ codes "stream") × AreStreamed words path.now calls.now × (SaysLimits words settings.fuel settings.frames settings.pages × SaysPlan words plan.workers plan.piece)
 IsRequestOf words (Text text) = AsksHelp words ⊎ AsksVersion words

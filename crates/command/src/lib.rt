@@ -1,8 +1,9 @@
 //! The words of the command line, and what they ask for. It reads no file and knows no status.
 //!
-//! Proved: the paths of a request stand among the words, that of the module before that of the calls, and its numbers are
-//! what the words say, or the defaults. The names of a check of many files are all that the words have, in their order.
-//! A text is given only where the words ask for help or for the version. That right words get a request is tested.
+//! Proved: the first word is the name of the request's command. Its paths stand among the words after that, the module's before
+//! that of the calls, and its numbers are what the words say, or the defaults. The names of a check of many files are all that
+//! the words have, in their order. A text is given only where the words ask for help or for the version. That right words get a
+//! request is tested.
 #![tactic(auto)]
 
 mod commands;

@@ -1,7 +1,7 @@
 //! What the matched words give.
-ghost use Rattle.std.specs.Prelude.{IfOk, IfSome, map};
+ghost use Rattle.std.specs.Prelude.{◌≡◌, IfOk, IfSome, codes, map};
 ghost use Rattle.command.specs.Options.{SaysLimits, SaysPlan};
-ghost use Rattle.command.specs.Requests.{IsRequestOf};
+ghost use Rattle.command.specs.Requests.{IsRequestOf, first_word};
 
 use crate::commands::{
     FRAMES_DEFAULT, FUEL_DEFAULT, PAGES_DEFAULT, PIECE_DEFAULT, WORKERS_DEFAULT,
@@ -10,17 +10,33 @@ use crate::fault::{WordsFault, usage};
 use crate::names::{file_names, input_path, is_list, says_flag};
 use crate::option_values::option_number;
 use crate::request::Request;
-use crate::words::{contains_word, find_word};
+use crate::words::{contains_word, find_word, first_word};
 use clap::ArgMatches;
 use pieces::Plan;
 use std::alloc::Global;
 use wstore::Settings;
 
+/// What is matched of the command with this name, where that is the first word. The program has no option of its own that
+/// could stand before it.
+fn command_matches<'m, 'a>(
+    words: &[&str],
+    matches: &'m ArgMatches<'a>,
+    name: &str,
+) -> Option<&'m ArgMatches<'a>>
+    ensures { IfSome result (λ m. first_word (map (λ w. w.now) words.now) ≡ name.now) }
+{
+    if first_word(words) == name {
+        matches.subcommand_matches(name)
+    } else {
+        None
+    }
+}
+
 /// The file and the plan that `gate check` is given.
 pub fn check_of<'a>(words: &'a [&'a str], matches: &ArgMatches<'a>) -> Option<Request<'a>>
     ensures { IfSome result (IsRequestOf (map (λ w. w.now) words.now)) }
 {
-    let matches = matches.subcommand_matches("check")?;
+    let matches = command_matches(words, matches, "check")?;
     let module = find_word(words, 1, matches.get_str("module")?)?;
     let plan = plan_of(words)?;
     Some(Request::Check {
@@ -37,7 +53,7 @@ pub fn check_all_of<'a>(
 ) -> Option<Result<Request<'a>, WordsFault>>
     ensures { IfSome result (λ r. IfOk r (IsRequestOf (map (λ w. w.now) words.now))) }
 {
-    let _ = matches.subcommand_matches("check-all")?;
+    let _ = command_matches(words, matches, "check-all")?;
     let plan = plan_of(words)?;
     Some(check_many(alloc, words, plan))
 }
@@ -48,7 +64,8 @@ fn check_many<'a>(
     words: &'a [&'a str],
     plan: Plan,
 ) -> Result<Request<'a>, WordsFault>
-    requires { SaysPlan (map (λ w. w.now) words.now) plan.workers plan.piece }
+    requires command { first_word (map (λ w. w.now) words.now) ≡ codes "check-all" }
+    requires plan { SaysPlan (map (λ w. w.now) words.now) plan.workers plan.piece }
     ensures { IfOk result (IsRequestOf (map (λ w. w.now) words.now)) }
 {
     let folders = says_flag(words, "--recursive", b'r');
@@ -75,7 +92,7 @@ fn check_many<'a>(
 pub fn exports_of<'a>(words: &'a [&'a str], matches: &ArgMatches<'a>) -> Option<Request<'a>>
     ensures { IfSome result (IsRequestOf (map (λ w. w.now) words.now)) }
 {
-    let matches = matches.subcommand_matches("exports")?;
+    let matches = command_matches(words, matches, "exports")?;
     let module = find_word(words, 1, matches.get_str("module")?)?;
     let path = input_path(words[module]);
     Some(Request::Exports { path })
@@ -85,7 +102,7 @@ pub fn exports_of<'a>(words: &'a [&'a str], matches: &ArgMatches<'a>) -> Option<
 pub fn explain_of<'a>(words: &'a [&'a str], matches: &ArgMatches<'a>) -> Option<Request<'a>>
     ensures { IfSome result (IsRequestOf (map (λ w. w.now) words.now)) }
 {
-    let matches = matches.subcommand_matches("explain")?;
+    let matches = command_matches(words, matches, "explain")?;
     let module = find_word(words, 1, matches.get_str("module")?)?;
     let Some(text) = matches.get_str("calls") else {
         return Some(Request::Explain {
@@ -103,7 +120,7 @@ pub fn explain_of<'a>(words: &'a [&'a str], matches: &ArgMatches<'a>) -> Option<
 pub fn run_of<'a>(words: &'a [&'a str], matches: &ArgMatches<'a>) -> Option<Request<'a>>
     ensures { IfSome result (IsRequestOf (map (λ w. w.now) words.now)) }
 {
-    let matches = matches.subcommand_matches("run")?;
+    let matches = command_matches(words, matches, "run")?;
     let module = find_word(words, 1, matches.get_str("module")?)?;
     let calls = find_word(words, module + 1, matches.get_str("calls")?)?;
     let settings = settings_of(words)?;
@@ -120,7 +137,7 @@ pub fn run_of<'a>(words: &'a [&'a str], matches: &ArgMatches<'a>) -> Option<Requ
 pub fn stream_of<'a>(words: &'a [&'a str], matches: &ArgMatches<'a>) -> Option<Request<'a>>
     ensures { IfSome result (IsRequestOf (map (λ w. w.now) words.now)) }
 {
-    let matches = matches.subcommand_matches("stream")?;
+    let matches = command_matches(words, matches, "stream")?;
     let module = find_word(words, 1, matches.get_str("module")?)?;
     let settings = settings_of(words)?;
     let plan = plan_of(words)?;

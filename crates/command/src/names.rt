@@ -9,7 +9,7 @@ use crate::option_values::option_words;
 use std::alloc::{AllocError, Global};
 
 /// What the next word may be.
-#[derive(Clone, Copy, Debug, PartialEq, Eq)]
+#[derive(Clone, Copy, PartialEq, Eq)]
 pub enum Next {
     /// A name or an option.
     Any,

@@ -2,8 +2,8 @@ use Rattle.std.proofs.Common.{◌≡◌, ℕ, List, Option, None, Some, Result, 
 use Rattle.std.specs.Prelude.{IfSome, MatchResult}
 use Rattle.std.proofs.lemmas.Option.{same_Some}
 use Rattle.wsyntax.specs.Validation.Verdict.{Verdict, Accepted, IsVerdict}
-use Rattle.verdict.specs.Refusals.{verdict_of}
-use Rattle.verdict.specs.declared.refusal.Refusal.{Refusal}
+use Rattle.refusal.specs.Refusals.{verdict_of}
+use Rattle.refusal.specs.declared.refusal.Refusal.{Refusal}
 use Rattle.batch.specs.Output.{FallsShort}
 use Rattle.batch.specs.Report.{given_verdict, IsLineOf}
 use Rattle.batch.specs.declared.status.Status.{Status}

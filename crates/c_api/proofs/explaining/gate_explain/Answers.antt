@@ -1,7 +1,7 @@
 use Rattle.std.proofs.Common.{◌≡◌, Option, Some, None, refl, inr, option_map}
 use Rattle.std.specs.Prelude.{IfSome}
 use Rattle.wsyntax.specs.Validation.Verdict.{Verdict}
-use Rattle.explain.specs.Told.{verdict_told}
+use Rattle.explanation.specs.Told.{verdict_told}
 use Rattle.c_api.specs.declared.explained.GateExplanation.{GateExplanation}
 use Rattle.c_api.specs.Explained.{fields_with}
 use Rattle.c_api.proofs.explaining.gate_explain.Goals as goal

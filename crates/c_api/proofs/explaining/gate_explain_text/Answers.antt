@@ -1,7 +1,7 @@
 use Rattle.std.proofs.Common.{◌∙◌, ℕ, Option, Some, None, IsSomeAnd, inr, subst}
 use Rattle.std.specs.Prelude.{IfSome}
 use Rattle.wsyntax.specs.Validation.Verdict.{Verdict}
-use Rattle.explain.specs.Told.{verdict_told}
+use Rattle.explanation.specs.Told.{verdict_told}
 use Rattle.c_api.specs.Texts.{Hands}
 use Rattle.c_api.proofs.explaining.gate_explain_text.Goals as goal
 

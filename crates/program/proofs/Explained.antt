@@ -1,0 +1,88 @@
+-- What is explained is what was read.
+use Rattle.std.proofs.Common.{◌≡◌, ℕ, List, Option, Some, None, Result, Ok, Err, IfSome, refl, sym, ap, subst, ◌∙◌}
+use Rattle.std.specs.Prelude.{IsSomeAnd}
+use Rattle.wsyntax.specs.Binary.Shell.{module_limit}
+use Rattle.wsyntax.specs.Texts.Lines.{verdict_line}
+use Rattle.wsyntax.specs.Validation.Verdict.{Verdict, IsVerdict}
+use Rattle.batch.specs.Report.{status_of}
+use Rattle.batch.specs.declared.status.Status.{Status}
+use Rattle.explain_text.specs.Texts.{BeginsWith}
+use Rattle.program.specs.Checks.{Judges}
+use Rattle.wsyntax.specs.Texts.Calls.{CallsText, TooLong, BadLine, Good as GoodCalls, calls_limit}
+use Rattle.wsyntax.specs.Validation.Verdict.{Accepted, TooLarge, Malformed, RuleBroken, BodyRefused}
+use Rattle.batch.specs.Answers.{StatusBy, calls_status}
+use Rattle.explain.specs.CallsTold.{RefusedBy, TellsBoth, refused_calls}
+use Rattle.explain.specs.declared.explaining_calls.Refused.{Refused}
+use Rattle.program.specs.Explains.{Explains, ExplainsCalls, IsCallsExplained, refused_status}
+use Rattle.program.specs.Prints.{Shows}
+use Rattle.program.specs.Reads.{IsRead}
+use Rattle.program.specs.declared.fault.ProgramFault.{ProgramFault}
+use Rattle.program.specs.declared.fault.ProgramFault.TheVariants.{Usage, Unread, SomeUnread, Names, Write, Memory}
+
+judges : (held : Option (List ℕ)) (bytes slice : List ℕ) (v : Verdict) → IsRead module_limit held bytes → slice ≡ bytes → IsVerdict slice v → Judges held v
+judges held bytes slice v read same verdict = record { bytes = bytes; read = read; verdict = subst (λ x. IsVerdict x v) same verdict }
+
+-- a verdict that is told
+told : (held : Option (List ℕ)) (text : List ℕ) (old new : Option (List ℕ)) (v : Verdict) (s : Status) (r : Result Status ProgramFault)
+    → Judges held v → s ≡ status_of v → BeginsWith (verdict_line v) text → Shows text s old new r → Explains held old new r
+told held text old new v s (Ok t) judged is begins shown = (v, text, (judged, begins), shown.0 ∙ is, shown.1)
+told held text old new v s (Err Write) judged is begins shown = (v, text, (judged, begins), shown)
+told held text old new v s (Err (Usage t)) judged is begins shown = absurd shown
+told held text old new v s (Err (Unread path reason)) judged is begins shown = absurd shown
+told held text old new v s (Err SomeUnread) judged is begins shown = absurd shown
+told held text old new v s (Err Names) judged is begins shown = absurd shown
+told held text old new v s (Err Memory) judged is begins shown = absurd shown
+
+pub explained : (held : Option (List ℕ)) (bytes slice text shown : List ℕ) (old new : Option (List ℕ)) (verdict : Option Verdict) (s : Status) (r : Result Status ProgramFault)
+    → IsRead module_limit held bytes → slice ≡ bytes → IfSome verdict (IsVerdict slice) → ((v : Verdict) → verdict ≡ Some v → s ≡ status_of v)
+    → IsSomeAnd verdict (λ v. BeginsWith (verdict_line v) text) → shown ≡ text → Shows shown s old new r → Explains held old new r
+explained held bytes slice text shown old new None s r read same is status begins e done = absurd begins
+explained held bytes slice text shown old new (Some v) s r read same is status begins e done =
+    told held text old new v s r (judges held bytes slice v read same is) (status v refl) begins (subst (λ x. Shows x s old new r) e done)
+
+-- With calls.
+
+status_of_calls : (c : CallsText) → refused_status (refused_calls c) ≡ calls_status c
+status_of_calls TooLong = refl
+status_of_calls (BadLine k) = refl
+status_of_calls (GoodCalls calls) = refl
+
+-- the status goes by what is refused
+by_refused : (text : List ℕ) (v : Verdict) (refused : Option Refused) (s : Status) → s ≡ refused_status refused → RefusedBy text v refused → StatusBy text v s
+by_refused text Accepted refused s e (c, is, told) = (c, is, e ∙ ap refused_status told ∙ status_of_calls c)
+by_refused text TooLarge refused s e told = e ∙ ap refused_status told
+by_refused text Malformed refused s e told = e ∙ ap refused_status told
+by_refused text (RuleBroken k) refused s e told = e ∙ ap refused_status told
+by_refused text (BodyRefused f fault) refused s e told = e ∙ ap refused_status told
+
+-- what is told of what was read
+calls_told : (held_module held_calls : Option (List ℕ)) (bytes text out : List ℕ) (refused : Option Refused) (s : Status) → IsRead module_limit held_module bytes → IsRead calls_limit held_calls text → TellsBoth bytes text refused out → s ≡ refused_status refused
+    → IsCallsExplained held_module held_calls s out
+calls_told held_module held_calls bytes text out refused s read_module read_calls (v, verdict, told, begins) e = record {
+  bytes = bytes;
+  text = text;
+  read_module = read_module;
+  read_calls = read_calls;
+  v = v;
+  verdict = verdict;
+  status_is = by_refused text v refused s e told;
+  begins = begins;
+}
+
+shown_calls : (held_module held_calls : Option (List ℕ)) (out : List ℕ) (old new : Option (List ℕ)) (s : Status) (r : Result Status ProgramFault) → IsCallsExplained held_module held_calls s out → Shows out s old new r → ExplainsCalls held_module held_calls old new r
+shown_calls held_module held_calls out old new s (Ok t) told shown = (out, subst (λ (x : Status). IsCallsExplained held_module held_calls x out) (sym shown.0) told, shown.1)
+shown_calls held_module held_calls out old new s (Err Write) told shown = (s, out, told, shown)
+shown_calls held_module held_calls out old new s (Err (Usage t)) told shown = absurd shown
+shown_calls held_module held_calls out old new s (Err (Unread path reason)) told shown = absurd shown
+shown_calls held_module held_calls out old new s (Err SomeUnread) told shown = absurd shown
+shown_calls held_module held_calls out old new s (Err Names) told shown = absurd shown
+shown_calls held_module held_calls out old new s (Err Memory) told shown = absurd shown
+
+pub explained_calls : (held_module held_calls held_later : Option (List ℕ)) (bytes slice text text_slice out shown : List ℕ) (old new : Option (List ℕ)) (refused : Option Refused) (s : Status) (r : Result Status ProgramFault)
+    → IsRead module_limit held_module bytes → IsRead calls_limit held_later text → held_later ≡ held_calls → slice ≡ bytes → text_slice ≡ text → TellsBoth slice text_slice refused out → s ≡ refused_status refused → shown ≡ out → Shows shown s old new r
+    → ExplainsCalls held_module held_calls old new r
+explained_calls held_module held_calls held_later bytes slice text text_slice out shown old new refused s r read_module read_calls same same_bytes same_text told e is done =
+    shown_calls held_module held_calls out old new s r
+    (calls_told held_module held_calls bytes text out refused s read_module (subst (λ (x : Option (List ℕ)). IsRead calls_limit x text) same read_calls)
+    (subst (λ (x : List ℕ). TellsBoth bytes x refused out) same_text (subst (λ (x : List ℕ). TellsBoth x text_slice refused out) same_bytes told)) e)
+    (subst (λ (x : List ℕ). Shows x s old new r) is done)

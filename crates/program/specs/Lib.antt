@@ -1,0 +1,14 @@
+pub mod Sources
+pub mod ChecksAll
+pub mod Endings
+pub mod Reads
+pub mod Checks
+pub mod Explains
+pub mod FileLines
+pub mod Lists
+pub mod NameLists
+pub mod Opens
+pub mod Runs
+pub mod Prints
+pub mod Streams
+pub mod Verdicts

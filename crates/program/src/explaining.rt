@@ -1,0 +1,80 @@
+//! Explaining the verdict on one file.
+ghost use Rattle.std.specs.Prelude.{◌≡◌, List, [], ◌∷◌, Some};
+ghost use Rattle.wsyntax.specs.Validation.Verdict.{Verdict};
+ghost use Rattle.batch.specs.Report.{status_of};
+ghost use Rattle.explanation.specs.Told.{verdict_told};
+ghost use Rattle.program.specs.Sources.{ReadsPaths};
+ghost use Rattle.program.specs.Explains.{Explains, ExplainsCalls, refused_status};
+ghost use Rattle.program.specs.Reads.{ReadsInOrder};
+
+use crate::fault::ProgramFault;
+use crate::finishing::show;
+use crate::listing::PAGES;
+use crate::reading::read_file;
+use crate::source::Source;
+use batch::Status;
+use explain::{Explanation, Refused, explain, explain_calls, explanation_text};
+use std::alloc::Global;
+use std::io::Write;
+use wsyntax::{CALLS_LIMIT, MODULE_LIMIT};
+
+/// The status that goes with an explanation.
+fn status(explanation: &Explanation<'_>) -> Status
+    ensures { (v : Verdict) → verdict_told explanation.now ≡ Some v → result ≡ status_of v }
+{
+    match explanation {
+        Explanation::Accepted => Status::Good,
+        _ => Status::ModuleRefused,
+    }
+}
+
+/// Reads a module whole, judges it on the calling thread, and writes its verdict line and why it is refused.
+pub fn explain_file<'a, S: Source, O: Write>(
+    alloc: Global,
+    path: &'a str,
+    source: &mut S,
+    out: &mut O,
+) -> Result<Status, ProgramFault<'a>>
+    ensures explained { Explains (S.holds source.old path.entry.now) (O.contents out.old) (O.contents out.new) result }
+    ensures only { ReadsPaths (S.asked source.old) (S.asked source.new) (path.entry.now ∷ []) }
+{
+    let bytes = read_file(alloc, path, MODULE_LIMIT, source)?;
+    let explanation = explain(alloc, bytes.as_slice());
+    let status = status(&explanation);
+    match explanation_text(alloc, &explanation) {
+        Ok(text) => show(text.as_bytes(), status, out),
+        Err(_) => Err(ProgramFault::Memory),
+    }
+}
+
+/// The status that goes with what is refused.
+fn status_of_refused(refused: Option<Refused>) -> Status
+    ensures { result ≡ refused_status refused }
+{
+    match refused {
+        None => Status::Good,
+        Some(Refused::Module) => Status::ModuleRefused,
+        Some(Refused::Calls) => Status::CallsRefused,
+    }
+}
+
+/// Reads a module whole, and then the calls, judges the module on the calling thread, and writes its verdict line and why it, or
+/// the text of calls, is refused, or why no call runs.
+pub fn explain_files<'a, S: Source, O: Write>(
+    alloc: Global,
+    path: &'a str,
+    calls: &'a str,
+    source: &mut S,
+    out: &mut O,
+) -> Result<Status, ProgramFault<'a>>
+    ensures explained { ExplainsCalls (S.holds source.old path.entry.now) (S.holds source.old calls.entry.now)
+        (O.contents out.old) (O.contents out.new) result }
+    ensures order { ReadsInOrder path.entry.now calls.entry.now (S.asked source.old) (S.asked source.new) result }
+{
+    let bytes = read_file(alloc, path, MODULE_LIMIT, source)?;
+    let text = read_file(alloc, calls, CALLS_LIMIT, source)?;
+    match explain_calls(alloc, bytes.as_slice(), text.as_slice(), PAGES) {
+        Ok(told) => show(told.text.as_bytes(), status_of_refused(told.refused), out),
+        Err(_) => Err(ProgramFault::Memory),
+    }
+}
