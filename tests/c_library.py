@@ -1,5 +1,5 @@
 """Builds the archive of the library for C, over the libraries that `rt ci` left in a tree: it proves the crate `c_api`, and builds no
-archive of it. The archive lies in TREE/crates/c_api/out then, where library.py looks for it.
+archive of it. The archive lies in TREE/crates/c_api/out then, where tools/library.py looks for it.
 """
 import os
 import sys

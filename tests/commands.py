@@ -20,8 +20,8 @@ from tools import arguments
 from tools.files import ROOT
 
 DOCUMENTS = ('README.md', 'CONTRIBUTING.md', 'docs/FORMATS.md', 'docs/HOSTS.md', 'docs/GUESTS.md')
-LEFT_OUT = ('sudo', './install.sh', './test', './release', 'rt', 'duplicates', 'git', 'curl', 'wget', 'apt-get', 'sha256sum', 'tar',
-            'cc', 'c++', 'cargo', 'rustc', 'go', 'pip', 'python3', 'man')
+LEFT_OUT = ('sudo', './install.sh', './test', 'packaging/release', 'rt', 'duplicates', 'git', 'curl', 'wget', 'apt-get', 'sha256sum', 'tar',
+            'cc', 'c++', 'cargo', 'rustc', 'go', 'pip', 'python3', 'node', 'man')
 # A shell has this status where a command is not found or cannot be started, and the program this one where its words are wrong.
 WRONG_WORDS, NOT_FOUND = 64, (126, 127)
 # What is written between the outputs of two commands: the status of the first.

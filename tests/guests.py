@@ -16,15 +16,19 @@ from tools.arguments import program
 from tools.counting import Count
 
 GUESTS = os.path.join(os.path.dirname(os.path.abspath(__file__)), '..', 'examples', 'guests')
-PLUG_INS = {'steps': 'C', 'pick': 'C', 'upper': 'Rust'}
+# Seconds that a command may take; a program without a proof is slow.
+LONGEST = 600
+PLUG_INS = {'steps': 'C', 'pick': 'C', 'greet': 'C', 'upper': 'Rust'}
 
 
 def started(*words):
-    """The status of a command, and what it says; no status where there is no such command."""
+    """The status of a command, and what it says; no status where there is no such command, and words where it does not end."""
     try:
-        ran = subprocess.run(words, stdout=subprocess.PIPE, stderr=subprocess.STDOUT, timeout=120)
+        ran = subprocess.run(words, stdout=subprocess.PIPE, stderr=subprocess.STDOUT, timeout=LONGEST)
     except FileNotFoundError:
         return None, b''
+    except subprocess.TimeoutExpired:
+        return 'no end', b''
     return ran.returncode, ran.stdout
 
 

@@ -7,15 +7,17 @@ hosts       Each host whose compiler is on the machine prints the verdicts of al
             of that call in a report, without its number.
 plug-ins    The hosts of plug-ins (examples/*/plugin_host.*) hand texts to plug-ins that answer, that lie, that trap and that have no room,
             and go on after each of them.
+workers     The worker of examples/c: texts, broken frames and limits, by hand. The hosts that set it a deadline, in C and the one in
+            Python of HOSTS, print one table: plug-ins that never end, workers that end, hang or answer in part. No process is left.
 header      gate.h by the compilers of C and C++, with all warnings; the compiler warns of wrong uses that it sees. The shared library
             exports the functions of gate.h and nothing else, wants six functions of the C library, and says which processor it wants.
             Its gate_build has the version of gate.h and the kit of `rt version`.
 C++         gate.hpp by wrapper.cpp, in which memory is refused too, and examples/cpp as it is shown, with all warnings.
-interface   interface.c calls each function, with short buffers, null pointers and numbers that are none, and on four threads.
-debug       interface.c and the hosts in C over debug/gate_debug.c, which has to find no fault; wrong_uses.c, of which it finds each.
+interface   interface/ calls each function, with short buffers, null pointers and numbers that are none, and on four threads.
+debug       interface/ and the hosts in C over debug/gate_debug.c, which has to find no fault; wrong_uses.c, of which it finds each.
 packages    the tests of the packages for Rust, Go and Python, and of the addon for Node; what mypy says of the one for Python.
 refused     refuse_through_c.c refuses each request for memory in turn.
-valgrind    where it is on the machine: no error and no leak in the hosts in C and in interface.c, and no race in the latter.
+valgrind    where it is on the machine: no error and no leak in the hosts in C and in interface/, and no race in the latter.
 What is left out, for want of a tool, is counted and named at the end; with --all nothing may be.
 """
 import os
@@ -24,16 +26,17 @@ import sys
 import tempfile
 from concurrent.futures import ThreadPoolExecutor
 
-import library
+from tools import library
 from tests.hosting.answers import compare_calls, compare_checks, compare_folder, compare_run
 from tests.hosting.compiling import compile_c
 from tests.hosting.header import build, exports, header, level, warned
 from tests.hosting.interface import FEW_ROUNDS, MANY_ROUNDS, MOST_CALLS_REFUSED, SANITIZER, debug, interface, refusals
 from tests.hosting.languages import hosts
-from tests.hosting.packages import node, tests_of_go, tests_of_python, tests_of_rust, types_of_python
+from tests.hosting.packages import exchange_of_python, node, tests_of_go, tests_of_python, tests_of_rust, types_of_python
 from tests.hosting.plug_ins import compare_plug_ins, write_plug_ins
 from tests.hosting.processes import MEMCHECK, VALGRIND, Jobs, Tally
 from tests.hosting.tables import SHORT, modules_of_tables, mutants, runs_by_call, runs_of_tables
+from tests.hosting.workers import compare_deadlines, compare_worker, write_modules
 from tests.hosting.wrapper import wrapper
 from tools.arguments import parser
 
@@ -46,8 +49,11 @@ def begin_hosts(jobs, found, folder, work, modules, runs):
         jobs.begin(host.name, compare_checks, host, modules)
         if host.plug_in:
             jobs.begin(host.name, compare_plug_ins, host, work)
+        if host.worker:
+            jobs.begin(host.name, compare_worker, host, work)
         if host.name == 'C':
             jobs.begin(host.name, compare_folder, host, folder, modules)
+            jobs.begin(host.name, compare_deadlines, host, work)
         for it in runs:
             jobs.begin(host.name, compare_run, host, it)
         for it in runs_by_call(runs):
@@ -63,6 +69,7 @@ def begin_valgrind(jobs, found, work, checker, modules, runs):
             for it in runs_by_call(runs)[:VALGRIND_CALLS]:
                 jobs.begin('valgrind', compare_calls, host, it, MEMCHECK)
             jobs.begin('valgrind', compare_plug_ins, host, work, MEMCHECK)
+            jobs.begin('valgrind', compare_worker, host, work, MEMCHECK)
     jobs.begin('valgrind', interface, checker, MEMCHECK, FEW_ROUNDS)
     jobs.begin('valgrind', interface, checker, VALGRIND + ['--tool=helgrind'], FEW_ROUNDS)
 
@@ -77,6 +84,7 @@ def begin_others(jobs, folder, work):
     jobs.begin('C++', wrapper, folder, work, work)
     jobs.begin('Node', node, folder, work, work)
     jobs.begin('Python', tests_of_python, folder)
+    jobs.begin('an exchange', exchange_of_python, folder, work)
     jobs.begin('mypy', types_of_python, work)
     jobs.begin('debug', debug, folder, work, [])
     jobs.begin('debug with AddressSanitizer', debug, folder, work, SANITIZER)
@@ -89,7 +97,7 @@ def all_parts(tally, pool, program, folder, work):
     checker, refuser, place = os.path.join(work, 'interface'), os.path.join(work, 'refuse'), os.path.join(work, 'modules')
     os.mkdir(place)
     found = hosts(tally, pool, folder, work)
-    compile_c('interface.c', checker, folder)
+    compile_c('interface', checker, folder)
     # Its first check, when no request is refused yet, has an answer whatever the status says.
     wrapped = [f'-Wl,--wrap={name}' for name in ('malloc', 'realloc', 'free')]
     compile_c('refuse_through_c.c', refuser, folder, ['-Wno-unused-result', *wrapped])
@@ -101,6 +109,7 @@ def all_parts(tally, pool, program, folder, work):
     jobs.begin('refused', refusals, refuser, work, [it for it in rows_ if it.length <= SHORT], short_runs)
     jobs.begin('interface', interface, checker, [], MANY_ROUNDS)
     write_plug_ins(work)
+    write_modules(work)
     begin_others(jobs, folder, work)
     if shutil.which('valgrind'):
         begin_valgrind(jobs, found, work, checker, modules, runs)
@@ -113,7 +122,7 @@ def all_parts(tally, pool, program, folder, work):
 
 
 def main(program, folder, wants_all):
-    tally = Tally()
+    tally = Tally('hosts')
     with tempfile.TemporaryDirectory() as work, ThreadPoolExecutor(AT_ONCE) as pool:
         if not folder:
             folder = os.path.join(work, 'library')
@@ -127,7 +136,7 @@ def main(program, folder, wants_all):
 if __name__ == '__main__':
     taken = parser(__doc__)
     taken.add_argument('program', metavar='PROGRAM', help='the proved program')
-    taken.add_argument('--library', metavar='FOLDER', help='where library.py put the library (default: it is made)')
+    taken.add_argument('--library', metavar='FOLDER', help='where tools/library.py put the library (default: it is made)')
     taken.add_argument('--all', action='store_true', help='nothing may be left out')
     chosen = taken.parse_args()
     sys.exit(main(os.path.abspath(chosen.program), chosen.library, chosen.all))

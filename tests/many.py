@@ -27,8 +27,9 @@ import tempfile
 from tests import rows
 from tools.arguments import program
 from tools.counting import Count
-from tools.files import write
+from tools.files import shown, write
 from tools.kit import module_at
+from tools.sanitizer import has_sanitizer
 
 HERE = os.path.dirname(os.path.abspath(__file__))
 EXAMPLES = os.path.join(HERE, '..', 'examples')
@@ -104,11 +105,6 @@ def make_folder(folder):
     write(os.path.join(folder, 'a/text.wat'), b'(module)')
 
 
-def shown(name):
-    # A name as it is printed.
-    return b''.join(b'\\%02x' % byte if byte < 32 or byte in (92, 127) else bytes([byte]) for byte in name.encode())
-
-
 class Many(Count):
     """The program and the scripts, and how often they did right."""
 
@@ -177,7 +173,7 @@ class Many(Count):
         folder = os.path.join(self.folder, 'files')
         os.mkdir(folder)
         make_folder(folder)
-        lines = {name: shown(name) + b'\t' + line + b'\n' for name, line in LINES_OF.items()}
+        lines = {name: shown(name.encode()) + b'\t' + line + b'\n' for name, line in LINES_OF.items()}
         unread = b'gate: cannot read some files\n'
         self.expect('one file', self.check_all(folder, 'a-b.wasm'), (b'a-b.wasm\taccepted\n', 0, b''))
         twice = ['rule.wasm', 'a-b.wasm', 'rule.wasm', 'a-b.wasm']
@@ -217,12 +213,13 @@ class Many(Count):
         for command, line in ('explain', b'accepted\n'), ('exports', b'starts\n'):
             ran = subprocess.run([self.program, command, '-'], input=HEADER, capture_output=True)
             self.expect(f'{command} of standard input', (ran.stdout, ran.returncode, ran.stderr), (line, 0, b''))
+        for command in 'check', 'explain', 'exports':
             for name, reason in (('missing', b'no such file'), ('a', b'a folder'), ('loop', b'too many links')):
                 ran = subprocess.run([self.program, command, name], cwd=folder, capture_output=True)
                 told = b'gate: cannot read %s: %s\n' % (name.encode(), reason)
                 self.expect(f'{command} {name}', (ran.stdout, ran.returncode, ran.stderr), (b'', 74, told))
         ran = subprocess.run([self.program, 'check', '-'], cwd=folder, input=HEADER, capture_output=True)
-        self.expect('check of a file -', (ran.stdout, ran.returncode, ran.stderr), (b'', 74, b'gate: cannot read -\n'))
+        self.expect('check of a file -', (ran.stdout, ran.returncode, ran.stderr), (b'', 74, b'gate: cannot read -: no such file\n'))
 
     def version(self):
         said = subprocess.run([self.program, '--version'], capture_output=True).stdout
@@ -305,7 +302,10 @@ class Many(Count):
             calls.writelines(b'square\ti64:%d\n' % number for number in range(STREAMED))
         measure = [sys.executable, '-c', MEASURE, self.calls, out, self.program, 'stream', module]
         status, memory = map(int, subprocess.run(measure, stdout=subprocess.PIPE).stdout.split())
-        self.expect('the memory of a long stream', (status, memory < MOST_MEMORY), (0, True))
+        if has_sanitizer(self.program):
+            print('left out: the memory of a long stream (the sanitizer of a program without a proof takes more)')
+        else:
+            self.expect('the memory of a long stream', (status, memory < MOST_MEMORY), (0, True))
         total = f'total {STREAMED} values {STREAMED} traps 0 exhausted 0 refused 0 no-memory 0 fuel {SQUARE_FUEL * STREAMED}\n'
         with open(out, 'rb') as report:
             lines = (b'%d values i64:%d fuel %d\n' % (number, number * number, SQUARE_FUEL) for number in range(STREAMED))

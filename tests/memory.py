@@ -8,6 +8,8 @@ refused    Each request for memory is refused in turn while some rows of the tab
            found whose want ends its first call alone.
 held       A million open blocks are judged in little memory, which no contract promises; the calls of functions whose entry
            wants 34 GB end in `no-memory`, each in its own line; operands of code that is not reached take no room.
+in time    Modules of long lists are checked in little memory: each limit of addresses gives the verdict or out of memory, within
+           some seconds of a processor, however much of what makes the check fast finds no room.
 granted    No request is refused while all modules of the tables, of counts.py and of tools/worst_cases are judged and run, by
            one worker and by four: nothing may be out of memory, and verdicts are those of the tables. What the program asked
            for before any call, at once and together, is at most some times the module's length: nothing is asked for by a
@@ -45,6 +47,13 @@ ENTRY_ROOM = 128
 LENGTHS = {'check': (24, 48), 'run': (48, 192)}
 BESIDE = 512 << 10
 SIZE = 100_000
+# Of each family its form, its size, and the seconds of a processor that a check may take: ten times and more what it takes with
+# memory enough. A check that compares whole lists takes minutes for the first of them.
+TIMED = [('two equal lists', 'dead accepted', 4_000_000, 10), ('chains of lists', 'dead accepted', 1_000_000, 10),
+         ('ends of long lists', 'dead refused', 1_000_000, 10), ('blocks of long lists', 'dead accepted', 1_000_000, 10),
+         ('open blocks', 'accepted', 1_000_000, 10)]
+# These many megabytes of addresses: with the least nothing is checked, with the most everything.
+LIMITS = (8, 12, 16, 20, 24, 32, 40, 48, 64, 96, 256)
 # The names of exports in the tables.
 NAMES = b'f\ng\ns\nl\nd\na\nb\nu\nadd\n'
 
@@ -61,12 +70,16 @@ class Gate(Count):
         subprocess.run(['cc', '-O1', '-shared', '-fPIC', '-o', self.library, source, '-ldl'], check=True)
         self.refusals = 0
 
-    def run(self, words, megabytes=None, **named):
-        # What it prints, its status, and what stands on standard error.
-        limit = megabytes and megabytes << 20
+    def run(self, words, megabytes=None, seconds=None, **named):
+        # What it prints, its status, and what stands on standard error. A signal ends it after so many seconds of a processor.
+        limits = {resource.RLIMIT_AS: megabytes and megabytes << 20, resource.RLIMIT_CPU: seconds}
+
+        def bound():
+            for kind, limit in limits.items():
+                if limit:
+                    resource.setrlimit(kind, (limit, limit))
         loaded = {**os.environ, 'LD_PRELOAD': self.library, **named} if named else None
-        ran = subprocess.run([self.program] + words, capture_output=True, timeout=120, env=loaded,
-                             preexec_fn=limit and (lambda: resource.setrlimit(resource.RLIMIT_AS, (limit, limit))))
+        ran = subprocess.run([self.program] + words, capture_output=True, timeout=120, env=loaded, preexec_fn=bound)
         return ran.stdout.decode(), ran.returncode, ran.stderr
 
     def refuse_each(self, name, words, wanted, status, is_good):
@@ -148,6 +161,28 @@ def held(gate):
         gate.expect(got == ('\n'.join(lines + [total_of(lines), '']), 0, b''), f'operands that are not reached, {depth} blocks deep', got)
 
 
+def equal_lists(size):
+    # Two equal lists of half as many types, and code that is not reached asks again and again whether the one ends as the other.
+    many = [b'\x7F'] * (size // 4)
+    tokens = b'\x00' + b'\x04\x01\x0B\x00' * (size // 8)
+    return whole(tokens, types=[EMPTY, function_type(many, many)])
+
+
+def in_time(gate):
+    for name, form, size, seconds in TIMED:
+        module = equal_lists(size) if name not in FAMILIES else module_of(name, form, size, 7)
+        rows.write(gate.module, module)
+        wanted = gate.run(['check', gate.module, '--workers', '1'], seconds=seconds)
+        begins = 'accepted' if form.endswith('accepted') else 'refused'
+        gate.expect(wanted[0].startswith(begins), f'{name}, {form}, memory enough', wanted)
+        seen = set()
+        for megabytes in LIMITS:
+            got = gate.run(['check', gate.module, '--workers', '1'], megabytes, seconds)
+            gate.expect(got in (wanted, ('', 70, b'gate: no memory\n')), f'{name}, {form}, {megabytes} MB, {seconds} s', got)
+            seen.add(got[1])
+        gate.expect(seen == {70, wanted[1]}, f'{name}, {form}: limits from too little to enough', seen)
+
+
 def all_modules():
     # Each module with its name, and the beginning of its verdict where that is known.
     seen = set()
@@ -188,7 +223,7 @@ def granted(gate):
 def main(program):
     with tempfile.TemporaryDirectory() as folder:
         gate = Gate(program, folder)
-        for part in (refused, held, granted):
+        for part in (refused, held, in_time, granted):
             part(gate)
     print(f'{gate.refusals} of {gate.passed} runs ran out of memory')
     return gate.status()

@@ -6,7 +6,7 @@ Python  The sums in the wheel hold, and its library wants no later glibc than it
 Rust    The tests of the crate pass, and clippy finds no fault in both, where it is there. GATE_LIB_DIR comes before the library inside.
 Go      The tests of the module pass, and go vet finds no fault. A host that vendors the module is built too.
 Hosts   What docs/HOSTS.md of the release shows for each language, as a program outside the release, prints what it has to.
-Again   packages.py makes the same packages of the library in the release.
+Again   packaging/packages.py makes the same packages of the library in the release.
 What is left out, for want of a tool, is counted and named at the end; with --all nothing may be.
 """
 import base64
@@ -23,6 +23,7 @@ import tempfile
 import zipfile
 
 from tools.arguments import parser
+from tools.counting import difference
 from tools.files import ROOT
 
 # Where the tools of Go stand that are not on the PATH.
@@ -73,7 +74,8 @@ class Tally:
         self.expect(ended.returncode == 0, name, ended.stdout[-4000:] + ended.stderr[-4000:])
 
     def prints(self, name, ended, wanted):
-        self.expect((ended.returncode, ended.stdout) == (0, wanted), name, f'{ended}, wanted {wanted!r}')
+        got = ended.returncode, ended.stdout
+        self.expect(got == (0, wanted), name, f'{difference(got, (0, wanted))}; {ended.stderr[-4000:]}')
 
 
 def run(words, folder, **environment):
@@ -217,7 +219,8 @@ def go(tally, release, work):
 
 
 def again(tally, release, work):
-    made = run([sys.executable, os.path.join(ROOT, 'packages.py'), '--library', os.path.join(release, 'lib'), '--to', work], work)
+    script = os.path.join(ROOT, 'packaging', 'packages.py')
+    made = run([sys.executable, script, '--library', os.path.join(release, 'lib'), '--to', work], work)
     tally.ends('packages.py', made)
     paths = [os.path.relpath(os.path.join(at, name), work) for at, _, names in os.walk(work) for name in names]
     others = [it for it in paths if read(os.path.join(work, it)) != read(os.path.join(release, it))]
@@ -263,7 +266,7 @@ def main(path, wants_all):
 
 if __name__ == '__main__':
     taken = parser(__doc__)
-    taken.add_argument('release', metavar='ARCHIVE_OR_FOLDER', help='what ./release packed, or the same unpacked')
+    taken.add_argument('release', metavar='ARCHIVE_OR_FOLDER', help='what packaging/release packed, or the same unpacked')
     taken.add_argument('--all', action='store_true', help='nothing may be left out')
     words = taken.parse_args()
     sys.exit(main(words.release, words.all))

@@ -2,10 +2,12 @@
 may hold, links and names of files that lead somewhere, and figures of speed and memory that stand in blocks made from a file.
 
 Code, tables, headings and the targets of links are no sentences; an item of a list is a paragraph. Without FILE all documents are
-read, and one that is missing is a fault. Each fault is a line: the file, the line, what is wrong.
+read, and one that is missing is a fault. Of the man pages and the help of the program the sentences are read alone. Each fault is a
+line: the file, the line, what is wrong.
 """
 import collections
 import fnmatch
+import glob
 import os
 import re
 import sys
@@ -14,15 +16,24 @@ from tools.arguments import parser
 
 LONGEST_SENTENCE = 35
 MOST_NUMBERS = 2
-# The most words of each document, as `wc -w` counts; None is no limit.
-MOST_WORDS = {'README.md': 700, 'CONTRIBUTING.md': 1300, 'CHANGELOG.md': 380, 'docs/ARCHITECTURE.md': 1530, 'docs/PROVED.md': 1500,
-              'docs/DEFINITIONS.md': 5000, 'docs/DECISIONS.md': 2500, 'docs/FORMATS.md': 2900, 'docs/HOSTS.md': 2400, 'docs/GUESTS.md': 900,
-              'docs/SECURITY.md': 1000, 'docs/SPEED.md': 1300, 'bench/LAB.md': 2900, 'crates/pieces/README.md': 1000,
-              'tools/editors/README.md': 300, 'tests/README.md': None, 'bench/README.md': None, 'examples/README.md': None}
+# The most words of each document, as `wc -w` counts: what it had on a day, and a fifth (README has two tables more since, CONTRIBUTING
+# what goes by position and how an option without a number is added).
+# Past it a page wants a reason, or another page. None is no limit.
+MOST_WORDS = {'README.md': 1000, 'CONTRIBUTING.md': 1900, 'CHANGELOG.md': None, 'docs/ARCHITECTURE.md': 2070, 'docs/PROVED.md': 1800,
+              'docs/PROVING.md': 1200,
+              'docs/DEFINITIONS.md': 5940, 'docs/DECISIONS.md': 2980, 'docs/FORMATS.md': 3440, 'docs/HOSTS.md': None,
+              'docs/GUESTS.md': 1070, 'docs/SECURITY.md': 1200, 'docs/SPEED.md': 1560, 'bench/LAB.md': 3480,
+              'crates/pieces/README.md': 1200, 'tools/editors/README.md': 340, 'tests/README.md': None, 'bench/README.md': None,
+              'examples/README.md': None}
 # Where a figure may be typed: what an operator plans with, and what trials gave.
 FIGURES_ARE_TYPED = ('docs/SECURITY.md', 'bench/LAB.md')
 FIGURE = re.compile(r'\d[\d.,]*(?:\s+to\s+\d[\d.]*)?\s+(?:[MG]B/s|[nuµ]s\b|lengths\b'
                     r'|times\s+(?:as\s+(?:fast|long)|faster|ordinary|generated))')
+
+# Where the texts of help stand. Macros of man pages: words that are none of a sentence, and lines without one.
+HELP = 'crates/command/src/commands.rt'
+MACROS = re.compile(r'^\.\w\w\b|\b(?:Ar|Cm|Dv|Er|Ev|Fa|Fl|Fn|Ft|Li|Nm|No|Ns|Op|Pa|Pf|Ql|Vt|Va|Xr)\b')
+NO_SENTENCE = ('Dd', 'Dt', 'Os', 'Nd', 'Pp', 'Bl', 'El', 'In', 'Fd')
 
 MARK = re.compile(r'\s*<!-- (begin|end) ([\w-]+) -->\s*$')
 ITEM = re.compile(r'\s*(?:[-*+]|\d+[.)])\s+')
@@ -46,12 +57,54 @@ MADE = ('out', 'target')
 Stretch = collections.namedtuple('Stretch', 'line text kind made')
 
 
+def with_ends(lines):
+    """Lines in which an item of a list within a sentence ends as a sentence does, and the next one begins with a capital: pages and help
+    have such lists, and begin sentences with names in small letters."""
+    joined = re.sub(r'[;:](?=\s|$)', '.', '\n'.join(lines))
+    return re.sub(r'(?<=[^\s.][.!?])(\s+)([a-z])', lambda found: found[1] + found[2].upper(), joined)
+
+
+def markdown_of_page(text):
+    """A man page as a document with as many lines: blocks of code, items, paragraphs. Name and synopsis have no sentences."""
+    lines, section, in_code = [], '', False
+    for line in text.split('\n'):
+        macro = line[1:3] if line.startswith('.') else ''
+        if macro in ('Bd', 'Ed'):
+            in_code = macro == 'Bd'
+            lines.append('```')
+        elif in_code:
+            lines.append(line)
+        elif macro in ('Sh', 'Ss'):
+            section = line[4:] if macro == 'Sh' else section
+            lines.append(f'# {line[4:]}')
+        elif macro in NO_SENTENCE or section in ('NAME', 'SYNOPSIS') or line.startswith('.\\"'):
+            lines.append('')
+        else:
+            words = re.sub(r' ([.,;:!?)]+)$', r'\1', MACROS.sub('', line.replace('.Nm', '.Nm gate')).strip())
+            lines.append(f'- {words}' if macro == 'It' else words)
+    return with_ends(lines)
+
+
+def markdown_of_help(text):
+    """The texts of help in the source of the commands, as a document with as many lines."""
+    lines, in_text = [], False
+    for line in text.split('\n'):
+        short = re.search(r'(?:about\(|help\(|let help = |^ {8})"([^"]+)"', line)
+        if in_text:
+            lines.append(line.removesuffix('";').replace('\\"', '"'))
+            in_text = not line.endswith('";')
+        else:
+            in_text = line.endswith('"\\')
+            lines.append(f'- {short[1]}' if short else '')
+    return with_ends(lines)
+
+
 class Document:
     """A document as stretches, its headings as anchors."""
 
-    def __init__(self, path):
+    def __init__(self, path, markdown_of=str):
         with open(path, encoding='utf-8') as file:
-            self.text = file.read()
+            self.text = markdown_of(file.read())
         self.stretches, self.headings = [], []
         self.lines, self.first, self.kind, self.made, self.margin, self.fence = [], 0, None, False, 0, None
         for number, line in enumerate(self.text.split('\n'), 1):
@@ -247,10 +300,24 @@ def faults(path, root, files):
         yield from typed_figures(document)
 
 
+def other_texts(root):
+    """The man pages and the help, each with its faults."""
+    pages = sorted(glob.glob(os.path.join(root, 'man', '*.[0-9]')))
+    for path, markdown_of in [(page, markdown_of_page) for page in pages] + [(os.path.join(root, HELP), markdown_of_help)]:
+        document = Document(path, markdown_of)
+        # Ranges and statuses are numbers that belong together.
+        found = [(line, what) for line, what in long_sentences(document) if 'numbers' not in what]
+        yield path, found if document.stretches else [(1, 'no sentence was found')]
+
+
 def main(paths):
     """Reads the documents, and gives 1 where one has a fault."""
     root = root_of(paths[0] if paths else __file__)
     files, found, words = Files(root), 0, 0
+    for path, said in [] if paths else other_texts(root):
+        found += len(said)
+        for line, what in said:
+            print(f'{os.path.relpath(path, root)}:{line}: {what}')
     for path in paths or [os.path.join(root, name) for name in MOST_WORDS]:
         within = os.path.relpath(os.path.abspath(path), root)
         if not os.path.exists(path):

@@ -155,33 +155,6 @@ static void play_instance(const task *it, answer *got) {
     gate_instance_free(instance);
 }
 
-/* What another handle judges first, and the joining of it. */
-static uint32_t judge_elsewhere(gate_judging judging, uint32_t count) {
-    gate_verdict verdict;
-    gate_judging other = { NULL };
-    if (gate_judging_share(judging, &other) != GATE_OK) return GATE_NO_MEMORY;
-    const uint32_t status = gate_judging_bodies(other, 0, count, &verdict), joined = gate_judging_join(judging, other);
-    return joined == GATE_OK ? status : joined;
-}
-
-/* A check in steps by two handles. */
-static void play_judging(const task *it, answer *got) {
-    gate_verdict verdict;
-    gate_judging judging = { NULL };
-    uint32_t bodies = 0;
-    got->status = gate_judging_new(it->bytes.at, it->bytes.length, &got->as.verdict, &judging, &bodies);
-    if (got->status == GATE_OK) {
-        got->status = judge_elsewhere(judging, bodies / 2);
-        if (got->status == GATE_OK) got->status = gate_judging_bodies(judging, bodies / 2, bodies, &verdict);
-        if (got->status != GATE_NO_MEMORY) got->status = gate_judging_end(judging, &got->as.verdict, &got->module);
-        if (got->status == GATE_OK)
-            gate_module_free(got->module);
-        else
-            gate_judging_free(judging);
-    }
-    clear_gap(&got->as.verdict.function);
-}
-
 /* The questions that take no memory. */
 static void play_questions(const task *it, answer *got) {
     gate_export found = { 0, 0, 0, 0 };
@@ -214,7 +187,6 @@ static const game GAMES[] = {
     { "gate_module_call", play_call, true, false },
     { "gate_module_starts", play_starts, true, false },
     { "gate_instance_new, gate_instance_call", play_instance, true, false },
-    { "gate_judging_new, gate_judging_bodies and the like", play_judging, false, false },
     { "gate_module_export and the like", play_questions, true, false },
 };
 

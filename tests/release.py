@@ -1,7 +1,7 @@
 """Packs the built program and library into a release, twice, and uses what is packed as others would.
 
 packed     Two packings have the same bytes: of this tree, and of a copy of it in another folder, with other times and modes of
-           files, another time zone, language and umask. `./release --check` finds them equal, and names a program that is not.
+           files, another time zone, language and umask. `packaging/release --check` finds them equal, and names a program that is not.
            A program that has no place for the commit is not packed.
 unpacked   `sha256sum -c` holds, program and library name the commit, and the program judges and runs the examples, and what gate.1,
            README.md and docs/FORMATS.md show. gate.3 names all functions of the header, and `man` has no warning, where it is there.
@@ -24,6 +24,7 @@ import tempfile
 import textwrap
 
 from tools.arguments import parser
+from tools.counting import Count
 from tools.files import ROOT
 from tools.kit import load_kit
 
@@ -35,16 +36,6 @@ LINTIAN = {'bogus-mail-host', 'bogus-mail-host-in-debian-changelog', 'copyright-
 # The pages of which all that they name is looked for.
 PAGES = ['README.md', 'docs/FORMATS.md', 'docs/HOSTS.md', 'docs/SECURITY.md']
 LINK = re.compile(r'\]\(([^()\s#]+)(?:#[^()\s]*)?\)')
-
-
-class Count:
-    def __init__(self):
-        self.passed = self.failed = 0
-
-    def expect(self, holds, name, got=''):
-        self.passed, self.failed = self.passed + bool(holds), self.failed + (not holds)
-        if not holds:
-            print(f'release: {name}: {str(got)[:600]}')
 
 
 def run(*words, **settings):
@@ -73,7 +64,8 @@ def copy_tree(folder):
 
 
 def pack(tree, program, library, *options, **settings):
-    return run(sys.executable, os.path.join(tree, 'release'), '--dirty', '--program', program, '--library', library, *options, **settings)
+    script = os.path.join(tree, 'packaging', 'release')
+    return run(sys.executable, script, '--dirty', '--program', program, '--library', library, *options, **settings)
 
 
 def turned(path, old, new):
@@ -143,7 +135,7 @@ def answers(count, there):
         count.expect(ended == (0, 'accepted\n'), f'the program on {module}', ended)
     builds(count, there)
     ended = run(gate, 'run', 'examples/fold.wasm', 'examples/fold.calls', cwd=ROOT)
-    count.expect(ended == (0, read(os.path.join(ROOT, 'examples/fold.report')).decode()), 'the report of fold', ended)
+    count.equal('the report of fold', ended, (0, read(os.path.join(ROOT, 'examples/fold.report')).decode()))
 
 
 def builds(count, there):
@@ -183,7 +175,7 @@ def sessions(count, there, folder):
     shown = [line for block in blocks('gate.1') for line in re.split(r'^\$ ', block, flags=re.MULTILINE)[1:]]
     for command, printed in (it.split('\n', 1) for it in shown):
         ended = run('sh', '-c', command, cwd=folder, env=path)
-        count.expect(ended[1] == printed, f'{command}, as gate.1 shows it', ended)
+        count.equal(f'{command}, as gate.1 shows it', ended[1], printed)
     count.expect(len(shown) == 4, 'the commands that gate.1 shows', shown)
 
 
@@ -196,7 +188,7 @@ def shown(count, there):
         for session in sessions:
             commands = ''.join(re.findall(r'^\$ (.*\n)', session, re.MULTILINE))
             ended = run('sh', '-c', commands, cwd=there)
-            count.expect(ended[1] == re.sub(r'^\$ .*\n', '', session, flags=re.MULTILINE), f'{commands}, as {page} shows it', ended)
+            count.equal(f'{commands}, as {page} shows it', ended[1], re.sub(r'^\$ .*\n', '', session, flags=re.MULTILINE))
 
 
 def links(count, there):
@@ -269,7 +261,7 @@ def hosts(count, there, prefix, host, top):
             for module in (*(f'examples/{it}.wasm' for it in MODULES), 'README.md'):
                 ended = run(host, module, cwd=ROOT, env={**os.environ, **shared})
                 wanted = run(os.path.join(there, 'bin', 'gate'), 'check', module, cwd=ROOT)
-                count.expect(ended == wanted, f'the example of gate.3 on {module}, {way} {linking}', (ended, wanted))
+                count.equal(f'the example of gate.3 on {module}, {way} {linking}', ended, wanted)
 
 
 def debian(count, folder, work):
@@ -329,14 +321,13 @@ def with_object(program):
 
 
 def main(program, library):
-    count = Count()
+    count = Count('release')
     with tempfile.TemporaryDirectory() as work:
         folder, name = packed(count, with_object(program), os.path.abspath(library), work)
         if is_there('dpkg'):
             debian(count, folder, work)
         installed(count, unpacked(count, folder, name), work)
-    print(f'{count.passed} passed, {count.failed} failed')
-    return 1 if count.failed or not count.passed else 0
+    return count.status()
 
 
 if __name__ == '__main__':

@@ -33,7 +33,7 @@ def words(count, gate):
 
 def files(count, gate, work):
     missing, short = os.path.join(work, 'missing.wasm'), os.path.join(work, 'short.wasm')
-    unreadable = (b'', b'gate: cannot read %s\n' % missing.encode(), 74)
+    unreadable = (b'', b'gate: cannot read %s: no such file\n' % missing.encode(), 74)
     with open(short, 'wb') as file:
         file.write(b'\0asm\1\0\0')
     count.equal('a missing file', run(gate, 'check', missing), unreadable)

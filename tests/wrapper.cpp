@@ -100,10 +100,33 @@ static bool is_forty_two(const gate::Call &call) {
     return call.ended.end == GATE_END_VALUES && call.ended.fuel == 1 && call.results.size() == 1 && call.results[0].bits == 42;
 }
 
+// `f` takes and gives nothing.
+static const std::vector<std::uint8_t> EMPTY_BODY = {0, 'a', 's', 'm', 1, 0, 0, 0, 1, 4, 1, 0x60, 0, 0, 3, 2, 1, 0, 7, 5, 1, 1, 'f', 0, 0,
+                                                     0x0A, 4, 1, 2, 0, 0x0B};
+// Two results.
+static const std::vector<std::uint8_t> PAIR = {0, 'a', 's', 'm', 1, 0, 0, 0, 1, 6, 1, 0x60, 0, 2, 0x7F, 0x7E, 3, 2, 1, 0, 7, 5, 1, 1, 'f',
+                                               0, 0, 0x0A, 8, 1, 6, 0, 0x41, 1, 0x42, 2, 0x0B};
+
+// What a call says that gave not the one value.
+static std::string not_one(const gate::Call &call) {
+    try {
+        call.value();
+    } catch (const gate::CallError &fault) {
+        return fault.ended.end == call.ended.end ? fault.what() : "another end";
+    }
+    return {};
+}
+
 static void call(gate::Module &module) {
     const std::vector<gate_value> args = {gate_i32(40), gate_i32(2)};
     HOLDS(is_forty_two(module.call("add", args)));
     HOLDS(is_forty_two(module.call("add", {gate_i32(44), gate_i32(-2)})));
+    HOLDS(module.call("add", args).value().bits == 42 && module.call("add", args).value().width == 32);
+    HOLDS(not_one(module.call("sub", {})) == "no-export" && not_one(module.call("add", {})) == "bad-arguments");
+    HOLDS(not_one(gate::Module(PAIR).call("f", {})) == "not what is asked for: values");
+    HOLDS(throws<gate::CallError>([&] { module.call("add", args).no_value(); }));
+    HOLDS(throws<gate::CallError>([&] { module.call("sub", {}).no_value(); }));
+    gate::Module(EMPTY_BODY).call("f", {}).no_value();
     HOLDS(module.call("sub", {}).ended.end == GATE_END_NO_EXPORT);
     HOLDS(module.call("add", {gate_i64(1)}).ended.end == GATE_END_BAD_ARGUMENTS);
     HOLDS(throws<std::invalid_argument>([&] { module.call("add", args, {1, 0, 0}); }));
@@ -236,6 +259,17 @@ static void goes_on(gate::Instance &it) {
     HOLDS(is_begun(it) && gives(it.call("handle", {gate_i32(0)}), 1));
 }
 
+// After each end but values it is as it was made.
+static void resets_itself(gate::Instance &it) {
+    it.reset();
+    HOLDS(gives(it.call_or_reset("handle", {gate_i32(0)}), 1) && gives(it.call_or_reset("handle", {gate_i32(0)}), 2));
+    HOLDS(not_one(it.call_or_reset("trap", {})) == "trap unreachable" && is_begun(it));
+    HOLDS(gives(it.call_or_reset("handle", {gate_i32(0)}), 1));
+    HOLDS(not_one(it.call_or_reset("handle", {gate_i32(0)}, {0, 1, 0})) == "out-of-fuel" && is_begun(it));
+    HOLDS(gives(it.call("handle", {gate_i32(0)}), 1));
+    HOLDS(not_one(it.call_or_reset("handle", std::vector<gate_value>{})) == "bad-arguments" && is_begun(it));
+}
+
 // Why there is no instance, in words.
 static std::string no_instance(const std::vector<std::uint8_t> &bytes, const gate_settings &settings = gate::usual) {
     try {
@@ -263,6 +297,7 @@ static void instances(const std::vector<std::uint8_t> &add) {
     HOLDS(is_begun(it));
     memory(it);
     goes_on(it);
+    resets_itself(it);
     fails_to_reset(it);
     HOLDS(without.memory_size() == 0 && lie_outside(without, 0, 1, 0) && lie_outside(without, 0, 0, 0) && !without.global("add"));
     HOLDS(is_forty_two(without.call("add", {gate_i32(40), gate_i32(2)})));

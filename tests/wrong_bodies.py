@@ -5,10 +5,16 @@ tests/wrong_bodies, in a folder of the crate's name. `rt must-fail` tries those 
 check of its crate, with all that the crate stands on. Here those of a crate that turn different functions stand together in
 one copy of it, a round: functions know one another by their contracts alone, so that a wrong body shows in its own function
 and nowhere else. One check has to name each of these functions among what is not proved, and in other files none but what calls
-one of them; `rt must-fail` takes any refusal. What a round does not name, and what turns no single function, is tried alone. Where
-one check goes by what another kept, the last check of a crate is that of its own text, which has to be proved.
+one of them; `rt must-fail` takes any refusal. What a round does not name, and what turns no single function, is tried alone.
 
-With --all those of tests/wrong_bodies are tried too; without it is only seen that each can be applied.
+A round goes by what ./prove or `rt check` kept of the crate on this machine, else by what the rounds before it kept. So the last check of
+a crate is that of its own text, which has to be proved.
+
+What is refused is kept beside the kit, by the sum of this script, the kit, the crate, the libraries below it and the edit. A later run in
+any clone on the machine takes it from there, and says how many it took.
+
+Of tests/wrong_bodies a run over all crates tries those of some crates, which the commit chooses, as many as fit into some minutes of a
+processor; of the others is only seen that each can be applied. With --all every one is tried, and nothing is taken from earlier runs.
 
 Where a proof by hand names what an edit took away, that proof is refused, whether the body is wrong or right. Such an edit has a line of
 its own; with --names it counts as one that is not refused. A wrong body that changes a value and keeps the names is none.
@@ -16,15 +22,19 @@ its own; with --names it counts as one that is not refused. A wrong body that ch
 The libraries that a crate stands on are taken as they lie in FOLDER, a tree that `rt ci` has proved (this one, where none is
 given).
 """
+import contextlib
 import glob
 import os
 import re
+import shutil
 import sys
 import tempfile
 import time
 from concurrent.futures import ThreadPoolExecutor, as_completed
 from dataclasses import dataclass
 
+from tests.wrong_definitions import beginning
+from tools import proof_times
 from tools.arguments import parser
 from tools.files import ROOT, read
 from tools.kit import checks_at_once, load_kit
@@ -37,7 +47,11 @@ EXCUSED = re.compile(r'proved|assumed|(no proof|not proved): it calls ')
 # `rt must-fail` makes of the first.
 LOST_NAME = re.compile(r'has no field|is not in scope|has no `|was not admitted')
 SHOWN_FALSE = 'the facts known there allow values'
-BY_NAMES = 'only because a proof file names what the edit took away'
+BY_NAMES = re.compile('a proof file names what (it|the edit) took away')
+
+ONE_JOB = ['--jobs', '1']
+# Of tests/wrong_bodies so many minutes of a processor in a run over all crates; one edit takes about this part of the crate's proof.
+MOST_MINUTES, PART_OF_A_PROOF = 10, 0.08
 
 HEADER = re.compile(r'^([ \t]*)(?:pub(?:\([a-z]+\))? )?(?:const |extern "C" )?fn (\w+)', re.M)
 
@@ -181,11 +195,41 @@ def named_beside(said, crate, bodies):
     return [found[1] for found in lines if not found[1].startswith(modules) and found[1].rpartition('::')[2] not in turned]
 
 
-def try_round(kit, crate, bodies, kept):
-    """Tries the bodies of a round at once; answers those whose functions are not all named, what else the check does not prove, and
-    those that are refused by names."""
-    said = kit.checked(crate, texts_of(bodies, crate.folder), ['--jobs', '1'], kept).stdout.split('\n')
-    return not_named(said, crate, bodies), named_beside(said, crate, bodies), refused_by_names(said, crate, bodies)
+@contextlib.contextmanager
+def begun(kit, crate):
+    """Gives what a check of a crate goes by, as a call that opens a folder, and whether anything is in it at first. Where a check on this
+    machine has proved the crate's text as it stands, each check begins with a copy of what that one kept; else with what those before it
+    kept, the first with that of another text, or with nothing."""
+    with tempfile.TemporaryDirectory() as room:
+        start, kept = kit.work_for(crate), os.path.join(room, 'kept')
+        try:
+            if start:
+                kit.linked(start, kept)
+        except (OSError, shutil.Error):
+            # Another check writes there.
+            shutil.rmtree(kept, ignore_errors=True)
+            start = None
+        os.makedirs(kept, exist_ok=True)
+        own = [os.path.join(folder, 'out', 'incremental') for folder, stamp in kit.places_of(crate) if stamp == crate.stamp()]
+        yield lambda: copied(kit, kept) if start in own else contextlib.nullcontext(kept), start is not None
+
+
+@contextlib.contextmanager
+def copied(kit, folder):
+    with tempfile.TemporaryDirectory() as room:
+        kit.linked(folder, os.path.join(room, 'kept'))
+        yield os.path.join(room, 'kept')
+
+
+def try_round(kit, crate, bodies, over):
+    """Tries the bodies of a round at once; answers of those that it refuses what to tell, those whose functions it does not all name, and
+    what else it does not prove. Where there is such a thing, none counts as refused."""
+    with over() as kept:
+        said = kit.checked(crate, texts_of(bodies, crate.folder), ONE_JOB, kept).stdout.split('\n')
+    missing, lost = not_named(said, crate, bodies), refused_by_names(said, crate, bodies)
+    beside = [f'{crate.name}: {it} is not proved beside wrong bodies of others' for it in named_beside(said, crate, bodies)]
+    tell = lambda it: f'{crate.name}/{it.name()}: refused where a proof file names what it took away' if it in lost else ''
+    return {} if beside else {it.path: tell(it) for it in bodies if it not in missing}, missing, beside
 
 
 def unreadable(kit, crate, edits):
@@ -194,32 +238,85 @@ def unreadable(kit, crate, edits):
     return {it: f'{crate.name}/{os.path.basename(it)}: BAD EDIT: {why}' for it, why in found if why}
 
 
-def try_crate(kit, crate, edits, names_count):
-    """Tries the wrong bodies of a crate; answers the lines to print, and how many were not refused. Whether those count as refused that
-    are by names, is said by `names_count`."""
+def try_rounds(kit, crate, rounds, over):
+    """Tries bodies in rounds; answers of those that are refused what to tell, what is wrong, and those that no round names."""
+    refused, wrong, left = {}, [], []
+    for bodies in rounds:
+        told, missing, beside = try_round(kit, crate, bodies, over)
+        refused, wrong, left = {**refused, **told}, wrong + beside, left + missing
+    return refused, wrong, left
+
+
+def try_alone(kit, crate, bodies, over):
+    """Tries bodies one by one; answers of those that are refused what to tell, and what is told of the others."""
+    refused, wrong = {}, []
+    for body in bodies:
+        with over() as kept:
+            came_to, said = kit.must_fail(crate, body.path, ONE_JOB, kept)
+        if came_to == kit.REFUSED:
+            refused[body.path] = said
+        else:
+            wrong.append(said)
+    return refused, wrong
+
+
+def try_bodies(kit, crate, bodies):
+    """Tries bodies of a crate; answers of those that are refused what to tell, what is wrong, and how they were tried."""
+    rounds = rounds_of([it for it in bodies if it.functions])
+    with begun(kit, crate) as (over, has_begun):
+        refused, wrong, left = try_rounds(kit, crate, rounds, over)
+        alone = [it for it in bodies if not it.functions] + left
+        by_one, missed = try_alone(kit, crate, alone, over)
+        how = f'{len(rounds)} rounds and {len(alone)} alone'
+        if has_begun or len(rounds) + len(alone) > 1:
+            with over() as kept:
+                if kit.checked(crate, {}, ONE_JOB, kept).returncode != 0:
+                    return {}, [f'{crate.name}: its own text is not proved over what these checks kept'], how
+    return {**refused, **by_one}, wrong + missed, how
+
+
+class Earlier:
+    """What was refused on this machine before, where `rt ci` keeps what it tried: by the sum of all that a refusal rests on. Of a crate
+    over libraries of other sources nothing is kept."""
+
+    def __init__(self, kit, crates, tree, anew):
+        every = {it.name: it for crate in crates for it in [crate, *crate.below()]}
+        self.kit, self.kept, self.sums = kit, kit.Kept(every.values(), anew), {}
+        self.judge = read(__file__)
+        # `rt ci` writes no stamps, and its tree was proved as it stands.
+        self.counts = {it.name: tree != ROOT or all(below.is_built() for below in it.below()) for it in crates}
+
+    def name_of(self, crate, edit):
+        return self.kept.of_edit(edit, (self.judge, self.kit.stamp_of(crate, self.sums)))
+
+    def told(self, crate, edit):
+        """What was told of an edit that was refused before, or None."""
+        found = self.kept.tried(self.name_of(crate, edit)) if self.counts[crate.name] else None
+        return found and found[1]
+
+    def keep(self, crate, refused, names):
+        """Keeps what was refused just now, unless a file that it rests on was touched since, or an edit has another name by now."""
+        if self.counts[crate.name] and all(map(self.kept.is_untouched, [crate, *crate.below()])):
+            for edit in (it for it in refused if self.name_of(crate, it) == names[it]):
+                self.kept.keep_tried(names[edit], self.kit.REFUSED, refused[edit])
+
+
+def try_crate(kit, crate, edits, names_count, earlier):
+    """Tries the wrong bodies of a crate; answers the lines to print, how many were not refused, and how many were so in earlier runs.
+    Whether those count as refused that are by names, is said by `names_count`."""
     started = time.monotonic()
-    bad = unreadable(kit, crate, edits)
-    lines, failed = list(bad.values()), len(bad)
-    readable = [body_of(it, crate.folder) for it in edits if it not in bad]
-    rounds = rounds_of([it for it in readable if it.functions])
-    with tempfile.TemporaryDirectory() as kept:
-        alone = [it for it in readable if not it.functions]
-        for bodies in rounds:
-            missing, beside, lost = try_round(kit, crate, bodies, kept)
-            alone += missing
-            lines += [f'{crate.name}: {it} is not proved beside wrong bodies of others' for it in beside]
-            lines += [f'{crate.name}/{it.name()}: refused where a proof file names what it took away' for it in lost]
-            failed += len(beside) + (0 if names_count else len(lost))
-        for body in alone:
-            tried, said = kit.must_fail(crate, body.path, ['--jobs', '1'], kept)
-            lines.append(said)
-            failed += tried != kit.REFUSED or BY_NAMES in said and not names_count
-        if len(rounds) + len(alone) > 1 and kit.checked(crate, {}, ['--jobs', '1'], kept).returncode != 0:
-            lines.append(f'{crate.name}: its own text is not proved over what these checks kept')
-            failed += 1
-    lines.append(f'{crate.name}: {len(edits) - failed} of {len(edits)} wrong bodies refused, {len(readable) - len(alone)} of them in their '
-                 f'functions in {len(rounds)} rounds, {len(alone)} alone ({time.monotonic() - started:.0f} s)')
-    return lines, failed
+    bad, names = unreadable(kit, crate, edits), {it: earlier.name_of(crate, it) for it in edits}
+    before = {it: told for it in edits if it not in bad and (told := earlier.told(crate, it)) is not None}
+    bodies = [body_of(it, crate.folder) for it in edits if it not in bad and it not in before]
+    now, wrong, how = try_bodies(kit, crate, bodies) if bodies else ({}, [], 'no rounds')
+    earlier.keep(crate, now, names)
+    refused = {**before, **now}
+    lost = [] if names_count else [it for it in refused.values() if BY_NAMES.search(it)]
+    failed = max(len(edits) - len(refused) + len(lost), len(wrong))
+    lines = [*bad.values(), *filter(None, refused.values()), *wrong]
+    lines.append(f'{crate.name}: {len(refused) - len(lost)} of {len(edits)} wrong bodies refused, {len(before)} of them in earlier runs, '
+                 f'the others in {how} ({time.monotonic() - started:.0f} s)')
+    return lines, failed, len(before)
 
 
 def edits_in(*folder):
@@ -230,21 +327,37 @@ def further(name):
     return edits_in('tests', 'wrong_bodies', name)
 
 
-def try_all(kit, edits, names_count):
+def chosen(crates, earlier):
+    """The crates of which the edits of tests/wrong_bodies are tried too: from one on that the commit names, as many as fit."""
+    able = sorted((it for it in crates if further(it.name)), key=lambda it: it.name)
+    if not able:
+        return []
+    first, reason = beginning(len(able))
+    seconds, found, left = proof_times.seconds_of(it.name for it in able), [], MOST_MINUTES * 60
+    for crate in able[first:] + able[:first]:
+        untried = [it for it in further(crate.name) if earlier.told(crate, it) is None]
+        needed = len(untried) * PART_OF_A_PROOF * seconds[crate.name]
+        if needed <= left or not found:
+            found, left = [*found, crate], left - needed
+    print(f'of tests/wrong_bodies too, by the {reason}:', *(it.name for it in found), flush=True)
+    return found
+
+
+def try_all(kit, edits, names_count, earlier):
     """Tries these edits, a list a crate, several crates side by side, and prints of each what it came to; answers how many were not
-    refused."""
-    failed = 0
+    refused, and how many were in earlier runs."""
+    failed = taken = 0
     with ThreadPoolExecutor(checks_at_once()) as pool:
-        for tried in as_completed([pool.submit(try_crate, kit, crate, edits[crate], names_count) for crate in edits]):
-            lines, bad = tried.result()
+        for tried in as_completed([pool.submit(try_crate, kit, crate, edits[crate], names_count, earlier) for crate in edits]):
+            lines, bad, before = tried.result()
             print(*lines, sep='\n', flush=True)
-            failed += bad
-    return failed
+            failed, taken = failed + bad, taken + before
+    return failed, taken
 
 
 def main():
     taken = parser(__doc__)
-    taken.add_argument('--all', action='store_true', help='also those of tests/wrong_bodies')
+    taken.add_argument('--all', action='store_true', help='also all of tests/wrong_bodies, and nothing from earlier runs')
     taken.add_argument('--names', action='store_true', help='one that a proof by hand refuses by its names counts as not refused')
     taken.add_argument('--tree', metavar='FOLDER', default=ROOT, help='where libraries are taken from (default: this tree)')
     taken.add_argument('crates', metavar='CRATE', nargs='*', help='without any, all')
@@ -254,12 +367,15 @@ def main():
     names = words.crates or sorted(os.listdir(os.path.join(ROOT, 'crates')))
     crates = [kit.rtlib.Crate(os.path.join(tree, 'crates', it), tree, {}, name=it) for it in names]
     crates.sort(key=lambda it: -it.count(rb'\n'))
-    edits = {it: edits_in('crates', it.name, 'must-fail') + (further(it.name) if words.all else []) for it in crates}
+    earlier = Earlier(kit, crates, tree, words.all)
+    more = crates if words.all else [] if words.crates else chosen(crates, earlier)
+    edits = {it: edits_in('crates', it.name, 'must-fail') + (further(it.name) if it in more else []) for it in crates}
     edits = {it: found for it, found in edits.items() if found}
     left = [why for it in crates for why in unreadable(kit, it, further(it.name)).values()]
     print(*left, sep='\n', end='\n' if left else '')
-    failed, count = try_all(kit, edits, not words.names), sum(map(len, edits.values()))
-    print(f'{count - failed} wrong bodies refused, {failed} not')
+    failed, before = try_all(kit, edits, not words.names, earlier)
+    count = sum(map(len, edits.values()))
+    print(f'{count - failed} wrong bodies refused, {before} of them in earlier runs, {failed} not')
     return 1 if failed or left or count == 0 else 0
 
 

@@ -179,73 +179,6 @@ static void other_handle(void) {
     WRONG("gate_report_read: the report is none that the library wrote", gate_report_read(other, out, ROOM, &length));
 }
 
-/* A check in steps of the same bytes, all of whose bodies are judged. */
-static gate_judging judged(void) {
-    gate_judging it = { NULL };
-    uint32_t bodies = 0;
-    if (gate_judging_new(bytes, sizeof LOOP, &verdict, &it, &bodies) != GATE_OK) exit(1);
-    if (gate_judging_bodies(it, 0, bodies, &verdict) != GATE_OK) exit(1);
-    return it;
-}
-
-static void null_bodies(void) {
-    gate_judging it;
-    WRONG("gate_judging_new: bodies is null", gate_judging_new(bytes, sizeof LOOP, &verdict, &it, NULL));
-}
-
-static void share_within_bytes(void) {
-    gate_judging *at = (gate_judging *)bytes;
-    gate_judging it = judged();
-    WRONG("gate_judging_share: other overlaps something else of the call", gate_judging_share(it, at));
-}
-
-static void judged_after_free(void) {
-    gate_judging it = judged();
-    gate_judging_free(it);
-    WRONG("gate_judging_bodies: the judging was freed before", gate_judging_bodies(it, 0, 1, &verdict));
-}
-
-static void joined_to_itself(void) {
-    gate_judging it = judged();
-    WRONG("gate_judging_join: other is the same handle", gate_judging_join(it, it));
-}
-
-static void joined_twice(void) {
-    gate_judging it = judged(), other = judged();
-    if (gate_judging_join(it, other) != GATE_OK) return;
-    WRONG("gate_judging_join: the judging was freed before", gate_judging_join(it, other));
-}
-
-static void ended_twice(void) {
-    gate_judging it = judged();
-    if (gate_judging_end(it, &verdict, &module) != GATE_OK) return;
-    WRONG("gate_judging_end: the judging was freed before", gate_judging_end(it, &verdict, &module));
-}
-
-static void freed_after_end(void) {
-    gate_judging it = judged();
-    if (gate_judging_end(it, &verdict, &module) != GATE_OK) return;
-    WRONG("gate_judging_free: the judging was freed before", gate_judging_free(it));
-}
-
-static void dropped_twice(void) {
-    gate_judging it = judged();
-    gate_judging_drop(it);
-    WRONG("gate_judging_drop: the judging was freed before", gate_judging_drop(it));
-}
-
-static void ended_module(void) {
-    gate_judging other = { module.at };
-    WRONG("gate_judging_end: the judging is none that the library wrote", gate_judging_end(other, &verdict, &module));
-}
-
-static void ended_bytes_changed(void) {
-    gate_judging it = judged();
-    if (gate_judging_end(it, &verdict, &module) != GATE_OK) return;
-    bytes[0] ^= 1;
-    WRONG("gate_module_call: the module has bytes that were changed or freed", CALL(module, "f"));
-}
-
 /* A call that takes seconds. Of two threads with the same handle the first says what is to be told, before it calls; the later in the call
  * is told. */
 static void *call_long(void *unused) {
@@ -284,8 +217,7 @@ static void (*const uses[])(void) = {
     null_verdict, null_explanation, null_text, null_bytes, null_settings, null_line, length_within_out, out_within_module,
     verdict_within_bytes, misaligned, too_long, bytes_unmapped, calls_unmapped, bytes_changed, own_handle, other_handle, two_threads,
     counted_after_free, measured_after_free, null_length_of_a_build, null_found, types_in_one_place, instance_called_after_free,
-    null_bytes_written, null_bodies, share_within_bytes, judged_after_free, joined_to_itself, joined_twice, ended_twice, freed_after_end,
-    dropped_twice, ended_module, ended_bytes_changed,
+    null_bytes_written,
 #ifdef HAS_SANITIZER
     out_shorter, bytes_freed,
 #endif

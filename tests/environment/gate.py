@@ -5,7 +5,8 @@ import subprocess
 
 from tools.counting import Count
 from tools.encoding import HEADER, whole
-from tools.files import write
+from tools.files import shown, write
+from tools.sanitizer import has_sanitizer
 
 MODULE_LIMIT, CALLS_LIMIT, LINE_LIMIT = 16_777_216, 4_194_304, 100_000
 WRITE_FAILED = (b'', 74, b'gate: write failed\n')
@@ -23,8 +24,8 @@ def report(count):
     return lines + b'total %d values %d traps 0 exhausted 0 refused 0 no-memory 0 fuel %d\n' % (count, count, count), 0, b''
 
 
-def cannot_read(path):
-    return b'', 74, b'gate: cannot read %s\n' % os.fsencode(path)
+def cannot_read(path, reason=b'no such file'):
+    return b'', 74, b'gate: cannot read %s: %s\n' % (shown(os.fsencode(path)), reason)
 
 
 class Gate(Count):
@@ -38,6 +39,8 @@ class Gate(Count):
         self.program = shutil.copy(program, self.path('gate'))
         os.chmod(self.program, 0o755)
         self.left = []
+        # The seconds that a run may take: of a program without a proof a read of a whole module is slow.
+        self.longest = 600 if has_sanitizer(self.program) else 60
         self.module = self.write('module.wasm', whole(b''))
         self.short = self.write('short.wasm', HEADER[:7])
         self.calls = self.write('calls', b'f\n')
@@ -52,7 +55,7 @@ class Gate(Count):
 
     def run(self, *words, **settings):
         """What it prints, its status, and what stands on standard error."""
-        settings = {'stdout': subprocess.PIPE, 'stderr': subprocess.PIPE, 'timeout': 60, **settings}
+        settings = {'stdout': subprocess.PIPE, 'stderr': subprocess.PIPE, 'timeout': self.longest, **settings}
         try:
             ran = subprocess.run([self.program, *words], **settings)
         except subprocess.TimeoutExpired:

@@ -6,6 +6,7 @@ import subprocess
 
 from tools.encoding import whole
 from tools.reports import may_report
+from tools.sanitizer import has_sanitizer
 from .gate import ACCEPTED, MALFORMED, NO_MEMORY, as_nobody, report
 
 KILOBYTES, MEGABYTES = 1 << 10, 1 << 20
@@ -71,15 +72,22 @@ def thread_limits(gate):
         as_nobody(gate, f'{threads} threads, run', [(exhausted, 0, b'')], *words, preexec_fn=few)
 
 
-def limits(gate):
-    memory_limits(gate)
-    thread_limits(gate)
-    many = ['check', gate.path('bodies.wasm'), '--workers', '64', '--piece', '1']
-    # With three the system finds no library.
-    for files in (4, 5, 64):
-        gate.equal(f'{files} open files', gate.run(*many, preexec_fn=held((resource.RLIMIT_NOFILE, files))), ACCEPTED)
+def small_stacks(gate, many):
     deep = gate.write('deep.wasm', whole(b'\x02\x40' * 100_000 + b'\x0B' * 100_000))
     for words, wanted in (['check', deep], ACCEPTED), (['run', deep, gate.calls], report(1)), (many, ACCEPTED):
         small = held((resource.RLIMIT_STACK, 64 * KILOBYTES))
         gate.equal(f'a stack of 64 KiB, {words[0]}', gate.run(*words, preexec_fn=small), wanted)
+
+
+def limits(gate):
+    thread_limits(gate)
+    many = ['check', gate.path('bodies.wasm'), '--workers', '64', '--piece', '1']
+    if has_sanitizer(gate.program):
+        gate.leave_out('address space, data and stack', 'the sanitizer of a program without a proof takes more')
+    else:
+        memory_limits(gate)
+        small_stacks(gate, many)
+    # With three the system finds no library.
+    for files in (4, 5, 64):
+        gate.equal(f'{files} open files', gate.run(*many, preexec_fn=held((resource.RLIMIT_NOFILE, files))), ACCEPTED)
     gate.equal('no core', gate.run(*many, preexec_fn=held((resource.RLIMIT_CORE, 0), (resource.RLIMIT_MEMLOCK, 0))), ACCEPTED)

@@ -1,6 +1,8 @@
 """Names, words, links and rights, and the environment of the process."""
 import ctypes
 import os
+import pty
+import socket
 import tempfile
 
 from tools.encoding import HEADER
@@ -21,12 +23,14 @@ def names(gate):
         gate.equal(f'no calls: {name!r}', gate.run('run', gate.module, path), cannot_read(path))
         gate.write(name, HEADER)
         gate.equal(f'the name {name!r}', gate.run('check', path), ACCEPTED)
-    for name in '', 'a' * 256, 'a/' * 5_000, 'a' * 100_000:
-        gate.equal(f'the name {name[:9]!r}', gate.run('check', name, cwd=gate.folder), cannot_read(name))
-        gate.equal(f'the name {name[:9]!r} of calls', gate.run('run', gate.module, name, cwd=gate.folder), cannot_read(name))
+    long = b'no file can have this name'
+    for name, reason in ('', b'no such file'), ('a' * 256, long), ('a/' * 5_000, long), ('a' * 100_000, long):
+        gate.equal(f'the name {name[:9]!r}', gate.run('check', name, cwd=gate.folder), cannot_read(name, reason))
+        gate.equal(f'the name {name[:9]!r} of calls', gate.run('run', gate.module, name, cwd=gate.folder), cannot_read(name, reason))
     gate.equal('after --', gate.run('check', '--', '--help', cwd=gate.folder), cannot_read('--help'))
     words_at_all(gate)
     links(gate)
+    links_in_folders(gate)
     process(gate)
 
 
@@ -58,8 +62,44 @@ def links(gate):
     inside = gate.write('locked/inside', HEADER)
     os.chmod(locked, 0)
     for path in secret, inside:
-        as_nobody(gate, f'without the right to read {os.path.basename(path)}', [cannot_read(path)], 'check', path)
+        as_nobody(gate, f'without the right to read {os.path.basename(path)}', [cannot_read(path, b'permission denied')], 'check', path)
     os.chmod(locked, 0o700)
+
+
+def leads_to(gate):
+    """What a link in a folder leads to, by its name, and the end of its line, or None where it has none."""
+    os.mkfifo(gate.path('fifo'))
+    with socket.socket(socket.AF_UNIX) as server:
+        server.bind(gate.path('a socket'))
+    yield 'a FIFO', gate.path('fifo'), None
+    yield 'a socket', gate.path('a socket'), None
+    yield 'a device', '/dev/zero', None
+    yield 'standard input', '/dev/stdin', None
+    yield 'a module', gate.module, b'accepted\n'
+    yield 'nothing', gate.path('no file'), b'cannot read: no such file\n'
+    yield 'a folder', gate.folder, b'cannot read: a folder\n'
+    main, terminal = pty.openpty()
+    yield 'a terminal', os.ttyname(terminal), None
+    os.close(terminal)
+    os.close(main)
+
+
+def links_in_folders(gate):
+    """Links below a folder: where one leads to no file, it is passed over, and nothing is waited for or taken from standard input."""
+    for number, (name, target, end) in enumerate(leads_to(gate)):
+        folder = gate.path(f'links {number}')
+        os.mkdir(folder)
+        os.symlink(target, os.path.join(folder, 'x.wasm'))
+        line = b'' if end is None else f'{folder}/x.wasm\t'.encode() + end
+        cannot = end is not None and end.startswith(b'cannot')
+        given, giver = os.pipe()
+        with open(given, 'rb') as given, open(giver, 'wb') as giver:
+            giver.write(b'kept')
+            giver.flush()
+            ran = gate.run('check-all', '-r', folder, stdin=given, timeout=10)
+            giver.close()
+            gate.equal(f'a link to {name} in a folder', ran, (line, 74 if cannot else 0, b'gate: cannot read some files\n' if cannot else b''))
+            gate.equal(f'standard input beside a link to {name}', given.read(), b'kept')
 
 
 def process(gate):

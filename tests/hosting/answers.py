@@ -2,6 +2,7 @@
 import os
 
 from tests.hosting.processes import started
+from tools.counting import difference
 
 
 def compare_checks(tally, host, modules, before=()):
@@ -16,14 +17,14 @@ def compare_checks(tally, host, modules, before=()):
 def compare_run(tally, host, it, before=()):
     got = started([*before, *host.run, it.module, it.calls, *it.limits], None, host.environment)
     wanted = it.text, it.status, b''
-    tally.expect(got == wanted, f'{host.name}: {it.name}', f'{got}, wanted {wanted}')
+    tally.expect(got == wanted, f'{host.name}: {it.name}', difference(got, wanted))
 
 
 def compare_folder(tally, host, folder, modules):
     """The host in C reads a folder by itself, on three threads."""
     got = started([host.check[0], folder, '3'])
     wanted = ''.join(f'{os.path.basename(it.path)}: {it.line}\n' for it in modules).encode(), 0, b''
-    tally.expect(got == wanted, f'{host.name}: a folder', got)
+    tally.expect(got == wanted, f'{host.name}: a folder', difference(got, wanted))
 
 
 def compare_calls(tally, host, it, before=()):
@@ -33,4 +34,4 @@ def compare_calls(tally, host, it, before=()):
     for call, line in zip(calls, it.text.decode().splitlines()):
         got = started([*before, *host.call, it.module, *call.split('\t')], None, host.environment)
         wanted = line.split(' ', 1)[1].encode() + b'\n', 0, b''
-        tally.expect(got == wanted, f'{host.name}: {it.name}: {call}', f'{got}, wanted {wanted}')
+        tally.expect(got == wanted, f'{host.name}: {it.name}: {call}', difference(got, wanted))

@@ -1,7 +1,8 @@
 """Programs in C and C++ over the library, by the compilers, with all warnings."""
+import glob
 import os
 
-import library
+from tools import library
 from tests.hosting.processes import built, needs
 from tools.files import ROOT
 
@@ -13,7 +14,9 @@ MORE_WARNINGS = ['-Wconversion', '-Wsign-conversion', '-Wshadow']
 
 
 def compile_c(source, target, folder, more=()):
-    words = [needs('cc'), '-std=c11', '-O2', *WARNINGS, f'-I{INCLUDE}', '-o', target, os.path.join(ROOT, 'tests', source)]
+    """A file of tests/, or all those of a folder there."""
+    path = os.path.join(ROOT, 'tests', source)
+    words = [needs('cc'), '-std=c11', '-O2', *WARNINGS, f'-I{INCLUDE}', '-o', target, *(sorted(glob.glob(f'{path}/*.c')) or [path])]
     built(words + [*more, os.path.join(folder, library.ARCHIVE), '-pthread'])
 
 

@@ -3,7 +3,7 @@ import ctypes
 import os
 import re
 
-import library
+from tools import library
 from tests.hosting.compiling import DEBUG, HEADER, INCLUDE, MORE_WARNINGS, WARNINGS
 from tests.hosting.processes import Left, needs, started
 

@@ -1,4 +1,4 @@
-"""Each function of gate.h: by interface.c, also looked at by gate_debug.h, and with each request for memory refused."""
+"""Each function of gate.h: by tests/interface/, also looked at by gate_debug.h, and with each request for memory refused."""
 import os
 
 from tests import rows
@@ -20,11 +20,11 @@ def interface(tally, program, before, rounds):
 
 
 def debug(tally, folder, work, more):
-    """No fault in interface.c, and each of wrong_uses.c."""
+    """No fault in tests/interface/, and each of wrong_uses.c."""
     target = os.path.join(work, '-'.join(['debug', *more]))
     if started([needs('cc'), *more, '-x', 'c', '-', '-o', target], b'int main(void) { return 0; }')[1]:
         raise Left(f'no {more[0]}')
-    compile_c('interface.c', target + '-interface', folder, [*more, *debugged()])
+    compile_c('interface', target + '-interface', folder, [*more, *debugged()])
     interface(tally, target + '-interface', [], FEW_ROUNDS)
     compile_c('wrong_uses.c', target + '-wrong', folder, [*more, *debugged()])
     got = started([target + '-wrong'])

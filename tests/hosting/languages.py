@@ -4,7 +4,7 @@ import re
 import sys
 from typing import NamedTuple
 
-import library
+from tools import library
 from tests.hosting.compiling import INCLUDE, WARNINGS, debugged
 from tests.hosting.processes import Left, built, needs, needs_folder
 
@@ -19,6 +19,9 @@ class Host(NamedTuple):
     call: list
     environment: dict = {}
     plug_in: list = []
+    # The process for a plug-in, and the host that sets it deadlines.
+    worker: str = ''
+    deadline_host: str = ''
 
 
 def by_words(name, words, environment=None, plug_in=()):
@@ -31,8 +34,9 @@ def c_host(name, folder, work, linked):
     target = os.path.join(work, re.sub(r'\W', '_', name))
     flags = 'CFLAGS=' + ' '.join(['-O2'] + WARNINGS)
     built([needs('make'), '-s', '-C', needs_folder('c'), f'LIBRARY={folder}', f'TO={target}', flags] + linked)
-    judge_folder, run_batch, call, plug_in = [os.path.join(target, it) for it in ('judge_folder', 'run_batch', 'call', 'plugin_host')]
-    return Host(name, [judge_folder, '-'], [run_batch], [call], plug_in=[plug_in])
+    names = 'judge_folder', 'run_batch', 'call', 'plugin_host', 'worker', 'deadline_host'
+    judge_folder, run_batch, call, plug_in, worker, deadline_host = [os.path.join(target, it) for it in names]
+    return Host(name, [judge_folder, '-'], [run_batch], [call], {}, [plug_in], worker, deadline_host)
 
 
 def static_host(folder, work):

@@ -4,6 +4,7 @@ import shutil
 import subprocess
 import threading
 
+from tools.counting import Count
 from tools.files import ROOT
 
 VALGRIND = ['valgrind', '-q', '--error-exitcode=99']
@@ -14,26 +15,25 @@ class Left(Exception):
     """Why a host or a tool is left out."""
 
 
-class Tally:
-    """How much holds, and what was left out."""
+class Tally(Count):
+    """How much holds, and what was left out; on any thread."""
 
-    def __init__(self):
-        self.lock, self.passed, self.failed, self.left = threading.Lock(), 0, 0, []
+    def __init__(self, test):
+        super().__init__(test)
+        self.lock, self.left = threading.Lock(), []
 
     def expect(self, holds, name, got=''):
         with self.lock:
-            self.passed, self.failed = self.passed + bool(holds), self.failed + (not holds)
-            if not holds:
-                print(f'hosts: {name}: {str(got)[:600]}')
+            super().expect(holds, name, got)
 
     def leave_out(self, name, why):
         with self.lock:
             self.left.append(f'{name} ({why})')
 
 
-def started(words, given=None, environment=None, **settings):
+def started(words, given=None, environment=None, timeout=300, **settings):
     """What a process writes, and its status."""
-    ran = subprocess.run(words, input=given, capture_output=True, timeout=300, env={**os.environ, **(environment or {})}, **settings)
+    ran = subprocess.run(words, input=given, capture_output=True, timeout=timeout, env={**os.environ, **(environment or {})}, **settings)
     return ran.stdout, ran.returncode, ran.stderr
 
 

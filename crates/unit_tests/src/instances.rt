@@ -149,14 +149,11 @@ fn expect_fresh<R: Abort>(rt: &R, alloc: Global, accepted: &Accepted<'_>) -> Res
         TableElem::Outside,
     ];
     for (at, entry) in (0..).zip(entries) {
-        assert_eq!(rt; instance.entry(at), entry);
+        assert!(rt; instance.entry(at) == entry);
     }
-    assert_eq!(rt; global_at(&instance, 0), Some(Value::I32(0xFFFF_FFFE)));
-    assert_eq!(rt;
-        global_at(&instance, 1),
-        Some(Value::I64(0xFFFF_FFFF_FFFF_FFFD))
-    );
-    assert_eq!(rt; global_at(&instance, 2), None);
+    assert!(rt; global_at(&instance, 0) == Some(Value::I32(0xFFFF_FFFE)));
+    assert!(rt; global_at(&instance, 1) == Some(Value::I64(0xFFFF_FFFF_FFFF_FFFD)));
+    assert!(rt; global_at(&instance, 2) == None);
     assert_eq!(rt; instance.accepted().module().globals.len(), 2);
     assert_eq!(rt; (instance.failed(), instance.dispatches()), (false, 0));
     Ok(())
@@ -179,13 +176,10 @@ fn expect_written<R: Abort>(rt: &R, alloc: Global, accepted: &Accepted<'_>) -> R
     assert_eq!(rt; read_at(&instance, 65_534, 4), Some(0x072A));
     assert!(rt; set_global_at(&mut instance, 0, Value::I32(7)));
     assert!(rt; !set_global_at(&mut instance, 0, Value::I64(8)));
-    assert_eq!(rt;
-        global_at(&instance, 1),
-        Some(Value::I64(0xFFFF_FFFF_FFFF_FFFD))
-    );
+    assert!(rt; global_at(&instance, 1) == Some(Value::I64(0xFFFF_FFFF_FFFF_FFFD)));
     assert!(rt; set_global_at(&mut instance, 1, Value::I64(u64::MAX)));
-    assert_eq!(rt; global_at(&instance, 0), Some(Value::I32(7)));
-    assert_eq!(rt; global_at(&instance, 1), Some(Value::I64(u64::MAX)));
+    assert!(rt; global_at(&instance, 0) == Some(Value::I32(7)));
+    assert!(rt; global_at(&instance, 1) == Some(Value::I64(u64::MAX)));
     instance.set_dispatches(9);
     instance.fail();
     assert_eq!(rt; (instance.failed(), instance.dispatches()), (true, 9));
@@ -233,10 +227,7 @@ fn expect_empty<R: Abort>(
     let Ok(instance) = start(alloc, accepted, 0, clean) else {
         return Err("no instance".into());
     };
-    assert_eq!(rt;
-        (instance.pages(), instance.entry(0)),
-        (0, TableElem::Outside)
-    );
+    assert!(rt; (instance.pages(), instance.entry(0)) == (0, TableElem::Outside));
     assert_eq!(rt; read_at(&instance, 0, 1), None);
     Ok(instance.close())
 }

@@ -1,5 +1,5 @@
-//! Tests of the crates below the judge, on numbers, modules, bodies and texts whose outcome is known from outside, and
-//! of instances and calls on them. They stand here, since a crate with tests is proved twice.
+//! Tests of the crates below the judge, on numbers, modules, bodies and texts whose outcome is known from outside, of instances
+//! and calls on them, and of work that is shared. They stand here, since a crate with tests is proved twice.
 #![tactic(auto)]
 
 #[cfg(test)]
@@ -32,3 +32,5 @@ mod rows;
 mod segments;
 #[cfg(test)]
 mod types;
+#[cfg(test)]
+mod workers;

@@ -21,10 +21,10 @@ fn names_are_found<R: Abort>(rt: &R, accepted: &Accepted<'_>) {
         ("z", ExportKind::Memory, 0),
     ];
     for (name, kind, index) in found {
-        assert_eq!(rt; accepted.export(name.as_bytes()), Some((kind, index)));
+        assert!(rt; accepted.export(name.as_bytes()) == Some((kind, index)));
     }
     for name in ["a", "r", "runs", "s", "zz"] {
-        assert_eq!(rt; accepted.export(name.as_bytes()), None);
+        assert!(rt; accepted.export(name.as_bytes()) == None);
     }
 }
 

@@ -112,7 +112,7 @@ fn the_line_names_the_first_of_two(rt: HostRuntime) -> Result<(), Fail> {
             let (line, status) = verdict_line(&rt, rt.alloc(), &bytes, plan)?;
             let line = line.as_slice();
             assert_eq!(rt; line, b"refused body 3 ill-typed at 0\n".as_slice());
-            assert_eq!(rt; status, Status::ModuleRefused);
+            assert!(rt; status == Status::ModuleRefused);
         }
     }
     Ok(())

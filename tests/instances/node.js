@@ -1,4 +1,4 @@
-// What node says of sequences of calls, for instances.py. Each line of standard input is a list in JSON: a module in base64, the names of
+// What node says of sequences of calls, for sequences.py. Each line of standard input is a list in JSON: a module in base64, the names of
 // its globals, and steps. Each step is answered by a line in JSON, [how it ended, the globals after it, the length of the memory], and by
 // the bytes of the memory. Where no instance can be made, the first step, which makes one, is answered alone.
 const fs = require('fs');

@@ -1,6 +1,6 @@
 /* Plug-ins, and what an instance of each of them should hold: a plain array for its memory, and numbers for its globals. */
-#ifndef INSTANCES_MODEL_H
-#define INSTANCES_MODEL_H
+#ifndef MODEL_H
+#define MODEL_H
 #include "gate.h"
 #include <stdbool.h>
 

@@ -1,8 +1,8 @@
-"""Sequences of calls, reads and writes on instances, by the library and by node, for instances.py.
+"""Sequences of calls, reads and writes on instances, by the library and by node.
 
 Modules are those of tools/random_modules.py with integers alone, with counted loops, and with memory and globals exported; and the
 plug-ins of examples/guests. A sequence goes through the library first, up to where fuel, frames or memory run out, and then through node
-(instances.js): each step has to end alike, with the same values, the same globals, and the same memory, byte by byte.
+(node.js): each step has to end alike, with the same values, the same globals, and the same memory, byte by byte.
 """
 import base64
 import collections
@@ -15,10 +15,11 @@ import subprocess
 from typing import NamedTuple
 
 from tools.encoding import HEADER, section, sections, signed, sized, unsigned, vector
+from tools.files import ROOT
 from tools.random_modules import I32, I64, NUMERIC, STORES, Maker
 
 here = os.path.dirname(os.path.abspath(__file__))
-GUESTS = os.path.join(here, '..', 'examples', 'guests')
+GUESTS = os.path.join(ROOT, 'examples', 'guests')
 STEPS = 24
 FUEL, FRAMES, PAGES = 200_000, 200, 64
 # A sequence ends where a memory has more bytes.
@@ -41,20 +42,14 @@ class Value(ctypes.Structure):
         return f'i{self.width}:{self.bits}'
 
 
-class Settings(ctypes.Structure):
-    _fields_ = [(name, ctypes.c_uint32) for name in ('fuel', 'frames', 'pages')]
+def struct(name, short, *long):
+    """A struct of numbers of 32 bits, and then of 64."""
+    fields = [(it, ctypes.c_uint32) for it in short.split()] + [(it, ctypes.c_uint64) for it in long]
+    return type(name, (ctypes.Structure,), {'_fields_': fields})
 
 
-class Ended(ctypes.Structure):
-    _fields_ = [(name, ctypes.c_uint32) for name in ('end', 'reason', 'place', 'fuel')] + [('results', ctypes.c_uint64)]
-
-
-class Verdict(ctypes.Structure):
-    _fields_ = [(name, ctypes.c_uint32) for name in ('kind', 'rule', 'function')] + [('token', ctypes.c_uint64)]
-
-
-class Export(ctypes.Structure):
-    _fields_ = [(name, ctypes.c_uint32) for name in ('kind', 'index', 'params', 'results')]
+Settings, Ended = struct('Settings', 'fuel frames pages'), struct('Ended', 'end reason place fuel', 'results')
+Verdict, Export = struct('Verdict', 'kind rule function', 'token'), struct('Export', 'kind index params results')
 
 
 class Answer(NamedTuple):
@@ -295,7 +290,7 @@ def by_library(library, module, r):
 
 class Node:
     def __init__(self):
-        words = ['node', os.path.join(here, 'instances.js')]
+        words = ['node', os.path.join(here, 'node.js')]
         self.child = subprocess.Popen(words, stdin=subprocess.PIPE, stdout=subprocess.PIPE)
 
     def ask(self, module, names, steps):

@@ -1,16 +1,18 @@
 """What is asked of instances of the library (gate_instance_new and what takes one), against a model and beside node.
 
-model    instances.c plays at random with four plug-ins, and holds each answer, the whole memory and all globals beside a model in C:
+model    guests.c and large.c play at random with four plug-ins, and hold each answer, the whole memory and all globals beside model.c:
          with buffers of their exact length under AddressSanitizer and under valgrind's memcheck, and at the ends of pages that nobody may
          touch; on eight threads, also under helgrind; with each request for memory refused in turn; in little address space; and in a
          million rounds, in which the resident memory stays as it is. debug/gate_debug.c, which looks at each call, has to find no fault.
 node     sequences.py: calls, writes and reads on modules made at random, beside node. The first difference ends it, and its module and
          steps are written to files.
-edges    edges.c: mutants of modules at the ends of pages, memory that stays as it is, many handles, a painted stack, and what a module
+modules  modules.c: mutants of modules at the ends of pages, memory that stays as it is, many handles, a painted stack, and what a module
          holds, beside what the heap gave for it.
 hosts    Where --hosts names a folder that has them: torture.c, guard.c, leak.c and speed.c, hosts of an embedder, over the library.
 What is left out, for want of a tool, is counted and named at the end.
 """
+import functools
+import glob
 import json
 import os
 import re
@@ -20,10 +22,12 @@ import sys
 import tempfile
 from concurrent.futures import ThreadPoolExecutor
 
-import library
-from tests import rows, sequences
+from tools import library
+from tests import rows
+from tests.hosting import processes
 from tests.hosting.compiling import INCLUDE, WARNINGS, debugged
 from tests.hosting.processes import MEMCHECK, VALGRIND, Jobs, Left, Tally, needs
+from tests.instances import sequences
 from tools.arguments import parser
 from tools.files import ROOT
 from tools.worst_cases import FAMILIES, module_of
@@ -32,24 +36,25 @@ EXAMPLES = os.path.join(ROOT, 'examples')
 WRAPPED = [f'-Wl,--wrap={name}' for name in ('malloc', 'realloc', 'free')]
 SANITIZERS = ['-O1', '-g', '-fsanitize=address,undefined', '-fno-sanitize-recover=all']
 HELGRIND = [*VALGRIND, '--tool=helgrind']
-# What is played: the compiler's flags, what runs before the program, and the number of each part (see instances.c).
+# What is played with instances: the compiler's flags, what runs before the program, and the number of each part (see main.c).
 PLAYS = [('plain', [], {'flat': 1_000_000, 'heap': 20_000, 'fence': 20_000, 'threads': 3_000, 'refuse': 24, 'limits': 512}),
          ('sanitized', [], {'heap': 10_000, 'fence': 5_000, 'threads': 1_000, 'refuse': 12}),
          ('debug', [], {'fence': 2_000, 'threads': 200}),
          ('plain', MEMCHECK, {'heap': 400, 'threads': 60, 'refuse': 1}),
          ('plain', HELGRIND, {'threads': 60})]
-# The same of edges.c.
-EDGES = [('plain', [], {'guard': 20_000, 'flat': 100_000, 'handles': 20_000, 'stack': 1, 'size': 1}),
+# What is played with modules.
+MODULES = [('plain', [], {'guard': 20_000, 'rounds': 100_000, 'handles': 20_000, 'stack': 1, 'size': 1}),
          ('sanitized', [], {'guard': 4_000}), ('debug', [], {'guard': 2_000}), ('plain', MEMCHECK, {'guard': 200})]
 STEPS, SEEDS = 4_000, [20261129]
-PARTS = ['model', 'node', 'edges', 'hosts']
+PARTS = ['model', 'node', 'modules', 'hosts']
 # Where another seed makes nothing else.
-ONCE = ['limits', 'flat', 'handles', 'stack', 'size']
+ONCE = ['limits', 'flat', 'rounds', 'handles', 'stack', 'size']
 SHORT = 4096
-# About how many bytes a module of a family has; edges.c takes none that is much longer.
+# About how many bytes a module of a family has; modules.c takes none that is much longer.
 OF_FAMILY = 15_000
-# The seconds that a process may take.
+# The seconds that a process may take, where the machine is busy.
 LONGEST = 3000
+started = functools.partial(processes.started, timeout=LONGEST)
 # How many mutants, rounds and turns the hosts of an embedder are asked for.
 MUTANTS, ROUNDS, TURNS, FEW_TURNS = 20_000, 40_000, 1_000, 40
 # The resident kilobytes in the beginning and at the end of each part of leak.c, and how many more they may be.
@@ -57,25 +62,17 @@ FLAT = re.compile(r'^leak: .*: RSS (\d+) KB after .*, (\d+) KB at the end;', re.
 MOST_GROWTH = 256
 
 
-def started(words, environment=None):
-    """What a process writes, its status, and what it says beside. Where the machine is busy it may take its time."""
-    ran = subprocess.run(words, capture_output=True, timeout=LONGEST, env={**os.environ, **(environment or {})})
-    return ran.stdout, ran.returncode, ran.stderr
-
-
 def compiled(folder, target, sources, flags):
     words = [needs('cc'), *flags, f'-I{INCLUDE}', '-o', target, *sources, os.path.join(folder, library.ARCHIVE), '-pthread']
-    _, status, error = started(words)
-    if status:
-        raise RuntimeError(f'{words}: {error.decode(errors="replace")}')
+    processes.built(words, timeout=LONGEST)
     return target
 
 
-def built(folder, work, name, sources):
-    """The program of files in C, by the compiler's flags."""
+def built(folder, work):
+    """The program of the files in C, by the compiler's flags."""
     flags = {'plain': ['-O2', '-g'], 'sanitized': SANITIZERS, 'debug': ['-O2', '-g', *debugged()]}
-    paths = [os.path.join(ROOT, 'tests', it) for it in sources]
-    return {it: compiled(folder, os.path.join(work, f'{name}-{it}'), paths, ['-std=c11', *WARNINGS, *words, *WRAPPED])
+    sources = sorted(glob.glob(os.path.join(os.path.dirname(__file__), '*.c')))
+    return {it: compiled(folder, os.path.join(work, f'play-{it}'), sources, ['-std=c11', *WARNINGS, *words, *WRAPPED])
             for it, words in flags.items()}
 
 
@@ -83,7 +80,7 @@ def play(tally, program, before, given, part, number, seed):
     """Plays a part; answers how many statements held."""
     if before and not shutil.which(before[0]):
         raise Left(f'no {before[0]}')
-    got = started([*before, program, given, part, str(number), str(seed)])
+    got = started([*before, program, part, given, str(number), str(seed)])
     tool = 'helgrind ' if '--tool=helgrind' in before else 'memcheck ' if before else ''
     tally.expect(got[1] == 0 and not got[2], f'{tool}{os.path.basename(program)} {part} {number} {seed}', got)
     return int(got[0]) if got[1] == 0 else 0
@@ -99,14 +96,12 @@ def plays(tally, pool, programs, given, table, chosen):
     return sum(it or 0 for it in jobs.all())
 
 
-def model(tally, pool, folder, work, chosen):
-    programs = built(folder, work, 'instances', ['instances.c', 'instances_model.c'])
+def model(tally, pool, programs, chosen):
     print(f'instances: {plays(tally, pool, programs, EXAMPLES, PLAYS, chosen):,} statements held beside the model', flush=True)
 
 
-def edges(tally, pool, folder, work, chosen):
-    programs, modules = built(folder, work, 'edges', ['edges.c']), os.path.join(written_modules(work), 'run')
-    held = plays(tally, pool, programs, modules, EDGES, chosen)
+def modules(tally, pool, programs, work, chosen):
+    held = plays(tally, pool, programs, os.path.join(written_modules(work), 'run'), MODULES, chosen)
     held += play(tally, programs['plain'], [], written_families(work), 'size', 1, 1)
     print(f'instances: {held:,} statements held on modules', flush=True)
 
@@ -160,7 +155,7 @@ def written_families(work):
 
 def tortured(tally, words, part, modules, turns, more=None):
     """Of torture.c what a caller may do."""
-    got = started([*words, EXAMPLES, modules, part], {'NO_WRONG': '1', 'TURNS': str(turns), **(more or {})})
+    got = started([*words, EXAMPLES, modules, part], environment={'NO_WRONG': '1', 'TURNS': str(turns), **(more or {})})
     tally.expect(got[1] == 0 and not got[2] and b', 0 do not hold' in got[0], ' '.join([*words, part]), got)
 
 
@@ -204,10 +199,12 @@ def embedder(tally, pool, folder, work, chosen):
 
 
 def main(folder, chosen):
-    tally = Tally()
+    tally = Tally('instances')
     with tempfile.TemporaryDirectory() as work, ThreadPoolExecutor(chosen.at_once) as pool:
-        parts = {'model': lambda: model(tally, pool, folder, work, chosen), 'node': lambda: node(tally, folder, chosen),
-                 'edges': lambda: edges(tally, pool, folder, work, chosen), 'hosts': lambda: embedder(tally, pool, folder, work, chosen)}
+        programs = functools.cache(lambda: built(folder, work))
+        parts = {'model': lambda: model(tally, pool, programs(), chosen), 'node': lambda: node(tally, folder, chosen),
+                 'modules': lambda: modules(tally, pool, programs(), work, chosen),
+                 'hosts': lambda: embedder(tally, pool, folder, work, chosen)}
         for name in chosen.parts:
             try:
                 parts[name]()
@@ -222,7 +219,7 @@ def main(folder, chosen):
 
 if __name__ == '__main__':
     taken = parser(__doc__)
-    taken.add_argument('library', metavar='LIBRARY', help='the folder where library.py put the library')
+    taken.add_argument('library', metavar='LIBRARY', help='the folder where tools/library.py put the library')
     taken.add_argument('--parts', nargs='+', choices=PARTS, default=PARTS, metavar='PART', help=', '.join(PARTS) + ' (default: all)')
     taken.add_argument('--seeds', nargs='+', type=int, default=SEEDS, metavar='SEED', help='what is made at random (default: one seed)')
     taken.add_argument('--steps', type=int, default=STEPS, help=f'steps beside node for each seed (default: {STEPS:,})')
