@@ -86,7 +86,7 @@ def main(program, library, usr, results):
 if __name__ == '__main__':
     parser = arguments.parser(__doc__)
     parser.add_argument('program', metavar='PROGRAM', help='the proved program')
-    parser.add_argument('--library', metavar='FOLDER', required=True, help='where library.py put the library')
+    parser.add_argument('--library', metavar='FOLDER', required=True, help='where tools/library.py put the library')
     parser.add_argument('--wabt', metavar='FOLDER', default='/usr', help='where include/wabt and lib stand (default: /usr)')
     parser.add_argument('--results', metavar='FILE.tsv', help='write what was measured, with what it was measured on')
     chosen = parser.parse_args()

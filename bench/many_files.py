@@ -92,7 +92,7 @@ def main(gate, library, count, results):
 
 if __name__ == '__main__':
     words = arguments.of_program(__doc__)
-    words.add_argument('library', metavar='LIBRARY', type=os.path.abspath, help='the folder where library.py put the library')
+    words.add_argument('library', metavar='LIBRARY', type=os.path.abspath, help='the folder where tools/library.py put the library')
     words.add_argument('--turns', type=int, default=15, metavar='N', help='turns of all ways (default: 15)')
     words.add_argument('--results', metavar='FILE.tsv', help='write what was measured, with what it was measured on')
     chosen = words.parse_args()

@@ -106,7 +106,7 @@ def main(library, usr, count, results):
 
 if __name__ == '__main__':
     parser = arguments.parser(__doc__)
-    parser.add_argument('library', metavar='LIBRARY', help='the folder where library.py put the library')
+    parser.add_argument('library', metavar='LIBRARY', help='the folder where tools/library.py put the library')
     parser.add_argument('--wabt', metavar='FOLDER', default='/usr', help='where include/wabt and lib stand (default: /usr)')
     parser.add_argument('--turns', type=int, default=TURNS, metavar='N', help=f'turns of all engines (default: {TURNS})')
     parser.add_argument('--results', metavar='FILE.tsv', help='write what was measured, with what it was measured on')

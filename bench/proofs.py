@@ -5,17 +5,15 @@ next is what the later one took, where one process checks; where several do, it 
 anything done. `Lts` is the function's own steps, `Proof` and `Answers` their proof, `Key` and the like its statement; `Kinds`
 are the types that it is the first to name.
 """
-import glob
 import os
 
+from tools import kept
 from tools.arguments import parser
-from tools.files import ROOT
 
 
 def files_of(crate):
     """The files that the check kept, in the order in which they were written: when, and the module."""
-    found = glob.glob(os.path.join(ROOT, 'crates', crate, 'out', 'incremental', '*', '*.oantt'))
-    return sorted((os.stat(it).st_mtime, os.path.basename(it)[: -len('.oantt')]) for it in found)
+    return sorted((os.stat(it).st_mtime, kept.module_of(it)) for it in kept.paths(crate))
 
 
 def main():

@@ -317,15 +317,41 @@ def summary():
         f'{most("families*", "times_ordinary", "check"):.0f} times ordinary code.'])
 
 
+def milliseconds(program, engine):
+    """What a check of a program takes; its speed is in megabytes a second."""
+    row = next(rows_of('check', module=program, engine=engine[0], workers=engine[1]))
+    return f'{1_000 * float(row["megabytes"]) / number(row, "median"):.1f} ms'
+
+
+def megabytes(lengths, row):
+    return f'{lengths * float(row["megabytes"]):.1f} MB'
+
+
 def readme_speed():
+    """What a host asks first, in milliseconds and megabytes, beside V8."""
+    program = 'sqlite (C)'
+    checked = next(rows_of('check', module=program, engine='gate process', workers='1'))
+    kept = next(rows_of('judging', measure='judging', name=program))
+    judged_ms = number(kept, 'ns_a_byte') * float(kept['megabytes'])
+    us = {(row['engine'], row['way']): f'{number(row, "median_us"):.1f} us' for row in results('plugins').rows}
+    v8 = [1 / times['V8'] for _, _, times in kernel_rows()]
+    rows = [
+        [f'check {program}, {checked["megabytes"]} MB, on one thread',
+         f'{milliseconds(program, ("gate", "1"))}, {megabytes(number(checked, "memory_lengths"), checked)}',
+         milliseconds(program, ('V8', '1'))],
+        ['check it on four threads (V8: on all of its threads)',
+         milliseconds(program, ('gate', '4')), milliseconds(program, ('V8', 'all'))],
+        ['judge it once, to call it often', f'{judged_ms:.0f} ms, {megabytes(number(kept, "memory_lengths"), kept)}', '-'],
+        ['a clean instance and a request of 100 bytes', f'{us["gate", "reset"]} (reset), {us["gate", "fresh"]} (new)', us['V8', 'fresh']],
+        ['a request on an instance that is kept', us['gate', 'kept'], us['V8', 'kept']],
+        ['a hot loop, beside compiled code', f'{1 / mean_kernel("V8"):.0f} times as long ({min(v8):.0f} to {max(v8):.0f})', '1']]
     return '\n'.join([
-        '![The check beside V8](docs/check.svg)', '',
-        f'- One worker checks real programs {mean_beside(("gate", "1"), ("V8", "1")):.2f} times as fast as V8.',
-        f'- Four workers check them {mean_beside(("gate", "4"), ("V8", "all")):.2f} times as fast as V8 with all its threads.',
-        f'- Calls: JavaScriptCore\'s interpreter takes {mean_kernel("JavaScriptCore"):.2f} times as long as `gate run`.',
+        table(['you want to', '`gate`', 'V8'], rows), '',
+        f'- A check of real programs is {mean_beside(("gate", "1"), ("V8", "1")):.2f} times as fast as V8 on one thread, '
+        f'{mean_beside(("gate", "4"), ("V8", "all")):.2f} times on all.',
         f'- The worst hostile module known takes {most_seconds("families*", "check"):.1f} s for 16 MB, '
-        f'{most("families*", "times_ordinary", "check"):.0f} times ordinary code.', '',
-        '[SPEED](docs/SPEED.md) has the tables.'])
+        f'{most("families*", "times_ordinary", "check"):.0f} times ordinary code.',
+        f'- Measured on an {results("check").head["processor"]}; V8 of {results("check").head["peers"].split("(")[1].split(")")[0]}.'])
 
 
 BLOCKS = {'README.md': {'readme-speed': readme_speed},

@@ -102,13 +102,12 @@ static void look_at(site here, const area *areas, size_t count) {
 
 /* Handles. */
 
-static const char MODULE[] = "the module", REPORT[] = "the report", INSTANCE[] = "the instance", JUDGING[] = "the judging";
+static const char MODULE[] = "the module", REPORT[] = "the report", INSTANCE[] = "the instance";
 
 typedef struct handle {
     const void *at;
-    const char *kind; /* MODULE, REPORT, INSTANCE or JUDGING */
+    const char *kind; /* MODULE, REPORT or INSTANCE */
     bool is_called, is_freed;
-    uint64_t number;      /* which one of all that the library gave */
     const uint8_t *bytes; /* of its module, with their sum when it was judged */
     size_t length;
     uint64_t sum;
@@ -144,12 +143,10 @@ static handle *new_place(void) {
 
 /* Writes down a handle that the library gave, where an earlier one of the same address may stand. */
 static void keep(handle given) {
-    static uint64_t last;
     pthread_mutex_lock(&lock);
     handle *it = known(given.at);
     if (!it) it = new_place();
     given.next = it->next;
-    given.number = ++last;
     *it = given;
     pthread_mutex_unlock(&lock);
 }
@@ -184,13 +181,6 @@ static handle *begin(site here, const void *at, const char *kind, bool is_last) 
 static void finish(handle *it) {
     pthread_mutex_lock(&lock);
     it->is_called = false;
-    pthread_mutex_unlock(&lock);
-}
-
-/* Ends a call that freed its handle, of that number: the library may have given the same address anew since. */
-static void finish_freed(handle *it, uint64_t number) {
-    pthread_mutex_lock(&lock);
-    if (it->number == number) it->is_freed = true;
     pthread_mutex_unlock(&lock);
 }
 
@@ -501,80 +491,4 @@ void gate_debug_instance_free(const char *file, int line, gate_instance instance
 
 void gate_debug_instance_drop(const char *file, int line, gate_instance instance) {
     if (instance.at) free_instance((site){ file, line, "gate_instance_drop" }, instance);
-}
-
-uint32_t gate_debug_judging_new(const char *file, int line, const uint8_t *bytes, size_t bytes_length, gate_verdict *verdict,
-                                gate_judging *judging, uint32_t *bodies) {
-    const site here = { file, line, "gate_judging_new" };
-    const area areas[] = {
-        READS(uint8_t, bytes, bytes_length), WRITES(gate_verdict, verdict, 1), WRITES(gate_judging, judging, 1),
-        WRITES(uint32_t, bodies, 1),
-    };
-    look_at(here, areas, COUNT_OF(areas));
-    const uint32_t status = (gate_judging_new)(bytes, bytes_length, verdict, judging, bodies);
-    if (status == GATE_OK)
-        keep((handle){ .at = judging->at, .kind = JUDGING, .bytes = bytes, .length = bytes_length, .sum = sum_of(bytes, bytes_length) });
-    return status;
-}
-
-uint32_t gate_debug_judging_share(const char *file, int line, gate_judging judging, gate_judging *other) {
-    const site here = { file, line, "gate_judging_share" };
-    handle *used = begin(here, judging.at, JUDGING, false);
-    const area areas[] = { READS_BYTES_OF(used), WRITES(gate_judging, other, 1) };
-    look_at(here, areas, COUNT_OF(areas));
-    const uint32_t status = (gate_judging_share)(judging, other);
-    if (status == GATE_OK)
-        keep((handle){ .at = other->at, .kind = JUDGING, .bytes = used->bytes, .length = used->length, .sum = used->sum });
-    finish(used);
-    return status;
-}
-
-uint32_t gate_debug_judging_bodies(const char *file, int line, gate_judging judging, uint32_t first, uint32_t count,
-                                   gate_verdict *verdict) {
-    const site here = { file, line, "gate_judging_bodies" };
-    handle *used = begin(here, judging.at, JUDGING, false);
-    const area areas[] = { READS_BYTES_OF(used), WRITES(gate_verdict, verdict, 1) };
-    look_at(here, areas, COUNT_OF(areas));
-    const uint32_t status = (gate_judging_bodies)(judging, first, count, verdict);
-    finish(used);
-    return status;
-}
-
-uint32_t gate_debug_judging_join(const char *file, int line, gate_judging judging, gate_judging other) {
-    const site here = { file, line, "gate_judging_join" };
-    handle *used = begin(here, judging.at, JUDGING, false);
-    if (other.at == judging.at) stop(here, "other", "is the same handle");
-    begin(here, other.at, JUDGING, true);
-    const uint32_t status = (gate_judging_join)(judging, other);
-    finish(used);
-    return status;
-}
-
-uint32_t gate_debug_judging_end(const char *file, int line, gate_judging judging, gate_verdict *verdict, gate_module *module) {
-    const site here = { file, line, "gate_judging_end" };
-    handle *used = begin(here, judging.at, JUDGING, false);
-    const area areas[] = { READS_BYTES_OF(used), WRITES(gate_verdict, verdict, 1), WRITES(gate_module, module, 1) };
-    look_at(here, areas, COUNT_OF(areas));
-    const handle given = *used;
-    const uint32_t status = (gate_judging_end)(judging, verdict, module);
-    if (status != GATE_OK) {
-        finish(used);
-        return status;
-    }
-    finish_freed(used, given.number);
-    keep((handle){ .at = module->at, .kind = MODULE, .bytes = given.bytes, .length = given.length, .sum = given.sum });
-    return status;
-}
-
-static void free_judging(site here, gate_judging judging) {
-    begin(here, judging.at, JUDGING, true);
-    (gate_judging_free)(judging);
-}
-
-void gate_debug_judging_free(const char *file, int line, gate_judging judging) {
-    free_judging((site){ file, line, "gate_judging_free" }, judging);
-}
-
-void gate_debug_judging_drop(const char *file, int line, gate_judging judging) {
-    if (judging.at) free_judging((site){ file, line, "gate_judging_drop" }, judging);
 }

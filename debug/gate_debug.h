@@ -11,7 +11,7 @@
  * or in another call; bytes of a module that changed. With AddressSanitizer (-fsanitize=address) also: buffers that are shorter than told,
  * or freed. Not found is a handle that goes to another thread without a lock; a detector of races finds that.
  *
- * The host is C99, C++11 or later. Each call of a module, of an instance or of a check in steps reads all bytes of it.
+ * The host is C99, C++11 or later. Each call of a module or of an instance reads all bytes of it.
  */
 #ifndef GATE_DEBUG_H
 #define GATE_DEBUG_H
@@ -68,15 +68,6 @@ uint32_t gate_debug_instance_global(const char *file, int line, gate_instance in
 uint32_t gate_debug_instance_reset(const char *file, int line, gate_instance instance, gate_call *ended);
 void gate_debug_instance_free(const char *file, int line, gate_instance instance);
 void gate_debug_instance_drop(const char *file, int line, gate_instance instance);
-uint32_t gate_debug_judging_new(const char *file, int line, const uint8_t *bytes, size_t bytes_length, gate_verdict *verdict,
-                                gate_judging *judging, uint32_t *bodies);
-uint32_t gate_debug_judging_share(const char *file, int line, gate_judging judging, gate_judging *other);
-uint32_t gate_debug_judging_bodies(const char *file, int line, gate_judging judging, uint32_t first, uint32_t count,
-                                   gate_verdict *verdict);
-uint32_t gate_debug_judging_join(const char *file, int line, gate_judging judging, gate_judging other);
-uint32_t gate_debug_judging_end(const char *file, int line, gate_judging judging, gate_verdict *verdict, gate_module *module);
-void gate_debug_judging_free(const char *file, int line, gate_judging judging);
-void gate_debug_judging_drop(const char *file, int line, gate_judging judging);
 
 #ifdef __cplusplus
 }
@@ -113,12 +104,5 @@ void gate_debug_judging_drop(const char *file, int line, gate_judging judging);
 #define gate_instance_reset(...) gate_debug_instance_reset(__FILE__, __LINE__, __VA_ARGS__)
 #define gate_instance_free(...) gate_debug_instance_free(__FILE__, __LINE__, __VA_ARGS__)
 #define gate_instance_drop(...) gate_debug_instance_drop(__FILE__, __LINE__, __VA_ARGS__)
-#define gate_judging_new(...) gate_debug_judging_new(__FILE__, __LINE__, __VA_ARGS__)
-#define gate_judging_share(...) gate_debug_judging_share(__FILE__, __LINE__, __VA_ARGS__)
-#define gate_judging_bodies(...) gate_debug_judging_bodies(__FILE__, __LINE__, __VA_ARGS__)
-#define gate_judging_join(...) gate_debug_judging_join(__FILE__, __LINE__, __VA_ARGS__)
-#define gate_judging_end(...) gate_debug_judging_end(__FILE__, __LINE__, __VA_ARGS__)
-#define gate_judging_free(...) gate_debug_judging_free(__FILE__, __LINE__, __VA_ARGS__)
-#define gate_judging_drop(...) gate_debug_judging_drop(__FILE__, __LINE__, __VA_ARGS__)
 
 #endif

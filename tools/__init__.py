@@ -7,6 +7,7 @@ processes        processor time of a process
 crates           crates.txt as a graph
 kit              the toolchain's `rt` as a module; how many checks there is room for
 proof_times      how long the proof of each crate takes
+kept             what the proofs keep, in figures that load does not change
 lanes            the proof of one crate in a tree of its own
 encoding         the binary format, written and cut into sections
 random_modules   valid modules of every shape

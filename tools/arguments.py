@@ -7,7 +7,7 @@ import sys
 def parser(text):
     """Of a script that is run as a module --help says so."""
     module = sys.modules['__main__'].__spec__
-    name = f'python3 -m {module.name}' if module else None
+    name = f'python3 -m {module.name.removesuffix(".__main__")}' if module else None
     return argparse.ArgumentParser(prog=name, description=text, formatter_class=argparse.RawDescriptionHelpFormatter)
 
 

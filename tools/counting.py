@@ -19,7 +19,7 @@ class Count:
 
     def equal(self, name, got, *wanted):
         """Expects one of these."""
-        self.expect(got in wanted, name, f'{shown(got)}; wanted {" or ".join(map(shown, wanted[:3]))}')
+        self.expect(got in wanted, name, ' or '.join(difference(got, it) for it in wanted[:3]))
 
     def status(self, more=''):
         """Prints how much holds; 1 where something does not, or nothing was expected."""
@@ -27,8 +27,28 @@ class Count:
         return 1 if self.failed or not self.passed else 0
 
 
+def difference(got, wanted):
+    """In few letters how a value differs: of tuples each part that does, of texts the first line, of sets and dictionaries what stands in
+    one alone."""
+    if type(got) is not type(wanted):
+        return f'{shown(got)}; wanted {shown(wanted)}'
+    if isinstance(got, tuple) and len(got) == len(wanted):
+        return ', '.join(difference(one, other) for one, other in zip(got, wanted) if one != other)
+    if isinstance(got, (str, bytes)):
+        return of_texts(got.splitlines(True), wanted.splitlines(True))
+    if isinstance(got, (set, dict)):
+        got, wanted = (it.items() if isinstance(it, dict) else it for it in (got, wanted))
+        lacks, beside = ([it for it in one if it not in other] for one, other in ((wanted, got), (got, wanted)))
+        return f'lacks {sorted(lacks, key=str)}, and has beside it {sorted(beside, key=str)}'
+    return f'{shown(got)}; wanted {shown(wanted)}'
+
+
+def of_texts(got, wanted):
+    """The first line that differs, with its number where there are more."""
+    at = next((k for k, pair in enumerate(zip(got, wanted)) if pair[0] != pair[1]), min(len(got), len(wanted)))
+    one, other = (shown(it[at]) if at < len(it) else 'nothing' for it in (got, wanted))
+    return f'line {at + 1}: {one}; wanted {other}' if max(len(got), len(wanted)) > 1 else f'{one}; wanted {other}'
+
+
 def shown(value):
-    """A value in few letters; of a tuple each part."""
-    if isinstance(value, tuple):
-        return str(tuple(it[:200] if isinstance(it, (bytes, str)) else it for it in value))
     return repr(value)[:300]

@@ -38,3 +38,12 @@ def below(name, graph):
 def above(name, graph):
     """The crates that stand on a crate, in the order of crates.txt."""
     return [it for it in graph if name in below(it, graph)]
+
+
+def behind(weights, graph):
+    """Of each of these crates the weight of the heaviest chain of crates that wait for it, itself among them."""
+    chains = {}
+    for name in sorted(weights, key=lambda it: -len(below(it, graph))):
+        others = [chains[it] for it in weights if name in graph[it]]
+        chains[name] = weights[name] + max(others, default=0)
+    return chains

@@ -10,6 +10,11 @@ def read(path):
         return file.read()
 
 
+def shown(name):
+    """The bytes of a name as the program shows them: a control character or a backslash as two digits of base 16."""
+    return b''.join(b'\\%02x' % byte if byte < 32 or byte in (92, 127) else bytes([byte]) for byte in name)
+
+
 def write(path, contents):
     """Writes text or bytes into a file; a relative path is one of the repository."""
     is_text = isinstance(contents, str)

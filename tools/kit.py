@@ -21,9 +21,22 @@ def module_at(name, path):
     return module
 
 
+def path_of_rt():
+    """The kit's `rt`, in its folder bin."""
+    path = shutil.which('rt')
+    if not path:
+        sys.exit("the command 'rt' of the Rattle kit is missing on the PATH")
+    return os.path.realpath(path)
+
+
+def in_kit(*names):
+    """The path of what stands in the kit's folder under these names."""
+    return os.path.join(os.path.dirname(os.path.dirname(path_of_rt())), *names)
+
+
 def load_kit():
     """The kit's `rt`: it reads edits, and knows the words of a check."""
-    path = os.path.realpath(shutil.which('rt'))
+    path = path_of_rt()
     # `rt` imports what stands beside it.
     sys.path.insert(0, os.path.dirname(path))
     kit = module_at('rt_of_the_kit', path)

@@ -11,11 +11,18 @@ import signal
 import subprocess
 import sys
 import time
+from dataclasses import dataclass
 
 from . import crates
 from .files import ROOT, write
+from .kit import load_kit
+from .processes import usage_of
+
+KIT = load_kit()
 
 LANES = os.path.join(ROOT, 'out', 'lanes')
+# What `rt` says where a check begins with what one in another clone kept.
+TAKEN_OVER = 'begins with what a check kept in'
 
 
 def folder_of(name, tree=ROOT):
@@ -28,9 +35,23 @@ def built(name):
     return max((os.path.getmtime(it) for it in places if os.path.exists(it)), default=0)
 
 
+def crate_of(name):
+    """A crate, as the kit has it."""
+    return KIT.rtlib.Crate(folder_of(name), ROOT, {}, name=name)
+
+
 def is_changed(name, graph):
-    """Whether a source of a crate, or of one below it, is newer than what is built of it; so too where nothing is."""
+    """Whether what is built of a crate is of other sources than those of it and of the crates below it; so too where nothing is."""
+    crate = crate_of(name)
+    if crate.makes_rlib():
+        return not crate.is_built()
     return max(map(newest, {name, *crates.below(name, graph)})) > built(name)
+
+
+def is_offered(name):
+    """Whether another clone on this machine has the library of a crate of these sources, over libraries of these."""
+    crate = crate_of(name)
+    return any(stamp == crate.stamp() and os.path.isdir(os.path.join(folder, 'out', 'rlib')) for folder, stamp in KIT.places_of(crate))
 
 
 @functools.cache
@@ -41,6 +62,19 @@ def newest(name):
     return max(map(os.path.getmtime, places), default=0)
 
 
+@dataclass
+class Check:
+    """How the check of a crate ended: what the prover said, the seconds by the clock, those of processors, and how much the largest of its
+    processes held."""
+    is_proved: bool
+    said: str
+    seconds: float
+    processor_seconds: int
+    megabytes: int
+    # Whether it began with nothing that another check had kept, here or in another clone.
+    is_fresh: bool = False
+
+
 class Lanes:
     """The checks of one run, which holds the tree as long as it or one of its checks lives."""
 
@@ -49,38 +83,43 @@ class Lanes:
         self.lock = hold_tree()
 
     def prove(self, name, jobs):
-        """Proves a crate and builds its library. Answers whether it is proved, what the prover said, and the seconds that it took from
-        nothing, where it began so."""
+        """Proves a crate and builds its library."""
         lane = make_lane(name, self.graph)
         kept, moved = os.path.join(folder_of(name), 'out'), os.path.join(folder_of(name, lane), 'out')
-        begun, is_fresh = time.monotonic(), not os.path.isdir(kept)
+        is_fresh = not os.path.isdir(kept)
         if not is_fresh:
             shutil.move(kept, moved)
         try:
-            proved, said = self.run(['rt', 'lib', '--jobs', str(jobs)], folder_of(name, lane))
-            return proved, said, time.monotonic() - begun if is_fresh and proved else None
+            return self.run(['rt', 'lib', '--jobs', str(jobs)], folder_of(name, lane), is_fresh)
         finally:
             if os.path.isdir(moved):
                 shutil.move(moved, kept)
             shutil.rmtree(lane)
+            self.note(name)
 
-    def build(self, name):
-        """Proves a program or a static library over the libraries that stand, and builds it, but for programs that know no `--help`.
-        Answers as `prove`."""
-        words = ['rt', 'lib'] if crates.is_static_library(name) else ['rt', 'run', '--', '--help'] if name == 'gate' else ['rt', 'check']
-        begun, is_fresh = time.monotonic(), not os.path.isdir(os.path.join(folder_of(name), 'out'))
-        built, said = self.run(words, folder_of(name))
-        return built, said, time.monotonic() - begun if is_fresh and built else None
+    def note(self, name):
+        """Notes for other clones on this machine where the work of a crate lies; the note that the check left names its lane."""
+        crate = crate_of(name)
+        KIT.offer(crate, crate.stamp() if crate.is_built() else None)
 
-    def run(self, words, folder):
+    def build(self, name, jobs):
+        """Proves a program or a static library over the libraries that stand, and builds it, but for programs that know no `--help`."""
+        verb = 'lib' if crates.is_static_library(name) else 'run' if name == 'gate' else 'check'
+        words = ['rt', verb, '--jobs', str(jobs), *(['--', '--help'] if verb == 'run' else [])]
+        return self.run(words, folder_of(name), not os.path.isdir(os.path.join(folder_of(name), 'out')))
+
+    def run(self, words, folder, is_fresh):
+        begun = time.monotonic()
         with subprocess.Popen(words, cwd=folder, stdout=subprocess.PIPE, stderr=subprocess.STDOUT, text=True, errors='replace',
                               pass_fds=[self.lock.fileno()], start_new_session=True) as check:
             self.checks.add(check)
             if self.is_stopped:
                 end(check)
-            said = check.communicate()[0]
+            said = check.stdout.read()
+            usage = usage_of(check)
             self.checks.remove(check)
-        return check.returncode == 0, said
+        return Check(check.returncode == 0, said, time.monotonic() - begun, round(usage.ru_utime), usage.ru_maxrss * 1_024 // 1_000_000,
+                     is_fresh and TAKEN_OVER not in said)
 
     def stop(self, *_):
         """Ends all checks that run, and with them this run."""

@@ -1,7 +1,7 @@
-"""How long the proof of each crate takes from nothing, and how much memory: for estimates, and for the order of proofs.
+"""How many processor seconds the proof of each crate takes from nothing, and how much memory: for estimates, and for the order of proofs.
 
-`proof_times.tsv` has what was measured beside three others on four slow processors. `out/proof_times.tsv` has what runs in this tree
-took, which comes before it.
+`./prove` writes what a proof from nothing took into `out/proof_times.tsv`, which comes before `proof_times.tsv`. That one has what was
+measured for all, and is written anew by copying the former over it after `./prove gate` from nothing.
 """
 import os
 
@@ -10,9 +10,11 @@ from .kit import MEGABYTES_OF_A_CHECK
 
 RECORDED = 'tools/proof_times.tsv'
 MEASURED = os.path.join('out', 'proof_times.tsv')
-HEAD = '# crate\tseconds of a proof from nothing\tmegabytes at most\n'
+HEAD = '# crate\tprocessor seconds of a proof from nothing\tmegabytes of its largest process\n'
 # Seconds for a crate that nobody has measured.
 UNKNOWN = 60
+# What each further job adds to the memory of a check, as `rt` reckons.
+PART_OF_A_JOB = 0.6
 
 
 def rows(path):
@@ -30,20 +32,22 @@ def known():
 
 
 def seconds_of(names):
-    """Of each of these crates about how many seconds its proof takes from nothing."""
+    """Of each of these crates about how many processor seconds its proof takes from nothing."""
     times = known()
     return {name: times[name][0] if name in times else UNKNOWN for name in names}
 
 
-def megabytes_of(name):
-    """How much memory the proof of a crate needs, as far as that is known."""
-    return known().get(name, (0, 0))[1] or MEGABYTES_OF_A_CHECK
+def megabytes_of(name, jobs=1):
+    """How much memory the proof of a crate needs with so many jobs, as far as that is known."""
+    one = known().get(name, (0, 0))[1] or MEGABYTES_OF_A_CHECK
+    return round(one * (1 + PART_OF_A_JOB * (jobs - 1)))
 
 
-def keep(name, seconds):
-    """Writes down what the proof of a crate from nothing took."""
-    times = rows(MEASURED)
-    times[name] = round(seconds), known().get(name, (0, 0))[1]
-    lines = [f'{crate}\t{took}\t{megabytes or ""}\n' for crate, (took, megabytes) in sorted(times.items())]
+def keep(name, seconds, megabytes, jobs):
+    """Writes down what the proof of a crate from nothing took: the seconds, and the megabytes of its largest process. Where several jobs
+    shared the work, that one held less than one alone does, so that the megabytes shrink only by a proof of one job."""
+    held = megabytes if jobs == 1 else max(megabytes, known().get(name, (0, 0))[1])
+    times = {**rows(MEASURED), name: (seconds, held)}
+    lines = [f'{crate}\t{took}\t{held or ""}\n' for crate, (took, held) in sorted(times.items())]
     write(MEASURED + '.new', HEAD + ''.join(lines))
     os.replace(os.path.join(ROOT, MEASURED + '.new'), os.path.join(ROOT, MEASURED))

@@ -5,8 +5,8 @@
 
 It compares with a relative, which already stands everywhere: in each file that has a name of the relative (I64Extend32S, I64_EXTEND32_S,
 i64.extend32_s) the same form of the new name has to stand. The other files of a step, and something in each folder that it names, have to
-differ from the commit --base; those that are asked for only `where` something holds are told apart. With --check it is the recipe that is
-held to the relatives: each file in which one stands has to be in a step, and each path of a step has to be there.
+differ from the commit --base in more than imports; those that are asked for only `where` something holds are told apart. With --check it
+is the recipe that is held to the relatives: each file in which one stands has to be in a step, and each path of a step has to be there.
 """
 import os
 import re
@@ -27,6 +27,8 @@ ELSEWHERE = ('bench/results/', 'bench/LAB.md', 'bench/interpreter.c', 'bench/ker
              'tests/instances', 'tests/interface', 'tests/explain', 'tests/wrong_', RECIPE, 'tools/recipe.py')
 # What stands there of a relative alone: theorems on growth.
 OWN = {name: {'crates/soundness/specs/Growth.antt'} for name in ('MemoryGrow', 'MemorySize')}
+# What brings names in: no place in which an instruction stands. In Rattle it may have several lines.
+IMPORTS = {'.rt': re.compile(r'^\s*(pub )?(ghost )?use [^;]*;', re.M), '.antt': re.compile(r'^use .*', re.M)}
 COMMENT = re.compile(r'\s*(//|--|#).*')
 CLAUSE = re.compile(r'(?<=[;.])\s|\n   - ')
 PATH = re.compile(r'`([\w./-]+)`|(?<![\w`/])((?:[\w-]+/)+[\w.-]+\w|[A-Z]+\.md)')
@@ -52,11 +54,24 @@ def places(form):
     return {path for path, line in lines if not path.startswith(ELSEWHERE) and '/must-fail/' not in path and not COMMENT.fullmatch(line)}
 
 
+def said_by_git(*words):
+    return subprocess.run(['git', *words], cwd=ROOT, capture_output=True, text=True, check=True).stdout
+
+
 def changed(base):
-    """The files that differ from a commit, and those that git does not track yet."""
-    said = [subprocess.run(['git', *words], cwd=ROOT, capture_output=True, text=True, check=True).stdout
-            for words in (['diff', '--name-only', base], ['ls-files', '--others', '--exclude-standard'])]
-    return set(''.join(said).split())
+    """The files that differ from a commit in more than imports, and those that git does not track yet."""
+    found = set(said_by_git('ls-files', '--others', '--exclude-standard').split())
+    for line in said_by_git('diff', '--name-status', '--no-renames', base).splitlines():
+        status, path = line.split('\t', 1)
+        imports = IMPORTS.get(os.path.splitext(path)[1])
+        if status != 'M' or not imports or beside(imports, said_by_git('show', f'{base}:{path}')) != beside(imports, read(path)):
+            found.add(path)
+    return found
+
+
+def beside(imports, text):
+    """The lines of a text that are neither imports nor empty."""
+    return [line for line in imports.sub('', text).splitlines() if line.strip()]
 
 
 def paths_of(text):
@@ -127,12 +142,14 @@ def missing(name, relative, recipe, base):
         for path in sorted(places(old) - places(form) - OWN.get(relative, set())):
             step = next((it.name for it in taken if it.names(path)), 'no step')
             faults.append(f'{path} has {old}, and not {form} ({step})')
-    done = changed(base).union(*map(places, forms(relative)))
+    done, left = changed(base).union(*map(places, forms(relative))), {}
     for step in taken:
-        left = step.left(done)
-        done |= left.keys()
-        faults += [f'{path} is as it was ({step.name})' for path, is_sure in left.items() if is_sure]
-        unsure = [path for path, is_sure in left.items() if not is_sure]
+        # A place that an earlier step asks for only where something holds is asked for here all the same.
+        sure = {path for path, (_, is_sure) in left.items() if is_sure}
+        left |= {path: (step.name, is_sure) for path, is_sure in step.left(done | sure).items() if is_sure or path not in left}
+    faults += [f'{path} is as it was ({name})' for path, (name, is_sure) in left.items() if is_sure]
+    for step in taken:
+        unsure = [path for path, (name, is_sure) in left.items() if name == step.name and not is_sure]
         notes += [f'{step.name}: {", ".join(unsure)}'] if unsure else []
     return list(dict.fromkeys(faults)), notes
 
