@@ -1,6 +1,7 @@
 /* Judges a module once, calls one of its exports by values, and prints how the call ended, as a line of a report does after its number.
  * usage: call MODULE NAME [i32:N | i64:N ..]    N lies from -2^31 to 2^31 - 1, of i64 from -2^63 to 2^63 - 1
  * Ends with 0 however the call ended, and with 2 where the module is refused: then the line of the verdict is printed. */
+#include "ends.h"
 #include "files.h"
 #include "gate.h"
 #include <ctype.h>
@@ -13,23 +14,6 @@
 enum { LONGEST_LINE = 64, FEW = 8 };
 
 static const gate_settings SETTINGS = { .fuel = 1000000, .frames = 1024, .pages = 256 };
-
-static const char *const ENDS[] = {
-    [GATE_VALUES] = "values", [GATE_TRAP] = "trap", [GATE_OUT_OF_FUEL] = "out-of-fuel", [GATE_OUT_OF_FRAMES] = "out-of-frames",
-    [GATE_NO_EXPORT] = "no-export", [GATE_NOT_A_FUNCTION] = "not-a-function", [GATE_BAD_ARGUMENTS] = "bad-arguments",
-    [GATE_NOT_STARTED] = "not-started", [GATE_CALL_NO_MEMORY] = "no-memory",
-};
-
-static const char *const TRAPS[] = {
-    [GATE_UNREACHABLE] = "unreachable", [GATE_OUT_OF_BOUNDS] = "out-of-bounds", [GATE_UNDEFINED_ELEMENT] = "undefined-element",
-    [GATE_UNINITIALIZED_ELEMENT] = "uninitialized-element", [GATE_TYPE_MISMATCH] = "type-mismatch",
-    [GATE_DIVIDE_BY_ZERO] = "divide-by-zero", [GATE_INTEGER_OVERFLOW] = "integer-overflow",
-};
-
-static const char *const NOT_STARTED[] = {
-    [GATE_HAS_IMPORTS] = "imports", [GATE_HAS_FLOATS] = "floats", [GATE_TABLE_LIMIT] = "table-limit",
-    [GATE_MEMORY_LIMIT] = "memory-limit", [GATE_ELEMENT_OUTSIDE] = "element-outside", [GATE_DATA_OUTSIDE] = "data-outside",
-};
 
 typedef struct values {
     gate_value *at;
@@ -64,15 +48,10 @@ static void print_values(values results) {
     }
 }
 
-static void print_end(const gate_call *ended, values results) {
-    fputs(ENDS[ended->end], stdout);
-    switch (ended->end) {
-    case GATE_VALUES: print_values(results); break;
-    case GATE_TRAP: printf(" %s", TRAPS[ended->reason]); break;
-    case GATE_NOT_STARTED: printf(" %s", NOT_STARTED[ended->reason]); break;
-    }
-    if (ended->end == GATE_NOT_STARTED && ended->reason >= GATE_ELEMENT_OUTSIDE) printf(" %" PRIu32, ended->place);
-    if (ended->end <= GATE_OUT_OF_FRAMES) printf(" fuel %" PRIu32, ended->fuel);
+static void print_line(const gate_call *ended, values results) {
+    print_end(ended);
+    if (ended->end == GATE_VALUES) print_values(results);
+    print_fuel(ended);
     putchar('\n');
 }
 
@@ -87,7 +66,7 @@ static uint32_t call(gate_module module, const char *name, values args) {
                                   &ended);
     }
     results.count = ended.results;
-    if (status == GATE_OK) print_end(&ended, results);
+    if (status == GATE_OK) print_line(&ended, results);
     free(results.at);
     return status;
 }

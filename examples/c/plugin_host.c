@@ -1,39 +1,29 @@
-/* plugin_host MODULE TEXT..    hands texts to a plug-in that keeps the convention of docs/GUESTS.md, and prints its answers. Nothing
- * that it gives is believed. Ends with 1 where a text has no answer, and with 2 where there is no plug-in. */
+/* plugin_host MODULE TEXT..    hands texts to a plug-in that keeps the convention of docs/GUESTS.md, and prints its answers. Ends with 1
+ * where a text has no answer, and with 2 where there is no plug-in. */
 #include "files.h"
 #include "gate.h"
+#include "plugin.h"
 #include <stdio.h>
 #include <stdlib.h>
 #include <string.h>
 
 static const gate_settings SETTINGS = { .fuel = 1000000, .frames = 1024, .pages = 32 };
 
-/* The one number that an export gives; whether it gives one. */
-static bool number_by(gate_instance plug_in, const char *name, const gate_value *args, size_t count, uint64_t *number) {
-    gate_value result = { 0, 0 };
-    gate_call ended;
-    uint32_t status = gate_instance_call(plug_in, (const uint8_t *)name, strlen(name), args, count, &SETTINGS, &result, 1, &ended);
-    *number = result.bits;
-    return status == GATE_OK && ended.end == GATE_VALUES && ended.results == 1;
-}
-
-/* Prints the answer to a text; where there is none, answers why. */
-static const char *ask(gate_instance plug_in, const char *text) {
-    uint64_t address, answer, size;
-    gate_value args[] = { gate_i32(0), gate_i32((int32_t)strlen(text)) };
-    if (!number_by(plug_in, "alloc", &args[1], 1, &address)) return "fault: alloc gives no number";
-    if (address == 0) return "fault: no room";
-    if (gate_instance_write(plug_in, address, (const uint8_t *)text, strlen(text)) != GATE_OK) return "fault: outside the memory";
-    args[0] = gate_i32((int32_t)address);
-    if (!number_by(plug_in, "handle", args, 2, &answer)) return "fault: handle gives no number";
-    if (answer == UINT64_MAX) return "no answer";
-    uint32_t length = (uint32_t)answer; /* looked at before so much room is asked for */
-    if (gate_instance_memory_size(plug_in, &size) != GATE_OK || length > size) return "fault: outside the memory";
-    uint8_t *out = room(NULL, length, 1);
-    bool is_read = gate_instance_read(plug_in, answer >> 32, out, length) == GATE_OK;
-    if (is_read) print(out, length), puts("");
-    free(out);
-    return is_read ? NULL : "fault: outside the memory";
+/* Prints the answer to a text, or why there is none; whether there is one. */
+static bool print_answer(gate_instance plug_in, char *text) {
+    request it = { .plug_in = plug_in, .limits = SETTINGS };
+    bool is_answered = ask(&it, (bytes){ (uint8_t *)text, strlen(text) });
+    if (is_answered) {
+        print(it.answer.at, it.answer.length);
+        puts("");
+    } else if (it.fault == NO_ANSWER) {
+        puts("no answer");
+    } else {
+        fputs("fault: ", stdout);
+        print_why(&it);
+    }
+    free(it.answer.at);
+    return is_answered;
 }
 
 int main(int count, char **words) {
@@ -48,8 +38,7 @@ int main(int count, char **words) {
     gate_module_free(module);
     int status = 0;
     for (int i = 2; i < count; i++) {
-        const char *why = ask(plug_in, words[i]);
-        if (why) puts(why), status = 1;
+        if (!print_answer(plug_in, words[i])) status = 1;
         if (gate_instance_reset(plug_in, &ended) != GATE_OK) end(GATE_NO_MEMORY, "no memory", ""); /* all its room, for each text */
     }
     gate_instance_free(plug_in);

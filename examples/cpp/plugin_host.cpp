@@ -12,22 +12,13 @@
 #include <iostream>
 #include <iterator>
 
-// The plug-in does not keep the convention.
-struct Faulty : std::runtime_error { using std::runtime_error::runtime_error; };
-
-// The one number that a call gives.
-static std::uint64_t number(const gate::Call &call) {
-    if (call.results.size() != 1) throw Faulty(gate::words(call.ended));
-    return call.results[0].bits;
-}
-
 // What the plug-in answers to a text; nothing where it has no answer.
 static std::optional<std::string> ask(gate::Instance &plug_in, std::string_view text) {
     const gate_value length = gate_i32(static_cast<std::int32_t>(text.size()));
-    const std::uint64_t address = number(plug_in.call("alloc", {length}));
-    if (address == 0) throw Faulty("no room");
-    plug_in.write(address, text);
-    const std::uint64_t answer = number(plug_in.call("handle", {gate_i32(static_cast<std::int32_t>(address)), length}));
+    const gate_value address = plug_in.call("alloc", {length}).value();
+    if (address.bits == 0) throw std::runtime_error("no room");
+    plug_in.write(address.bits, text);
+    const std::uint64_t answer = plug_in.call("handle", {address, length}).value().bits;
     if (answer == UINT64_MAX) return std::nullopt;
     return plug_in.read<std::string>(answer >> 32, static_cast<std::uint32_t>(answer));
 }
@@ -38,7 +29,7 @@ static bool print_answer(gate::Instance &plug_in, std::string_view text) {
         const std::optional<std::string> answer = ask(plug_in, text);
         std::cout << answer.value_or("no answer") << '\n';
         return answer.has_value();
-    } catch (const std::runtime_error &fault) { // Faulty, or gate::Outside
+    } catch (const std::runtime_error &fault) { // gate::CallError, or gate::Outside
         std::cout << "fault: " << fault.what() << '\n';
         return false;
     }

@@ -88,14 +88,35 @@ func done(status C.uint32_t) error {
 // Call calls an export on the instance as it is, under the fuel and the frames of the settings. After a trap, or where fuel or frames
 // ran out, it is as the call left it, and goes on. After ErrNoMemory each further call ends so, until a Reset.
 //
+// It takes no context, since nothing ends a call that runs but its fuel.
+//
 // The error is an End, a Trap, a SettingsError, ErrNoMemory or ErrClosed; and that of the last Reset where it made no instance.
 func (i *Instance) Call(name string, settings Settings, args ...Value) (Call, error) {
+	i.mutex.Lock()
+	defer i.mutex.Unlock()
+	return i.call(name, settings, args)
+}
+
+// CallOrReset is as Call, and after each end but values as Reset too, which a plug-in of a compiler wants: a trap leaves its stack pointer
+// where it was. The error is that of the reset where it made no instance, else that of the call.
+func (i *Instance) CallOrReset(name string, settings Settings, args ...Value) (Call, error) {
+	i.mutex.Lock()
+	defer i.mutex.Unlock()
+	call, err := i.call(name, settings, args)
+	if _, isOfSettings := err.(SettingsError); err == nil || isOfSettings || i.module == nil {
+		return call, err
+	}
+	if none := i.reset(); none != nil {
+		return Call{}, none
+	}
+	return call, err
+}
+
+func (i *Instance) call(name string, settings Settings, args []Value) (Call, error) {
 	limits, err := settings.inC()
 	if err != nil {
 		return Call{}, err
 	}
-	i.mutex.Lock()
-	defer i.mutex.Unlock()
 	if i.module == nil {
 		return Call{}, ErrClosed
 	}
@@ -194,6 +215,10 @@ func (i *Instance) Reset() error {
 	if i.module == nil {
 		return ErrClosed
 	}
+	return i.reset()
+}
+
+func (i *Instance) reset() error {
 	var ended C.gate_call
 	i.none = begun(C.gate_instance_reset(i.handle, &ended), &ended)
 	i.startFuel = uint32(ended.fuel)

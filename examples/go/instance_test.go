@@ -109,6 +109,28 @@ func TestInstanceGoesOn(t *testing.T) {
 	expectNumber(t, instance, "add", 1, 101)
 }
 
+func TestInstanceCallOrReset(t *testing.T) {
+	instance := instanceOf(t, goesOn())
+	expect := func(name string, fuel uint32, wanted error, count I32, args ...Value) {
+		t.Helper()
+		if _, err := instance.CallOrReset(name, Settings{fuel, 1, 1}, args...); err != wanted {
+			t.Error(name, err)
+		}
+		expectGlobal(t, instance, "count", count)
+	}
+	expect("add", 1, nil, 2, I32(2))
+	expect("add", 1, nil, 5, I32(3))
+	expect("stop", 1, Unreachable, 0)
+	expect("add", 1, nil, 1, I32(1))
+	expect("add", 0, OutOfFuel, 0, I32(1))
+	expect("add", 1, nil, 1, I32(1))
+	expect("add", MostFuel+1, SettingsError{"Fuel", MostFuel + 1, 0, MostFuel}, 1, I32(1))
+	instance.Close()
+	if _, err := instance.CallOrReset("add", DefaultSettings(), I32(1)); err != ErrClosed {
+		t.Error(err)
+	}
+}
+
 func TestInstanceCallsThatDoNotRun(t *testing.T) {
 	instance := instanceOf(t, goesOn())
 	nothing := Call{Results: []Value{}}

@@ -3,14 +3,14 @@
 // that it gives is believed. Ends with 1 where a text has no answer, and with 2 where there is no plug-in.
 'use strict';
 const fs = require('node:fs');
-const gate = require(process.env.GATE_NODE || './gate.node');
+const gate = require('./index.js');
 
 // What the plug-in answers to a text; null where it has no answer.
 function ask(plugIn, text) {
   const bytes = Buffer.from(text);
   const [address] = gate.call(plugIn, 'alloc', [bytes.length]);
-  if (typeof address !== 'number' || address <= 0) throw new Error('no room');
-  gate.write(plugIn, address, bytes);
+  if (typeof address !== 'number' || address === 0) throw new Error('no room');
+  gate.write(plugIn, address >>> 0, bytes);
   const [answer] = gate.call(plugIn, 'handle', [address, bytes.length]);
   if (typeof answer !== 'bigint') throw new Error('handle gives no i64');
   if (answer === -1n) return null;
@@ -24,7 +24,7 @@ function main([path, ...texts]) {
   try {
     plugIn = gate.open(bytes);
   } catch (fault) {
-    console.log(`${gate.check(bytes)}: ${fault.message}`);
+    console.log(fault.message);
     return 2;
   }
   let status = 0;

@@ -65,7 +65,10 @@ def run(words: argparse.Namespace) -> int:
 
 def call(words: argparse.Namespace) -> int:
     with gate.Module(read(words.module)) as module:
-        print(module.call(os.fsencode(words.name), *map(gate.value_of, words.values)))
+        try:
+            print(module.call(os.fsencode(words.name), *map(gate.value_of, words.values)))
+        except gate.BadArguments:
+            print(gate.EndKind.BAD_ARGUMENTS.word)
     return 0
 
 

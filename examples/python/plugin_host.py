@@ -18,24 +18,17 @@ import gate
 NO_ANSWER = 2 ** 64 - 1
 
 
-class Faulty(Exception):
-    """The plug-in does not keep the convention."""
-
-
-def number(end: gate.End) -> int:
-    """The one number that a call gives, read without its sign."""
-    if len(end.values) != 1:
-        raise Faulty(end)
-    return end.values[0].bits
+class NoRoom(Exception):
+    """The plug-in has no room for the text."""
 
 
 def ask(plug_in: gate.Instance, text: bytes) -> bytes | None:
     """What the plug-in answers to a text; None where it has no answer."""
-    address = number(plug_in.call('alloc', gate.I32(len(text))))
+    address = plug_in.call('alloc', len(text)).value().bits
     if not address:
-        raise Faulty('no room')
+        raise NoRoom('no room')
     plug_in.write(address, text)
-    answer = number(plug_in.call('handle', gate.I32(address), gate.I32(len(text))))
+    answer = plug_in.call('handle', address, len(text)).value().bits
     return None if answer == NO_ANSWER else plug_in.read(answer >> 32, answer % 2 ** 32)
 
 
@@ -47,7 +40,7 @@ def ask_all(plug_in: gate.Instance, texts: list[bytes]) -> int:
             answer = ask(plug_in, text)
             print('no answer' if answer is None else answer.decode(errors='replace'))
             status |= answer is None
-        except (Faulty, gate.OutsideMemory) as fault:
+        except (NoRoom, gate.BadArguments, gate.CallError, gate.OutsideMemory) as fault:
             print(f'fault: {fault}')
             status = 1
         plug_in.reset()

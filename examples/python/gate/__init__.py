@@ -10,9 +10,10 @@
 `Module.call` takes a fresh instance each time. `Module.instance` gives one that goes on from call to call, and whose memory is read and
 written. All functions raise `MemoryError` where memory is refused. ctypes lets other threads run during a call.
 """
-from gate.ends import End, EndKind, NotStarted, Trap
+from gate.ends import CallError, End, EndKind, NotStarted, Trap
 from gate.exports import Export, ExportKind, FunctionType, ValueType
 from gate.explanation import Explanation, ModuleRefused, explain
+from gate.function import BadArguments
 from gate.handle import Closed
 from gate.instance import Instance, NoGlobal, NoInstance, OutsideMemory
 from gate.module import Module
@@ -22,6 +23,6 @@ from gate.values import I32, I64, Value, call_line, value_of
 from gate.verdict import Refusal, Verdict, build, check
 
 __version__ = '0.2.0'
-__all__ = ['Closed', 'End', 'EndKind', 'Explanation', 'Export', 'ExportKind', 'FunctionType', 'I32', 'I64', 'Instance', 'Module',
-           'ModuleRefused', 'NoGlobal', 'NoInstance', 'NotStarted', 'OutsideMemory', 'Refusal', 'Report', 'Settings', 'Status', 'Trap',
-           'Value', 'ValueType', 'Verdict', '__version__', 'build', 'call_line', 'check', 'explain', 'run', 'value_of']
+__all__ = ['BadArguments', 'CallError', 'Closed', 'End', 'EndKind', 'Explanation', 'Export', 'ExportKind', 'FunctionType', 'I32', 'I64',
+           'Instance', 'Module', 'ModuleRefused', 'NoGlobal', 'NoInstance', 'NotStarted', 'OutsideMemory', 'Refusal', 'Report', 'Settings',
+           'Status', 'Trap', 'Value', 'ValueType', 'Verdict', '__version__', 'build', 'call_line', 'check', 'explain', 'run', 'value_of']

@@ -8,7 +8,7 @@ from __future__ import annotations
 import ctypes.util
 import os
 from ctypes import CDLL, POINTER, Structure, c_char_p, c_size_t, c_uint32, c_uint64, c_void_p
-from typing import Union
+from typing import Any, Union
 
 INTERFACE = 1
 # The least revision of the library.
@@ -69,10 +69,10 @@ class CExport(Structure):
 
 TEXT = [c_char_p, c_size_t]
 WRITTEN = [c_char_p, c_size_t, POINTER(c_size_t)]
-CALL = TEXT + [POINTER(CValue), c_size_t, POINTER(CSettings), POINTER(CValue), c_size_t, POINTER(CCall)]
 
-# The result and the parameters of each function, in the order of gate.h.
-FUNCTIONS = {
+# The result and the parameters of each function, in the order of gate.h. PERF: of the two without parameters each argument is made of its
+# type once (function.py), which takes half the time.
+FUNCTIONS: dict[str, tuple[Any, list[Any] | None]] = {
     'gate_version': (c_uint32, []),
     'gate_check': (c_uint32, TEXT + [POINTER(CVerdict)]),
     'gate_verdict_line': (c_uint32, [POINTER(CVerdict)] + WRITTEN),
@@ -83,7 +83,7 @@ FUNCTIONS = {
     'gate_report_free': (None, [CReport]),
     'gate_module_new': (c_uint32, TEXT + [POINTER(CVerdict), POINTER(CModule)]),
     'gate_module_run': (c_uint32, [CModule] + TEXT + [POINTER(CSettings)] + WRITTEN + [POINTER(CReport)]),
-    'gate_module_call': (c_uint32, [CModule] + CALL),
+    'gate_module_call': (c_uint32, None),
     'gate_module_share': (c_uint32, [CModule, POINTER(CModule)]),
     'gate_module_free': (None, [CModule]),
     'gate_revision': (c_uint32, []),
@@ -96,7 +96,7 @@ FUNCTIONS = {
     'gate_module_types': (c_uint32, [CModule, c_uint32, c_char_p, c_size_t, c_char_p, c_size_t]),
     'gate_module_starts': (c_uint32, [CModule, POINTER(CSettings), POINTER(CCall)]),
     'gate_instance_new': (c_uint32, [CModule, POINTER(CSettings), POINTER(CInstance), POINTER(CCall)]),
-    'gate_instance_call': (c_uint32, [CInstance] + CALL),
+    'gate_instance_call': (c_uint32, None),
     'gate_instance_memory_size': (c_uint32, [CInstance, POINTER(c_uint64)]),
     'gate_instance_read': (c_uint32, [CInstance, c_uint64, c_char_p, c_size_t]),
     'gate_instance_write': (c_uint32, [CInstance, c_uint64, c_char_p, c_size_t]),
@@ -146,7 +146,7 @@ def expect(status: int, *expected: int) -> int:
 
 def whole_number(name: str, number: int, least: int, greatest: int) -> None:
     """Raises where it is no whole number, or out of its range: ctypes would cut it, or refuse it later."""
-    if not isinstance(number, int):
+    if not isinstance(number, int) or isinstance(number, bool):
         raise TypeError(f'{name} is a whole number, and not {number!r}')
     if not least <= number <= greatest:
         raise ValueError(f'{name} is from {least} to {greatest}, and not {number}')

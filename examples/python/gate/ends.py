@@ -2,8 +2,8 @@
 from __future__ import annotations
 
 import enum
-from dataclasses import dataclass
-from typing import TypeVar
+from ctypes import Array
+from typing import NamedTuple, TypeVar
 
 from gate._library import CCall, CValue
 from gate.values import Value, value_of, value_of_bits
@@ -61,12 +61,13 @@ class NotStarted(_Named):
     DATA_OUTSIDE = 5
 
 
+# PERF: quicker than `EndKind(0)`.
+ENDS = tuple(EndKind)
 RAN = (EndKind.VALUES, EndKind.TRAP, EndKind.OUT_OF_FUEL, EndKind.OUT_OF_FRAMES)
 OUTSIDE = (NotStarted.ELEMENT_OUTSIDE, NotStarted.DATA_OUTSIDE)
 
 
-@dataclass(frozen=True)
-class End:
+class End(NamedTuple):
     """The end of a call. Its text is what the line of a report says after its number."""
 
     kind: EndKind
@@ -78,6 +79,17 @@ class End:
     """The number of the segment that lies outside."""
     fuel: int | None = None
     """What the call cost, the start function included; None where nothing ran."""
+
+    def value(self) -> Value:
+        """The one value of a call that gave one. A `CallError` for each other end."""
+        if len(self.values) != 1:
+            raise CallError(self)
+        return self.values[0]
+
+    def no_value(self) -> None:
+        """That a function without results came to its end. A `CallError` for each other end, and for results."""
+        if self.kind is not EndKind.VALUES or self.values:
+            raise CallError(self)
 
     def __str__(self) -> str:
         words = [self.kind.word]
@@ -92,16 +104,25 @@ class End:
         return ' '.join(words)
 
 
-def end_of(ended: CCall, results: list[CValue]) -> End:
+class CallError(RuntimeError):
+    """A call did not give what is asked for: one value, or none. `end` says how it ended, and so does the text: `trap unreachable fuel 1`."""
+
+    def __init__(self, end: End) -> None:
+        super().__init__(f'not what is asked for: {end}' if end.kind is EndKind.VALUES else str(end))
+        self.end = end
+
+
+def end_of(ended: CCall, results: Array[CValue] | tuple[()] = ()) -> End:
     """The end of the numbers that the library wrote."""
-    kind = EndKind(ended.end)
+    kind = ENDS[ended.end]
+    if kind is EndKind.VALUES:
+        return End(kind, tuple([value_of_bits(it.width, it.bits) for it in results[:ended.results]]), None, None, ended.fuel)
     reason: Trap | NotStarted | None = None
-    if kind == EndKind.TRAP:
+    if kind is EndKind.TRAP:
         reason = Trap(ended.reason)
-    elif kind == EndKind.NOT_STARTED:
+    elif kind is EndKind.NOT_STARTED:
         reason = NotStarted(ended.reason)
-    return End(kind, tuple(value_of_bits(result.width, result.bits) for result in results), reason,
-               ended.place if reason in OUTSIDE else None, ended.fuel if kind in RAN else None)
+    return End(kind, (), reason, ended.place if reason in OUTSIDE else None, ended.fuel if kind in RAN else None)
 
 
 def end_of_text(text: str) -> End:

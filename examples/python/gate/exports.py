@@ -3,13 +3,10 @@ from __future__ import annotations
 
 import ctypes
 import enum
-import operator
-from collections.abc import Sequence
 from dataclasses import dataclass
-from typing import SupportsIndex, TypeGuard, cast
 
 from gate._library import NOTHING, OK, SHORT_BUFFER, CExport, CModule, expect, library
-from gate.values import I32, I64, Value, values_only
+from gate.values import I32, I64
 
 # Names that have more bytes are read in a second call.
 NAME_ROOM = 256
@@ -36,7 +33,7 @@ class ValueType(enum.Enum):
         return self.name.lower()
 
 
-VALUES: dict[ValueType, type[I32] | type[I64]] = {ValueType.I32: I32, ValueType.I64: I64}
+KINDS_OF: dict[ValueType, type[I32] | type[I64]] = {ValueType.I32: I32, ValueType.I64: I64}
 
 
 @dataclass(frozen=True)
@@ -49,34 +46,6 @@ class FunctionType:
     def __str__(self) -> str:
         params, results = (', '.join(map(str, types)) for types in (self.params, self.results))
         return f'({params}) -> ({results})'
-
-    def arguments(self, name: str, given: Sequence[object]) -> list[Value]:
-        """The arguments of these numbers, of which each may be a plain one.
-
-        A `TypeError` says that there are too few or too many, or that one is no number of its type; a `ValueError`, that one is out of
-        its range.
-        """
-        if len(given) != len(self.params):
-            raise TypeError(f'{name} is {self}: it takes {len(self.params)} numbers, and not {len(given)}')
-        return [_argument(f'number {place} of {name}', of_type, number) for place, (of_type, number) in enumerate(zip(self.params, given))]
-
-
-def _argument(named: str, of_type: ValueType, given: object) -> Value:
-    """The argument of that type."""
-    kind = VALUES.get(of_type)
-    if isinstance(given, (I32, I64)) and kind is not None and isinstance(given, kind):
-        return given
-    if kind is None or not is_plain(given):
-        raise TypeError(f'{named} is an {of_type}, and not {given!r}')
-    try:
-        return kind(operator.index(given))
-    except ValueError as fault:
-        raise ValueError(f'{named}: {fault}') from None
-
-
-def is_plain(given: object) -> TypeGuard[SupportsIndex]:
-    """Whether it is a whole number that does not say its width."""
-    return hasattr(given, '__index__')
 
 
 @dataclass(frozen=True)
@@ -134,13 +103,3 @@ def find(handle: CModule, name: bytes) -> Export | None:
     if expect(library.gate_module_find(handle, name, len(name), told), OK, NOTHING) == NOTHING:
         return None
     return _export(handle, name.decode(), told)
-
-
-def arguments_for(found: Export | None, given: Sequence[object]) -> list[Value]:
-    """The arguments of a call: plain numbers by the type of the function. Where there is none, the call ends by itself."""
-    if not any(map(is_plain, given)):
-        values_only(given)
-        return list(cast(Sequence[Value], given))
-    if found is None or found.type is None:
-        return []
-    return found.type.arguments(found.name, given)

@@ -1,10 +1,9 @@
 """What a `Module` and an `Instance` have in common: a handle that one thread uses at a time, and that is freed once."""
 from __future__ import annotations
 
-import contextlib
 import threading
 import weakref
-from collections.abc import Callable, Iterator
+from collections.abc import Callable
 from types import TracebackType
 from typing import Any, ClassVar, Generic, NoReturn, TypeVar
 
@@ -38,12 +37,11 @@ class Handle(Generic[CHandle]):
         self._freed.atexit = False
         self._closed = False
 
-    @contextlib.contextmanager
-    def _open(self) -> Iterator[CHandle]:
-        with self._lock:
-            if self._closed:
-                raise Closed(f'the {self.NAME} is closed')
-            yield self._handle
+    def _open(self) -> CHandle:
+        """The handle, for who holds the lock."""
+        if self._closed:
+            raise Closed(f'the {self.NAME} is closed')
+        return self._handle
 
     def close(self) -> None:
         """Frees it, once a call that still runs is over. Closing again does nothing."""

@@ -1,14 +1,13 @@
 """An instance that goes on from call to call."""
 from __future__ import annotations
 
-import contextlib
 import ctypes
-from collections.abc import Iterator
+from collections.abc import Sequence
 from typing import TYPE_CHECKING
 
 from gate._library import NO_GLOBAL, NO_INSTANCE, OK, OUTSIDE, Bytes, CCall, CInstance, CValue, expect, library, whole, whole_number
 from gate.ends import End, EndKind, end_of
-from gate.exports import arguments_for
+from gate.function import Functions
 from gate.handle import Handle
 from gate.settings import Settings
 from gate.values import Value, name_bytes, value_of_bits
@@ -16,6 +15,8 @@ from gate.values import Value, name_bytes, value_of_bits
 if TYPE_CHECKING:
     from gate.module import Module
 
+# What has more bytes is read into room of its own.
+ROOM = 4096
 # The greatest place and the greatest length that the library takes.
 MOST_PLACE, MOST_LENGTH = 2 ** 64 - 1, 2 ** 63 - 1
 
@@ -60,27 +61,28 @@ class Instance(Handle[CInstance]):
         own = module.share()
         self._module, self._settings = own, settings
         handle, ended = CInstance(), CCall()
-        with own._open() as module_handle:
-            made = library.gate_instance_new(module_handle, settings.to_c(), handle, ended)
+        made = library.gate_instance_new(own._open(), settings.in_c, handle, ended)
         try:
             self._tell_start(expect(made, OK, NO_INSTANCE), ended)
         except BaseException:
             own.close()
             raise
         self._own(handle, library.gate_instance_free, own._held)
+        self._functions, self._ended = Functions(), ended
+        # PERF: room for what is read, since a type of an array for each length is costly.
+        self._room = ctypes.create_string_buffer(ROOM)
 
     def _tell_start(self, status: int, ended: CCall) -> None:
-        self._started = end_of(ended, [])
+        self._started = end_of(ended)
         if status == NO_INSTANCE:
             raise NoInstance(self._started)
 
-    @contextlib.contextmanager
-    def _live(self) -> Iterator[CInstance]:
-        """The handle, where the last reset made an instance."""
-        with self._open() as handle:
-            if self._started.kind != EndKind.VALUES:
-                raise NoInstance(self._started)
-            yield handle
+    def _live(self) -> CInstance:
+        """The handle, where the last reset made an instance, for who holds the lock."""
+        handle = self._open()
+        if self._started.kind is not EndKind.VALUES:
+            raise NoInstance(self._started)
+        return handle
 
     @property
     def started(self) -> End:
@@ -94,45 +96,53 @@ class Instance(Handle[CInstance]):
         with; its pages always are. After a trap, or where fuel or frames ran out, the instance is as the call left it, and goes on.
         After an end in `NO_MEMORY` each further call ends so, until a `reset`.
         """
-        data = name_bytes(name)
-        with self._live() as handle:
-            found = self._module.find(data)
-            args = [value.to_c() for value in arguments_for(found, values)]
-            ended, results = CCall(), (CValue * (len(found.type.results) if found and found.type else 0))()
-            expect(library.gate_instance_call(handle, data, len(data), (CValue * len(args))(*args), len(args),
-                                              (settings or self._settings).to_c(), results, len(results), ended), OK)
-        return end_of(ended, list(results[:ended.results]))
+        with self._lock:
+            return self._call(name, values, settings)
+
+    def _call(self, name: str | bytes, values: Sequence[Value | int], settings: Settings | None) -> End:
+        handle, function = self._live(), self._functions.of(self._module._open(), name)
+        return function.call(library.gate_instance_call, handle, values, settings or self._settings)
+
+    def call_or_reset(self, name: str | bytes, *values: Value | int, settings: Settings | None = None) -> End:
+        """As `call`, and after each end but values a `reset`: what a trap leaves of a plug-in in C or Rust is its stack half way up."""
+        with self._lock:
+            end = self._call(name, values, settings)
+            if end.kind is not EndKind.VALUES:
+                self._reset()
+        return end
 
     @property
     def memory_size(self) -> int:
         """How many bytes its memory has; 0 where it has none."""
-        with self._live() as handle:
-            return _size(handle)
+        with self._lock:
+            return self._size()
 
     def read(self, at: int, length: int) -> bytes:
         """So many bytes of its memory, from place `at` on. `OutsideMemory` where they do not lie in it."""
         whole_number('at', at, 0, MOST_PLACE)
         whole_number('length', length, 0, MOST_LENGTH)
-        with self._live() as handle:
-            size = _size(handle)
-            out = ctypes.create_string_buffer(max(1, min(length, size)))
-            if length > size or expect(library.gate_instance_read(handle, at, out, length), OK, OUTSIDE) == OUTSIDE:
-                raise OutsideMemory(at, length, size)
-        return ctypes.string_at(out, length)
+        with self._lock:
+            handle = self._live()
+            if length > len(self._room) and length > self._size():
+                raise OutsideMemory(at, length, self._size())
+            out = self._room if length <= len(self._room) else ctypes.create_string_buffer(length)
+            if expect(library.gate_instance_read(handle, at, out, length), OK, OUTSIDE) == OUTSIDE:
+                raise OutsideMemory(at, length, self._size())
+            return out.raw[:length]
 
     def write(self, at: int, data: Bytes) -> None:
         """Writes bytes to its memory, from place `at` on. `OutsideMemory` where they would not lie in it; then nothing is written."""
         whole_number('at', at, 0, MOST_PLACE)
         held = whole(data)
-        with self._live() as handle:
-            if expect(library.gate_instance_write(handle, at, held, len(held)), OK, OUTSIDE) == OUTSIDE:
-                raise OutsideMemory(at, len(held), _size(handle))
+        with self._lock:
+            if expect(library.gate_instance_write(self._live(), at, held, len(held)), OK, OUTSIDE) == OUTSIDE:
+                raise OutsideMemory(at, len(held), self._size())
 
     def global_value(self, name: str | bytes) -> Value:
         """The value of the global that is exported under that name. `NoGlobal` where there is none."""
         data, value = name_bytes(name), CValue()
-        with self._live() as handle:
-            if expect(library.gate_instance_global(handle, data, len(data), value), OK, NO_GLOBAL) == NO_GLOBAL:
+        with self._lock:
+            if expect(library.gate_instance_global(self._live(), data, len(data), value), OK, NO_GLOBAL) == NO_GLOBAL:
                 raise NoGlobal(name)
         return value_of_bits(value.width, value.bits)
 
@@ -141,16 +151,17 @@ class Instance(Handle[CInstance]):
 
         `NoInstance` where there is none then, as for want of memory: each use raises it, until a reset makes one.
         """
-        ended = CCall()
-        with self._open() as handle:
-            self._tell_start(expect(library.gate_instance_reset(handle, ended), OK, NO_INSTANCE), ended)
+        with self._lock:
+            self._reset()
+
+    def _reset(self) -> None:
+        self._tell_start(expect(library.gate_instance_reset(self._open(), self._ended), OK, NO_INSTANCE), self._ended)
 
     def close(self) -> None:
         super().close()
         self._module.close()
 
-
-def _size(handle: CInstance) -> int:
-    size = ctypes.c_uint64()
-    expect(library.gate_instance_memory_size(handle, size), OK)
-    return size.value
+    def _size(self) -> int:
+        size = ctypes.c_uint64()
+        expect(library.gate_instance_memory_size(self._live(), size), OK)
+        return size.value

@@ -4,10 +4,11 @@ from __future__ import annotations
 import ctypes
 from typing import Any
 
-from gate._library import MODULE_REFUSED, OK, Bytes, CCall, CModule, CValue, CVerdict, expect, library, whole
+from gate._library import MODULE_REFUSED, OK, Bytes, CCall, CModule, CVerdict, expect, library, whole
 from gate.ends import End, end_of
 from gate.explanation import ModuleRefused, explain
-from gate.exports import Export, arguments_for, exports_of, find
+from gate.exports import Export, exports_of, find
+from gate.function import Functions
 from gate.handle import Handle
 from gate.instance import Instance
 from gate.report import Report, fetch
@@ -36,46 +37,35 @@ class Module(Handle[CModule]):
     def _hold(self, handle: CModule, held: object) -> None:
         """Owns the handle, and keeps the bytes for as long."""
         self._own(handle, library.gate_module_free, held)
-        self._found: dict[bytes, Export] = {}
+        self._functions = Functions()
 
     @property
     def size(self) -> int:
         """How many bytes its lists take, its own bytes apart."""
-        with self._open() as handle:
-            size: int = library.gate_module_size(handle)
+        with self._lock:
+            size: int = library.gate_module_size(self._open())
             return size
 
     @property
     def exports(self) -> tuple[Export, ...]:
         """What the module exports, in its order."""
-        with self._open() as handle:
-            return exports_of(handle)
+        with self._lock:
+            return exports_of(self._open())
 
     def find(self, name: str | bytes) -> Export | None:
         """The export of that name."""
-        with self._open() as handle:
-            return self._find(handle, name_bytes(name))
-
-    def _find(self, handle: CModule, name: bytes) -> Export | None:
-        found = self._found.get(name) or find(handle, name)
-        if found:
-            self._found[name] = found
-        return found
+        with self._lock:
+            return find(self._open(), name_bytes(name))
 
     def call(self, name: str | bytes, *values: Value | int, settings: Settings = DEFAULT) -> End:
         """Calls the export of that name on an instance of its own.
 
-        A plain number is an argument of its parameter's type. Where there is one, wrong numbers are a `TypeError` or a `ValueError`, and
-        nothing runs; else arguments of another type are the end of the call.
+        A plain number is an argument of its parameter's type, with a sign or without. Wrong ones raise, and nothing runs: `BadArguments`,
+        a `TypeError`, where one is missing, one is too many, or one is no number of its type; `ValueError`, where one is out of its range.
         """
-        data = name_bytes(name)
-        with self._open() as handle:
-            found = self._find(handle, data)
-            args = [value.to_c() for value in arguments_for(found, values)]
-            ended, results = CCall(), (CValue * (len(found.type.results) if found and found.type else 0))()
-            expect(library.gate_module_call(handle, data, len(data), (CValue * len(args))(*args), len(args), settings.to_c(), results,
-                                            len(results), ended), OK)
-        return end_of(ended, list(results[:ended.results]))
+        with self._lock:
+            handle = self._open()
+            return self._functions.of(handle, name).call(library.gate_module_call, handle, values, settings)
 
     def instance(self, settings: Settings = DEFAULT) -> Instance:
         """An instance that goes on from call to call, once its start function has run. `NoInstance` where there is none."""
@@ -84,16 +74,18 @@ class Module(Handle[CModule]):
     def starts(self, settings: Settings = DEFAULT) -> End:
         """Whether a call would have an instance: an end in no values, where there would be one, and else why not. Nothing runs."""
         ended = CCall()
-        with self._open() as handle:
-            expect(library.gate_module_starts(handle, settings.to_c(), ended), OK)
-        return end_of(ended, [])
+        with self._lock:
+            expect(library.gate_module_starts(self._open(), settings.in_c, ended), OK)
+        return end_of(ended)
 
     def run(self, calls: Bytes, settings: Settings = DEFAULT) -> Report:
         """Runs the calls of a text, each on an instance of its own."""
         text = whole(calls)
-        with self._open() as handle:
+        with self._lock:
+            handle = self._open()
+
             def write(*out: Any) -> int:
-                status: int = library.gate_module_run(handle, text, len(text), settings.to_c(), *out)
+                status: int = library.gate_module_run(handle, text, len(text), settings.in_c, *out)
                 return status
 
             return fetch(write)
@@ -101,8 +93,8 @@ class Module(Handle[CModule]):
     def share(self) -> Module:
         """Another object of the same module, for another thread. Each is closed by itself."""
         handle = CModule()
-        with self._open() as own:
-            expect(library.gate_module_share(own, handle), OK)
+        with self._lock:
+            expect(library.gate_module_share(self._open(), handle), OK)
         other = object.__new__(Module)
         other._hold(handle, self._held)
         return other

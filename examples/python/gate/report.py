@@ -56,7 +56,7 @@ def run(module: Bytes, calls: Bytes, settings: Settings = DEFAULT) -> Report:
     data, text = whole(module), whole(calls)
 
     def write(*out: Any) -> int:
-        status: int = library.gate_run(data, len(data), text, len(text), settings.to_c(), *out)
+        status: int = library.gate_run(data, len(data), text, len(text), settings.in_c, *out)
         return status
 
     return fetch(write)

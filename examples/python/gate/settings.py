@@ -1,7 +1,8 @@
 """The limits of each call."""
 from __future__ import annotations
 
-from dataclasses import dataclass, fields
+from dataclasses import dataclass
+from functools import cached_property
 
 from gate._library import CSettings, whole_number
 
@@ -21,10 +22,12 @@ class Settings:
     """How many pages of 65,536 bytes the memory may have, up to 1,024."""
 
     def __post_init__(self) -> None:
-        for field in fields(self):
-            whole_number(field.name, getattr(self, field.name), *RANGES[field.name])
+        for name, (least, greatest) in RANGES.items():
+            whole_number(name, getattr(self, name), least, greatest)
 
-    def to_c(self) -> CSettings:
+    @cached_property
+    def in_c(self) -> CSettings:
+        """As C reads them, by many calls at once."""
         return CSettings(self.fuel, self.frames, self.pages)
 
 

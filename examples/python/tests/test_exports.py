@@ -1,4 +1,5 @@
 """What modules export, and calls by plain numbers."""
+import re
 import unittest
 from collections.abc import Callable
 from unittest import mock
@@ -58,18 +59,30 @@ class PlainNumbers(unittest.TestCase):
         with gate.Module(example('add.wasm')) as module:
             self.assertEqual(module.call('add', 40, 2).values, (I32(42),))
             self.assertEqual(module.call('add', 40, I32(-2)).values, (I32(38),))
-            self.assertEqual(module.call('add', True, 2 ** 31 - 1).values, (I32(-2 ** 31),))
+            self.assertEqual(module.call('add', 1, 2 ** 31 - 1).values, (I32(-2 ** 31),))
+
+    def test_without_a_sign(self) -> None:
+        with gate.Module(example('add.wasm')) as module:
+            self.assertEqual(module.call('add', 2 ** 32 - 1, 1).value(), I32(0))
+            self.assertEqual(module.call('add', 2 ** 31, 0).value(), I32(-2 ** 31))
+        with gate.Module(ALL) as module:
+            self.assertEqual(gate.End(gate.EndKind.NOT_STARTED, reason=gate.NotStarted.FLOATS), module.call('both', 2 ** 64 - 1, 2 ** 31))
+            for numbers in (2 ** 64, 0), (-2 ** 63 - 1, 0), (0, 2 ** 32), (0, -2 ** 31 - 1):
+                with self.assertRaises(ValueError):
+                    module.call('both', *numbers)
 
     def test_wrong_numbers_run_nothing(self) -> None:
         with gate.Module(example('add.wasm')) as module, \
                 mock.patch.object(library, 'gate_module_call', wraps=library.gate_module_call) as called:
-            with self.assertRaisesRegex(TypeError, r'add is \(i32, i32\) -> \(i32\): it takes 2 numbers, and not 1'):
-                module.call('add', 40)
-            with self.assertRaisesRegex(TypeError, 'number 1 of add is an i32, and not I64'):
-                module.call('add', 40, I64(2))
-            with self.assertRaisesRegex(TypeError, 'number 0 of add is an i32, and not 2.5'):
-                module.call('add', 2.5, 1)  # type: ignore[arg-type]
-            for number in 2 ** 31, -2 ** 31 - 1:
+            lists: list[list[gate.Value | int]] = [[], [40], [I32(40)], [1, 2, 3], [I32(1)] * 3]
+            for numbers in lists:
+                with self.assertRaisesRegex(gate.BadArguments,
+                                            rf'add is \(i32, i32\) -> \(i32\): it takes 2 numbers, and not {len(numbers)}'):
+                    module.call('add', *numbers)
+            for wrong in I64(2), 2.5, True, False, None, '40':
+                with self.assertRaisesRegex(gate.BadArguments, f'number 1 of add is an i32, and not {re.escape(repr(wrong))}'):
+                    module.call('add', 40, wrong)  # type: ignore[arg-type]
+            for number in 2 ** 32, -2 ** 31 - 1:
                 with self.assertRaisesRegex(ValueError, f'number 1 of add: an i32 is from .*, and not {number}'):
                     module.call('add', 1, number)
             self.assertEqual(called.call_count, 0)

@@ -73,13 +73,14 @@ class Calls(Goes):
             self.assertEqual(instance.call('f', settings=gate.Settings(fuel=7)), End(EndKind.OUT_OF_FUEL, fuel=7))
 
     def test_wrong_arguments(self) -> None:
-        self.assertEqual(self.instance.call('handle'), End(EndKind.BAD_ARGUMENTS))
+        with self.assertRaisesRegex(gate.BadArguments, 'takes 1 number, and not 0'):
+            self.instance.call('handle')
         self.assertEqual(self.instance.call('count'), End(EndKind.NOT_A_FUNCTION))
         self.assertEqual(self.instance.call('sub'), End(EndKind.NO_EXPORT))
-        with self.assertRaisesRegex(TypeError, 'takes 1 numbers, and not 2'):
+        with self.assertRaisesRegex(TypeError, 'takes 1 number, and not 2'):
             self.instance.call('handle', 1, 2)
-        with self.assertRaisesRegex(ValueError, 'an i32 is from -2147483648 to 2147483647'):
-            self.instance.call('handle', 2 ** 31)
+        with self.assertRaisesRegex(ValueError, 'an i32 is from -2147483648 to 4294967295'):
+            self.instance.call('handle', 2 ** 32)
         self.assertEqual(self.instance.global_value('count'), I32(0))
 
     def test_each_is_its_own(self) -> None:
@@ -96,6 +97,12 @@ class Memory(Goes):
         self.assertEqual(self.byte(2 * PAGE - 1), 0)
         with instance_of(example('add.wasm')) as without:
             self.assertEqual(without.memory_size, 0)
+
+    def test_long_reads(self) -> None:
+        # More than the room that an instance has for them.
+        self.instance.write(0, bytes(range(256)) * 256)
+        for length in 4096, 4097, PAGE - 1:
+            self.assertEqual(self.instance.read(1, length), (bytes(range(256)) * 256)[1:length + 1])
 
     def test_read(self) -> None:
         self.assertEqual(self.instance.read(7, 3), bytes([0, 5, 0]))
@@ -160,6 +167,21 @@ class Resets(Goes):
         self.assertEqual((self.byte(0), self.byte(8)), (7, 5))
         self.assertEqual(self.instance.global_value('count'), I32(0))
         self.assertEqual(self.instance.started, End(EndKind.VALUES, fuel=1))
+
+    def test_call_or_reset(self) -> None:
+        self.assertEqual(self.instance.call_or_reset('handle', 0).value(), I32(1))
+        self.assertEqual(self.instance.call_or_reset('handle', 0).value(), I32(2))
+        self.assertEqual(self.instance.call_or_reset('trap'), End(EndKind.TRAP, reason=Trap.UNREACHABLE, fuel=1))
+        self.assertEqual(self.instance.global_value('count'), I32(0))
+        self.instance.call('handle', 0)
+        self.assertEqual(self.instance.call_or_reset('handle', 0, settings=gate.Settings(fuel=0)), End(EndKind.OUT_OF_FUEL, fuel=0))
+        self.assertEqual(self.instance.global_value('count'), I32(0))
+        self.instance.call('handle', 0)
+        with self.assertRaises(gate.BadArguments):
+            self.instance.call_or_reset('handle')
+        self.assertEqual(self.instance.global_value('count'), I32(1))
+        with mock.patch.object(library, 'gate_instance_reset', no_memory), self.assertRaises(gate.NoInstance):
+            self.instance.call_or_reset('trap')
 
     def test_no_instance_after_a_reset(self) -> None:
         with mock.patch.object(library, 'gate_instance_reset', no_memory):

@@ -51,7 +51,11 @@ class Calls(unittest.TestCase):
                 with self.subTest(name), gate.Module(module) as held:
                     for call, line in zip(calls.decode().splitlines(), text.decode().splitlines()):
                         export, values = arguments_of(call)
-                        self.assertEqual(str(held.call(export, *values, settings=settings)), line.partition(' ')[2])
+                        wanted = line.partition(' ')[2]
+                        if wanted == 'bad-arguments':
+                            self.assertRaises(gate.BadArguments, held.call, export, *values, settings=settings)
+                        else:
+                            self.assertEqual(str(held.call(export, *values, settings=settings)), wanted)
 
     def test_many_results_in_one_call(self) -> None:
         with gate.Module(MANY) as module, mock.patch.object(library, 'gate_module_call', wraps=library.gate_module_call) as called:
@@ -62,11 +66,8 @@ class Calls(unittest.TestCase):
         with gate.Module(example('add.wasm')) as module:
             wrong: list[list[gate.Value]] = [[], [I32(1)], [I32(1), I64(2)], [I32(1)] * 3]
             for values in wrong:
-                self.assertEqual(module.call('add', *values), gate.End(gate.EndKind.BAD_ARGUMENTS))
+                self.assertRaises(gate.BadArguments, module.call, 'add', *values)
             self.assertEqual(module.call('sub'), gate.End(gate.EndKind.NO_EXPORT))
-            for number in 2.5, None, '40':
-                with self.assertRaisesRegex(TypeError, r'gate\.I32\(N\) or gate\.I64\(N\), and not '):
-                    module.call('add', I32(1), number)  # type: ignore[arg-type]
 
     def test_refused(self) -> None:
         with self.assertRaises(gate.ModuleRefused) as caught:

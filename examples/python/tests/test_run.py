@@ -51,6 +51,6 @@ class Run(unittest.TestCase):
             with self.assertRaises(ValueError):
                 gate.Settings(**limits)
         for name in 'fuel', 'frames', 'pages':
-            for number in 1.5, 1.0, '1', None:
+            for number in 1.5, 1.0, '1', None, True:
                 with self.assertRaisesRegex(TypeError, f'{name} is a whole number'):
                     gate.Settings(**{name: number})  # type: ignore[arg-type]

@@ -5,6 +5,7 @@ use std::error::Error;
 use std::fmt;
 
 /// How a call ended, and what it cost. It displays as its line of a report has it, after the number.
+#[must_use = "a call may end in a trap"]
 #[derive(Clone, Debug, PartialEq, Eq, Hash)]
 pub struct Call {
     /// How it ended.
@@ -71,7 +72,11 @@ pub enum NotStarted {
 }
 
 impl Call {
-    /// The number that a function of one result gave; an error for each other end, and for a number of the other width.
+    /// The number that a function of one result gave.
+    ///
+    /// # Errors
+    ///
+    /// Each other end, and a number of the other width.
     ///
     /// ```
     /// use gate::{Module, Settings};
@@ -90,6 +95,25 @@ impl Call {
             _ => None,
         };
         number.ok_or(CallError(self))
+    }
+
+    /// That a function without results came to its end.
+    ///
+    /// ```
+    /// # let bytes = b"\0asm\x01\0\0\0\x01\x04\x01\x60\0\0\x03\x02\x01\0\x07\x08\x01\x04init\0\0\x0a\x04\x01\x02\0\x0b";
+    /// let module = gate::Module::new(bytes)?; // `init` takes and gives nothing
+    /// module.call("init", &[], gate::Settings::default())?.no_value()?;
+    /// # Ok::<(), Box<dyn std::error::Error>>(())
+    /// ```
+    ///
+    /// # Errors
+    ///
+    /// Each other end, and results.
+    pub fn no_value(self) -> Result<(), CallError> {
+        match &self.end {
+            End::Values(values) if values.is_empty() => Ok(()),
+            _ => Err(CallError(self)),
+        }
     }
 
     /// The call that the numbers of the library tell.
@@ -122,14 +146,14 @@ impl Call {
     }
 }
 
-/// The call did not give the one number that is asked for; it says how it ended.
+/// The call did not give what is asked for: one number of that width, or none. It says how it ended.
 #[derive(Clone, Debug, PartialEq, Eq, Hash)]
 pub struct CallError(pub Call);
 
 impl fmt::Display for CallError {
     fn fmt(&self, f: &mut fmt::Formatter<'_>) -> fmt::Result {
         if let End::Values(_) = self.0.end {
-            f.write_str("not the one number that is asked for: ")?;
+            f.write_str("not what is asked for: ")?;
         }
         self.0.fmt(f)
     }

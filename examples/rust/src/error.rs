@@ -45,6 +45,7 @@ pub enum CheckError {
 
 impl CheckError {
     /// What is said of a module that is refused.
+    #[must_use]
     pub fn explanation(&self) -> Option<&Explanation> {
         match self {
             CheckError::Refused(explanation) => Some(explanation),

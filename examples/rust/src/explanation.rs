@@ -36,11 +36,13 @@ pub struct Explanation {
 
 impl Explanation {
     /// The verdict.
+    #[must_use]
     pub fn verdict(&self) -> Verdict {
         self.verdict
     }
 
     /// The first reason to refuse the module, where it is refused.
+    #[must_use]
     pub fn refusal(&self) -> Option<Refusal> {
         match self.verdict {
             Verdict::Accepted => None,
@@ -49,52 +51,62 @@ impl Explanation {
     }
 
     /// A number of `enum gate_why` in `gate.h`: its hundreds are the kind of the verdict, and later libraries tell more kinds.
+    #[must_use]
     pub fn why(&self) -> u32 {
         self.why
     }
 
     /// The id of the section in which the rest stands.
+    #[must_use]
     pub fn section(&self) -> Option<u32> {
         self.section
     }
 
     /// The place of the refused item in that section, from 0; of a body the refusal has the function.
+    #[must_use]
     pub fn item(&self) -> Option<u64> {
         self.item
     }
 
     /// The first byte of the token that is refused, or with which no token begins.
+    #[must_use]
     pub fn opcode(&self) -> Option<u32> {
         self.opcode
     }
 
     /// The bytes of the refused body.
+    #[must_use]
     pub fn body(&self) -> Option<Range<u64>> {
         self.body.clone()
     }
 
     /// The bytes of the token or the item that is refused; none, at an offset, where reading stopped.
+    #[must_use]
     pub fn place(&self) -> Option<Range<u64>> {
         self.place.clone()
     }
 
     /// The offset of the first of them.
+    #[must_use]
     pub fn offset(&self) -> Option<u64> {
         self.place.as_ref().map(|place| place.start)
     }
 
     /// What `gate explain` prints.
+    #[must_use]
     pub fn text(&self) -> &str {
         &self.text
     }
 
     /// The text of the first line with this key.
+    #[must_use]
     pub fn line(&self, key: &str) -> Option<&str> {
         let mut lines = self.text.lines().skip(1);
         lines.find_map(|line| (line.get(..COLUMN)?.trim_end() == key).then(|| &line[COLUMN..]))
     }
 
     /// Why, in words.
+    #[must_use]
     pub fn because(&self) -> Option<&str> {
         self.line("because")
     }
@@ -154,6 +166,10 @@ fn text_of(bytes: &[u8]) -> Result<String, NoMemory> {
 /// assert_eq!(found.to_string(), "refused malformed: byte 4 is 02, and the version is 01 00 00 00");
 /// # Ok::<(), gate::NoMemory>(())
 /// ```
+///
+/// # Errors
+///
+/// [`NoMemory`], where memory was refused.
 pub fn explain(bytes: &[u8]) -> Result<Explanation, NoMemory> {
     let mut numbers = ffi::gate_explanation::default();
     // SAFETY: the slice is borrowed for the call, and `numbers` is reached by nobody else.

@@ -70,6 +70,7 @@ fn types_of(bytes: &[u8]) -> Result<Vec<ValueType>, NoMemory> {
 
 impl Module<'_> {
     /// How many bytes the module's lists take, its own bytes apart.
+    #[must_use]
     pub fn size(&self) -> u64 {
         // SAFETY: the handle is not freed, and no other call has it.
         unsafe { ffi::gate_module_size(self.handle) }
@@ -83,6 +84,10 @@ impl Module<'_> {
     /// assert_eq!(module.exports()?[0].to_string(), "add: function (i32, i32) -> (i32)");
     /// # Ok::<(), Box<dyn std::error::Error>>(())
     /// ```
+    ///
+    /// # Errors
+    ///
+    /// [`NoMemory`], where memory was refused.
     pub fn exports(&self) -> Result<Vec<Export>, NoMemory> {
         // SAFETY: the handle is not freed, and no other call has it.
         let count = unsafe { ffi::gate_module_export_count(self.handle) };
@@ -99,6 +104,10 @@ impl Module<'_> {
     }
 
     /// The export of that name.
+    ///
+    /// # Errors
+    ///
+    /// [`NoMemory`], where memory was refused.
     pub fn find(&self, name: &str) -> Result<Option<Export>, NoMemory> {
         let Some(told) = self.told(name) else { return Ok(None) };
         let mut owned = String::new();

@@ -1,7 +1,7 @@
 //! An instance that goes on from call to call.
 use crate::call::Operands;
 use crate::error::{self, beyond_interface};
-use crate::{ffi, Call, InstanceError, Module, Settings, Value};
+use crate::{ffi, Call, End, InstanceError, Module, Settings, Value};
 use std::ptr;
 
 /// An instance of a module: what one call leaves in its memory, its globals and its table, the next one finds. A host hands it bytes
@@ -55,7 +55,9 @@ impl<'a> Module<'a> {
     /// Makes an instance, and runs the start function, under these limits. How many pages its memory may have is said here; fuel and
     /// frames are said anew for each call.
     ///
-    /// The errors are [`NoInstance`](InstanceError::NoInstance) and [`NoMemory`](InstanceError::NoMemory):
+    /// # Errors
+    ///
+    /// [`NoInstance`](InstanceError::NoInstance) and [`NoMemory`](InstanceError::NoMemory):
     ///
     /// ```
     /// use gate::{End, InstanceError, Module, NotStarted, Settings};
@@ -105,8 +107,9 @@ impl<'a> Instance<'a> {
     /// Calls an export on the instance as it is, under the fuel and the frames of the settings. After a trap, or where fuel or frames
     /// ran out, it is as the call left it, and goes on.
     ///
-    /// The error is [`NoMemory`](InstanceError::NoMemory); where the last [`reset`](Instance::reset) made no instance, it is that of
-    /// the reset.
+    /// # Errors
+    ///
+    /// [`NoMemory`](InstanceError::NoMemory); where the last [`reset`](Instance::reset) made no instance, that of the reset.
     pub fn call(&mut self, name: &str, args: &[Value], settings: Settings) -> Result<Call, InstanceError> {
         let mut operands = Operands::new(args, self.module.results_of(name))?;
         // SAFETY: the handle is not freed, and no other call has it; the slices are borrowed for the call; `results` and `ended`
@@ -133,6 +136,7 @@ impl<'a> Instance<'a> {
     }
 
     /// How many bytes its memory has; 0 where it has none.
+    #[must_use]
     pub fn memory_size(&self) -> u64 {
         let mut size = 0;
         // SAFETY: the handle is not freed, and no other call has it; `size` is reached by nobody else.
@@ -142,14 +146,21 @@ impl<'a> Instance<'a> {
         }
     }
 
-    /// Copies bytes of its memory, from `at` on. The error is [`Outside`](InstanceError::Outside); then `out` is as it was.
+    /// Copies bytes of its memory, from `at` on.
+    ///
+    /// # Errors
+    ///
+    /// [`Outside`](InstanceError::Outside); then `out` is as it was.
     pub fn read(&self, at: u64, out: &mut [u8]) -> Result<(), InstanceError> {
         // SAFETY: the handle is not freed, and no other call has it; the slice is borrowed for the call.
         done(unsafe { ffi::gate_instance_read(self.handle, at, out.as_mut_ptr(), out.len()) })
     }
 
-    /// Bytes of its memory, from `at` on. The errors are [`Outside`](InstanceError::Outside) and
-    /// [`NoMemory`](InstanceError::NoMemory). Room is taken only for bytes that are there, so a plug-in may tell any numbers.
+    /// Bytes of its memory, from `at` on. Room is taken only for bytes that are there, so a plug-in may tell any numbers.
+    ///
+    /// # Errors
+    ///
+    /// [`Outside`](InstanceError::Outside) and [`NoMemory`](InstanceError::NoMemory).
     pub fn read_vec(&self, at: u64, length: u64) -> Result<Vec<u8>, InstanceError> {
         let is_inside = at.checked_add(length).is_some_and(|end| end <= self.memory_size());
         if !is_inside {
@@ -160,13 +171,21 @@ impl<'a> Instance<'a> {
         Ok(bytes)
     }
 
-    /// Writes bytes to its memory, from `at` on. The error is [`Outside`](InstanceError::Outside); then nothing is written.
+    /// Writes bytes to its memory, from `at` on.
+    ///
+    /// # Errors
+    ///
+    /// [`Outside`](InstanceError::Outside); then nothing is written.
     pub fn write(&mut self, at: u64, bytes: &[u8]) -> Result<(), InstanceError> {
         // SAFETY: the handle is not freed, and no other call has it; the slice is borrowed for the call.
         done(unsafe { ffi::gate_instance_write(self.handle, at, bytes.as_ptr(), bytes.len()) })
     }
 
-    /// The value of an exported global. The error is [`NoGlobal`](InstanceError::NoGlobal).
+    /// The value of an exported global.
+    ///
+    /// # Errors
+    ///
+    /// [`NoGlobal`](InstanceError::NoGlobal).
     pub fn global(&self, name: &str) -> Result<Value, InstanceError> {
         let mut value = ffi::gate_value::default();
         // SAFETY: the handle is not freed, and no other call has it; the name is borrowed for the call.
@@ -177,8 +196,25 @@ impl<'a> Instance<'a> {
         }
     }
 
-    /// Ends the instance, and makes a new one in its memory, under the limits that it was made with. The errors are those of
-    /// [`Module::instance`]; then there is no instance, and another reset may make one.
+    /// As [`call`](Instance::call), and after each end but values a [`reset`](Instance::reset), which a plug-in of a compiler wants: a trap
+    /// leaves its stack pointer where it was.
+    ///
+    /// # Errors
+    ///
+    /// Those of the reset, else those of the call.
+    pub fn call_or_reset(&mut self, name: &str, args: &[Value], settings: Settings) -> Result<Call, InstanceError> {
+        let made = self.call(name, args, settings);
+        if !matches!(made, Ok(Call { end: End::Values(_), .. })) {
+            self.reset()?;
+        }
+        made
+    }
+
+    /// Ends the instance, and makes a new one in its memory, under the limits that it was made with.
+    ///
+    /// # Errors
+    ///
+    /// Those of [`Module::instance`]; then there is no instance, and another reset may make one.
     pub fn reset(&mut self) -> Result<(), InstanceError> {
         let mut ended = ffi::gate_call::default();
         // SAFETY: the handle is not freed, and no other call has it; `ended` is reached by nobody else.
@@ -188,11 +224,13 @@ impl<'a> Instance<'a> {
     }
 
     /// What the start function cost; 0 where there is none, and where the last reset made no instance.
+    #[must_use]
     pub fn start_fuel(&self) -> u32 {
         self.begun.as_ref().map_or(0, |fuel| *fuel)
     }
 
     /// The module.
+    #[must_use]
     pub fn module(&self) -> &Module<'a> {
         &self.module
     }

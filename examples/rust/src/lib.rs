@@ -44,18 +44,24 @@ pub use value::{Value, ValueError, WidthError};
 pub use verdict::{check, judge, BodyFault, Refusal, Verdict};
 
 /// The number of the library's interface. This crate is written for 1.
+#[must_use]
 pub fn interface() -> u32 {
     // SAFETY: it takes and touches nothing.
     unsafe { ffi::gate_version() }
 }
 
 /// The number of what the library has beside its first functions. This crate wants 1 at least.
+#[must_use]
 pub fn revision() -> u32 {
     // SAFETY: it takes and touches nothing.
     unsafe { ffi::gate_revision() }
 }
 
 /// Which build the library is: `gate 0.2.0 (commit 0123456789ab, rattle-kit-13f)`.
+///
+/// # Errors
+///
+/// [`NoMemory`], where memory was refused.
 pub fn build() -> Result<String, NoMemory> {
     let (mut text, mut length) = (error::zeros(64)?, 0);
     // SAFETY: `text` has the room that is told, and the two overlap nowhere.

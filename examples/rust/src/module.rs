@@ -61,6 +61,10 @@ unsafe impl Send for Module<'_> {}
 
 impl<'a> Module<'a> {
     /// Judges a module, which borrows its bytes.
+    ///
+    /// # Errors
+    ///
+    /// A [`CheckError`]: where and why it is refused, or that memory was.
     pub fn new(bytes: &'a [u8]) -> Result<Self, CheckError> {
         let mut verdict = ffi::gate_verdict::default();
         let mut handle = ffi::gate_module { at: ptr::null_mut() };
@@ -82,6 +86,10 @@ impl<'a> Module<'a> {
     }
 
     /// Calls an export on an instance of its own. Which arguments it takes, [`find`](Module::find) tells.
+    ///
+    /// # Errors
+    ///
+    /// [`NoMemory`], where memory was refused, also to the call itself. Each other end is one of [`Call`].
     pub fn call(&self, name: &str, args: &[Value], settings: Settings) -> Result<Call, NoMemory> {
         let mut operands = Operands::new(args, self.results_of(name))?;
         // SAFETY: the handle is not freed, and no other call has it; the slices are borrowed for the call; `results` and `ended`
@@ -112,6 +120,10 @@ impl<'a> Module<'a> {
     }
 
     /// Whether a call would have an instance, and if not, why. Nothing runs: a start function may still end each call.
+    ///
+    /// # Errors
+    ///
+    /// [`NoMemory`], where memory was refused.
     pub fn starts(&self, settings: Settings) -> Result<Option<NotStarted>, NoMemory> {
         let mut ended = ffi::gate_call::default();
         // SAFETY: the handle is not freed, and no other call has it.
@@ -126,6 +138,10 @@ impl<'a> Module<'a> {
     }
 
     /// Runs the calls of a text, as [`run`](crate::run) does.
+    ///
+    /// # Errors
+    ///
+    /// [`NoMemory`], where memory was refused. A call that ran out of memory by itself has a line in the report.
     pub fn run(&self, calls: &[u8], settings: Settings) -> Result<Report, NoMemory> {
         let settings = settings.to_c();
         let write = |out, room, length: &mut usize, kept: &mut ffi::gate_report| {
@@ -138,6 +154,10 @@ impl<'a> Module<'a> {
     }
 
     /// The same module once more, for another thread. Nothing is judged again and no byte is copied.
+    ///
+    /// # Errors
+    ///
+    /// [`NoMemory`], where memory was refused.
     pub fn try_clone(&self) -> Result<Self, NoMemory> {
         let mut other = ffi::gate_module { at: ptr::null_mut() };
         // SAFETY: the handle is not freed, and no other call has it.
@@ -164,6 +184,10 @@ impl Module<'static> {
     /// assert_eq!(call.to_string(), "values i32:3 fuel 1");
     /// # Ok::<(), Box<dyn std::error::Error>>(())
     /// ```
+    ///
+    /// # Errors
+    ///
+    /// Those of [`Module::new`].
     pub fn from_vec(bytes: Vec<u8>) -> Result<Self, CheckError> {
         let bytes = Arc::new(bytes);
         // SAFETY: the module and its clones keep the bytes until after their handles are freed, nobody writes what an `Arc`
@@ -201,11 +225,19 @@ pub struct SharedModule(Mutex<Module<'static>>);
 
 impl SharedModule {
     /// Judges a module, whose bytes it owns. Where it is refused the bytes are dropped.
+    ///
+    /// # Errors
+    ///
+    /// Those of [`Module::new`].
     pub fn new(bytes: Vec<u8>) -> Result<Self, CheckError> {
         Module::from_vec(bytes).map(Self::from)
     }
 
     /// The module, for the thread that asks. Nothing is judged again and no byte is copied.
+    ///
+    /// # Errors
+    ///
+    /// [`NoMemory`], where memory was refused.
     pub fn module(&self) -> Result<Module<'static>, NoMemory> {
         // A thread that panicked under the lock has left the module as it was: `try_clone` changes nothing of it.
         self.0.lock().unwrap_or_else(PoisonError::into_inner).try_clone()

@@ -28,6 +28,7 @@ pub enum Status {
 
 impl Status {
     /// The exit status of `gate run`: 0, 2 or 3.
+    #[must_use]
     pub fn code(self) -> u8 {
         match self {
             Status::Reported => 0,
@@ -39,11 +40,13 @@ impl Status {
 
 impl Report {
     /// What `gate run` prints, byte by byte.
+    #[must_use]
     pub fn text(&self) -> &str {
         &self.text
     }
 
     /// What the text is.
+    #[must_use]
     pub fn status(&self) -> Status {
         self.status
     }
@@ -69,6 +72,7 @@ impl Report {
     }
 
     /// The text, without a copy.
+    #[must_use]
     pub fn into_text(self) -> String {
         self.text
     }
@@ -145,6 +149,10 @@ impl Drop for Kept {
 /// assert!(report.text().starts_with("0 values i32:42 fuel 1\n"));
 /// # Ok::<(), Box<dyn std::error::Error>>(())
 /// ```
+///
+/// # Errors
+///
+/// [`NoMemory`], where memory was refused. A call that ran out of memory by itself has a line in the report.
 pub fn run(module: &[u8], calls: &[u8], settings: Settings) -> Result<Report, NoMemory> {
     let settings = settings.to_c();
     let write = |out, room, length: &mut usize, kept: &mut ffi::gate_report| {

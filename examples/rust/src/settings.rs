@@ -28,7 +28,11 @@ impl Settings {
     /// The most pages, of 65,536 bytes each.
     pub const MOST_PAGES: u32 = 1_024;
 
-    /// The first limit that is out of its range is the error.
+    /// These limits.
+    ///
+    /// # Errors
+    ///
+    /// The first limit that is out of its range.
     pub fn new(fuel: u32, frames: u32, pages: u32) -> Result<Self, SettingsError> {
         if fuel > Self::MOST_FUEL {
             Err(SettingsError::Fuel(fuel))
@@ -42,16 +46,19 @@ impl Settings {
     }
 
     /// How many functions may be entered and loops begun.
+    #[must_use]
     pub fn fuel(self) -> u32 {
         self.fuel
     }
 
     /// How many functions may be entered and not yet left.
+    #[must_use]
     pub fn frames(self) -> u32 {
         self.frames
     }
 
     /// How many pages the memory may have.
+    #[must_use]
     pub fn pages(self) -> u32 {
         self.pages
     }

@@ -117,6 +117,10 @@ impl Error for Refusal {}
 /// assert_eq!(judge(b"")?.to_string(), "refused malformed");
 /// # Ok::<(), gate::NoMemory>(())
 /// ```
+///
+/// # Errors
+///
+/// [`NoMemory`], where memory was refused.
 pub fn judge(bytes: &[u8]) -> Result<Verdict, NoMemory> {
     let mut verdict = ffi::gate_verdict::default();
     // SAFETY: the slice is borrowed for the call, and `verdict` is reached by nobody else.
@@ -138,6 +142,10 @@ pub fn judge(bytes: &[u8]) -> Result<Verdict, NoMemory> {
 /// assert_eq!(error.refusal(), Some(gate::Refusal::Rule(11)));
 /// assert!(error.to_string().starts_with("refused rule 11: "));
 /// ```
+///
+/// # Errors
+///
+/// A [`CheckError`]: where and why it is refused, or that memory was.
 pub fn check(bytes: &[u8]) -> Result<(), CheckError> {
     match judge(bytes)? {
         Verdict::Accepted => Ok(()),

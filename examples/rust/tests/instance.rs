@@ -68,6 +68,34 @@ fn it_goes_on_after_a_trap_and_without_fuel() {
 }
 
 #[test]
+fn it_resets_itself_after_each_end_but_values() {
+    let mut instance = instance_of(goes_on());
+    let mut ends = |name: &str, args: &[Value], fuel| {
+        let settings = Settings::new(fuel, 1, 1).unwrap();
+        let line = instance.call_or_reset(name, args, settings).unwrap().to_string();
+        (line, instance.global("count").unwrap())
+    };
+    assert_eq!(ends("add", &[2.into()], 1), ("values i32:2 fuel 1".into(), Value::I32(2)));
+    assert_eq!(ends("add", &[3.into()], 1), ("values i32:5 fuel 1".into(), Value::I32(5)));
+    assert_eq!(ends("stop", &[], 1), ("trap unreachable fuel 1".into(), Value::I32(0)));
+    assert_eq!(ends("add", &[1.into()], 1), ("values i32:1 fuel 1".into(), Value::I32(1)));
+    assert_eq!(ends("add", &[1.into()], 0), ("out-of-fuel fuel 0".into(), Value::I32(0)));
+    expect_begun(&instance);
+}
+
+#[test]
+fn a_function_without_results_gives_no_value() {
+    let call = |end| Call { end, fuel: 1 };
+    assert_eq!(call(End::Values(vec![])).no_value(), Ok(()));
+    let one = call(End::Values(vec![Value::I32(7)]));
+    assert_eq!(one.clone().no_value(), Err(CallError(one.clone())));
+    assert_eq!(CallError(one).to_string(), "not what is asked for: values i32:7 fuel 1");
+    let mut instance = instance_of(goes_on());
+    let stopped = instance.call("stop", &[], Settings::default()).unwrap().no_value();
+    assert_eq!(stopped.unwrap_err().to_string(), "trap unreachable fuel 1");
+}
+
+#[test]
 fn calls_that_do_not_run_leave_it() {
     let mut instance = instance_of(goes_on());
     assert_eq!(line(&mut instance, "none", &[]), "no-export");
@@ -227,10 +255,7 @@ fn errors_are_errors() {
         (InstanceError::from(NoMemory).into(), "no memory"),
         (WidthError.into(), "the number has the other width"),
         (CallError(call(End::OutOfFuel)).into(), "out-of-fuel fuel 3"),
-        (
-            CallError(call(End::Values(vec![]))).into(),
-            "not the one number that is asked for: values fuel 3",
-        ),
+        (CallError(call(End::Values(vec![]))).into(), "not what is asked for: values fuel 3"),
     ];
     for (error, text) in errors {
         assert_eq!(error.to_string(), text);
