@@ -4,11 +4,12 @@ A wrong body is an edit of one function, in a crate's must-fail/ or, where that 
 tests/wrong_bodies, in a folder of the crate's name. `rt must-fail` tries those of must-fail/ one by one, and each costs a
 check of its crate, with all that the crate stands on. Here those of a crate that turn different functions stand together in
 one copy of it, a round: functions know one another by their contracts alone, so that a wrong body shows in its own function
-and nowhere else. One check has to name each of these functions among what is not proved, and in other files none but what calls
-one of them; `rt must-fail` takes any refusal. What a round does not name, and what turns no single function, is tried alone.
+and nowhere else. One check of these functions and of those that they call (`--only`) has to name each of them among what is not proved,
+and in other files none but what calls one of them; `rt must-fail` takes any refusal. What turns no single function, as a constant, has to
+be named in a function of its file. What no check names is tried alone, by a check of the whole crate.
 
 A round goes by what ./prove or `rt check` kept of the crate on this machine, else by what the rounds before it kept. So the last check of
-a crate is that of its own text, which has to be proved.
+a crate is that of its own text: what was turned over kept work has to be proved.
 
 What is refused is kept beside the kit, by the sum of this script, the kit, the crate, the libraries below it and the edit. A later run in
 any clone on the machine takes it from there, and says how many it took.
@@ -23,13 +24,16 @@ The libraries that a crate stands on are taken as they lie in FOLDER, a tree tha
 given).
 """
 import contextlib
+import functools
 import glob
+import math
 import os
 import re
 import shutil
 import sys
 import tempfile
 import time
+from collections import Counter
 from concurrent.futures import ThreadPoolExecutor, as_completed
 from dataclasses import dataclass
 
@@ -50,6 +54,8 @@ SHOWN_FALSE = 'the facts known there allow values'
 BY_NAMES = re.compile('a proof file names what (it|the edit) took away')
 
 ONE_JOB = ['--jobs', '1']
+# The status of a check that was called wrongly, as with a name that fits no function or several.
+CALLED_WRONGLY = 2
 # Of tests/wrong_bodies so many minutes of a processor in a run over all crates; one edit takes about this part of the crate's proof.
 MOST_MINUTES, PART_OF_A_PROOF = 10, 0.08
 
@@ -82,6 +88,12 @@ class Body:
 
     def name(self):
         return os.path.basename(self.path)[: -len('.edit')]
+
+    def files(self):
+        return {it.file for it in self.changes}
+
+    def is_in_code(self):
+        return all(it.startswith('src/') for it in self.files())
 
 
 def function_at(file, text, at):
@@ -116,8 +128,8 @@ def changes_of(edit, folder):
 def body_of(edit, folder):
     changes = changes_of(edit, folder)
     found = [function_at(it.file, read(os.path.join(folder, it.file)), it.first) for it in changes]
-    in_code = all(it.file.startswith('src/') for it in changes)
-    return Body(edit, changes, frozenset(found) if in_code and None not in found else frozenset())
+    body = Body(edit, changes, frozenset())
+    return Body(edit, changes, frozenset(found)) if body.is_in_code() and None not in found else body
 
 
 def rounds_of(bodies):
@@ -150,22 +162,54 @@ def lines_in(function, bodies, folder):
     return text.count('\n', 0, moved(function.first)) + 1, text.count('\n', 0, moved(function.end)) + 1
 
 
-def names(line, function, lines):
-    """Whether a line of the prover says that this function is not proved."""
+def module_of(file):
+    """The module that a source file is, by its path below the crate."""
+    return file[len('src/'): -len('.rt')].replace('/', '::')
+
+
+@functools.cache
+def functions_named(folder):
+    """How many functions of a crate have each name."""
+    files = glob.glob(os.path.join(folder, 'src', '**', '*.rt'), recursive=True)
+    return Counter(found[2] for it in files for found in HEADER.finditer(read(it)))
+
+
+def is_only_one(function, folder):
+    """Whether no other function of the crate has its name."""
+    return functions_named(folder)[function.name] == 1
+
+
+def only(crate, bodies):
+    """The words that have a check look at the functions alone that these bodies turn: a function by its name, or all of its module where
+    others have that name; of a body that turns none, those of its files."""
+    turned = {it for body in bodies for it in body.functions}
+    paths = {it.name if is_only_one(it, crate.folder) else module_of(it.file) for it in turned}
+    paths |= {module_of(it) for body in bodies if not body.functions for it in body.files()}
+    return [word for path in sorted(paths) for word in ('--only', path)]
+
+
+def says(line, file, proofs, lines):
+    """Whether a line of the prover says that something is not proved, in these lines of a source file or in these proof files."""
     place = re.match(r'(?:note: )?(?:\./)?(\S+?):(\d+):\d+: (.*)', line)
     if not place:
         return False
-    if place[1] == function.file:
+    if place[1] == file:
         return line.startswith('note: ') and lines[0] <= int(place[2]) <= lines[1]
-    module = re.escape(function.file[len('src/'): -len('.rt')])
-    in_proof = re.fullmatch(rf'proofs/{module}/(?:\w+/)*{function.name}/\w+\.antt', place[1])
-    return bool(in_proof) and place[3].startswith('error')
+    return bool(re.fullmatch(proofs, place[1])) and place[3].startswith('error')
 
 
 def naming(said, crate, bodies, body):
-    """Of each function that a body of a round turns the lines of the check that name it."""
-    spans = [(it, lines_in(it, bodies, crate.folder)) for it in body.functions]
-    return [[line for line in said if names(line, it, lines)] for it, lines in spans]
+    """Of each function that a body of a round turns the lines of the check that name it; of a body that turns none those in its files."""
+    found = []
+    for it in body.functions:
+        # The proofs of a method lie where its type stands, which may be another file.
+        within = r'(?:\w+/)*' if is_only_one(it, crate.folder) else rf"{re.escape(it.file[len('src/'): -len('.rt')])}/(?:\w+/)*"
+        proofs, lines = rf'proofs/{within}{it.name}/\w+\.antt', lines_in(it, bodies, crate.folder)
+        found.append([line for line in said if says(line, it.file, proofs, lines)])
+    if not body.functions:
+        proofs = '|'.join(rf"proofs/{re.escape(it[len('src/'): -len('.rt')])}/.*\.antt" for it in body.files())
+        found.append([line for line in said for it in body.files() if says(line, it, proofs, (1, math.inf))])
+    return found
 
 
 def not_named(said, crate, bodies):
@@ -188,8 +232,8 @@ def named_beside(said, crate, bodies):
     """The functions that the check does not prove, but those in the files that the bodies turn, and what calls one of these.
 
     A method goes by the file of its type there, so that the names of what is turned are left out too."""
-    files = {it.file for body in bodies for it in body.changes}
-    modules = tuple(f"{crate.name}::{it[len('src/'): -len('.rt')].replace('/', '::')}::" for it in files)
+    files = {it for body in bodies for it in body.files()}
+    modules = tuple(f'{crate.name}::{module_of(it)}::' for it in files)
     turned = {it.name for body in bodies for it in body.functions}
     lines = [found for found in map(OF_FUNCTION.fullmatch, said) if found and not EXCUSED.match(found[2])]
     return [found[1] for found in lines if not found[1].startswith(modules) and found[1].rpartition('::')[2] not in turned]
@@ -225,7 +269,10 @@ def try_round(kit, crate, bodies, over):
     """Tries the bodies of a round at once; answers of those that it refuses what to tell, those whose functions it does not all name, and
     what else it does not prove. Where there is such a thing, none counts as refused."""
     with over() as kept:
-        said = kit.checked(crate, texts_of(bodies, crate.folder), ONE_JOB, kept).stdout.split('\n')
+        ran = kit.checked(crate, texts_of(bodies, crate.folder), [*ONE_JOB, *only(crate, bodies)], kept)
+    said = ran.stdout.rstrip('\n').split('\n')
+    if ran.returncode == CALLED_WRONGLY:
+        return {}, [], [f'{crate.name}: a round did not begin: {said[-1]}']
     missing, lost = not_named(said, crate, bodies), refused_by_names(said, crate, bodies)
     beside = [f'{crate.name}: {it} is not proved beside wrong bodies of others' for it in named_beside(said, crate, bodies)]
     tell = lambda it: f'{crate.name}/{it.name()}: refused where a proof file names what it took away' if it in lost else ''
@@ -262,16 +309,17 @@ def try_alone(kit, crate, bodies, over):
 
 def try_bodies(kit, crate, bodies):
     """Tries bodies of a crate; answers of those that are refused what to tell, what is wrong, and how they were tried."""
-    rounds = rounds_of([it for it in bodies if it.functions])
+    rounds = rounds_of([it for it in bodies if it.functions]) + [[it] for it in bodies if not it.functions and it.is_in_code()]
     with begun(kit, crate) as (over, has_begun):
         refused, wrong, left = try_rounds(kit, crate, rounds, over)
-        alone = [it for it in bodies if not it.functions] + left
+        alone = [it for it in bodies if not it.is_in_code()] + left
         by_one, missed = try_alone(kit, crate, alone, over)
         how = f'{len(rounds)} rounds and {len(alone)} alone'
-        if has_begun or len(rounds) + len(alone) > 1:
+        over_kept = sum(rounds if has_begun else rounds[1:], [])
+        if over_kept or alone:
             with over() as kept:
-                if kit.checked(crate, {}, ONE_JOB, kept).returncode != 0:
-                    return {}, [f'{crate.name}: its own text is not proved over what these checks kept'], how
+                if kit.checked(crate, {}, [*ONE_JOB, *([] if alone else only(crate, over_kept))], kept).returncode != 0:
+                    return {}, [*wrong, f'{crate.name}: its own text is not proved over what these checks kept'], how
     return {**refused, **by_one}, wrong + missed, how
 
 
