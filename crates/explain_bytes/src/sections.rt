@@ -21,6 +21,11 @@ pub const ELEMENT: u8 = 9;
 
 pub const DATA: u8 = 11;
 
+/// Those of later standards.
+pub const DATA_COUNT: u8 = 12;
+
+pub const TAG: u8 = 13;
+
 /// A number u32 at that offset, and the offset after it.
 pub(crate) fn number_at(bytes: &[u8], at: usize) -> Option<(u32, usize)> {
     let rest = bytes.get(at..)?;

@@ -53,7 +53,8 @@ fn push_limits(text: &mut String, limits: Limits, range: u32) -> Result<(), Allo
 fn initial_sentence(initial: Initial) -> &'static str {
     match initial {
         Initial::Constant(_) => "{}.const, {} is wanted",
-        Initial::Other => "neither one constant nor one global.get",
+        Initial::Other =>
+            "neither one constant nor one global.get; longer ones are extended constants (Core 3.0)",
         Initial::Get {
             gets: Some(found),
             ..
@@ -89,8 +90,10 @@ fn fault_sentence(fault: &ItemFault<'_>) -> &'static str {
         ItemFault::DefinedType { .. } => "function {} has type {}{}",
         ItemFault::TableLimits { .. } => "table {}",
         ItemFault::MemoryLimits { .. } => "memory {}",
-        ItemFault::SecondTable { .. } => "there are {} tables, and at most 1 is allowed",
-        ItemFault::SecondMemory { .. } => "there are {} memories, and at most 1 is allowed",
+        ItemFault::SecondTable { .. } =>
+            "there are {} tables, and at most 1 is allowed; more are of reference types (Core 2.0)",
+        ItemFault::SecondMemory { .. } =>
+            "there are {} memories, and at most 1 is allowed; more are of Core 3.0",
         ItemFault::GlobalValue { .. } => "global {}: its initial value is ",
         ItemFault::ExportedIndex { .. } => " names {} {}{}",
         ItemFault::ExportedName { .. } => " has the name of export {}",
@@ -166,6 +169,20 @@ fn push_positioned(text: &mut String, item: &BrokenItem<'_>) -> Result<(), Alloc
     }
 }
 
+/// The line on what to do.
+fn item_hint(fault: &ItemFault<'_>) -> &'static str {
+    match fault {
+        ItemFault::GlobalValue {
+            initial: Initial::Other,
+            ..
+        }
+        | ItemFault::ElementOffset(Initial::Other)
+        | ItemFault::DataOffset(Initial::Other) =>
+            "hint      build the module with -mno-extended-const; in text give one constant (docs/GUESTS.md)\n",
+        _ => "",
+    }
+}
+
 /// The lines on an item that breaks a rule.
 pub(crate) fn push_broken_item(text: &mut String, item: &BrokenItem<'_>) -> Result<(), AllocError> {
     let (name, number) = broken_name(item);
@@ -190,5 +207,6 @@ pub(crate) fn push_broken_item(text: &mut String, item: &BrokenItem<'_>) -> Resu
         }
         _ => {}
     }
-    text.push_str("\n")
+    text.push_str("\n")?;
+    text.push_str(item_hint(&item.fault))
 }

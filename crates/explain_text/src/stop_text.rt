@@ -2,17 +2,17 @@
 
 use crate::sentence::Word::{Address, Bytes, Number, Opcode};
 use crate::sentence::say;
-use crate::shell_text::{FC, push_opcode, push_wrong};
+use crate::shell_text::{push_opcode, push_wrong};
 use explain_bytes::{Misread, misread_locals, misread_token};
 use explanation::{StopLocation, Stopped};
 use std::alloc::AllocError;
 
-/// The number after the byte `fc` that the bytes begin with, and the bytes of both.
-fn number_after_fc(bytes: &[u8]) -> Option<(u32, &[u8])> {
-    let [FC, rest @ ..] = bytes else {
+/// The number after that first byte of the bytes, where it is one that a number follows, and the bytes of both.
+fn number_after(first: u8, bytes: &[u8]) -> Option<(u32, &[u8])> {
+    if !matches!(first, 0xFB..=0xFE) {
         return None;
-    };
-    let (number, after) = wnum::front_u32(rest)?;
+    }
+    let (number, after) = wnum::front_u32(bytes.get(1..)?)?;
     let opcode = bytes.get(..bytes.len().saturating_sub(after.len()))?;
     Some((number, opcode))
 }
@@ -29,9 +29,9 @@ fn push_no_token(text: &mut String, at: usize, bytes: &[u8]) -> Result<(), Alloc
     let [first, ..] = bytes else {
         return Ok(());
     };
-    if let Some((number, opcode)) = number_after_fc(bytes) {
+    if let Some((number, opcode)) = number_after(*first, bytes) {
         say(text, "because   {}", &[Bytes(opcode)])?;
-        return push_opcode(text, FC, Some(number));
+        return push_opcode(text, *first, Some(number));
     }
     write!(text, "because   {first:02x}")?;
     match misread_token(bytes) {
