@@ -60,9 +60,12 @@ fn initial_sentence(initial: Initial) -> &'static str {
             ..
         } if found.mutable => "global.get {}, which is mutable",
         Initial::Get { gets: Some(_), .. } => "global.get {} of type {}, {} is wanted",
-        Initial::Get { imported: 0, .. } => "global.get {}, and no global is imported",
-        Initial::Get { imported: 1, .. } => "global.get {}, and {} global is imported",
-        Initial::Get { .. } => "global.get {}, and {} globals are imported",
+        Initial::Get { imported: 0, .. } =>
+            "global.get {}; only imported globals may be read there, and there is none",
+        Initial::Get { imported: 1, .. } =>
+            "global.get {}; only imported globals may be read there, and there is {}",
+        Initial::Get { .. } =>
+            "global.get {}; only imported globals may be read there, and there are {}",
     }
 }
 
@@ -98,7 +101,8 @@ fn fault_sentence(fault: &ItemFault<'_>) -> &'static str {
         ItemFault::ExportedIndex { .. } => " names {} {}{}",
         ItemFault::ExportedName { .. } => " has the name of export {}",
         ItemFault::StartMissing { .. } => "the start function is {}{}",
-        ItemFault::StartTyped { .. } => "the start function {} has type {}",
+        ItemFault::StartTyped { .. } =>
+            "the start function {} has type {}; it may have no parameters and no results",
         ItemFault::ElementTable { .. } => " is of table {}{}",
         ItemFault::ElementFunction { .. } => ": its entry {} is function {}{}",
         ItemFault::DataMemory { .. } => " is of memory {}{}",
