@@ -1,6 +1,6 @@
 //! Why reading a malformed body stopped, in words.
 
-use crate::sentence::Word::{Address, Bytes, Number, Opcode};
+use crate::sentence::Word::{Address, Bytes, Index, Number, Opcode};
 use crate::sentence::say;
 use crate::shell_text::{push_opcode, push_wrong};
 use explain_bytes::{Misread, misread_locals, misread_token};
@@ -43,12 +43,41 @@ fn push_no_token(text: &mut String, at: usize, bytes: &[u8]) -> Result<(), Alloc
     }
 }
 
+/// The run of declared locals with which their number reaches 2^32: its position, and the offset of its first byte.
+fn full_run(body: &[u8]) -> Option<(u32, usize)> {
+    let (count, mut rest) = wnum::front_u32(body)?;
+    let mut total: u64 = 0;
+    for position in 0..count {
+        let (more, after) = wnum::front_u32(rest)?;
+        total = total.saturating_add(more as u64);
+        if total > u32::MAX as u64 {
+            return Some((position, body.len().saturating_sub(rest.len())));
+        }
+        rest = after.get(1..)?;
+    }
+    None
+}
+
+/// That declared locals are too many to be read, in a body that begins at that offset.
+fn push_full_run(text: &mut String, at: usize, body: &[u8]) -> Result<(), AllocError> {
+    let Some((position, from)) = full_run(body) else {
+        return text.push_str("\n");
+    };
+    let offset = at.saturating_add(from);
+    let words = [Number(offset), Address(offset), Index(position)];
+    say(
+        text,
+        "; byte {} ({}): with run {} they are 2^32 or more\n",
+        &words,
+    )
+}
+
 /// Why the locals cannot be read of a body that begins at that offset.
 fn push_no_locals(text: &mut String, at: usize, body: &[u8]) -> Result<(), AllocError> {
     text.push_str("because   its declared locals cannot be read")?;
     match misread_locals(body) {
         Some(misread) => push_misread(text, at, misread),
-        None => text.push_str("\n"),
+        None => push_full_run(text, at, body),
     }
 }
 
