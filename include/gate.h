@@ -183,8 +183,8 @@ enum gate_why {
     GATE_WHY_TEXT = 201,           /* the bytes begin as the text format does */
     GATE_WHY_GZIP = 202,           /* as a gzip archive does */
     GATE_WHY_SHORT_HEADER = 203,   /* they are fewer than the eight of the magic and the version */
-    GATE_WHY_MAGIC = 204,          /* the byte at `from` is none of the magic */
-    GATE_WHY_VERSION = 205,        /* the byte at `from` is none of the version */
+    GATE_WHY_MAGIC = 204,          /* the byte at `from` is not that of the magic */
+    GATE_WHY_VERSION = 205,        /* the byte at `from` is not that of the version */
     GATE_WHY_SECTIONS = 206,       /* what follows are not the sections of a module */
     GATE_WHY_RULE = 300,
     GATE_WHY_BODY_MALFORMED = 400, /* and it is not known where */

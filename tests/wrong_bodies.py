@@ -50,7 +50,7 @@ SHOWN_FALSE = 'the facts known there allow values'
 BY_NAMES = re.compile('a proof file names what (it|the edit) took away')
 
 ONE_JOB = ['--jobs', '1']
-# Of tests/wrong_bodies so many minutes of a processor in a run over all crates; one edit takes about this part of the crate's proof.
+# The most minutes of a processor for tests/wrong_bodies in a run over all crates; one edit takes about this part of the crate's proof.
 MOST_MINUTES, PART_OF_A_PROOF = 10, 0.08
 
 HEADER = re.compile(r'^([ \t]*)(?:pub(?:\([a-z]+\))? )?(?:const |extern "C" )?fn (\w+)', re.M)
