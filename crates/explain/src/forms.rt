@@ -1,25 +1,62 @@
 //! Of which other form bytes are that are no module, by how they begin.
-ghost use Rattle.std.specs.Prelude.{IfSome, IsTrue};
-ghost use Rattle.explain.specs.Forms.{AreSameAfterBlanks, BeginsField, BeginsJson, BeginsMarkup, BeginsText, BeginsValue, HasForm};
+ghost use Rattle.std.specs.Prelude.{◌≡◌, IfSome, IsSomeAnd, IsTrue, option_map};
+ghost use Rattle.explain.specs.Forms.{AreSameAfterBlanks, BeginsField, BeginsJson, BeginsMarkup, BeginsText, BeginsUtf16, BeginsValue};
+ghost use Rattle.explain.specs.Forms.{HasForm, IsText, first_bytes as bytes_of};
+ghost use Rattle.explain_text.specs.Texts.{BeginsWith};
 
 use explanation::Form;
 
-/// How files of other forms begin, where all bytes of it are told.
-const BEGINNINGS: [(Form, &[u8]); 13] = [
-    (Form::Component, b"\0asm\x0D\0\x01\0"),
-    (Form::Gzip, b"\x1F\x8B"),
-    (Form::Xz, b"\xFD7zXZ\0"),
-    (Form::Zstd, b"\x28\xB5\x2F\xFD"),
-    (Form::Zip, b"PK\x03\x04"),
-    (Form::Elf, b"\x7FELF"),
-    (Form::Objects, b"!<arch>\n"),
-    (Form::Bitcode, b"BC\xC0\xDE"),
-    (Form::Base64, b"AGFzbQ"),
-    (Form::LfsPointer, b"version https://git-lfs"),
-    (Form::ByteOrderMark, b"\xEF\xBB\xBF"),
-    (Form::Utf16, b"\xFF\xFE"),
-    (Form::Utf16, b"\xFE\xFF"),
+/// The forms of files that begin with bytes of their own.
+const FORMS: [Form; 11] = [
+    Form::Component,
+    Form::Gzip,
+    Form::Xz,
+    Form::Zstd,
+    Form::Zip,
+    Form::Elf,
+    Form::Objects,
+    Form::Bitcode,
+    Form::Base64,
+    Form::LfsPointer,
+    Form::ByteOrderMark,
 ];
+
+/// How files of the form begin, where all of them begin with these bytes.
+fn first_bytes(form: Form) -> Option<&'static [u8]>
+    ensures { option_map (λ b. b.now) result ≡ bytes_of form }
+{
+    match form {
+        Form::Component => Some(b"\0asm\x0D\0\x01\0"),
+        Form::Gzip => Some(b"\x1F\x8B"),
+        Form::Xz => Some(b"\xFD7zXZ\0"),
+        Form::Zstd => Some(b"\x28\xB5\x2F\xFD"),
+        Form::Zip => Some(b"PK\x03\x04"),
+        Form::Elf => Some(b"\x7FELF"),
+        Form::Objects => Some(b"!<arch>\n"),
+        Form::Bitcode => Some(b"BC\xC0\xDE"),
+        Form::Base64 => Some(b"AGFzbQ"),
+        Form::LfsPointer => Some(b"version https://git-lfs"),
+        Form::ByteOrderMark => Some(b"\xEF\xBB\xBF"),
+        Form::Utf16 | Form::Text | Form::Markup | Form::Json => None,
+    }
+}
+
+/// Whether the bytes begin with these.
+fn begins_with(bytes: &[u8], front: &[u8]) -> bool
+    ensures { IsTrue result → BeginsWith front.now bytes.now }
+{
+    bytes.starts_with(front)
+}
+
+/// Whether the bytes begin with those of that form.
+fn has_first_bytes(bytes: &[u8], form: Form) -> bool
+    ensures { IsTrue result → IsSomeAnd (bytes_of form) (λ front. BeginsWith front bytes.now) }
+{
+    match first_bytes(form) {
+        Some(front) => begins_with(bytes, front),
+        None => false,
+    }
+}
 
 /// The bytes from the first on that is no blank.
 fn after_blanks(bytes: &[u8]) -> &[u8]
@@ -77,9 +114,16 @@ fn begins_json(bytes: &[u8]) -> bool
     }
 }
 
-/// The form of text that the bytes have, of those that blanks may stand before.
+/// Whether bytes begin text in UTF-16: by its byte order mark.
+fn begins_utf16(bytes: &[u8]) -> bool
+    ensures { IsTrue result → BeginsUtf16 bytes.now }
+{
+    matches!(bytes, [0xFF, 0xFE, ..] | [0xFE, 0xFF, ..])
+}
+
+/// The form of text that the bytes have.
 fn text_form_of(bytes: &[u8]) -> Option<Form>
-    ensures { IfSome result (HasForm bytes.now) }
+    ensures { IfSome result (IsText bytes.now) }
 {
     let rest = after_blanks(bytes);
     if begins_text(rest) {
@@ -88,6 +132,8 @@ fn text_form_of(bytes: &[u8]) -> Option<Form>
         Some(Form::Markup)
     } else if begins_json(rest) {
         Some(Form::Json)
+    } else if begins_utf16(bytes) {
+        Some(Form::Utf16)
     } else {
         None
     }
@@ -97,8 +143,8 @@ fn text_form_of(bytes: &[u8]) -> Option<Form>
 pub(crate) fn form_of(bytes: &[u8]) -> Option<Form>
     ensures { IfSome result (HasForm bytes.now) }
 {
-    for (form, beginning) in BEGINNINGS {
-        if bytes.starts_with(beginning) {
+    for form in FORMS {
+        if has_first_bytes(bytes, form) {
             return Some(form);
         }
     }
