@@ -1,8 +1,8 @@
 """Uses the packages for Python, Rust and Go of a release as strangers do: each in an empty folder, offline, where no variable of the
 environment tells of a library.
 
-Python  The sums in the wheel hold, its library wants no later glibc than its name says, and a host over musl uses it. pip installs it into a
-        fresh environment; there all tests of the package pass, and mypy finds no fault, where it is there.
+Python  The sums in the wheel hold, its library wants no later glibc than its name says, and a host over musl uses it. pip installs it
+        into a fresh environment; there all tests of the package pass, and mypy finds no fault, where it is there.
 Rust    The tests of the crate pass, and clippy finds no fault in both, where it is there. GATE_LIB_DIR comes before the library inside.
 Go      The tests of the module pass, and go vet finds no fault. A host that vendors the module is built too.
 Hosts   What docs/HOSTS.md of the release shows for each language, as a program outside the release, prints what it has to.

@@ -3,9 +3,9 @@
  *     $ ./exchange examples/guests/greet.wasm Hello 1000 name=World
  *     Hello World
  *
- * An answer that begins with `?` is a wish: it names a key, and the plug-in is called again with the key's value. Any other is the last one,
- * and is printed without its first byte. All calls together have FUEL. Ends with 1 where there is no last answer, and with 2 where there is
- * no plug-in. */
+ * An answer that begins with `?` is a wish: it names a key, and the plug-in is called again with the key's value. Any other is the last
+ * one, and is printed without its first byte. All calls together have FUEL. Ends with 1 where there is no last answer, and with 2 where
+ * there is no plug-in. */
 #include "files.h"
 #include "gate.h"
 #include "plugin.h"
