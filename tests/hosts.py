@@ -16,6 +16,7 @@ C++         gate.hpp by wrapper.cpp, in which memory is refused too, and example
 interface   interface/ calls each function, with short buffers, null pointers and numbers that are none, and on four threads.
 debug       interface/ and the hosts in C over debug/gate_debug.c, which has to find no fault; wrong_uses.c, of which it finds each.
 exchanges   hosts that a plug-in asks for what it wants, with one fuel for all calls: examples/*/exchange.*, and the one in Python of HOSTS.
+Dask        on_dask.py of examples/many on two workers here, one of which is killed on the way: the report is that of one run.
 packages    the tests of the packages for Rust, Go and Python, and of the addon for Node; what mypy says of the one for Python.
 refused     refuse_through_c.c refuses each request for memory in turn.
 valgrind    where it is on the machine: no error and no leak in the hosts in C and in interface/, and no race in the latter.
@@ -29,6 +30,7 @@ from concurrent.futures import ThreadPoolExecutor
 
 from tools import library
 from tests.hosting.answers import compare_calls, compare_checks, compare_folder, compare_run
+from tests.hosting.clusters import cluster
 from tests.hosting.compiling import compile_c
 from tests.hosting.header import build, exports, header, level, warned
 from tests.hosting.interface import FEW_ROUNDS, MANY_ROUNDS, MOST_CALLS_REFUSED, SANITIZER, debug, interface, refusals
@@ -85,6 +87,7 @@ def begin_others(jobs, folder, work):
     jobs.begin('exports', exports, folder)
     jobs.begin('the notes of the shared library', level, folder)
     jobs.begin('which build it is', build, folder)
+    jobs.begin('Dask', cluster, folder, work)
     jobs.begin('C++', wrapper, folder, work, work)
     jobs.begin('Node', node, folder, work, work)
     jobs.begin('Python', tests_of_python, folder)
