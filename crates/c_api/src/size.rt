@@ -6,21 +6,24 @@ ghost use Rattle.c_api.specs.Sizes.{capped, body_bytes, bodies_bytes, type_bytes
 ghost use Rattle.c_api.specs.Sizes.{layout_bytes, space_bytes, named_bytes, module_bytes};
 
 use accepted_module::InitialState;
-use checked_body::{Branch, CheckedBody, FrameLayout};
+use checked_body::{CheckedBody, FrameLayout, Instruction, Jump, Move, Table as BranchTable};
 use std::mem::size_of;
 use verdict::Accepted;
 use wsyntax::{
-    Data, Elements, Export, FuncTypes, Global, Import, Limits, LocalRun, Module, Table, Token,
-    ValType,
+    Data, Elements, Export, FuncTypes, Global, Import, Limits, LocalRun, Module, Table, ValType,
 };
 
-const _: () = prove!(size_of::<CheckedBody>() == 136);
+const _: () = prove!(size_of::<CheckedBody>() == 96);
 
 const _: () = prove!(size_of::<LocalRun>() == 8);
 
-const _: () = prove!(size_of::<Token>() == 16);
+const _: () = prove!(size_of::<Instruction>() == 8);
 
-const _: () = prove!(size_of::<Branch>() == 16);
+const _: () = prove!(size_of::<Jump>() == 12);
+
+const _: () = prove!(size_of::<BranchTable>() == 16);
+
+const _: () = prove!(size_of::<Move>() == 12);
 
 const _: () = prove!(size_of::<FrameLayout>() == 16);
 
@@ -50,17 +53,18 @@ fn with_body(total: u64, body: &CheckedBody) -> u64
     ensures { result ≡ capped (total + body_bytes body.now) }
 {
     let total = with_list(total, body.locals().len(), 8);
-    let total = with_list(total, body.tokens().len(), 16);
-    let total = with_list(total, body.targets().len(), 4);
-    let total = with_list(total, body.long().len(), 16);
-    with_list(total, body.cases().len(), 16)
+    let total = with_list(total, body.instructions().len(), 8);
+    let total = with_list(total, body.pool().len(), 8);
+    let total = with_list(total, body.jumps().len(), 12);
+    let total = with_list(total, body.tables().len(), 16);
+    with_list(total, body.moves().len(), 12)
 }
 
 /// These bytes and those of bodies.
 fn with_bodies(total: u64, bodies: &[CheckedBody]) -> u64
     ensures { result ≡ capped (total + bodies_bytes bodies.now) }
 {
-    let mut sum = with_list(total, bodies.len(), 136);
+    let mut sum = with_list(total, bodies.len(), 96);
     for body in bodies {
         sum = with_body(sum, body);
     }

@@ -13,11 +13,13 @@ mod branch;
 mod entry;
 mod floats;
 mod frame_layout;
+mod instruction;
 mod table;
 
-pub use body::CheckedBody;
+pub use body::{BodySize, CheckedBody, Floats};
 pub use branch::Branch;
 pub use entry::entry_at;
 pub use floats::{is_float, runs_have_floats, token_has_floats, type_has_floats};
 pub use frame_layout::FrameLayout;
+pub use instruction::{Code, Instruction, Jump, Lists, Move, SCRATCH, Table};
 pub use table::SideTable;

@@ -1,5 +1,5 @@
 //! The typing of function bodies (Core 1.0, 3.3 and 3.4.1): the checker, a token at a time (7.3), and the check of a whole body,
-//! which joins it to the maker of the side table (`side_table`).
+//! which hands each token to the maker of code (`side_table`).
 //!
 //! The general way of a token, from `Checker::step` down (`verdict::passing` has the quick one):
 //!
@@ -19,7 +19,6 @@
 
 mod apply;
 mod body;
-mod building;
 mod check;
 mod checker;
 mod control;
@@ -30,11 +29,13 @@ mod operand_rules;
 mod operand_stack;
 mod rule;
 mod scope;
+mod translating;
 mod tuning;
 mod types;
 
-pub use building::{is_plain, record_plain, record_token};
+pub use body::begin_translation;
 pub use check::{CheckFault, check_body, keep_body};
 pub use checked_body::CheckedBody;
 pub use checker::{Checker, OpenFrame};
 pub use rule::{OperandRule, table_default, table_labels};
+pub use translating::translate_token;

@@ -197,7 +197,7 @@ impl<'a> OperandStack<'a> {
     }
 
     /// Pushes an operand. After an error the stack is as before.
-    #[inline]
+    #[inline(always)]
     pub(crate) fn push(&mut self, x: Option<ValType>) -> Result<(), AllocError>
         ensures above { MatchResult result
             (λ _. self.new.above ≡ topped x self.old.above)
