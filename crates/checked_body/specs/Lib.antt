@@ -2,3 +2,6 @@ pub mod Entries
 pub mod SideTable
 pub mod Promise
 pub mod Bodies
+pub mod Held
+pub mod Registers
+pub mod Marks
