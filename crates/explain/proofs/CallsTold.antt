@@ -2,7 +2,7 @@
 use Rattle.std.proofs.Common.{◌≡◌, ◌≢◌, ℕ, Bool, true, List, Option, Some, None, Result, Ok, Err, IfOk, IfSome, refl, sym, ◌∙◌}
 use Rattle.std.specs.Prelude.{IsSomeAnd, string_bytes}
 use Rattle.std.specs.declared.alloc.AllocError.{AllocError}
-use Rattle.wsyntax.specs.Texts.Calls.{Call, TooLong, BadLine, Good, IsCalls}
+use Rattle.wsyntax.specs.Texts.Calls.{TooLong, BadLine}
 use Rattle.wsyntax.specs.Texts.Lines.{verdict_line}
 use Rattle.wsyntax.specs.Validation.Verdict.{Verdict, Accepted, TooLarge, Malformed, RuleBroken, BodyRefused, IsVerdict}
 use Rattle.batch_text.specs.Calls.{ReadsCalls}
@@ -20,9 +20,6 @@ pub bad_calls : (text : List ℕ) (f : CallsFault) → f ≢ fault.Memory → Re
 bad_calls text fault.TooLarge some h = (TooLong, h, refl)
 bad_calls text (fault.Line k) some h = (BadLine k, h, refl)
 bad_calls text fault.Memory some h = absurd (some refl)
-
-pub good_calls : (text : List ℕ) (calls : List Call) → IsCalls text (Good calls) → RefusedBy text Accepted None
-good_calls text calls h = (Good calls, h, refl)
 
 -- both
 

@@ -5,12 +5,10 @@ ghost use Rattle.explain_bytes.specs.declared.shell.items.Items.TheVariants.{Bod
 ghost use Rattle.explain_bytes.specs.Shells.{IsBodyAt, after_items};
 
 use crate::item_offsets::section_of;
+use crate::sections::CODE;
 use crate::shell::primitives::sized_at;
 use explanation::{Span, Wanted};
 use wnum::front_u32;
-
-/// The id of the section of bodies (5.5.13).
-const CODE_SECTION: u8 = 10;
 
 /// The bytes after that count of bodies.
 fn after_bodies(bytes: &[u8], count: usize) -> Option<&[u8]>
@@ -18,9 +16,7 @@ fn after_bodies(bytes: &[u8], count: usize) -> Option<&[u8]>
 {
     let mut rest = bytes;
     for passed in 0..count {
-        let Ok((_body, after)) = sized_at(rest, Wanted::BodySize) else {
-            return None;
-        };
+        let (_body, after) = sized_at(rest, Wanted::BodySize).ok()?;
         rest = after;
     }
     Some(rest)
@@ -30,12 +26,10 @@ fn after_bodies(bytes: &[u8], count: usize) -> Option<&[u8]>
 fn span_at(bytes: &[u8], position: usize) -> Option<Span>
     ensures { IfSome result (IsBodyAt bytes.now position) }
 {
-    let (contents, others) = section_of(bytes, CODE_SECTION)?;
+    let (contents, others) = section_of(bytes, CODE)?;
     let (_count, first) = front_u32(contents)?;
     let item = after_bodies(first, position)?;
-    let Ok((body, after)) = sized_at(item, Wanted::BodySize) else {
-        return None;
-    };
+    let (body, after) = sized_at(item, Wanted::BodySize).ok()?;
     let end = bytes.len().saturating_sub(others.len());
     let to = end.saturating_sub(after.len());
     let from = to.saturating_sub(body.len());

@@ -2,15 +2,12 @@
 ghost use Rattle.std.specs.Prelude.{IfOk, IfSome};
 ghost use Rattle.explain_bytes.specs.Shells.{HasSection, IsItemAt, IsItemIn};
 
-use crate::sections::START;
+use crate::sections::{HEADER, START};
 use crate::shell::contents::{ContentsEnd, after_items, items_of};
 use crate::shell::primitives::sized_at;
 use explanation::Wanted;
 use std::alloc::{AllocError, Global};
 use wnum::front_u32;
-
-/// How many bytes the magic and the version are.
-const HEADER: usize = 8;
 
 /// What the first section of that id holds, and the bytes after it.
 pub(crate) fn section_of(bytes: &[u8], id: u8) -> Option<(&[u8], &[u8])>
@@ -21,9 +18,7 @@ pub(crate) fn section_of(bytes: &[u8], id: u8) -> Option<(&[u8], &[u8])>
         let [found, sized @ ..] = rest else {
             return None;
         };
-        let Ok((contents, after)) = sized_at(sized, Wanted::SectionSize) else {
-            return None;
-        };
+        let (contents, after) = sized_at(sized, Wanted::SectionSize).ok()?;
         if *found == id {
             return Some((contents, after));
         }

@@ -1,16 +1,11 @@
 //! What is wrong with the immediates of a token (5.4), or with the locals of a body (5.5.13), that cannot be read.
-ghost use Rattle.std.specs.Prelude.{◌≡◌, ◌⊎◌, IfErr, IfSome};
+ghost use Rattle.std.specs.Prelude.{◌≡◌, ◌⊎◌, IfErr, IfSome, None};
 ghost use Rattle.explanation.specs.declared.shell_location.Wanted.TheVariants.{MemoryByte, TableByte};
 ghost use Rattle.explain_bytes.specs.Shells.{IsMisread, IsNoConstant, IsStuck, Stands};
 
 use crate::shell::primitives::{Stuck, after_index, number_at, wrong_byte};
 use crate::shell::type_items::after_val_type;
 use explanation::{Wanted, Wrong};
-
-/// The most bytes of a number s32, and of a number s64 (5.2.2).
-const MOST_OF_I32: usize = 5;
-
-const MOST_OF_I64: usize = 10;
 
 /// What is wrong, and the offset of the first byte of it.
 #[derive(Clone, Copy)]
@@ -19,14 +14,20 @@ pub struct Misread {
     pub wrong: Wrong,
 }
 
-/// What is wrong with bytes that begin with no constant of that type, which has so many bytes at most.
-fn wrong_constant(bytes: &[u8], wanted: Wanted, most: usize) -> Wrong
+/// What is wrong with bytes that begin with no constant of that type.
+fn wrong_constant(bytes: &[u8], wanted: Wanted) -> Wrong
     requires { IsNoConstant wanted bytes.now }
     ensures { Stands result bytes.now }
 {
     if bytes.is_empty() {
         return Wrong::Ends(wanted);
     }
+    // the most bytes of a number s32, and of a number s64 (5.2.2)
+    let most = match wanted {
+        Wanted::I32 => 5,
+        Wanted::I64 => 10,
+        _ => return Wrong::CutConstant(wanted),
+    };
     for byte in bytes.get(..most).unwrap_or(bytes) {
         if *byte < 0x80 {
             return Wrong::LargeConstant(wanted);
@@ -39,66 +40,28 @@ fn wrong_constant(bytes: &[u8], wanted: Wanted, most: usize) -> Wrong
     }
 }
 
-/// The bytes after a constant i32.
-fn after_i32<'a>(bytes: &'a [u8]) -> Result<&'a [u8], Stuck<'a>>
-    ensures { IfErr result IsStuck }
+/// The bytes after the constant of that type at their front; `None` where there is none.
+fn constant_passed(bytes: &[u8], wanted: Wanted) -> Option<&[u8]>
+    ensures { result ≡ None → IsNoConstant wanted bytes.now }
 {
-    match wnum::front_s32(bytes) {
-        Some((_number, rest)) => Ok(rest),
-        None => Err(Stuck::Here {
-            rest: bytes,
-            wrong: wrong_constant(bytes, Wanted::I32, MOST_OF_I32),
-        }),
+    match wanted {
+        Wanted::I32 => Some(wnum::front_s32(bytes)?.1),
+        Wanted::I64 => Some(wnum::front_s64(bytes)?.1),
+        Wanted::F32 => bytes.get(4..),
+        Wanted::F64 => bytes.get(8..),
+        _ => Some(bytes),
     }
 }
 
-/// The bytes after a constant i64.
-fn after_i64<'a>(bytes: &'a [u8]) -> Result<&'a [u8], Stuck<'a>>
+/// The bytes after a constant of that type.
+fn after_constant<'a>(bytes: &'a [u8], wanted: Wanted) -> Result<&'a [u8], Stuck<'a>>
     ensures { IfErr result IsStuck }
 {
-    match wnum::front_s64(bytes) {
-        Some((_number, rest)) => Ok(rest),
-        None => Err(Stuck::Here {
-            rest: bytes,
-            wrong: wrong_constant(bytes, Wanted::I64, MOST_OF_I64),
-        }),
-    }
-}
-
-/// What is wrong with bytes that are too few for a float.
-fn wrong_float(bytes: &[u8], wanted: Wanted) -> Wrong
-    requires { IsNoConstant wanted bytes.now }
-    ensures { Stands result bytes.now }
-{
-    if bytes.is_empty() {
-        Wrong::Ends(wanted)
-    } else {
-        Wrong::CutConstant(wanted)
-    }
-}
-
-/// The bytes after a constant f32.
-fn after_f32<'a>(bytes: &'a [u8]) -> Result<&'a [u8], Stuck<'a>>
-    ensures { IfErr result IsStuck }
-{
-    match bytes.get(4..) {
+    match constant_passed(bytes, wanted) {
         Some(rest) => Ok(rest),
         None => Err(Stuck::Here {
             rest: bytes,
-            wrong: wrong_float(bytes, Wanted::F32),
-        }),
-    }
-}
-
-/// The bytes after a constant f64.
-fn after_f64<'a>(bytes: &'a [u8]) -> Result<&'a [u8], Stuck<'a>>
-    ensures { IfErr result IsStuck }
-{
-    match bytes.get(8..) {
-        Some(rest) => Ok(rest),
-        None => Err(Stuck::Here {
-            rest: bytes,
-            wrong: wrong_float(bytes, Wanted::F64),
+            wrong: wrong_constant(bytes, wanted),
         }),
     }
 }
@@ -164,10 +127,10 @@ fn after_immediates<'a>(opcode: u8, bytes: &'a [u8]) -> Result<&'a [u8], Stuck<'
         0x11 => after_indirect(bytes),
         0x28..=0x3E => after_access(bytes),
         0x3F | 0x40 => after_zero(bytes, Wanted::MemoryByte),
-        0x41 => after_i32(bytes),
-        0x42 => after_i64(bytes),
-        0x43 => after_f32(bytes),
-        0x44 => after_f64(bytes),
+        0x41 => after_constant(bytes, Wanted::I32),
+        0x42 => after_constant(bytes, Wanted::I64),
+        0x43 => after_constant(bytes, Wanted::F32),
+        0x44 => after_constant(bytes, Wanted::F64),
         _ => Ok(bytes),
     }
 }

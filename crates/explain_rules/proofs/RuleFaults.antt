@@ -1,18 +1,15 @@
 -- What is told by the index spaces that were gathered is so of the module.
-use Rattle.std.proofs.Common.{◌≡◌, List, length, map, take, Option, Some, None, refl, subst, ℕ}
+use Rattle.std.proofs.Common.{◌≡◌, List, length, Option, Some, None, refl, subst, ℕ}
 use Rattle.std.specs.Prelude.{Result, Ok, Err, IfOk, IfSome}
 use Rattle.std.specs.declared.alloc.AllocError.{AllocError}
-use Rattle.std.proofs.Math.Seq.{take-append_seam}
-use Rattle.wsyntax.specs.Modules.{ModuleShape, DataShape, ElementShape, module_shape}
-use Rattle.wsyntax.specs.Validation.ModuleContext.{imported_globals, functions_of, tables_of, memories_of}
-use Rattle.wsyntax.specs.Validation.Rules.{DataValid, ElementValid, count_of}
-use Rattle.wsyntax.specs.declared.types.GlobalType.{GlobalType}
+use Rattle.wsyntax.specs.Modules.{ModuleShape, ElementShape, module_shape}
+use Rattle.wsyntax.specs.Validation.ModuleContext.{functions_of, tables_of}
+use Rattle.wsyntax.specs.Validation.Rules.{ElementValid, count_of}
 use Rattle.wsyntax.specs.Binary.Shell.{Shell}
 use Rattle.wsyntax.specs.declared.module.Module.{Module}
 use Rattle.wsyntax.specs.declared.module.ExportKind.{ExportKind}
 use Rattle.wsyntax.specs.declared.module.ExportKind.TheVariants.{Function, Table, Memory, Global}
 use Rattle.wcontext.specs.declared.space_sizes.SpaceSizes.{SpaceSizes}
-use Rattle.wcontext.specs.declared.spaces.Spaces.{Spaces}
 use Rattle.explain_bytes.specs.Shells.{IsItemAt}
 use Rattle.explanation.specs.declared.broken_item.ItemFault.{ItemFault}
 use Rattle.explanation.specs.declared.broken_item.ItemFault.TheVariants.{ElementTable, ElementOffset, ElementFunction}
@@ -20,7 +17,6 @@ use Rattle.explanation.specs.declared.broken_item.BrokenItem.{BrokenItem}
 use Rattle.explain_rules.specs.Rules.{Breaks, BreaksAt, BreaksIn, IsElementFault, TellsElement}
 use Rattle.wcontext.specs.Counted.{AreCountsOf, counted}
 use Rattle.wcontext.specs.Firsts.{IsFirst}
-use Rattle.wcontext.specs.Spaces.{AreSpacesOf}
 
 -- rule 9
 pub count_is : {m : ModuleShape} {c : SpaceSizes} (are : AreCountsOf m c) (k : ExportKind) → counted c k ≡ count_of m k
@@ -28,11 +24,6 @@ count_is are Function = are.functions
 count_is are Table = are.tables
 count_is are Memory = are.memories
 count_is are Global = are.globals
-
--- rule 8: the imported globals stand first
-pub globals_are : {m : ModuleShape} {s : Spaces} (are : AreSpacesOf m s) → take s.imported_globals s.globals.items ≡ imported_globals m
-globals_are {m} {s} are =
-    rw (are.imported_globals, are.globals) (take-append_seam (imported_globals m) (map (λ g. g.global_type) m.globals))
 
 -- rule 12
 told_element : (m : ModuleShape) (position : ℕ) (fault : ItemFault) → TellsElement m position fault → BreaksAt m 12 9 position fault

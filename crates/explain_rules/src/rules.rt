@@ -17,13 +17,15 @@ use wcontext::{SpaceSizes, Spaces};
 use wdecode::{DecodeFault, decode_module};
 use wsyntax::Module;
 
-/// The first item of a module that breaks the rule of that number, which is not that on the names of exports: the id of its section,
-/// its position there, and what is wrong with it.
+/// The first item that breaks a rule: the id of its section, its position there, and what is wrong with it.
+pub(crate) type FirstItem<'a> = Option<(u8, usize, ItemFault<'a>)>;
+
+/// The first item of a module that breaks the rule of that number, which is not that on the names of exports.
 fn item_by_spaces<'a>(
     alloc: Global,
     module: &Module<'a>,
     rule: u32,
-) -> Result<Option<(u8, usize, ItemFault<'a>)>, AllocError>
+) -> Result<FirstItem<'a>, AllocError>
     ensures { IfOk result (λ o. IfSome o (λ x. BreaksAt (module_shape «module».now) rule x.0 x.1 x.2)) }
 {
     let spaces = Spaces::new(alloc, module)?;

@@ -1,8 +1,8 @@
 -- Operands that are taken and others that are found.
-use Rattle.std.proofs.Common.{◌≡◌, inl, inr, ℕ, zero, suc, ◌+◌, ◌-◌, ◌^◌, ◌<◌, ◌≤◌, Bool, true, false, List, [], ◌∷◌, reverse, length, get_or, slice_get, Option, Some, None, refl, sym, ap, ◌∙◌, subst, arith}
-use Rattle.std.proofs.lemmas.List.{get_or-reverse, length-reverse}
+use Rattle.std.proofs.Common.{◌≡◌, inl, inr, ℕ, zero, suc, ◌^◌, ◌<◌, ◌≤◌, Bool, true, false, List, [], ◌∷◌, reverse, length, get_or, slice_get, Option, Some, None, refl, sym, ap, ◌∙◌, subst, arith}
+use Rattle.std.proofs.lemmas.List.{length-reverse}
 use Rattle.std.proofs.lemmas.Option.{slice_get-get_or}
-use Rattle.std.specs.Prelude.{IfSome, IsSomeAnd, slice_range, slice_index_or}
+use Rattle.std.specs.Prelude.{IfSome, IsSomeAnd}
 use Rattle.wsyntax.specs.declared.ValType.{ValType}
 use Rattle.wsyntax.specs.Instructions.{Token, Do, BrTable, Select, OpenBlock, OpenLoop, OpenIf, Else, End}
 use Rattle.wsyntax.specs.Validation.Context.{Context}
@@ -13,18 +13,12 @@ use Rattle.wsyntax.specs.Table.{load_access, store_access}
 use Rattle.wsyntax.specs.Modules.{decoded_as}
 use Rattle.wsyntax.specs.declared.instructions.Token.{Token as Flat}
 use Rattle.wsyntax.specs.declared.instructions.Token.TheVariants as flat
-use Rattle.wcheck.specs.Inspected.{SharesSpaces}
 use Rattle.explanation.specs.declared.cause.Space.{Space}
 use Rattle.explanation.specs.declared.cause.Space.TheVariants.{Labels}
 use Rattle.explanation.specs.declared.cause.Cause.{Cause}
 use Rattle.explanation.specs.declared.cause.Cause.TheVariants as cause
 use Rattle.explain_typing.specs.Typed.{pops, topmost}
 use Rattle.explain_typing.specs.Causes.{IsAlignedTo, IsCause, IsMisfit, Names, TakesAt, UsesMemory, HasJust, operand_at}
-
--- the position from the other end
-pub reversed_position : {A : Type 0} (xs : List A) (k i : ℕ) (x d : A) → k < length xs → i ≡ length xs - 1 - k → x ≡ get_or xs i d → slice_get (reverse xs) k ≡ Some x
-reversed_position xs k i x d lt e h =
-    slice_get-get_or (reverse xs) k d (omega (arith, length-reverse xs, lt)) ∙ ap Some (get_or-reverse xs k d lt ∙ ap (λ z. get_or xs z d) (sym e) ∙ sym h)
 
 -- the first frame has these operands
 abbrev having : Frame → List (Option ValType) → Bool → Frame
@@ -104,15 +98,6 @@ misfit_some C t fs takes finds n r e k le h =
 pub index_some : (C : Context) (fs : List Frame) (t : Token) (space : Space) (x : ℕ) (r : Option Cause) → IfSome r (λ c. (u : Token) → Names u space x → IsCause C u fs c) → Names t space x → IfSome r (IsCause C t fs)
 index_some C fs t space x r h n = some_more (λ c. (u : Token) → Names u space x → IsCause C u fs c) (IsCause C t fs) r (λ y p. p t n) h
 
-pub lack_some : (D C : Context) (fs : List Frame) (targets : List ℕ) (t : Flat) (r : Option Cause) → IfSome r (λ c. (us : List ℕ) (E : Context) (gs : List Frame) → SharesSpaces D E → IsCause E (decoded_as us t) gs c) → SharesSpaces D C
-    → IfSome r (IsCause C (decoded_as targets t) fs)
-lack_some D C fs targets t r h n =
-    some_more (λ c. (us : List ℕ) (E : Context) (gs : List Frame) → SharesSpaces D E → IsCause E (decoded_as us t) gs c) (IsCause C (decoded_as targets t) fs) r (λ y p. p targets C fs n) h
-
-pub aligned_some : (C : Context) (fs : List Frame) (targets : List ℕ) (t : Flat) (r : Option Cause) → IfSome r (λ c. (us : List ℕ) (E : Context) (gs : List Frame) → IsCause E (decoded_as us t) gs c) → IfSome r (IsCause C (decoded_as targets t) fs)
-aligned_some C fs targets t r h =
-    some_more (λ c. (us : List ℕ) (E : Context) (gs : List Frame) → IsCause E (decoded_as us t) gs c) (IsCause C (decoded_as targets t) fs) r (λ y p. p targets C fs) h
-
 pub loads : (t : Flat) (l : Load) (a o : ℕ) (targets : List ℕ) → t ≡ flat.Load l a o → UsesMemory (decoded_as targets t)
 loads t l a o targets e = subst (λ z. UsesMemory (decoded_as targets z)) (sym e) (inl (load_access l a o, inl refl))
 
@@ -124,10 +109,6 @@ load_aligned t l a o n targets e w al = subst (λ z. IsAlignedTo (decoded_as tar
 
 pub store_aligned : (t : Flat) (l : Store) (a o n : ℕ) (targets : List ℕ) → t ≡ flat.Store l a o → ((x y : ℕ) → (store_access l x y).width ≡ 2 ^ n) → ((x y : ℕ) → (store_access l x y).align ≡ x) → IsAlignedTo (decoded_as targets t) a n
 store_aligned t l a o n targets e w al = subst (λ z. IsAlignedTo (decoded_as targets z) a n) (sym e) (store_access l a o, inr refl, al a o, w a o)
-
--- a branch table as its token has it
-pub table_seen : (t : Flat) (targets ls : List ℕ) (first count d : ℕ) → t ≡ flat.BrTable count first → ls ≡ slice_range targets first (first + count) → d ≡ slice_index_or targets (first + count) 0 → Do (BrTable ls d) ≡ decoded_as targets t
-table_seen t targets ls first count d e l k = ap (λ z. Do (BrTable z d)) l ∙ ap (λ z. Do (BrTable (slice_range targets first (first + count)) z)) k ∙ ap (decoded_as targets) (sym e)
 
 -- a label of a branch table
 pub label_named : (ls : List ℕ) (d k l : ℕ) → k < length ls → l ≡ get_or ls k 0 → Names (Do (BrTable ls d)) Labels l

@@ -1,5 +1,5 @@
 -- Each cause alone refuses the token.
-use Rattle.std.proofs.Common.{◌≡◌, inl, inr, ℕ, zero, suc, ◌<◌, ◌≤◌, ◌^◌, Bool, true, false, ◌&&◌, List, [], ◌∷◌, ◌++◌, map, reverse, length, slice_get, Option, Some, None, Result, Ok, Err, IfOk, IfSome, refl, sym, ap, ◌∙◌, subst, arith}
+use Rattle.std.proofs.Common.{◌≡◌, inl, inr, ℕ, zero, suc, ◌<◌, ◌≤◌, ◌^◌, Bool, true, false, ◌&&◌, List, [], ◌∷◌, ◌++◌, map, reverse, length, slice_get, Option, Some, None, refl, sym, ap, ◌∙◌, subst, arith}
 use Rattle.std.specs.Prelude.{nat_le, cond, option_map, IsSomeAnd}
 use Rattle.std.proofs.lemmas.Bool.{lt-leb}
 use Rattle.std.proofs.lemmas.List.{reverse-reverse}
@@ -284,14 +284,7 @@ same_types-true (t ∷ a) (u ∷ b) e =
     let h = both_true (same_type t u) (same_types a b) e in
     let p = same_type-true t u h.0 in let q = same_types-true a b h.1 in cc
 
--- two types that are not equal are not the same
-pub other_type : (t u : ValType) → (t ≡ u → ⊥) → same_type t u ≡ false
-other_type t u ne = go (same_type t u) refl
-  where
-    go : (v : Bool) → same_type t u ≡ v → v ≡ false
-    go true e = absurd (ne (same_type-true t u e))
-    go false e = refl
-
+-- two lists of types that are not equal are not the same
 other_types : (a b : Stack) → (a ≡ b → ⊥) → same_types a b ≡ false
 other_types a b ne = go (same_types a b) refl
   where
@@ -401,9 +394,3 @@ refused C t fs (cause.Alignment align largest) ((m, inr e, ea, en), lt) =
 refused C t fs (cause.Labels label asks others) (ls, d, k, e, h, ha, hb, ne) =
     subst (λ z. step C z fs ≡ None) (sym e) (table_differs C fs ls d k label asks.items others.items h ha hb ne)
 refused C t fs (cause.Select above below) h = subst (λ z. step C z fs ≡ None) (sym h.0) (selects_refused C fs above below h.1 h.2 h.3)
-
--- the same of a cause that may be found
-pub refused_all : {E : Type 0} (C : Context) (t : Token) (fs : List Frame) (r : Result (Option Cause) E) → IfOk r (λ o. IfSome o (IsCause C t fs)) → IfOk r (λ o. IfSome o (λ c. step C t fs ≡ None))
-refused_all C t fs (Ok None) h = h
-refused_all C t fs (Ok (Some c)) h = refused C t fs c h
-refused_all C t fs (Err e) h = h

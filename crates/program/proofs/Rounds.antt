@@ -1,9 +1,9 @@
 -- The lines of a round, and those of rounds one after another.
-use Rattle.std.proofs.Common.{◌≡◌, ◌⊎◌, ℕ, ◌+◌, ◌-◌, ◌<◌, ◌≤◌, Bool, true, false, Bor, List, [], ◌∷◌, ◌++◌, Option, Some, None, Result, Ok, Err, length, map, take, drop, inl, inr, refl, sym, ap, subst, ◌∙◌, arith, append_assoc, append-nil, suc, add-one, drop-cons, get_or, nat_eq}
+use Rattle.std.proofs.Common.{◌≡◌, ◌⊎◌, ℕ, ◌+◌, ◌-◌, ◌<◌, Bool, true, false, Bor, List, [], ◌∷◌, ◌++◌, Option, Some, None, Result, Ok, Err, length, map, take, drop, inl, inr, refl, sym, ap, subst, ◌∙◌, arith, append_assoc, append-nil, suc, add-one, drop-cons, get_or}
 use Rattle.std.specs.Prelude.{IfErr, IfSome, IsSomeAnd, Vec}
 use Rattle.std.specs.declared.alloc.Global.{Global}
-use Rattle.std.proofs.lemmas.Bool.{eq-eqb, ne_eqb}
-use Rattle.std.proofs.lemmas.List.{drop-append-le, drop_all, get_or-map, length-drop, length-map, length-take, length_push, map_push, drop-map, take-append-drop, take-map, take_all, take_more}
+use Rattle.std.proofs.lemmas.Bool.{eq-eqb}
+use Rattle.std.proofs.lemmas.List.{drop_all, get_or-map, length-drop, length-map, length-take, length_push, map_push, drop-map, take-append-drop, take-map, take_all, take_more}
 use Rattle.std.proofs.KnownBytes.{Appends-kept, Appends-nil, Appends-trans}
 use Rattle.std.proofs.Math.Seq.{take-add, take-append-add}
 use Rattle.std.proofs.lemmas.Slice.{between_is}
@@ -234,14 +234,6 @@ name_ends bytes end start i d below is =
     let past : drop (i + 1) (take (i + 1) bytes) ≡ [] = drop_all (i + 1) (take (i + 1) bytes) (omega (arith, length-take (i + 1) bytes)) in
     rw (here, past, is, eq-eqb end end refl) refl
 
-pub name_goes_on : (bytes : List ℕ) (end start i d : ℕ) → i < length bytes → start ≤ i → (get_or bytes i d ≡ end → ⊥)
-    → listed_names end (drop start (take i bytes)) (drop i bytes) ≡ listed_names end (drop start (take (i + 1) bytes)) (drop (i + 1) bytes)
-name_goes_on bytes end start i d below within is =
-    let here : drop i bytes ≡ get_or bytes i d ∷ drop (i + 1) bytes = rw add-one (drop-cons bytes i d below) in
-    let more : drop start (take (i + 1) bytes) ≡ drop start (take i bytes) ++ (get_or bytes i d ∷ []) = ap (drop start) (take_more bytes i d below) ∙ drop-append-le start (take i bytes) (get_or bytes i d ∷ []) (omega (arith, length-take i bytes, below, within)) in
-    let differs : nat_eq (get_or bytes i d) end ≡ false = ne_eqb (get_or bytes i d) end is in
-    rw (here, more, differs) refl
-
 pub round_taken : (holds : List ℕ → Option (List ℕ)) (names : List (List ℕ)) (ts new : List Taken) (t : Taken) (i : ℕ) → new ≡ ts ++ (t ∷ []) → length ts ≡ i → AreTaken holds (take (i + 1) names) (ts ++ (t ∷ [])) → AreTaken holds (take (length new) names) new
 round_taken holds names ts new t i e count h = rw (e, length_push ts t, count) h
 
@@ -335,10 +327,6 @@ files_end holds files a b old mid new o r printed kept (inr e) =
     )
 
 -- the files that names stand for
-
-pub names_alone : (folders : Bool) (lists : List ℕ → Option (List (List ℕ))) (names : List (List ℕ)) (holds : List ℕ → Option (List ℕ)) (a b : Option (List (List ℕ))) (old new : Option (List ℕ)) (r : Result Status ProgramFault)
-    → folders ≡ false → ChecksFiles holds names a b old new r → ChecksNames (IsSpread folders lists names) holds a b old new r
-names_alone folders lists names holds a b old new r e done = inl (names, subst (λ (x : Bool). IsSpread x lists names names) (sym e) refl, done)
 
 files_later : (holds later : List ℕ → Option (List ℕ)) (files : List (List ℕ)) (a b c : Option (List (List ℕ))) (old new : Option (List ℕ)) (r : Result Status ProgramFault) → ((other : List ℕ) → later other ≡ holds other) → ReadsPaths a b [] → ChecksFiles later files b c old new r → ChecksFiles holds files a c old new r
 files_later holds later files a b c old new r same order (inl (o, e, printed)) = inl (o, e, subst (λ (x : FileOutcome). PrintsFiles holds files a c old new x) (worse_none o) (printed_joined holds later [] files a b c old old new Accepted o same (nothing_printed holds a b old order) printed))

@@ -1,8 +1,8 @@
 -- The verdicts on the modules so far.
 use denote.Ref.{Bor}
-use Rattle.std.proofs.Common.{◌≡◌, ℕ, ◌+◌, ◌<◌, ◌≤◌, List, [], ◌∷◌, ◌++◌, Option, Result, Some, None, length, get_or, map, take, sym, ap, subst, ◌∙◌, arith}
+use Rattle.std.proofs.Common.{◌≡◌, ℕ, ◌+◌, ◌<◌, List, [], ◌∷◌, ◌++◌, Option, Result, Some, None, length, get_or, map, take, sym, ap, subst, ◌∙◌, arith}
 use Rattle.std.specs.Prelude.{IfSome, slice_get}
-use Rattle.std.proofs.lemmas.List.{map-append, take_all, take_more}
+use Rattle.std.proofs.lemmas.List.{map-append, take_more}
 use Rattle.std.proofs.lemmas.Option.{same_Some, slice_get-get_or}
 use Rattle.refusal.specs.declared.refusal.Refusal.{Refusal}
 use Rattle.program.specs.Verdicts.{AreFound, AreVerdicts, GivesVerdict, IsJudged}
@@ -32,7 +32,3 @@ pub found_here : (modules : List (Bor (List ℕ))) (found : List (Option (Result
 found_here modules found i d e below all =
     let there : i < length found = omega (arith, all.count, below) in
     given modules i (get_or modules i e) (get_or found i d) (slice_get-get_or modules i e below) (all.each i (get_or found i d) (slice_get-get_or found i d there))
-
--- on all of them
-pub all_settled : (modules : List (Bor (List ℕ))) (k : ℕ) (vs : List (Result (Unit {0}) Refusal)) → length modules ≤ k → AreVerdicts (map (λ b. b.now) (take k modules)) vs → AreVerdicts (map (λ b. b.now) modules) vs
-all_settled modules k vs past h = subst (λ (l : List (Bor (List ℕ))). AreVerdicts (map (λ b. b.now) l) vs) (take_all k modules past) h

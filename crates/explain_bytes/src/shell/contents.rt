@@ -2,16 +2,11 @@
 ghost use Rattle.std.specs.Prelude.{◌≡◌, ℕ, List, Option, IfOk, IfSome};
 ghost use Rattle.explain_bytes.specs.Shells.{Comes, ContentsCome, ItemsCome, Passes, VectorComes, id_of};
 
+use crate::sections::{CUSTOM, START};
 use crate::shell::items::{Items, after_item};
 use crate::shell::primitives::{Stuck, after_index, after_name, number_at};
 use explanation::{SectionPart, Wanted, Wrong};
 use std::alloc::{AllocError, Global};
-
-/// The id of a custom section (5.5.3).
-const CUSTOM: u8 = 0;
-
-/// The id of the section of the start function (5.5.11).
-const START: u8 = 8;
 
 /// A segment that begins with another number than 0, and the bytes from its first on.
 #[derive(Clone, Copy)]

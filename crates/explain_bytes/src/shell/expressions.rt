@@ -6,7 +6,7 @@ ghost use Rattle.explain_bytes.specs.Shells.{IsStuck, Passes, Stands};
 
 use crate::misreads::immediates_stuck;
 use crate::shell::primitives::Stuck;
-use crate::stops::{Halt, halt_in};
+use crate::stops::halt_in;
 use explanation::{Stopped, Wanted, Wrong};
 use std::alloc::{AllocError, Global};
 use wdecode::{Fault, expression_at};
@@ -44,46 +44,17 @@ fn stuck_in<'a>(alloc: Global, bytes: &'a [u8]) -> Stuck<'a>
     requires { expression.read bytes.now ≡ None }
     ensures { IsStuck result }
 {
-    match halt_in(alloc, bytes) {
-        Err(AllocError) => Stuck::Memory,
-        Ok(
-            Some(
-                Halt {
-                    why: Stopped::Token,
-                    rest,
-                    ..
-                },
-            ),
-        ) => stuck_at(rest),
-        Ok(
-            Some(
-                Halt {
-                    why: Stopped::Short,
-                    rest,
-                    ..
-                },
-            ),
-        ) => Stuck::Here {
-            rest,
-            wrong: Wrong::Ends(Wanted::Instruction),
+    let (rest, wrong) = match halt_in(alloc, bytes) {
+        Err(AllocError) => return Stuck::Memory,
+        Ok(None) => (bytes, Wrong::Expression),
+        Ok(Some(halt)) => match halt.why {
+            Stopped::Token => return stuck_at(halt.rest),
+            Stopped::Short => (halt.rest, Wrong::Ends(Wanted::Instruction)),
+            Stopped::Else => (halt.rest, Wrong::Else),
+            _ => (bytes, Wrong::Expression),
         },
-        Ok(
-            Some(
-                Halt {
-                    why: Stopped::Else,
-                    rest,
-                    ..
-                },
-            ),
-        ) => Stuck::Here {
-            rest,
-            wrong: Wrong::Else,
-        },
-        Ok(_) => Stuck::Here {
-            rest: bytes,
-            wrong: Wrong::Expression,
-        },
-    }
+    };
+    Stuck::Here { rest, wrong }
 }
 
 /// The bytes after an expression.

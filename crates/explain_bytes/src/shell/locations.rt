@@ -3,25 +3,11 @@ ghost use Rattle.std.specs.Prelude.{◌≡◌, ℕ, List, ◌∷◌, Some, IfOk,
 ghost use Rattle.explanation.specs.declared.shell_location.SectionPart.TheVariants.{Count, Id};
 ghost use Rattle.explain_bytes.specs.Shells.{AreUnlike, Holds, IsOfId, IsWrong, Stands, TellsLocation, TellsPart, TellsStep};
 
+use crate::sections::{CODE, CUSTOM, DATA, FUNCTION, HEADER};
 use crate::shell::contents::{ContentsEnd, Lapse, LaterSegment, after_contents};
 use crate::shell::primitives::{Stuck, sized_at};
 use explanation::{FoundSection, Location, OtherSegment, SectionPart, Span, Wanted, Wrong};
 use std::alloc::{AllocError, Global};
-
-/// How many bytes the magic and the version are.
-const HEADER: usize = 8;
-
-/// The id of a custom section.
-const CUSTOM: u8 = 0;
-
-/// The id of the section of functions.
-const FUNCTIONS: u8 = 3;
-
-/// The id of the section of bodies.
-const BODIES: u8 = 10;
-
-/// The largest id.
-const LAST: u8 = 11;
 
 /// What the sections up to some offset say.
 #[derive(Clone, Copy)]
@@ -82,7 +68,7 @@ fn told(bytes: &[u8], section: FoundSection, lapse: Lapse<'_>) -> Option<Locatio
 fn wrong_id(id: u8, last: u8) -> Option<Wrong>
     ensures { IfSome result (λ w. IsOfId w × ((bytes : List ℕ) → IsWrong id bytes w)) }
 {
-    if id > LAST {
+    if id > DATA {
         return Some(Wrong::Id);
     }
     if id != CUSTOM && id <= last {
@@ -157,12 +143,12 @@ fn walk_after(walk: Walk, section: FoundSection, contents: &[u8]) -> Walk {
     Walk {
         at: section.span.to,
         last: if id == CUSTOM { last } else { id },
-        functions: if id == FUNCTIONS {
+        functions: if id == FUNCTION {
             first_count(contents)
         } else {
             functions
         },
-        bodies: if id == BODIES {
+        bodies: if id == CODE {
             first_count(contents)
         } else {
             bodies
@@ -176,7 +162,7 @@ fn wrong_count<'a>(walk: Walk, id: u8, contents: &'a [u8]) -> Option<Lapse<'a>>
 {
     let functions = walk.functions;
     let (bodies, _rest) = wnum::front_u32(contents)?;
-    if id != BODIES || bodies == functions {
+    if id != CODE || bodies == functions {
         return None;
     }
     Some(Lapse {

@@ -5,6 +5,7 @@ ghost use Rattle.explain_rules.specs.Rules.{BreaksAt, BreaksIn};
 ghost use Rattle.explain_rules.specs.Exported.{name_at};
 ghost use Rattle.wcontext.specs.Counted.{AreCountsOf};
 
+use super::FirstItem;
 use super::repeats::{Repeat, proposed};
 use explain_bytes::EXPORT;
 use explanation::{BrokenItem, ItemFault};
@@ -16,10 +17,7 @@ use wsyntax::{Export, Module};
 pub(crate) const NAMES_RULE: u32 = 10;
 
 /// The first export that names nothing.
-pub(crate) fn exported_index<'a>(
-    module: &Module<'a>,
-    counts: &SpaceSizes,
-) -> Option<(u8, usize, ItemFault<'a>)>
+pub(crate) fn exported_index<'a>(module: &Module<'a>, counts: &SpaceSizes) -> FirstItem<'a>
     requires { AreCountsOf (module_shape «module».now) counts.now }
     ensures { IfSome result (λ x. BreaksAt (module_shape «module».now) 9 x.0 x.1 x.2) }
 {

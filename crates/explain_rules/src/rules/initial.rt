@@ -6,6 +6,7 @@ ghost use Rattle.wcontext.specs.Counted.{AreCountsOf};
 ghost use Rattle.wcontext.specs.Spaces.{AreSpacesOf};
 ghost use Rattle.explain_rules.specs.Rules.{BreaksAt, IsElementFault, IsInitial};
 
+use super::FirstItem;
 use explain_bytes::{DATA, ELEMENT, GLOBAL};
 use explanation::{Initial, ItemFault};
 use wcontext::{
@@ -40,10 +41,7 @@ fn initial_of(expression: &ConstExpr<'_>, globals: &[GlobalType]) -> Initial
 }
 
 /// The first global whose first value is no constant expression of its type.
-pub(crate) fn global_value<'a>(
-    module: &Module<'_>,
-    spaces: &Spaces,
-) -> Option<(u8, usize, ItemFault<'a>)>
+pub(crate) fn global_value<'a>(module: &Module<'_>, spaces: &Spaces) -> FirstItem<'a>
     requires { AreSpacesOf (module_shape «module».now) spaces.now }
     ensures { IfSome result (λ x. BreaksAt (module_shape «module».now) 8 x.0 x.1 x.2) }
 {
@@ -80,10 +78,7 @@ fn element_fault<'a>(segment: Element<'_>, counts: &SpaceSizes) -> Option<ItemFa
 }
 
 /// The first element segment that is not valid.
-pub(crate) fn element<'a>(
-    module: &Module<'_>,
-    counts: &SpaceSizes,
-) -> Option<(u8, usize, ItemFault<'a>)>
+pub(crate) fn element<'a>(module: &Module<'_>, counts: &SpaceSizes) -> FirstItem<'a>
     requires { AreCountsOf (module_shape «module».now) counts.now }
     ensures { IfSome result (λ x. BreaksAt (module_shape «module».now) 12 x.0 x.1 x.2) }
 {
@@ -92,10 +87,7 @@ pub(crate) fn element<'a>(
 }
 
 /// The first data segment that is not valid.
-pub(crate) fn data<'a>(
-    module: &Module<'_>,
-    counts: &SpaceSizes,
-) -> Option<(u8, usize, ItemFault<'a>)>
+pub(crate) fn data<'a>(module: &Module<'_>, counts: &SpaceSizes) -> FirstItem<'a>
     requires { AreCountsOf (module_shape «module».now) counts.now }
     ensures { IfSome result (λ x. BreaksAt (module_shape «module».now) 13 x.0 x.1 x.2) }
 {

@@ -6,6 +6,7 @@ ghost use Rattle.wsyntax.specs.Validation.ModuleContext.{imported_memories, impo
 ghost use Rattle.explain_rules.specs.Rules.{BreaksAt, IsPlaceOf};
 ghost use Rattle.wcontext.specs.Spaces.{AreSpacesOf};
 
+use super::FirstItem;
 use crate::imported::import_of;
 use explain_bytes::{FUNCTION, IMPORT, MEMORY, TABLE};
 use explanation::ItemFault;
@@ -16,10 +17,7 @@ use wcontext::{
 use wsyntax::{ExportKind, Module};
 
 /// The first imported function whose type does not exist.
-pub(crate) fn imported_type<'a>(
-    module: &Module<'_>,
-    spaces: &Spaces,
-) -> Option<(u8, usize, ItemFault<'a>)>
+pub(crate) fn imported_type<'a>(module: &Module<'_>, spaces: &Spaces) -> FirstItem<'a>
     requires { AreSpacesOf (module_shape «module».now) spaces.now }
     ensures { IfSome result (λ x. BreaksAt (module_shape «module».now) 2 x.0 x.1 x.2) }
 {
@@ -34,10 +32,7 @@ pub(crate) fn imported_type<'a>(
 }
 
 /// The first defined function whose type does not exist.
-pub(crate) fn defined_type<'a>(
-    module: &Module<'_>,
-    spaces: &Spaces,
-) -> Option<(u8, usize, ItemFault<'a>)>
+pub(crate) fn defined_type<'a>(module: &Module<'_>, spaces: &Spaces) -> FirstItem<'a>
     requires { AreSpacesOf (module_shape «module».now) spaces.now }
     ensures { IfSome result (λ x. BreaksAt (module_shape «module».now) 3 x.0 x.1 x.2) }
 {
@@ -88,10 +83,7 @@ fn memory_location(module: &Module<'_>, spaces: &Spaces, memory: usize) -> Optio
 }
 
 /// The first table whose limits are not in order.
-pub(crate) fn table_limits<'a>(
-    module: &Module<'_>,
-    spaces: &Spaces,
-) -> Option<(u8, usize, ItemFault<'a>)>
+pub(crate) fn table_limits<'a>(module: &Module<'_>, spaces: &Spaces) -> FirstItem<'a>
     requires { AreSpacesOf (module_shape «module».now) spaces.now }
     ensures { IfSome result (λ x. BreaksAt (module_shape «module».now) 4 x.0 x.1 x.2) }
 {
@@ -102,27 +94,18 @@ pub(crate) fn table_limits<'a>(
 }
 
 /// The first memory whose limits are not in order, or not within 65,536 pages.
-pub(crate) fn memory_limits<'a>(
-    module: &Module<'_>,
-    spaces: &Spaces,
-) -> Option<(u8, usize, ItemFault<'a>)>
+pub(crate) fn memory_limits<'a>(module: &Module<'_>, spaces: &Spaces) -> FirstItem<'a>
     requires { AreSpacesOf (module_shape «module».now) spaces.now }
     ensures { IfSome result (λ x. BreaksAt (module_shape «module».now) 5 x.0 x.1 x.2) }
 {
     let (memory, limits) = first_unlimited_memory(module, spaces)?;
     let (section, position) = memory_location(module, spaces, memory)?;
-    Some((
-        section,
-        position,
-        ItemFault::MemoryLimits { memory, limits },
-    ))
+    let fault = ItemFault::MemoryLimits { memory, limits };
+    Some((section, position, fault))
 }
 
 /// The second table.
-pub(crate) fn second_table<'a>(
-    module: &Module<'_>,
-    spaces: &Spaces,
-) -> Option<(u8, usize, ItemFault<'a>)>
+pub(crate) fn second_table<'a>(module: &Module<'_>, spaces: &Spaces) -> FirstItem<'a>
     requires { AreSpacesOf (module_shape «module».now) spaces.now }
     ensures { IfSome result (λ x. BreaksAt (module_shape «module».now) 6 x.0 x.1 x.2) }
 {
@@ -135,10 +118,7 @@ pub(crate) fn second_table<'a>(
 }
 
 /// The second memory.
-pub(crate) fn second_memory<'a>(
-    module: &Module<'_>,
-    spaces: &Spaces,
-) -> Option<(u8, usize, ItemFault<'a>)>
+pub(crate) fn second_memory<'a>(module: &Module<'_>, spaces: &Spaces) -> FirstItem<'a>
     requires { AreSpacesOf (module_shape «module».now) spaces.now }
     ensures { IfSome result (λ x. BreaksAt (module_shape «module».now) 7 x.0 x.1 x.2) }
 {

@@ -4,6 +4,7 @@ ghost use Rattle.wsyntax.specs.Modules.{module_shape};
 ghost use Rattle.explain_rules.specs.Rules.{BreaksAt};
 ghost use Rattle.wcontext.specs.Spaces.{AreSpacesOf};
 
+use super::FirstItem;
 use explain_bytes::START;
 use explanation::{FunctionSignature, ItemFault};
 use std::alloc::{AllocError, Global};
@@ -43,7 +44,7 @@ pub(crate) fn start<'a>(
     alloc: Global,
     module: &Module<'_>,
     spaces: &Spaces,
-) -> Result<Option<(u8, usize, ItemFault<'a>)>, AllocError>
+) -> Result<FirstItem<'a>, AllocError>
     requires { AreSpacesOf (module_shape «module».now) spaces.now }
     ensures { IfOk result (λ o. IfSome o (λ x. BreaksAt (module_shape «module».now) 11 x.0 x.1 x.2)) }
 {
