@@ -203,7 +203,7 @@ func TestExplanationOfAMalformedBody(t *testing.T) {
 	if _, hasItem := found.Item(); section != 10 || !hasSection || opcode != 0xfc || !hasOpcode || hasItem {
 		t.Error(section, hasSection, opcode, hasOpcode, hasItem)
 	}
-	if found.Line("hint") != "build the module with -mcpu=mvp, in Rust with -C target-cpu=mvp (docs/GUESTS.md)" || found.Line("hin") != "" {
+	if found.Line("hint") != "build the module with -mcpu=mvp, in Rust for wasm32v1-none; in text do without it (docs/GUESTS.md)" || found.Line("hin") != "" {
 		t.Error(found.Text)
 	}
 }

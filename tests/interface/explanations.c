@@ -58,7 +58,7 @@ static void explanations_as_texts(void) {
     explanation(FILL, GATE_MODULE_REFUSED,
                 "refused body 0 malformed\nfunction  0, [] -> [], bytes 22 to 26\ntoken     0, byte 23 (0x17)\n"
                 "because   fc 0b is memory.fill, of bulk memory (Core 2.0), which gate does not admit\n"
-                "hint      build the module with -mcpu=mvp, in Rust with -C target-cpu=mvp (docs/GUESTS.md)\n");
+                "hint      build the module with -mcpu=mvp, in Rust for wasm32v1-none; in text do without it (docs/GUESTS.md)\n");
 }
 
 void explanations(void) {

@@ -71,14 +71,14 @@ The first line is that of `gate check`. The others, where the module is refused,
     function  26 \"fill\", exported as \"fill\", [i32 i32] -> [], bytes 262 to 280
     token     5, byte 274 (0x112)
     because   fc 0b is memory.fill, of bulk memory (Core 2.0), which gate does not admit
-    hint      build the module with -mcpu=mvp, in Rust with -C target-cpu=mvp (docs/GUESTS.md)
+    hint      build the module with -mcpu=mvp, in Rust for wasm32v1-none; in text do without it (docs/GUESTS.md)
 
 Tokens and functions count from 0, and bytes are offsets in the file. New keys may come.
 
 With CALLS, of an accepted module the text of calls is read too, and what is wrong with it is told:
 
     accepted
-    calls     line 1 word 2 \"i32:0x10\" is no decimal number
+    calls     line 1 argument 1 \"i32:0x10\" is no decimal number; write i32:16
 
 The status is that of `gate check`; with CALLS it is that of `gate run`.";
 

@@ -1,5 +1,5 @@
 -- 5.5 Where reading a module stops that is malformed outside its bodies.
-use Rattle.std.specs.Prelude.{◌≡◌, ◌≢◌, ◌⊎◌, ◌<◌, ◌≤◌, ◌-◌, ℕ, zero, suc, List, [], ◌∷◌, length, drop, Option, Some, None, IfSome, slice_get, Result, Ok, Err, false}
+use Rattle.std.specs.Prelude.{◌≡◌, ◌≢◌, ◌⊎◌, ◌<◌, ◌≤◌, ◌-◌, ℕ, zero, suc, List, [], ◌∷◌, length, drop, Option, Some, None, IfSome, slice_get, Result, Ok, Err, false, ◌==◌, if◌then◌else◌}
 use Rattle.std.specs.Borrow.{Bor}
 use Rattle.std.specs.List.{between}
 use Rattle.std.specs.Str.{is_utf8}
@@ -218,10 +218,14 @@ ContentsCome id contents (outcome.Stopped l) = IsUnread id contents l.part × St
 
 -- ---- the location
 
+-- 5.5.2 the least id of the sections before which one of that id stands, itself apart: in later standards a data count before the bodies, and tags before the globals
+abbrev pub place_of : ℕ → ℕ
+place_of id = if id == 12 then 10 else (if id == 13 then 6 else id)
+
 -- what is wrong there is so beyond what its bytes tell: the id is too large or comes too late, or another number of bodies than of functions is read there
 abbrev pub Otherwise : ℕ → Wrong → List ℕ → Type 0
 Otherwise id wrong.Id bytes = 11 < id
-Otherwise id (wrong.Order last) bytes = id ≤ last
+Otherwise id (wrong.Order last) bytes = place_of id ≤ last
 Otherwise id (wrong.Size says takes) bytes = Unit {0}
 Otherwise id (wrong.Counts functions bodies) bytes = (functions ≢ bodies) × (rest : List ℕ) × (u32.read bytes ≡ Some (bodies, rest))
 Otherwise id _ bytes = ⊥

@@ -18,6 +18,8 @@ pub use item_offsets::item_offset;
 pub use locations::{find_token, offset_of};
 pub use misreads::{Misread, misread_locals, misread_token};
 pub use names::name_of;
-pub use sections::{DATA, ELEMENT, EXPORT, FUNCTION, GLOBAL, IMPORT, MEMORY, START, TABLE};
+pub use sections::{
+    DATA, DATA_COUNT, ELEMENT, EXPORT, FUNCTION, GLOBAL, IMPORT, MEMORY, START, TABLE, TAG,
+};
 pub use shell::locations::location_of;
 pub use stops::stop_of;

@@ -24,3 +24,8 @@ pub const ELEMENT: u8 = 9;
 pub(crate) const CODE: u8 = 10;
 
 pub const DATA: u8 = 11;
+
+/// Those of later standards.
+pub const DATA_COUNT: u8 = 12;
+
+pub const TAG: u8 = 13;

@@ -7,6 +7,7 @@
 mod calls_misfit;
 mod calls_text;
 mod exports_text;
+mod meant;
 mod starting;
 mod starting_text;
 

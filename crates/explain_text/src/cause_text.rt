@@ -5,7 +5,7 @@ use crate::sentence::Word::{
 };
 use crate::sentence::{Word, say};
 use crate::token_text::push_instruction;
-use explanation::{Cause, FoundToken, Space};
+use explanation::{Cause, FoundToken, Space, Typing};
 use std::alloc::AllocError;
 use wsyntax::Token;
 
@@ -52,12 +52,22 @@ fn push_subject(text: &mut String, found: &FoundToken, cause: &Cause) -> Result<
 fn cause_sentence(cause: &Cause) -> &'static str {
     match cause {
         Cause::Operand { .. } => " takes {}{}, and finds {}",
-        Cause::Missing { position: 0, .. } => " takes {}, and the stack of the block is empty",
-        Cause::Missing { position: 1, .. } => " takes {}{}, and the block has {} operand",
-        Cause::Missing { .. } => " takes {}{}, and the block has {} operands",
+        Cause::Missing { position: 0, .. } => " takes {}, and {} stack is empty",
+        Cause::Missing { position: 1, .. } => " takes {}{}, and {} stack has {} operand",
+        Cause::Missing { .. } => " takes {}{}, and {} stack has {} operands",
         Cause::LeftOver { count: 1 } => "{} operand is left over at {}",
         Cause::LeftOver { .. } => "{} operands are left over at {}",
-        Cause::NoElse(_) => "the if has no else, and its type {} gives other types than it takes",
+        Cause::NoElse(_) =>
+            "the if has no else, and its type {} gives other types than it takes: add an else",
+        Cause::NoIndex {
+            space: Space::Labels,
+            count: 1,
+            ..
+        } => " does not exist: there is label 0 alone",
+        Cause::NoIndex {
+            space: Space::Labels,
+            ..
+        } => " does not exist: there are labels 0 to {}",
         Cause::NoIndex { count: 1, .. } => " does not exist: there is {} {}",
         Cause::NoIndex { .. } => " does not exist: there are {} {}s",
         Cause::Immutable { .. } => "global {} is immutable",
@@ -70,8 +80,8 @@ fn cause_sentence(cause: &Cause) -> &'static str {
     }
 }
 
-/// The words that it wants.
-fn cause_words<'a>(opcode: u8, cause: &'a Cause) -> [Word<'a>; 3] {
+/// The words that it wants; of operands that are missing, with those that say whose stack it is.
+fn cause_words<'a>(opcode: u8, cause: &'a Cause, owner: &'static str) -> [Word<'a>; 4] {
     match cause {
         Cause::Operand {
             position,
@@ -81,18 +91,45 @@ fn cause_words<'a>(opcode: u8, cause: &'a Cause) -> [Word<'a>; 3] {
             Operand(Some(*wanted)),
             Place(*position),
             Operand(Some(*found)),
+            Empty,
         ],
-        Cause::Missing { position, wanted } => {
-            [Operand(*wanted), Place(*position), Number(*position)]
-        }
-        Cause::LeftOver { count } => [Number(*count), Opcode(opcode), Empty],
-        Cause::NoElse(signature) => [Signature(signature), Empty, Empty],
-        Cause::NoIndex { space, count, .. } => [Number(*count), Text(space_name(*space)), Empty],
-        Cause::Immutable { global } => [Index(*global), Empty, Empty],
-        Cause::NoMemory | Cause::NoTable => [Empty; 3],
-        Cause::Alignment { align, largest } => [Power(*align), Power(*largest), Empty],
-        Cause::Labels { takes, others, .. } => [Types(takes), Types(others), Empty],
-        Cause::Select { above, below } => [Type(*below), Type(*above), Empty],
+        Cause::Missing {
+            position: 0,
+            wanted,
+        } => [Operand(*wanted), Text(owner), Empty, Empty],
+        Cause::Missing { position, wanted } => [
+            Operand(*wanted),
+            Place(*position),
+            Text(owner),
+            Number(*position),
+        ],
+        Cause::LeftOver { count } => [Number(*count), Opcode(opcode), Empty, Empty],
+        Cause::NoElse(signature) => [Signature(signature), Empty, Empty, Empty],
+        Cause::NoIndex {
+            space: Space::Labels,
+            count,
+            ..
+        } => [Number(count.saturating_sub(1)), Empty, Empty, Empty],
+        Cause::NoIndex { space, count, .. } => [
+            Number(*count),
+            Text(space_name(*space)),
+            Empty,
+            Empty,
+        ],
+        Cause::Immutable { global } => [Index(*global), Empty, Empty, Empty],
+        Cause::NoMemory | Cause::NoTable => [Empty; 4],
+        Cause::Alignment { align, largest } => [Power(*align), Power(*largest), Empty, Empty],
+        Cause::Labels { takes, others, .. } => [Types(takes), Types(others), Empty, Empty],
+        Cause::Select { above, below } => [Type(*below), Type(*above), Empty, Empty],
+    }
+}
+
+/// Whose stack the token takes its operands from.
+fn owner_of(typing: &Option<Typing>) -> &'static str {
+    match typing {
+        Some(typing) if typing.within.is_empty() => "the function's",
+        Some(_) => "the block's",
+        None => "its",
     }
 }
 
@@ -100,6 +137,7 @@ fn cause_words<'a>(opcode: u8, cause: &'a Cause) -> [Word<'a>; 3] {
 pub(crate) fn push_cause(
     text: &mut String,
     found: &FoundToken,
+    typing: &Option<Typing>,
     cause: &Cause,
 ) -> Result<(), AllocError> {
     text.push_str("because   ")?;
@@ -107,7 +145,7 @@ pub(crate) fn push_cause(
     say(
         text,
         cause_sentence(cause),
-        &cause_words(found.opcode, cause),
+        &cause_words(found.opcode, cause, owner_of(typing)),
     )?;
     text.push_str("\n")
 }

@@ -75,7 +75,9 @@ pub(crate) enum Feature {
     BulkMemory,
     ReferenceTypes,
     Vectors,
+    RelaxedVectors,
     Exceptions,
+    LegacyExceptions,
     TailCalls,
     FunctionReferences,
     GarbageCollection,
@@ -90,7 +92,9 @@ impl Feature {
             Feature::BulkMemory => "bulk memory (Core 2.0)",
             Feature::ReferenceTypes => "reference types (Core 2.0)",
             Feature::Vectors => "vector instructions (Core 2.0)",
+            Feature::RelaxedVectors => "relaxed vector instructions (Core 3.0)",
             Feature::Exceptions => "exception handling (Core 3.0)",
+            Feature::LegacyExceptions => "legacy exception handling (a proposal)",
             Feature::TailCalls => "tail calls (Core 3.0)",
             Feature::FunctionReferences => "typed function references (Core 3.0)",
             Feature::GarbageCollection => "garbage collection (Core 3.0)",
@@ -105,7 +109,6 @@ impl Feature {
             Feature::SaturatingTruncation
                 | Feature::BulkMemory
                 | Feature::ReferenceTypes
-                | Feature::Vectors
                 | Feature::TailCalls
         )
     }
@@ -137,7 +140,8 @@ pub(crate) fn name_of_later(byte: u8) -> &'static str {
 /// What the instructions are of whose opcode begins with that byte, `fc` apart, where `gate` admits none.
 pub(crate) fn feature_of_byte(byte: u8) -> Option<Feature> {
     match byte {
-        0x06..=0x0A | 0x18 | 0x19 | 0x1F => Some(Feature::Exceptions),
+        0x06 | 0x07 | 0x09 | 0x18 | 0x19 => Some(Feature::LegacyExceptions),
+        0x08 | 0x0A | 0x1F => Some(Feature::Exceptions),
         0x12 | 0x13 => Some(Feature::TailCalls),
         0x14 | 0x15 | 0xD4..=0xD6 => Some(Feature::FunctionReferences),
         0x1C | 0x25 | 0x26 | 0xD0..=0xD2 => Some(Feature::ReferenceTypes),

@@ -53,15 +53,19 @@ fn push_limits(text: &mut String, limits: Limits, range: u32) -> Result<(), Allo
 fn initial_sentence(initial: Initial) -> &'static str {
     match initial {
         Initial::Constant(_) => "{}.const, {} is wanted",
-        Initial::Other => "neither one constant nor one global.get",
+        Initial::Other =>
+            "neither one constant nor one global.get; longer ones are extended constants (Core 3.0)",
         Initial::Get {
             gets: Some(found),
             ..
         } if found.mutable => "global.get {}, which is mutable",
         Initial::Get { gets: Some(_), .. } => "global.get {} of type {}, {} is wanted",
-        Initial::Get { imported: 0, .. } => "global.get {}, and no global is imported",
-        Initial::Get { imported: 1, .. } => "global.get {}, and {} global is imported",
-        Initial::Get { .. } => "global.get {}, and {} globals are imported",
+        Initial::Get { imported: 0, .. } =>
+            "global.get {}; only imported globals may be read there, and there is none",
+        Initial::Get { imported: 1, .. } =>
+            "global.get {}; only imported globals may be read there, and there is {}",
+        Initial::Get { .. } =>
+            "global.get {}; only imported globals may be read there, and there are {}",
     }
 }
 
@@ -89,13 +93,16 @@ fn fault_sentence(fault: &ItemFault<'_>) -> &'static str {
         ItemFault::DefinedType { .. } => "function {} has type {}{}",
         ItemFault::TableLimits { .. } => "table {}",
         ItemFault::MemoryLimits { .. } => "memory {}",
-        ItemFault::SecondTable { .. } => "there are {} tables, and at most 1 is allowed",
-        ItemFault::SecondMemory { .. } => "there are {} memories, and at most 1 is allowed",
+        ItemFault::SecondTable { .. } =>
+            "there are {} tables, and at most 1 is allowed; more are of reference types (Core 2.0)",
+        ItemFault::SecondMemory { .. } =>
+            "there are {} memories, and at most 1 is allowed; more are of Core 3.0",
         ItemFault::GlobalValue { .. } => "global {}: its initial value is ",
         ItemFault::ExportedIndex { .. } => " names {} {}{}",
         ItemFault::ExportedName { .. } => " has the name of export {}",
         ItemFault::StartMissing { .. } => "the start function is {}{}",
-        ItemFault::StartTyped { .. } => "the start function {} has type {}",
+        ItemFault::StartTyped { .. } =>
+            "the start function {} has type {}; it may have no parameters and no results",
         ItemFault::ElementTable { .. } => " is of table {}{}",
         ItemFault::ElementFunction { .. } => ": its entry {} is function {}{}",
         ItemFault::DataMemory { .. } => " is of memory {}{}",
@@ -166,6 +173,20 @@ fn push_positioned(text: &mut String, item: &BrokenItem<'_>) -> Result<(), Alloc
     }
 }
 
+/// The line on what to do.
+fn item_hint(fault: &ItemFault<'_>) -> &'static str {
+    match fault {
+        ItemFault::GlobalValue {
+            initial: Initial::Other,
+            ..
+        }
+        | ItemFault::ElementOffset(Initial::Other)
+        | ItemFault::DataOffset(Initial::Other) =>
+            "hint      build the module with -mno-extended-const; in text give one constant (docs/GUESTS.md)\n",
+        _ => "",
+    }
+}
+
 /// The lines on an item that breaks a rule.
 pub(crate) fn push_broken_item(text: &mut String, item: &BrokenItem<'_>) -> Result<(), AllocError> {
     let (name, number) = broken_name(item);
@@ -190,5 +211,6 @@ pub(crate) fn push_broken_item(text: &mut String, item: &BrokenItem<'_>) -> Resu
         }
         _ => {}
     }
-    text.push_str("\n")
+    text.push_str("\n")?;
+    text.push_str(item_hint(&item.fault))
 }

@@ -1,16 +1,23 @@
 //! Where reading a module stopped that is malformed outside its bodies, and why, in words.
 
-use crate::opcode_names::{feature_of_byte, name_of_later, named_after_fc};
+use crate::opcode_names::{Feature, feature_of_byte, name_of_later, named_after_fc};
 use crate::sentence::Word::{Address, Empty, Hex, Index, Number, Text};
 use crate::sentence::{Word, say};
 use crate::shell_words::{
     Later, Origin, item_name, later_byte, later_section, later_segment, section_name, wanted_bytes,
 };
+use explain_bytes::{DATA_COUNT, TAG};
 use explanation::{FoundSection, Location, OtherSegment, SectionPart, Span, Wanted, Wrong};
 use std::alloc::AllocError;
 
-/// The first byte of the opcodes that a number follows.
-pub(crate) const FC: u8 = 0xFC;
+/// The first byte of opcodes that a number follows, most of them of Core 2.0.
+const FC: u8 = 0xFC;
+
+/// The first byte of the opcodes of vectors, which a number follows.
+const FD: u8 = 0xFD;
+
+/// The first such number of relaxed ones.
+const FIRST_RELAXED: u32 = 0x100;
 
 /// The line on the section.
 fn push_section(text: &mut String, section: FoundSection) -> Result<(), AllocError> {
@@ -53,28 +60,40 @@ fn push_part(text: &mut String, location: Location) -> Result<(), AllocError> {
     say(text, ", byte {} ({})\n", &at)
 }
 
+/// How to do without it.
+fn push_hint(text: &mut String, origin: Origin) -> Result<(), AllocError> {
+    match origin.hint() {
+        None => Ok(()),
+        Some(hint) => say(text, "hint      build the module {}\n", &[Text(hint)]),
+    }
+}
+
 /// What is not admitted, after what it is, and how to do without it.
 fn push_origin(text: &mut String, origin: Origin) -> Result<(), AllocError> {
-    let (sentence, hint) = match origin.hint() {
-        None => (", of {}, which gate does not admit\n", ""),
-        Some(hint) => (
-            ", of {}, which gate does not admit\nhint      build the module {}\n",
-            hint,
-        ),
-    };
-    say(text, sentence, &[Text(origin.words()), Text(hint)])
+    let sentence = ", of {}, which gate does not admit\n";
+    say(text, sentence, &[Text(origin.words())])?;
+    push_hint(text, origin)
+}
+
+/// Another byte than 00, where something of later standards may stand.
+fn push_reserved(text: &mut String, found: u8, later: Later) -> Result<(), AllocError> {
+    let (name, origin) = later;
+    let words = [Hex(found as u32), Text(origin.words()), Text(name)];
+    say(text, "00 is wanted, not {}; {} have {} there\n", &words)?;
+    push_hint(text, origin)
 }
 
 /// The instruction of that opcode where `gate` does not admit it; its name is empty where further bytes name it.
 fn later_instruction(first: u8, number: Option<u32>) -> Option<Later> {
     let (name, feature) = match number {
         Some(number) if first == FC => named_after_fc(number)?,
+        Some(number) if first == FD && number >= FIRST_RELAXED => ("", Feature::RelaxedVectors),
         _ => (name_of_later(first), feature_of_byte(first)?),
     };
     Some((name, Origin::Of(feature)))
 }
 
-/// What is known of an opcode, after its bytes: of the first, and of the number behind `fc`.
+/// What is known of an opcode, after its bytes: of the first, and of the number behind it.
 pub(crate) fn push_opcode(
     text: &mut String,
     first: u8,
@@ -106,6 +125,9 @@ fn push_other_byte(text: &mut String, wanted: Wanted, found: u8) -> Result<(), A
         return say(text, "{} is not {}; {}\n", &words);
     };
     let sentence = match wanted {
+        Wanted::TableByte | Wanted::MemoryByte => {
+            return push_reserved(text, found, (name, origin));
+        }
         Wanted::MemoryFlags | Wanted::TableFlags => "the flags {} are {}",
         _ => "the byte {} is {}",
     };
@@ -141,6 +163,10 @@ fn wrong_sentence(wrong: Wrong, id: u8) -> &'static str {
         Wrong::Beyond { .. } => "{} is {}, and {} bytes are left\n",
         Wrong::NoText { .. } => "the name there, of size {}, is not UTF-8\n",
         Wrong::Order { last } if last == id => "it is a second section {}\n",
+        Wrong::Order { .. } if id == DATA_COUNT =>
+            "it follows section {}, and a data count section (Core 2.0) stands before section 10\n",
+        Wrong::Order { .. } if id == TAG =>
+            "it follows section {}, and a tag section (Core 3.0) stands before section 6\n",
         Wrong::Order { .. } =>
             "it follows section {}, and sections stand in the order of their ids\n",
         Wrong::Size { says: 1, .. } => "section {} says {} byte, and its items take {}\n",

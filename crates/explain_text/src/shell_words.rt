@@ -3,10 +3,27 @@
 use crate::opcode_names::Feature;
 use explanation::Wanted;
 
+/// How to build a module of Core 1.0 alone, and what an author of text does.
+const OF_CORE_1: &str =
+    "with -mcpu=mvp, in Rust for wasm32v1-none; in text do without it (docs/GUESTS.md)";
+
+/// The same, where a segment is passive.
+const ACTIVE: &str =
+    "with -mcpu=mvp, in Rust for wasm32v1-none; in text give each segment an offset (docs/GUESTS.md)";
+
+/// How to build a module without vectors.
+const NO_VECTORS: &str =
+    "with -mcpu=mvp, without -msimd128, in Rust for wasm32v1-none; in text use no v128 (docs/GUESTS.md)";
+
+/// How to build a module without exceptions.
+const NO_EXCEPTIONS: &str =
+    "with -fno-exceptions, in Rust with -C panic=abort; in text do without it (docs/GUESTS.md)";
+
 /// What something of a later standard is of.
 #[derive(Clone, Copy, PartialEq, Eq)]
 pub(crate) enum Origin {
     Of(Feature),
+    Passive,
     Memory64,
     Memories,
     PageSizes,
@@ -17,6 +34,7 @@ impl Origin {
     pub(crate) fn words(self) -> &'static str {
         match self {
             Origin::Of(feature) => feature.words(),
+            Origin::Passive => Feature::BulkMemory.words(),
             Origin::Memory64 => "64-bit addresses (Core 3.0)",
             Origin::Memories => "several memories (Core 3.0)",
             Origin::PageSizes => "custom page sizes (a proposal)",
@@ -27,9 +45,10 @@ impl Origin {
     pub(crate) fn hint(self) -> Option<&'static str> {
         match self {
             Origin::Of(Feature::Threads) => Some("without -pthread and --shared-memory"),
-            Origin::Of(feature) if feature.is_left_out_by_mvp() => {
-                Some("with -mcpu=mvp, in Rust with -C target-cpu=mvp (docs/GUESTS.md)")
-            }
+            Origin::Of(Feature::Vectors | Feature::RelaxedVectors) => Some(NO_VECTORS),
+            Origin::Of(Feature::Exceptions | Feature::LegacyExceptions) => Some(NO_EXCEPTIONS),
+            Origin::Of(feature) if feature.is_left_out_by_mvp() => Some(OF_CORE_1),
+            Origin::Passive => Some(ACTIVE),
             Origin::Memory64 => Some("with --target=wasm32 (docs/GUESTS.md)"),
             _ => None,
         }
@@ -166,8 +185,8 @@ pub(crate) fn later_byte(wanted: Wanted, byte: u8) -> Option<Later> {
     let (name, feature) = match wanted {
         Wanted::MemoryFlags => return later_flags(byte, true),
         Wanted::TableFlags => return later_flags(byte, false),
-        Wanted::MemoryByte => return Some(("that of an index of a memory", Origin::Memories)),
-        Wanted::TableByte => ("that of an index of a table", Feature::ReferenceTypes),
+        Wanted::MemoryByte => return Some(("an index of a memory", Origin::Memories)),
+        Wanted::TableByte => ("an index of a table", Feature::ReferenceTypes),
         Wanted::ElementType if byte == 0x40 => (
             "that of a table with a first value",
             Feature::FunctionReferences,
@@ -197,7 +216,7 @@ pub(crate) fn later_segment(id: u8, first: u32) -> Option<Later> {
     let bulk = Origin::Of(Feature::BulkMemory);
     let references = Origin::Of(Feature::ReferenceTypes);
     match (id, first) {
-        (9 | 11, 1) => Some(("a passive one", bulk)),
+        (9 | 11, 1) => Some(("a passive one", Origin::Passive)),
         (9, 2) => Some(("one that names its table", bulk)),
         (9, 3) => Some(("a declarative one", references)),
         (9, 4) => Some(("one of expressions", references)),

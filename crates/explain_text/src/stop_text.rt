@@ -1,18 +1,18 @@
 //! Why reading a malformed body stopped, in words.
 
-use crate::sentence::Word::{Address, Bytes, Number, Opcode};
+use crate::sentence::Word::{Address, Bytes, Index, Number, Opcode};
 use crate::sentence::say;
-use crate::shell_text::{FC, push_opcode, push_wrong};
+use crate::shell_text::{push_opcode, push_wrong};
 use explain_bytes::{Misread, misread_locals, misread_token};
 use explanation::{StopLocation, Stopped};
 use std::alloc::AllocError;
 
-/// The number after the byte `fc` that the bytes begin with, and the bytes of both.
-fn number_after_fc(bytes: &[u8]) -> Option<(u32, &[u8])> {
-    let [FC, rest @ ..] = bytes else {
+/// The number after that first byte of the bytes, where it is one that a number follows, and the bytes of both.
+fn number_after(first: u8, bytes: &[u8]) -> Option<(u32, &[u8])> {
+    if !matches!(first, 0xFB..=0xFE) {
         return None;
-    };
-    let (number, after) = wnum::front_u32(rest)?;
+    }
+    let (number, after) = wnum::front_u32(bytes.get(1..)?)?;
     let opcode = bytes.get(..bytes.len().saturating_sub(after.len()))?;
     Some((number, opcode))
 }
@@ -29,9 +29,9 @@ fn push_no_token(text: &mut String, at: usize, bytes: &[u8]) -> Result<(), Alloc
     let [first, ..] = bytes else {
         return Ok(());
     };
-    if let Some((number, opcode)) = number_after_fc(bytes) {
+    if let Some((number, opcode)) = number_after(*first, bytes) {
         say(text, "because   {}", &[Bytes(opcode)])?;
-        return push_opcode(text, FC, Some(number));
+        return push_opcode(text, *first, Some(number));
     }
     write!(text, "because   {first:02x}")?;
     match misread_token(bytes) {
@@ -43,12 +43,41 @@ fn push_no_token(text: &mut String, at: usize, bytes: &[u8]) -> Result<(), Alloc
     }
 }
 
+/// The run of declared locals with which their number reaches 2^32: its position, and the offset of its first byte.
+fn full_run(body: &[u8]) -> Option<(u32, usize)> {
+    let (count, mut rest) = wnum::front_u32(body)?;
+    let mut total: u64 = 0;
+    for position in 0..count {
+        let (more, after) = wnum::front_u32(rest)?;
+        total = total.saturating_add(more as u64);
+        if total > u32::MAX as u64 {
+            return Some((position, body.len().saturating_sub(rest.len())));
+        }
+        rest = after.get(1..)?;
+    }
+    None
+}
+
+/// That declared locals are too many to be read, in a body that begins at that offset.
+fn push_full_run(text: &mut String, at: usize, body: &[u8]) -> Result<(), AllocError> {
+    let Some((position, from)) = full_run(body) else {
+        return text.push_str("\n");
+    };
+    let offset = at.saturating_add(from);
+    let words = [Number(offset), Address(offset), Index(position)];
+    say(
+        text,
+        "; byte {} ({}): with run {} they are 2^32 or more\n",
+        &words,
+    )
+}
+
 /// Why the locals cannot be read of a body that begins at that offset.
 fn push_no_locals(text: &mut String, at: usize, body: &[u8]) -> Result<(), AllocError> {
     text.push_str("because   its declared locals cannot be read")?;
     match misread_locals(body) {
         Some(misread) => push_misread(text, at, misread),
-        None => text.push_str("\n"),
+        None => push_full_run(text, at, body),
     }
 }
 

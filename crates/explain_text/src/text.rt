@@ -88,7 +88,7 @@ fn push_fault(text: &mut String, fault: &BodyExplanation<'_>) -> Result<(), Allo
                 push_typing(text, typing)?;
             }
             match cause {
-                Some(cause) => push_cause(text, found, cause),
+                Some(cause) => push_cause(text, found, typing, cause),
                 None => Ok(()),
             }
         }

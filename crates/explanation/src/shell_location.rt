@@ -95,7 +95,7 @@ pub enum Wrong {
     },
     /// No section of Core 1.0 has the id there.
     Id,
-    /// The section stands after one of that id, its own or a larger one.
+    /// The section stands after one of that id, and may not.
     Order {
         last: u8,
     },

@@ -11,7 +11,7 @@ TEXT = f"""refused body 0 malformed
 function  0, [] -> [], bytes 22 to 26
 token     0, byte 23 (0x17)
 because   {BECAUSE}
-hint      build the module with -mcpu=mvp, in Rust with -C target-cpu=mvp (docs/GUESTS.md)
+hint      build the module with -mcpu=mvp, in Rust for wasm32v1-none; in text do without it (docs/GUESTS.md)
 """
 
 

@@ -19,7 +19,7 @@ const COLUMN: usize = 10;
 /// let found = gate::explain(module)?;
 /// assert_eq!(found.offset(), Some(23));
 /// assert_eq!(found.because(), Some("fc 0b is memory.fill, of bulk memory (Core 2.0), which gate does not admit"));
-/// assert_eq!(found.line("hint"), Some("build the module with -mcpu=mvp, in Rust with -C target-cpu=mvp (docs/GUESTS.md)"));
+/// assert_eq!(found.line("hint"), Some("build the module with -mcpu=mvp, in Rust for wasm32v1-none; in text do without it (docs/GUESTS.md)"));
 /// # Ok::<(), gate::NoMemory>(())
 /// ```
 #[derive(Clone, Debug, PartialEq, Eq, Hash)]

@@ -67,7 +67,7 @@ fn an_explanation_of_a_malformed_body() {
     assert_eq!((found.body(), found.place()), (Some(22..26), Some(23..23)));
     assert_eq!(
         found.line("hint"),
-        Some("build the module with -mcpu=mvp, in Rust with -C target-cpu=mvp (docs/GUESTS.md)")
+        Some("build the module with -mcpu=mvp, in Rust for wasm32v1-none; in text do without it (docs/GUESTS.md)")
     );
     assert_eq!(found.line("hin"), None);
     assert_eq!(error.to_string(), format!("refused body 0 malformed: {because}"));

@@ -1,9 +1,10 @@
 //! Where reading a module stops, section by section (5.5.2, 5.5.15).
 ghost use Rattle.std.specs.Prelude.{◌≡◌, ℕ, List, ◌∷◌, Some, IfOk, IfSome, drop, slice_get};
 ghost use Rattle.explanation.specs.declared.shell_location.SectionPart.TheVariants.{Count, Id};
+ghost use Rattle.explain_bytes.specs.Shells.{place_of as place_meant};
 ghost use Rattle.explain_bytes.specs.Shells.{AreUnlike, Holds, IsOfId, IsWrong, Stands, TellsLocation, TellsPart, TellsStep};
 
-use crate::sections::{CODE, CUSTOM, DATA, FUNCTION, HEADER};
+use crate::sections::{CODE, CUSTOM, DATA, DATA_COUNT, FUNCTION, GLOBAL, HEADER, TAG};
 use crate::shell::contents::{ContentsEnd, Lapse, LaterSegment, after_contents};
 use crate::shell::primitives::{Stuck, sized_at};
 use explanation::{FoundSection, Location, OtherSegment, SectionPart, Span, Wanted, Wrong};
@@ -64,15 +65,26 @@ fn told(bytes: &[u8], section: FoundSection, lapse: Lapse<'_>) -> Option<Locatio
     })
 }
 
+/// The least id of the sections before which one of that id stands, in later standards too.
+fn place_of(id: u8) -> u8
+    ensures { result ≡ place_meant id }
+{
+    match id {
+        DATA_COUNT => CODE,
+        TAG => GLOBAL,
+        _ => id,
+    }
+}
+
 /// What is wrong with the id of a section after others.
 fn wrong_id(id: u8, last: u8) -> Option<Wrong>
     ensures { IfSome result (λ w. IsOfId w × ((bytes : List ℕ) → IsWrong id bytes w)) }
 {
+    if id != CUSTOM && place_of(id) <= last {
+        return Some(Wrong::Order { last });
+    }
     if id > DATA {
         return Some(Wrong::Id);
-    }
-    if id != CUSTOM && id <= last {
-        return Some(Wrong::Order { last });
     }
     None
 }
