@@ -46,7 +46,7 @@ static int by_size(const void *one, const void *other) {
     return (left > right) - (left < right);
 }
 
-// The nanoseconds that it takes once, in so many rounds.
+// The nanoseconds that it takes once, on average over the rounds.
 static double turn(doing *once, host *it, long rounds) {
     double start = now();
     for (long i = 0; i < rounds; i++)

@@ -23,7 +23,7 @@
       (br_if $turn (local.tee $n (i32.sub (local.get $n) (i32.const 1)))))
     (local.get $a))
 
-  ;; bytes of memory: primes below 100,000, so many times
+  ;; bytes of memory: primes below 100,000, as many times as the argument says
   (func (export "sieve") (param $times i32) (result i32)
     (local $i i32) (local $j i32) (local $found i32)
     (loop $again
@@ -48,7 +48,7 @@
       (br_if $again (local.tee $times (i32.sub (local.get $times) (i32.const 1)))))
     (local.get $found))
 
-  ;; words of memory: a row of sums, so many times over 16,384 words
+  ;; words of memory: a row of sums over 16,384 words, as many times as the argument says
   (func (export "words") (param $times i32) (result i32)
     (local $at i32)
     (loop $again
@@ -127,7 +127,7 @@
       (br_if $turn (local.tee $n (i32.sub (local.get $n) (i32.const 1)))))
     (global.get $counter))
 
-  ;; sorting by insertion of 1,000 words, so many times
+  ;; sorting by insertion of 1,000 words, as many times as the argument says
   (func (export "sorting") (param $times i32) (result i32)
     (local $i i32) (local $j i32) (local $word i32) (local $seed i32)
     (loop $again
@@ -152,7 +152,7 @@
       (br_if $again (local.tee $times (i32.sub (local.get $times) (i32.const 1)))))
     (i32.load (i32.const 2000)))
 
-  ;; a hash of 65,536 bytes, so many times
+  ;; a hash of 65,536 bytes, as many times as the argument says
   (func (export "hashing") (param $times i32) (result i32)
     (local $at i32) (local $hash i32)
     (local.set $hash (i32.const -2128831035))

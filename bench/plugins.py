@@ -54,7 +54,7 @@ def by_script(words):
 
 
 def seconds(words, way, calls):
-    """The processor seconds of so many calls; nothing where the engine cannot."""
+    """The processor seconds of this number of calls; nothing where the engine cannot."""
     spent, _, status = processor_seconds(words + [way, str(calls)], stderr=subprocess.DEVNULL)
     return spent if status == 0 else None
 

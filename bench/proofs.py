@@ -18,7 +18,7 @@ def files_of(crate):
 
 def main():
     taken = parser(__doc__)
-    taken.add_argument('--most', metavar='N', type=int, default=10, help='so many modules of a crate (default: 10)')
+    taken.add_argument('--most', metavar='N', type=int, default=10, help='show at most N modules of a crate (default: 10)')
     taken.add_argument('crates', metavar='CRATE', nargs='+')
     words = taken.parse_args()
     for crate in words.crates:

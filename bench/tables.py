@@ -179,7 +179,7 @@ def families():
 
 
 def seconds(ns_a_byte):
-    """The seconds that the longest module takes at so many nanoseconds a byte."""
+    """The seconds that the longest module takes, from the nanoseconds a byte."""
     return ns_a_byte * LONGEST_MODULE / 1e9
 
 

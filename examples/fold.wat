@@ -24,7 +24,7 @@
   (func $div (type $operation) (i32.div_s (local.get 0) (local.get 1)))
   (func $nothing)
 
-  ;; so many words, from the first one on, folded by the operation of this place in the table
+  ;; the first $many words, folded by the operation at this place of the table
   (func (export "fold") (param $operation i32) (param $many i32) (result i32)
     (local $result i32) (local $place i32)
     (local.set $result (i32.load (i32.const 0)))
@@ -49,7 +49,7 @@
   (func (export "set") (param $place i32) (param $word i32)
     (i32.store (i32.shl (local.get $place) (i32.const 2)) (local.get $word)))
 
-  ;; the number of pages before the memory grows by so many, or -1
+  ;; grows the memory by $pages: how many it had before, or -1
   (func (export "grow") (param $pages i32) (result i32)
     (memory.grow (local.get $pages)))
 

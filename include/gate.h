@@ -54,8 +54,8 @@
 extern "C" {
 #endif
 
-/* What a compiler is told of the functions below, where it listens: the parameters, counted from 1, that are read and written, each with
- * the one that counts its elements; those that are never null; and that the answer is to be looked at. */
+/* Attributes by which a compiler finds wrong calls: the parameters, counted from 1, that are read and written, each with the one that
+ * counts its elements; those that are never null; and that you have to look at the answer. */
 #ifdef __has_attribute
 #if __has_attribute(access)
 #define GATE_READS(at, count) __attribute__((access(read_only, at, count)))
@@ -183,8 +183,8 @@ enum gate_why {
     GATE_WHY_TEXT = 201,           /* the bytes begin as the text format does */
     GATE_WHY_GZIP = 202,           /* as a gzip archive does */
     GATE_WHY_SHORT_HEADER = 203,   /* they are fewer than the eight of the magic and the version */
-    GATE_WHY_MAGIC = 204,          /* the byte at `from` is none of the magic */
-    GATE_WHY_VERSION = 205,        /* the byte at `from` is none of the version */
+    GATE_WHY_MAGIC = 204,          /* the byte at `from` is not that of the magic */
+    GATE_WHY_VERSION = 205,        /* the byte at `from` is not that of the version */
     GATE_WHY_SECTIONS = 206,       /* what follows are not the sections of a module */
     GATE_WHY_RULE = 300,
     GATE_WHY_BODY_MALFORMED = 400, /* and it is not known where */
@@ -197,7 +197,7 @@ enum gate_why {
     GATE_WHY_ILL_TYPED = 600
 };
 
-/* A number that is not told, of 64 bits and of 32. */
+/* In place of a number that is not known, of 64 bits and of 32. */
 #define GATE_NONE UINT64_MAX
 #define GATE_NONE_32 UINT32_MAX
 
@@ -207,7 +207,7 @@ typedef struct gate_explanation {
     uint32_t why;                 /* gate_why */
     uint32_t section;             /* the id of the section in which it stands */
     uint32_t opcode;              /* the first byte of the token that is refused, or with which no token begins */
-    uint64_t item;                /* the place in that section, from 0; of a body verdict.function says which */
+    uint64_t item;                /* the place in that section, from 0; for a body verdict.function says which */
     uint64_t body_from, body_to;  /* the refused body, without its size */
     uint64_t from, to;            /* the token; of an item both are its first byte; where reading stopped both are that offset */
 } gate_explanation;
@@ -397,8 +397,8 @@ typedef struct gate_export {
 /* How many exports there are. */
 uint64_t gate_module_export_count(gate_module module) GATE_ANSWERS;
 
-/* How many bytes the lists of a module take: of its bodies, of what is told of it, and of what its instances start from; its bytes apart.
- * All handles of a module hold them once. What blocks are rounded by, and had as room to grow, is not counted, nor is what answers
+/* How many bytes the lists of a module take, beside the bytes that you gave: of its bodies, its sections, and what its instances
+ * start from. All handles of a module share them. Not counted: what malloc adds to a block, spare room, and the tables that answer
  * questions on long lists of types. */
 uint64_t gate_module_size(gate_module module) GATE_ANSWERS;
 
@@ -427,8 +427,8 @@ uint32_t gate_module_find(gate_module module, const uint8_t *name, size_t name_l
 uint32_t gate_module_types(gate_module module, uint32_t function, uint8_t *params, size_t params_room, uint8_t *results,
                            size_t results_room) GATE_WRITES(3, 4) GATE_WRITES(5, 6) GATE_ANSWERS;
 
-/* Says whether a call would have an instance, and if not, why: what it finds before anything runs. It makes the instance, and gives it
- * back. It runs no code, the start function neither: that one may still trap, or use up fuel or frames, at each call.
+/* Says whether a call would get an instance, and if not, why. It makes the instance and gives it back, and runs no code. So the start
+ * function may still trap, or use up fuel or frames, at each call.
  *   GATE_OK            ended->end is GATE_VALUES, without results or fuel: there would be one; or GATE_NOT_STARTED, with reason and
  *                      place; or GATE_CALL_NO_MEMORY
  *   GATE_BAD_ARGUMENT  a limit is out of its range, fuel and frames too, which change nothing here */
@@ -447,9 +447,9 @@ typedef struct gate_instance { void *at; } gate_instance;
 uint32_t gate_instance_new(gate_module module, const gate_settings *settings, gate_instance *instance, gate_call *ended)
     GATE_NOT_NULL((2, 3, 4)) GATE_ANSWERS;
 
-/* Calls an export. As gate_module_call, but on this instance as it is, under the fuel and the frames of settings; how many pages its
- * memory may have, gate_instance_new was told. After a trap, or where fuel or frames ran out, it is as the call left it, and goes on.
- * After GATE_CALL_NO_MEMORY each further call ends so, until a reset.
+/* Calls an export. As gate_module_call, but on this instance as it is, under the fuel and the frames of settings; its memory has
+ * the pages that gate_instance_new was given. After a trap, or where fuel or frames ran out, it is as the call left it, and goes on.
+ * After GATE_CALL_NO_MEMORY each further call ends in that way too, until a reset.
  *   GATE_NO_INSTANCE  the last reset made none; nothing is written */
 uint32_t gate_instance_call(gate_instance instance, const uint8_t *name, size_t name_length, const gate_value *args,
                             size_t args_count, const gate_settings *settings, gate_value *results, size_t results_room,

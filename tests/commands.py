@@ -1,4 +1,4 @@
-"""Runs the commands that the documents show, and compares what is printed with what they show.
+"""Runs the commands that the documents and the program's help show, and compares what is printed with what they show.
 
 A command is a line of a block of code that begins with `$ `; what is printed stands below it, standard error included. A block runs
 in one shell, in a copy of the repository in which `gate`, `./gate` and `bin/gate` are the program; a document has one copy. A line
@@ -15,13 +15,23 @@ import subprocess
 import sys
 import tempfile
 
+from tests.manual import commands_of_help
 from tests.prose import Document
 from tools import arguments
-from tools.files import ROOT
+from tools.files import ROOT, write
 
 DOCUMENTS = ('README.md', 'CONTRIBUTING.md', 'docs/FORMATS.md', 'docs/HOSTS.md', 'docs/GUESTS.md')
 LEFT_OUT = ('sudo', './install.sh', './test', 'packaging/release', 'rt', 'duplicates', 'git', 'curl', 'wget', 'apt-get', 'sha256sum', 'tar',
             'cc', 'c++', 'cargo', 'rustc', 'go', 'pip', 'python3', 'node', 'man')
+# The modules that the examples of help name and do not make.
+HELP_MODULES = {
+    'add.wasm': bytes.fromhex('0061736d0100000001070160027f7f017f030201000707010361646400000a09010700200020016a0b'),
+    'fill.wasm': bytes.fromhex('0061736d01000000 0104 01600000 0302 0100 0a06 0104 00fc0b0b'),
+    'plugin.wasm': bytes.fromhex('0061736d01000000 010a 0260000060027f7f017f 020b 0103656e76036c6f670000 0302 0101 0503 010001'
+                                 '060b 027e0042000b7e0142000b 071a 03036164640001066d656d6f7279020007636f756e7465720301'
+                                 '0a09 010700200020016a0b'),
+}
+
 # A shell has this status where a command is not found or cannot be started, and the program this one where its words are wrong.
 WRONG_WORDS, NOT_FOUND = 64, (126, 127)
 # What is written between the outputs of two commands: the status of the first.
@@ -95,12 +105,14 @@ def copy_tree(program, folder):
         os.symlink(program, os.path.join(folder, place))
 
 
-def try_document(name, program):
+def try_document(name, path, program, modules):
     """The faults of a document, how many of its commands ran, and how many were left out."""
     faults, ran, left_out = [], 0, 0
     with tempfile.TemporaryDirectory() as folder:
         copy_tree(program, folder)
-        for stretch in Document(os.path.join(ROOT, name)).stretches:
+        for module, contents in modules.items():
+            write(os.path.join(folder, module), contents)
+        for stretch in Document(path).stretches:
             commands = commands_of(stretch) if stretch.kind in ('code', 'fence') else []
             chosen = [command for command in commands if not is_left_out(command)]
             left_out += len(commands) - len(chosen)
@@ -115,11 +127,17 @@ def try_document(name, program):
 
 
 def main(program):
-    """Runs the commands of all documents; 1 where one has a fault, or none ran."""
-    faults, ran, left_out = [], 0, 0
-    for name in DOCUMENTS:
-        one = try_document(name, program)
-        faults, ran, left_out = faults + one[0], ran + one[1], left_out + one[2]
+    """Runs the commands of all documents and of the help of each command; 1 where one has a fault, or none ran."""
+    tried = [try_document(name, os.path.join(ROOT, name), program, {}) for name in DOCUMENTS]
+    with tempfile.TemporaryDirectory() as folder:
+        for command in commands_of_help(program):
+            path = os.path.join(folder, command)
+            with open(path, 'w') as file:
+                subprocess.run([program, command, '--help'], stdout=file, check=True)
+            tried.append(try_document(f'gate {command} --help', path, program, HELP_MODULES))
+            if not tried[-1][1]:
+                tried[-1][0].append(f'gate {command} --help: no command ran')
+    faults, ran, left_out = sum((it[0] for it in tried), []), sum(it[1] for it in tried), sum(it[2] for it in tried)
     print('\n'.join(faults + [f'{ran} commands ran, {left_out} were left out, {len(faults)} faults']))
     return 1 if faults or not ran else 0
 

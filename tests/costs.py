@@ -58,13 +58,13 @@ def returned_lists(count, values):
 
 
 def entered(locals_count):
-    """A loop that calls a function with so many locals until the fuel is gone."""
+    """A loop that calls a function with `locals_count` locals until the fuel is gone."""
     declared = b'\x01' + unsigned(locals_count) + I32
     return whole(b'\x03\x40\x10\x01\x0C\x00\x0B', others=[(0, declared + b'\x0B')])
 
 
 def deep(locals_count):
-    """A function with so many locals that calls itself until the fuel is gone: each frame is new memory."""
+    """A function with `locals_count` locals that calls itself until the fuel is gone: each frame is new memory."""
     return whole(b'\x10\x00', b'\x01' + unsigned(locals_count) + I32)
 
 
@@ -75,7 +75,7 @@ def not_taken(count, values):
 
 
 def turns(tokens):
-    """A loop whose turn has so many tokens, until the fuel is gone."""
+    """A loop whose turn has `tokens` tokens, until the fuel is gone."""
     return whole(b'\x03\x40' + b'\x41\x00\x1A' * (tokens // 2) + b'\x0C\x00\x0B')
 
 
@@ -116,7 +116,7 @@ def filled(globals_count, entries, data):
 
 
 def scattered(count, pages):
-    """Data segments of a byte, in an order that jumps about so many pages."""
+    """Data segments of a byte, in an order that jumps about in all pages."""
     sections = {5: b'\x01\x00' + unsigned(pages),
                 11: vector([b'\x00\x41' + signed(n * 40_503 * 4_099 % (pages << 16)) + b'\x0B\x01\x01' for n in range(count)])}
     return whole(b'', sections=sections)
@@ -138,7 +138,7 @@ def copied(types, pages):
 
 
 def printed(values):
-    """A call with so many results."""
+    """A call with as many results as `values` says."""
     return whole(b'\x41\x7F' * values, types=[function_type([], [I32] * values)])
 
 

@@ -18,7 +18,7 @@ MODULE_LIMIT = 16_777_216
 # What a module may fall short of that length: a last item that did not fit, and lengths that take a byte more.
 SHORT_OF_IT = 64
 I32, NOP, DROP, END, CALL_INDIRECT = b'\x7F', b'\x01', b'\x1A', b'\x0B', b'\x11'
-# A table may have so many entries where it is run.
+# The most entries that a table may have where the module is run.
 TABLE_LIMIT = 65_536
 ONE_VALUE = 'total 1 values 1 traps 0 exhausted 0 refused 0 no-memory 0 fuel'
 NOT_STARTED = 'total 1 values 0 traps 0 exhausted 0 refused 1 no-memory 0 fuel 0'
@@ -71,13 +71,13 @@ def functions(count):
 
 
 def parameters(count):
-    """The second function is of a type of so many parameters, and takes the last of them."""
+    """The second function is of a type of `count` parameters, and takes the last of them."""
     taken = b'\x00\x20' + unsigned(count - 1) + DROP + END
     return whole(b'', types=(EMPTY, function_type([I32] * count)), others=[(1, taken)])
 
 
 def results(count):
-    """A function that cannot end is of a type of so many results."""
+    """A function that cannot end is of a type of `count` results."""
     return whole(b'', types=(EMPTY, function_type([], [I32] * count)), others=[(1, b'\x00\x00\x0B')])
 
 
@@ -87,7 +87,7 @@ def types(count):
 
 
 def segment(count, entries):
-    """One element segment, in a table of so many entries."""
+    """One element segment of `count` functions, in a table of `entries` entries."""
     one = b'\x00' + constant(0) + END + unsigned(count) + bytes(count)
     return whole(b'', sections={4: b'\x01\x70\x00' + unsigned(entries), 9: b'\x01' + one})
 

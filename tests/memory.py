@@ -71,7 +71,7 @@ class Gate(Count):
         self.refusals = 0
 
     def run(self, words, megabytes=None, seconds=None, **named):
-        # What it prints, its status, and what stands on standard error. A signal ends it after so many seconds of a processor.
+        # What it prints, its status, and what stands on standard error. A signal ends it after these seconds of a processor.
         limits = {resource.RLIMIT_AS: megabytes and megabytes << 20, resource.RLIMIT_CPU: seconds}
 
         def bound():

@@ -229,6 +229,7 @@ class Files:
             within = os.path.relpath(folder, root)
             self.paths.update(os.path.normpath(os.path.join(within, name)) for name in names + folders)
         self.tops = {path for path in self.paths if '/' not in path and os.path.isdir(os.path.join(root, path))}
+        self.crates = {path.split('/')[1] for path in self.paths if path.startswith('crates/')}
         # Each path, and what it ends with past a slash.
         self.endings = set()
         for path in self.paths:
@@ -248,6 +249,8 @@ class Files:
         if len(parts) > 1 and parts[0] in self.tops:
             forms = [path, path + '.rt', path + '.antt', os.path.join(folder, path)]
             return not any(self.matches(self.paths, form) for form in forms)
+        if len(parts) > 2 and parts[0] in self.crates:
+            return not any(self.matches(self.endings, path + ending) for ending in ('', '.rt', '.antt'))
         return False
 
     @staticmethod

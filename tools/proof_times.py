@@ -38,7 +38,7 @@ def seconds_of(names):
 
 
 def megabytes_of(name, jobs=1):
-    """How much memory the proof of a crate needs with so many jobs, as far as that is known."""
+    """How much memory the proof of a crate needs with this number of jobs, as far as that is known."""
     one = known().get(name, (0, 0))[1] or MEGABYTES_OF_A_CHECK
     return round(one * (1 + PART_OF_A_JOB * (jobs - 1)))
 

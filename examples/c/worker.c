@@ -2,7 +2,7 @@
  *
  * It reads texts on standard input, and writes an answer to each on standard output. A text is a line with its length in decimal digits,
  * and then its bytes. An answer is a line, in the words of a report (docs/FORMATS.md), and after `values LENGTH fuel K` that many bytes.
- * README.md has all lines and statuses. Each text has a fresh plug-in; with --keep it goes on, until a line is none of `values`.
+ * README.md has all lines and statuses. Each text has a fresh plug-in; with --keep it goes on, until an answer is not `values`.
  */
 #include "ends.h"
 #include "files.h"

@@ -160,8 +160,8 @@ func (i *Instance) read(at uint64, out []byte) error {
 	return done(C.gate_instance_read(i.handle, C.uint64_t(at), outAt, length))
 }
 
-// ReadBytes is so many bytes of its memory, from `at` on. The error is ErrOutside or ErrClosed. Room is taken only for bytes that are
-// there, so a plug-in may tell any numbers.
+// ReadBytes is `length` bytes of its memory, from `at` on. The error is ErrOutside or ErrClosed. Room is taken only for bytes that are
+// there, so a plug-in may give any numbers.
 func (i *Instance) ReadBytes(at, length uint64) ([]byte, error) {
 	i.mutex.Lock()
 	defer i.mutex.Unlock()

@@ -188,7 +188,7 @@ func TestInstanceBytes(t *testing.T) {
 	}
 }
 
-// expectOutside expects that so many bytes from there on are neither read nor written.
+// expectOutside expects that `length` bytes from `at` on are neither read nor written.
 func expectOutside(t *testing.T, instance *Instance, at uint64, length int) {
 	t.Helper()
 	out := bytes.Repeat([]byte{9}, length)
@@ -365,7 +365,7 @@ func TestOne(t *testing.T) {
 	}
 }
 
-// enters is a module whose start function enters itself so many times, up to 8,191, with 50,000 locals each time. `grow` grows its
+// enters is a module whose start function enters itself `count` times, up to 8,191, with 50,000 locals each time. `grow` grows its
 // memory, which has a page.
 func enters(count int) []byte {
 	// `if (count) { count -= 1; start() }`, where `count` is a global.

@@ -84,7 +84,7 @@ static bool find(text object, text key, text *out) {
     return false;
 }
 
-/* Room for so many bytes: its address; or 0, where there is not so much. */
+/* The address of `length` free bytes; or 0, where there are fewer. */
 EXPORT("alloc") char *alloc(uint32_t length) {
     if (length > ROOM - used) return NULL;
     used += length;

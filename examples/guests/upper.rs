@@ -24,7 +24,7 @@ fn panic(_: &PanicInfo) -> ! {
     core::arch::wasm32::unreachable()
 }
 
-/// Room for so many bytes: its address; or 0, where there is not so much.
+/// The address of `length` free bytes; or 0, where there are fewer.
 #[no_mangle]
 pub extern "C" fn alloc(length: usize) -> *mut u8 {
     // SAFETY: the module has one thread, and no reference to `USED` outlives its statement.

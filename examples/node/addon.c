@@ -125,7 +125,7 @@ static bool is_bytes(napi_env env, napi_value value, bytes *found) {
     if (napi_is_typedarray(env, value, &is_array) != napi_ok || !is_array) return false;
     if (napi_get_typedarray_info(env, value, &type, &found->length, &at, &buffer, NULL) != napi_ok) return false;
     found->at = at;
-    /* A shared buffer is none that Node-API calls an array buffer. */
+    /* Node-API does not take a shared buffer for an array buffer. */
     return type == napi_uint8_array && napi_is_arraybuffer(env, buffer, &is_ours) == napi_ok && is_ours;
 }
 

@@ -101,7 +101,7 @@ static void free_down_to(hoard *of, size_t count) {
     while (of->count > count) gate_instance_free(of->all[--of->count]);
 }
 
-/* In so many megabytes of address space beside what is taken already. */
+/* With this many megabytes of address space beside what is taken already. */
 static void in_little_space(play *it, hoard *of, size_t megabytes) {
     const size_t space = address_space() + megabytes * MEGABYTE;
     const struct rlimit limit = { space, space };

@@ -15,7 +15,7 @@ static void trap(call *it, uint32_t reason) {
     it->ended.reason = reason;
 }
 
-/* Whether so many bytes lie in the memory; where not, the call traps. */
+/* Whether the memory has `length` bytes at `at`; where not, the call traps. */
 static bool lies(call *it, uint64_t at, uint64_t length) {
     if (at + length > it->on->size) trap(it, GATE_OUT_OF_BOUNDS);
     return it->ended.end == GATE_VALUES;

@@ -361,7 +361,7 @@ def compare(library, node, module, r, count):
 
 
 def sequences(path, seed, least, count):
-    """Compares sequences that the seed makes, until so many steps more are compared; raises the first difference."""
+    """Compares sequences that the seed makes, until `least` steps more are compared; raises the first difference."""
     r, library, node, plugins, last = random.Random(seed), loaded(path), Node(), guests(), count.steps() + least
     try:
         while count.steps() < last:

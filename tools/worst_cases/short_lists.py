@@ -33,7 +33,7 @@ def ifs_of_lists(size, dead, chance):
 
 
 def ifs_of_many_lists(size, dead, chance):
-    # The same of so many types that no near cache holds their lists.
+    # The same, of more types than a near cache holds lists of.
     count = size // 2_000
     lengths = [chance.randrange(200, 256) for _ in range(count)]
     types = [EMPTY] + [function_type([I32] * length, [I32] * length) for length in lengths]

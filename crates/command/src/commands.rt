@@ -21,121 +21,185 @@ pub const FRAMES_DEFAULT: &str = "1024";
 /// The default of `--pages`, the most pages of a memory.
 pub const PAGES_DEFAULT: &str = "256";
 
+/// What `gate --help` ends with.
+const PROGRAM_EXAMPLE: &str = "\
+Examples:
+
+    gate check plugin.wasm               is it a valid module?
+    gate explain plugin.wasm             where and why is it refused, and what can be done?
+    gate exports plugin.wasm             what does it export, and can that be called?
+    gate run plugin.wasm calls.txt       how do these calls end, each within limits?
+    gate check-all -r plugins            which modules of a folder are valid?
+
+`gate COMMAND --help` has an example of a command and what its lines mean, `gate COMMAND -h` its options alone.
+
+Exit status:
+
+    0     the module is accepted, or a report is printed
+    2     the module is refused
+    3     the text of calls is refused
+    64    the words are no command, or a number lies outside its range
+    70    an allocation failed
+    74    a file cannot be read, or the output not written";
+
 /// What `gate check --help` ends with.
 const CHECK_EXAMPLE: &str = "\
-The verdict is one line. The first of these that holds is printed:
+Example, with the eight bytes of a module without sections, and with seven of them:
+
+    $ printf '\\0asm\\1\\0\\0\\0' > empty.wasm; gate check empty.wasm
+    accepted
+    $ printf '\\0asm\\1\\0\\0' > short.wasm; gate check short.wasm
+    refused malformed
+
+Where and why a module is refused, and what you can do: gate explain MODULE. Many files: gate check-all.
+
+One line is printed, the first of these that holds:
 
     refused too-large                 more than 16777216 bytes
     refused malformed                 the bytes spell no module, the insides of function bodies aside
     refused rule K                    module rule K, from 2 to 13, is the least that is broken
     refused body F malformed          the bytes of that body spell none
     refused body F too-many-locals    the body declares more than 100000 locals, parameters aside
-    refused body F ill-typed at T     no body that begins with its tokens up to and with T has a type
+    refused body F ill-typed at T     the body has no type; T is its first token that no completion can save
     accepted                          none of these: the module is valid
 
-F is the least function whose body is refused; imported functions count first. F and T count from 0. On
-the eight bytes of a module without sections, in `empty.wasm`, and on seven of them, in `short.wasm`,
+F is the least function whose body is refused; imported functions count first. F and T count from 0.
 
-    gate check empty.wasm
-    gate check short.wasm
+Exit status:
 
-print
-
-    accepted
-    refused malformed
-
-The status is 0 for a module that is accepted and 2 for one that is refused; 64 for words that are no
-command, 70 where a growth of memory was refused, and 74 where a file cannot be read or a write fails.";
+    0     the module is accepted
+    2     the module is refused
+    64    the words are no command, or a number lies outside its range
+    70    an allocation failed
+    74    the file cannot be read, or the output not written";
 
 /// What `gate check-all --help` ends with.
 const CHECK_ALL_EXAMPLE: &str = "\
-Each file has a line: its name, a tab, and the line of `gate check`, or why it cannot be read:
+Example, with a valid module, one that lacks its last byte, and a name without a file:
 
-    empty.wasm<TAB>accepted
-    short.wasm<TAB>refused malformed
-    missing.wasm<TAB>cannot read: no such file
+    $ printf '\\0asm\\1\\0\\0\\0' > empty.wasm; printf '\\0asm\\1\\0\\0' > short.wasm
+    $ gate check-all empty.wasm short.wasm missing.wasm
+    empty.wasm\taccepted
+    short.wasm\trefused malformed
+    missing.wasm\tcannot read: no such file
+    gate: cannot read some files
 
-The lines stand in the order of the names. In a name a control character and the backslash are written as
-`\\hh`, two digits of base 16. Where the only NAME is `-`, standard input has the names, a line each; with -0
-each is ended by a byte 0. With -r a folder stands for the files below it whose names end with `.wasm`.
+Each file has a line, in the order of the names: its name, a tab, and the line of `gate check`, or why it cannot
+be read. In a name a control character and the backslash are written as `\\hh`, two digits of base 16.
 
+More examples, for all modules of a folder and of the folders in it, and for names that another program finds:
+
+    gate check-all -r plugins | grep -v 'accepted$'
     find . -name '*.wasm' -print0 | gate check-all -0 -
 
-The status is 74 where a file cannot be read, else 2 where a module is refused, else 0.";
+Exit status:
+
+    0     all modules are accepted
+    2     a module is refused, and all files are read
+    64    the words are no command, or a number lies outside its range
+    70    an allocation failed; the lines that are printed stand
+    74    a file cannot be read, or the output not written";
 
 /// What `gate explain --help` ends with.
 const EXPLAIN_EXAMPLE: &str = "\
-The first line is that of `gate check`. The others, where the module is refused, have a key and a text each:
+Example, with a module that uses an instruction of a later standard:
 
-    refused body 26 malformed
-    function  26 \"fill\", exported as \"fill\", [i32 i32] -> [], bytes 262 to 280
-    token     5, byte 274 (0x112)
+    $ gate explain fill.wasm
+    refused body 0 malformed
+    function  0, [] -> [], bytes 22 to 26
+    token     0, byte 23 (0x17)
     because   fc 0b is memory.fill, of bulk memory (Core 2.0), which gate does not admit
     hint      build the module with -mcpu=mvp, in Rust for wasm32v1-none; in text do without it (docs/GUESTS.md)
 
+The first line is that of `gate check`. Where the module is refused, more lines follow, each a key and a text.
 Tokens and functions count from 0, and bytes are offsets in the file. New keys may come.
 
-With CALLS, of an accepted module the text of calls is read too, and what is wrong with it is told:
+With CALLS you see what is wrong with the calls of an accepted module, or why none of them starts:
 
+    $ printf 'add\\ti32:0x10\\n' > add.calls; gate explain add.wasm add.calls
     accepted
     calls     line 1 argument 1 \"i32:0x10\" is no decimal number; write i32:16
 
-The status is that of `gate check`; with CALLS it is that of `gate run`.";
+The exit status is that of `gate check`, and with CALLS that of `gate run`.";
 
 /// What `gate exports --help` ends with.
 const EXPORTS_EXAMPLE: &str = "\
-Each export has a line: its kind, its index, its name as a string of the text format, and the type of a
-function or of a global. The last line is `starts`, or why no call of the module runs:
+Example, with a module that imports a function:
 
-    function 0 \"add\" [i32 i32] -> [i32]
+    $ gate exports plugin.wasm
+    function 1 \"add\" [i32 i32] -> [i32]
     memory 0 \"memory\"
     global 1 \"counter\" i64 mut
     not-started imports: import 0 \"env\" \"log\" is a function
 
-Of a module that is refused the verdict line is printed. The status is that of `gate check`.";
+Each export has a line: its kind, its index, its name as a string of the text format, and the type of a function
+or of a global. The last line is `starts` where calls of the module run, else why none does. Of a module that is
+refused only the line of `gate check` is printed.
+
+The exit status is that of `gate check`.";
 
 /// What `gate run --help` ends with.
 const RUN_EXAMPLE: &str = "\
-CALLS has one line a call: the name of an export, and then for each argument a tab and `i32:NUMBER` or
-`i64:NUMBER`. Each call runs on an instance of its own. On a module that exports `add`, which adds two
-numbers of 32 bits, the calls (with <TAB> for a tab)
+Example, with a module that exports `add`, which adds two numbers of 32 bits:
 
-    add<TAB>i32:2<TAB>i32:40
-    add<TAB>i32:2147483647<TAB>i32:1
-    add<TAB>i32:1
-    subtract
-
-are reported as
-
+    $ printf 'add\\ti32:2\\ti32:40\\nadd\\ti32:1\\n' > add.calls
+    $ gate run add.wasm add.calls
     0 values i32:42 fuel 1
-    1 values i32:-2147483648 fuel 1
-    2 bad-arguments
-    3 no-export
-    total 4 values 2 traps 0 exhausted 0 refused 2 no-memory 0 fuel 2
+    1 bad-arguments
+    total 2 values 1 traps 0 exhausted 0 refused 1 no-memory 0 fuel 1
 
-A module that has an import, or floats anywhere, is judged but not run: its calls are `not-started`.
+CALLS has a line for each call: the name of an export, and for each argument a tab and `i32:NUMBER` or
+`i64:NUMBER`, a decimal with `-` in front where it is negative. Each call has an instance of its own, and a line:
 
-The status is 0 for a report, 2 for a module that is refused and 3 for calls that are; 64 for words that
-are no command, 70 where a growth of memory was refused, and 74 where a file cannot be read or a write fails.";
+    N values V,V.. fuel K     its results, and the fuel that it cost
+    N trap KIND fuel K        it traps: divide-by-zero, out-of-bounds, unreachable, ..
+    N out-of-fuel fuel K      it would need more than --fuel
+    N out-of-frames fuel K    it would need more than --frames
+    N no-export               nothing of that name is exported
+    N not-a-function          what is exported is no function
+    N bad-arguments           the arguments are not of the function's type
+    N not-started REASON      no instance can be made: imports, floats, more memory than --pages, ..
+    N no-memory               an allocation failed for this call
+
+A unit of fuel pays for a function that is entered, or for a turn of a loop. A page has 65536 bytes. Fuel bounds
+no time: use `timeout 10 gate run ..` for that.
+
+Why a module is refused or not started, and what is wrong with the calls: gate explain MODULE CALLS.
+
+Exit status:
+
+    0     a report is printed, however the calls end
+    2     the module is refused: the line of `gate check` is printed
+    3     the text of calls is refused: `calls line K refused` or `calls too-large` is printed
+    64    the words are no command, or a number lies outside its range
+    70    an allocation failed
+    74    a file cannot be read, or the output not written";
 
 /// What `gate stream --help` ends with.
 const STREAM_EXAMPLE: &str = "\
-The lines are those of `gate run`, for any number of calls. Each is written as soon as its call and those
-before it have ended, and the total is the last. Without CALLS, or with `-`, standard input has the calls:
+Example, with a module that exports `add`, which adds two numbers of 32 bits:
 
-    make-calls | gate stream plugin.wasm --fuel 10000 | use-answers
+    $ printf 'add\\ti32:2\\ti32:40\\n' | gate stream add.wasm --fuel 10000
+    0 values i32:42 fuel 1
+    total 1 values 1 traps 0 exhausted 0 refused 0 no-memory 0 fuel 1
 
-What is written at any time is a beginning of the report. A module that is refused has its verdict line. A
-line that is misspelled ends the stream: the lines of the calls before it stand, and no total.
+The lines are those of `gate run` (gate run --help says what they mean), for any number of calls. Each is written
+as soon as its call and those before it have ended, and the total is the last.
 
-The status is that of `gate run`.";
+A bad line of the calls ends the stream with `calls line K refused`: the lines of the calls before it stand, and
+there is no total. Of a refused module only the line of `gate check` is printed.
+
+The exit status is that of `gate run`.";
 
 /// The whole command line.
 pub fn gate_command<'a>(alloc: Global) -> Result<Command<'a>, AllocError> {
     Command::new(alloc, "gate")
         .bin_name("gate")?
         .version(VERSION)
-        .about("Judges WebAssembly modules, and runs calls of what they export")
+        .about(
+            "Says whether files are valid WebAssembly modules, and runs calls of what they export",
+        )
+        .after_long_help(PROGRAM_EXAMPLE)
         .no_binary_name(true)
         .subcommand_required(true)
         .subcommand(check_command(alloc)?)?
@@ -153,7 +217,7 @@ pub fn gate_command<'a>(alloc: Global) -> Result<Command<'a>, AllocError> {
 fn check_command<'a>(alloc: Global) -> Result<Command<'a>, AllocError> {
     let words = vec![in alloc; module_word(alloc)]?;
     Command::new(alloc, "check")
-        .about("Prints the verdict on a module: accepted, or its first refusal")
+        .about("Says whether a module is valid: prints `accepted`, or its first refusal")
         .after_long_help(CHECK_EXAMPLE)
         .args(words)?
         .args(plan_options(alloc)?)
@@ -169,7 +233,7 @@ fn check_all_command<'a>(alloc: Global) -> Result<Command<'a>, AllocError> {
         progress_option(alloc),
     ]?;
     Command::new(alloc, "check-all")
-        .about("Prints the verdict on each of many modules")
+        .about("Says of each of many files whether it is a valid module")
         .after_long_help(CHECK_ALL_EXAMPLE)
         .args(words)?
         .args(plan_options(alloc)?)
@@ -180,7 +244,7 @@ fn check_all_command<'a>(alloc: Global) -> Result<Command<'a>, AllocError> {
 fn explain_command<'a>(alloc: Global) -> Result<Command<'a>, AllocError> {
     let words = vec![in alloc; input_word(alloc), calls_word(alloc).required(false)]?;
     Command::new(alloc, "explain")
-        .about("Prints the verdict on a module, and where and why it is refused")
+        .about("Says where and why a module is refused, and what you can do")
         .after_long_help(EXPLAIN_EXAMPLE)
         .args(words)
 }
@@ -190,7 +254,7 @@ fn explain_command<'a>(alloc: Global) -> Result<Command<'a>, AllocError> {
 fn exports_command<'a>(alloc: Global) -> Result<Command<'a>, AllocError> {
     let words = vec![in alloc; input_word(alloc)]?;
     Command::new(alloc, "exports")
-        .about("Prints what a module exports, and whether its calls run")
+        .about("Lists what a module exports, and says whether calls of it run")
         .after_long_help(EXPORTS_EXAMPLE)
         .args(words)
 }
@@ -200,7 +264,7 @@ fn exports_command<'a>(alloc: Global) -> Result<Command<'a>, AllocError> {
 fn run_command<'a>(alloc: Global) -> Result<Command<'a>, AllocError> {
     let words = vec![in alloc; module_word(alloc), calls_word(alloc)]?;
     Command::new(alloc, "run")
-        .about("Runs calls of a module, each alone, and prints how each ends")
+        .about("Runs calls of a module, each on an instance of its own, and prints how each ends")
         .after_long_help(RUN_EXAMPLE)
         .args(words)?
         .args(plan_options(alloc)?)?
@@ -216,7 +280,7 @@ fn stream_command<'a>(alloc: Global) -> Result<Command<'a>, AllocError> {
         progress_option(alloc),
     ]?;
     Command::new(alloc, "stream")
-        .about("Runs any number of calls of a module, and prints each as soon as it ends")
+        .about("Runs any number of calls of a module, and prints how each ends as soon as it does")
         .after_long_help(STREAM_EXAMPLE)
         .args(words)?
         .args(plan_options(alloc)?)?
@@ -241,7 +305,7 @@ fn limit_options<'a>(alloc: Global) -> Result<Vec<Arg<'a>>, AllocError> {
 
 fn streamed_word<'a>(alloc: Global) -> Arg<'a> {
     Arg::new(alloc, "calls").value_name("CALLS").help(
-        "The file of the calls; without it, or with `-`, standard input",
+        "The file of the calls, a line for each; without it, or with `-`, standard input",
     )
 }
 
@@ -262,7 +326,9 @@ fn input_word<'a>(alloc: Global) -> Arg<'a> {
 fn names_word<'a>(alloc: Global) -> Arg<'a> {
     Arg::new(alloc, "names")
         .value_name("NAME")
-        .help("The files of the modules; of `-` alone, standard input has their names")
+        .help(
+            "The files of the modules; `-` alone reads their names from standard input, a line each",
+        )
         .required(true)
         .num_args(1..)
 }
@@ -271,7 +337,7 @@ fn null_option<'a>(alloc: Global) -> Arg<'a> {
     Arg::new(alloc, "null")
         .short('0')
         .long("null")
-        .help("The names on standard input are ended by a byte 0, not by a newline")
+        .help("Names on standard input end with a byte 0, not with a newline")
         .action(ArgAction::SetTrue)
 }
 
@@ -279,36 +345,38 @@ fn folders_option<'a>(alloc: Global) -> Arg<'a> {
     Arg::new(alloc, "recursive")
         .short('r')
         .long("recursive")
-        .help("A folder stands for the files `*.wasm` below it")
+        .help(
+            "A folder stands for all files in it, and in its folders, whose names end with `.wasm`",
+        )
         .action(ArgAction::SetTrue)
 }
 
 fn progress_option<'a>(alloc: Global) -> Arg<'a> {
     Arg::new(alloc, "progress")
         .long("progress")
-        .help("Standard error is told how many lines are written, after each thousand")
+        .help("Prints on standard error how many lines are written, after each thousand")
         .action(ArgAction::SetTrue)
 }
 
 fn calls_word<'a>(alloc: Global) -> Arg<'a> {
     Arg::new(alloc, "calls")
         .value_name("CALLS")
-        .help("The file of the calls")
+        .help("The file of the calls, a line for each")
         .required(true)
 }
 
 fn workers_option<'a>(alloc: Global) -> Arg<'a> {
-    let help = "How many threads work, 1 to 64";
+    let help = "How many threads work at once, 1 to 64";
     number_option(alloc, "workers", help, 1..65, WORKERS_DEFAULT)
 }
 
 fn piece_option<'a>(alloc: Global) -> Arg<'a> {
-    let help = "How many bodies or calls a thread takes at once, 1 to 65535";
+    let help = "How many function bodies or calls a thread takes at a time, 1 to 65535";
     number_option(alloc, "piece", help, 1..65_536, PIECE_DEFAULT)
 }
 
 fn fuel_option<'a>(alloc: Global) -> Arg<'a> {
-    let help = "How much fuel a call has, 0 to 1000000000";
+    let help = "How many units of fuel each call has, 0 to 1000000000";
     number_option(
         alloc,
         "fuel",
@@ -319,7 +387,7 @@ fn fuel_option<'a>(alloc: Global) -> Arg<'a> {
 }
 
 fn frames_option<'a>(alloc: Global) -> Arg<'a> {
-    let help = "How many functions of a call are entered at a time, 1 to 4096";
+    let help = "How many functions of a call may be entered and not yet left, 1 to 4096";
     number_option(
         alloc,
         "frames",
@@ -330,7 +398,7 @@ fn frames_option<'a>(alloc: Global) -> Arg<'a> {
 }
 
 fn pages_option<'a>(alloc: Global) -> Arg<'a> {
-    let help = "How many pages of memory a call has, 0 to 1024";
+    let help = "How many pages of 64 KiB the memory of a call may have, 0 to 1024";
     number_option(
         alloc,
         "pages",

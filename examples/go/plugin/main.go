@@ -1,6 +1,6 @@
 // A host of plug-ins that take and give texts, as those of examples/guests do.
 //
-// The plug-in exports `alloc(length)`, which gives the address of room for so many bytes, or 0; and `handle(address, length)`, which
+// The plug-in exports `alloc(length)`, which gives the address of `length` free bytes, or 0; and `handle(address, length)`, which
 // gives the answer's address in the high 32 bits, and its length in the low ones.
 package main
 

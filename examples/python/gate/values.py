@@ -10,7 +10,7 @@ WORD = re.compile(r'(i32|i64):(0|-?[1-9][0-9]*)')
 
 
 def is_whole(given: object) -> TypeGuard[SupportsIndex]:
-    """Whether it is a whole number. `True` is none."""
+    """Whether it is a whole number. `True` is not."""
     return hasattr(given, '__index__') and not isinstance(given, bool)
 
 

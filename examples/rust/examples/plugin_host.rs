@@ -8,7 +8,7 @@
 //! gate
 //! ```
 //!
-//! The plug-in exports its memory's `alloc(length)`, which gives the address of room for so many bytes, or 0; and
+//! The plug-in exports its memory's `alloc(length)`, which gives the address of `length` free bytes, or 0; and
 //! `handle(address, length)`, which gives the answer's address in the high 32 bits, and its length in the low ones.
 use gate::{CallError, Instance, InstanceError, Module, Settings};
 use std::env;

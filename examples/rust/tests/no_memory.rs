@@ -45,7 +45,7 @@ fn in_short_memory<T>(act: impl FnOnce() -> T) -> T {
     given
 }
 
-/// Its start function enters itself so many times, up to 8,191, with 50,000 locals each time. `grow` grows its memory, which has a page.
+/// Its start function enters itself `count` times, up to 8,191, with 50,000 locals each time. `grow` grows its memory, which has a page.
 fn enters(count: u16) -> Vec<u8> {
     // `if (count) { count -= 1; start() }`, where `count` is a global.
     let locals = [&[1][..], &unsigned(50_000), &[0x7f]].concat();
