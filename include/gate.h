@@ -176,7 +176,8 @@ uint32_t gate_verdict_line(const gate_verdict *verdict, uint8_t *out, size_t roo
 uint32_t gate_build(uint8_t *out, size_t room, size_t *length) GATE_WRITES(1, 2) GATE_NOT_NULL((3)) GATE_ANSWERS;
 
 /* Why a module has its verdict. Later versions of the library tell more kinds: the hundreds of a number are the kind of the verdict, so
- * a number that a host does not know says that much. */
+ * a number that a host does not know says that much. A file that is no module at all, as a web page or a zip archive, is told by 201, 202
+ * and 207 to 219; there too `from` is the first byte that is none of the magic or the version. */
 enum gate_why {
     GATE_WHY_ACCEPTED = 0,
     GATE_WHY_TOO_LARGE = 100,
@@ -186,6 +187,19 @@ enum gate_why {
     GATE_WHY_MAGIC = 204,          /* the byte at `from` is not that of the magic */
     GATE_WHY_VERSION = 205,        /* the byte at `from` is not that of the version */
     GATE_WHY_SECTIONS = 206,       /* what follows are not the sections of a module */
+    GATE_WHY_COMPONENT = 207,      /* the bytes begin as a component of the component model does */
+    GATE_WHY_XZ = 208,             /* as an xz archive does */
+    GATE_WHY_ZSTD = 209,           /* as a Zstandard archive does */
+    GATE_WHY_ELF = 210,            /* as an object file or a program in the form ELF does */
+    GATE_WHY_OBJECTS = 211,        /* as an archive of object files does */
+    GATE_WHY_BITCODE = 212,        /* as bitcode of LLVM does */
+    GATE_WHY_MARKUP = 213,         /* as a web page or other markup does */
+    GATE_WHY_JSON = 214,           /* as JSON does */
+    GATE_WHY_ZIP = 215,            /* as a zip archive does */
+    GATE_WHY_BASE64 = 216,         /* as a module in base64 does */
+    GATE_WHY_UTF16 = 217,          /* as text in UTF-16 does */
+    GATE_WHY_BOM = 218,            /* as text in UTF-8 with a byte order mark does */
+    GATE_WHY_LFS_POINTER = 219,    /* as a pointer of Git LFS does */
     GATE_WHY_RULE = 300,
     GATE_WHY_BODY_MALFORMED = 400, /* and it is not known where */
     GATE_WHY_LOCALS = 401,         /* its declared locals cannot be read */

@@ -4,6 +4,9 @@
 /* The two bytes of memory.fill, which Core 1.0 does not have, at 23. */
 static const text FILL = BYTES(HEAD, 1, 4, 1, 0x60, 0, 0, 3, 2, 1, 0, 0x0A, 6, 1, 4, 0, 0xFC, 0x0B, 0x0B);
 
+static const text PAGE = BYTES('<', 'h', 't', 'm', 'l', '>');
+static const text COMPONENT = BYTES(0, 'a', 's', 'm', 0x0D, 0, 1, 0);
+
 static gate_explanation explained(text bytes, uint32_t status) {
     gate_explanation got = { { 9, 9, 9, 9 }, 9, 9, 9, 9, 9, 9, 9, 9 };
     gate_verdict verdict;
@@ -33,6 +36,10 @@ static void explanations_as_numbers(void) {
     HOLDS(it.verdict.rule == 11 && is_no_body(it));
     it = explained(VERSION_2, GATE_MODULE_REFUSED);
     HOLDS(it.why == GATE_WHY_VERSION && is_no_body(it) && is_place(it, 4, 4));
+    it = explained(PAGE, GATE_MODULE_REFUSED);
+    HOLDS(it.why == GATE_WHY_MARKUP && is_no_body(it) && is_place(it, 0, 0));
+    it = explained(COMPONENT, GATE_MODULE_REFUSED);
+    HOLDS(it.why == GATE_WHY_COMPONENT && is_no_body(it) && is_place(it, 4, 4));
     it = explained(NONE, GATE_MODULE_REFUSED);
     HOLDS(it.why == GATE_WHY_SHORT_HEADER && is_no_body(it));
 }

@@ -3,6 +3,8 @@ use Rattle.std.specs.Prelude.{◌≡◌, ◌⊎◌, ℕ, List, Option, Some, Non
 use Rattle.wsyntax.specs.Validation.Verdict.{Verdict, IsVerdict}
 use Rattle.wsyntax.specs.Texts.Lines.{verdict_line}
 use Rattle.explanation.specs.declared.explanation.Explanation.{Explanation}
+use Rattle.explanation.specs.declared.explanation.Form.{Form}
+use Rattle.explanation.specs.declared.explanation.Form.TheVariants as form
 use Rattle.explanation.specs.declared.fields.ExplanationKind.{ExplanationKind}
 use Rattle.explanation.specs.declared.fields.ExplanationKind.TheVariants as kind
 use Rattle.explanation.specs.Fields.{body_told, item_told, kind_told, opcode_told, span_told, section_told}
@@ -13,12 +15,29 @@ use Rattle.c_api.specs.declared.explained.GateExplanation.{GateExplanation}
 use Rattle.c_api.specs.Texts.{AreKept, Hands}
 use Rattle.c_api.specs.Verdicts.{fields_of, status_of}
 
+-- of bytes that begin as a file of another form does
+abbrev pub form_code : Form → ℕ
+form_code form.Text = 201
+form_code form.Gzip = 202
+form_code form.Component = 207
+form_code form.Xz = 208
+form_code form.Zstd = 209
+form_code form.Elf = 210
+form_code form.Objects = 211
+form_code form.Bitcode = 212
+form_code form.Markup = 213
+form_code form.Json = 214
+form_code form.Zip = 215
+form_code form.Base64 = 216
+form_code form.Utf16 = 217
+form_code form.ByteOrderMark = 218
+form_code form.LfsPointer = 219
+
 -- the hundreds are the kind of the verdict
 abbrev pub kind_code : ExplanationKind → ℕ
 kind_code kind.Accepted = 0
 kind_code kind.TooLarge = 100
-kind_code kind.Text = 201
-kind_code kind.Gzip = 202
+kind_code (kind.OtherForm f) = form_code f
 kind_code kind.ShortHeader = 203
 kind_code kind.Magic = 204
 kind_code kind.Version = 205

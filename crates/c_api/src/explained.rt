@@ -3,12 +3,12 @@
 ghost use Rattle.std.specs.Prelude.{◌≡◌, IfSome, option_map};
 ghost use Rattle.explanation.specs.Fields.{body_told, item_told, kind_told, opcode_told, span_told, section_told};
 ghost use Rattle.explanation.specs.Told.{verdict_told};
-ghost use Rattle.c_api.specs.Explained.{kind_code, fields_with, short, wide};
+ghost use Rattle.c_api.specs.Explained.{form_code, kind_code, fields_with, short, wide};
 ghost use Rattle.c_api.specs.Verdicts.{fields_of, status_of};
 
 use crate::judged::GateVerdict;
 use crate::status::{MODULE_REFUSED, OK};
-use explain::{Explanation, ExplanationKind, Span};
+use explain::{Explanation, ExplanationKind, Form, Span};
 
 /// An explanation. Of what is not told the field is the greatest of its width.
 #[repr(C)]
@@ -33,6 +33,29 @@ pub struct GateExplanation {
 
 const _: () = prove!(size_of::<GateExplanation>() == 80 && align_of::<GateExplanation>() == 8);
 
+/// The code of bytes of another form, as `gate_why` of gate.h has it.
+fn code_of_form(form: Form) -> u32
+    ensures { result ≡ form_code form }
+{
+    match form {
+        Form::Text => 201,
+        Form::Gzip => 202,
+        Form::Component => 207,
+        Form::Xz => 208,
+        Form::Zstd => 209,
+        Form::Elf => 210,
+        Form::Objects => 211,
+        Form::Bitcode => 212,
+        Form::Markup => 213,
+        Form::Json => 214,
+        Form::Zip => 215,
+        Form::Base64 => 216,
+        Form::Utf16 => 217,
+        Form::ByteOrderMark => 218,
+        Form::LfsPointer => 219,
+    }
+}
+
 /// The code of a kind, as `gate_why` of gate.h has it.
 fn code_of_kind(kind: ExplanationKind) -> u32
     ensures { result ≡ kind_code kind }
@@ -40,8 +63,7 @@ fn code_of_kind(kind: ExplanationKind) -> u32
     match kind {
         ExplanationKind::Accepted | ExplanationKind::Memory => 0,
         ExplanationKind::TooLarge => 100,
-        ExplanationKind::Text => 201,
-        ExplanationKind::Gzip => 202,
+        ExplanationKind::OtherForm(form) => code_of_form(form),
         ExplanationKind::ShortHeader => 203,
         ExplanationKind::Magic => 204,
         ExplanationKind::Version => 205,

@@ -1,3 +1,4 @@
 pub mod CallsTold
+pub mod Forms
 pub mod Headers
 pub mod Placed

@@ -7,6 +7,7 @@
 mod explaining;
 mod explaining_calls;
 mod faults;
+mod forms;
 mod headers;
 
 pub use batch_text::{LineFault, WordFault, line_fault};

@@ -5,6 +5,7 @@
 #![tactic(auto)]
 
 mod cause_text;
+mod no_module_text;
 mod opcode_names;
 mod quoting;
 mod rule_text;

@@ -5,16 +5,14 @@ ghost use Rattle.explain_text.specs.Texts.{BeginsWith};
 ghost use Rattle.explanation.specs.Told.{verdict_told};
 
 use crate::cause_text::push_cause;
+use crate::no_module_text::push_no_module;
 use crate::rule_text::push_broken_item;
-use crate::sentence::Word::{Address, Hex, Name, Number, Signature, Text};
+use crate::sentence::Word::{Address, Name, Number, Signature, Text};
 use crate::sentence::say;
-use crate::shell_text::push_location;
 use crate::stop_text::push_stop;
 use crate::token_text::push_token;
 use crate::typing_text::push_typing;
-use explanation::{
-    BodyExplanation, Explanation, Form, FoundToken, NoModule, RefusedFunction, Span,
-};
+use explanation::{BodyExplanation, Explanation, FoundToken, RefusedFunction, Span};
 use refusal::body_line;
 use std::alloc::{AllocError, Global};
 use wsyntax::{LOCAL_LIMIT, MODULE_LIMIT};
@@ -93,52 +91,6 @@ fn push_fault(text: &mut String, fault: &BodyExplanation<'_>) -> Result<(), Allo
             }
         }
         _ => Ok(()),
-    }
-}
-
-/// What bytes of another form are, and what to do.
-fn form_hint(form: Form) -> &'static str {
-    match form {
-        Form::Component =>
-            "hint      this is a component; gate takes core modules, as wasm32-unknown-unknown makes them\n",
-        Form::Xz => "hint      this is an xz archive; unpack it with unxz\n",
-        Form::Zstd => "hint      this is a Zstandard archive; unpack it with unzstd\n",
-        Form::Elf =>
-            "hint      this is an ELF file, of another machine; build with --target=wasm32 (docs/GUESTS.md)\n",
-        Form::Objects =>
-            "hint      this is an archive of object files; wasm-ld makes a module of them\n",
-        Form::Bitcode => "hint      this is LLVM bitcode; build without -emit-llvm and -flto\n",
-    }
-}
-
-/// What is said of bytes that spell no module.
-fn no_module_sentence(no_module: NoModule) -> &'static str {
-    match no_module {
-        NoModule::Text => "hint      this is the text format; wat2wasm makes a module of it\n",
-        NoModule::Gzip => "hint      this is a gzip archive; unpack it with gunzip\n",
-        NoModule::Short =>
-            "because   a module begins with 00 61 73 6d 01 00 00 00, and the bytes end before\n",
-        NoModule::Magic { .. } =>
-            "because   byte {} is {}, and a module begins with 00 61 73 6d\n{}",
-        NoModule::Version { .. } => "because   byte {} is {}, and the version is 01 00 00 00\n{}",
-        NoModule::Sections(_) =>
-            "because   after its first eight bytes, which are right, it has no sections of a module\n",
-    }
-}
-
-/// The lines on bytes that spell no module.
-fn push_no_module(text: &mut String, no_module: NoModule) -> Result<(), AllocError> {
-    match no_module {
-        NoModule::Sections(Some(location)) => push_location(text, location),
-        NoModule::Magic { at, found, form } | NoModule::Version { at, found, form } => {
-            let hint = Text(form.map_or("", form_hint));
-            say(
-                text,
-                no_module_sentence(no_module),
-                &[Number(at), Hex(found as u32), hint],
-            )
-        }
-        _ => text.push_str(no_module_sentence(no_module)),
     }
 }
 

@@ -17,11 +17,11 @@ use Rattle.explanation.specs.declared.shell_location.SectionPart.TheVariants as 
 -- ---- the kind
 
 abbrev pub kind_of_no_module : NoModule → ExplanationKind
-kind_of_no_module header.Text = kind.Text
-kind_of_no_module header.Gzip = kind.Gzip
 kind_of_no_module header.Short = kind.ShortHeader
-kind_of_no_module (header.Magic at found form) = kind.Magic
-kind_of_no_module (header.Version at found form) = kind.Version
+kind_of_no_module (header.Magic at found (Some form)) = kind.OtherForm form
+kind_of_no_module (header.Magic at found None) = kind.Magic
+kind_of_no_module (header.Version at found (Some form)) = kind.OtherForm form
+kind_of_no_module (header.Version at found None) = kind.Version
 kind_of_no_module (header.Sections location) = kind.Sections
 
 abbrev pub kind_of_stop : Stopped → ExplanationKind

@@ -24,6 +24,10 @@ pub struct FunctionSignature {
 /// Another form of a file, by its first bytes.
 #[derive(Clone, Copy, PartialEq, Eq)]
 pub enum Form {
+    /// The text format.
+    Text,
+    /// An archive of gzip.
+    Gzip,
     /// A component of the component model.
     Component,
     /// An archive of xz.
@@ -36,15 +40,25 @@ pub enum Form {
     Objects,
     /// Bitcode of LLVM.
     Bitcode,
+    /// A web page, or other markup.
+    Markup,
+    /// JSON.
+    Json,
+    /// An archive of zip.
+    Zip,
+    /// A module in base64.
+    Base64,
+    /// Text in UTF-16.
+    Utf16,
+    /// Text in UTF-8 with a byte order mark.
+    ByteOrderMark,
+    /// A pointer of Git LFS to a file.
+    LfsPointer,
 }
 
 /// What bytes are that spell no module.
 #[derive(Clone, Copy, PartialEq, Eq)]
 pub enum NoModule {
-    /// They begin as the text format does.
-    Text,
-    /// They begin as a gzip archive does.
-    Gzip,
     /// They are fewer than the eight of the magic and the version.
     Short,
     /// The byte at that offset, below 4, is none of the magic; and of which other form the bytes are.

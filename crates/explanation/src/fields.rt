@@ -4,7 +4,9 @@ ghost use Rattle.explanation.specs.Fields.{at_offset, item_of_part, kind_of_faul
 ghost use Rattle.explanation.specs.Fields.{kind_of_stop, opcode_of_fault, opcode_of_stop, span_of_fault, span_of_no_module};
 
 use crate::broken_item::BrokenItem;
-use crate::explanation::{BodyExplanation, Explanation, NoModule, Span, StopLocation, Stopped};
+use crate::explanation::{
+    BodyExplanation, Explanation, Form, NoModule, Span, StopLocation, Stopped,
+};
 use crate::shell_location::{Location, SectionPart};
 
 /// The id of the section of bodies (5.5.13).
@@ -15,10 +17,8 @@ const CODE_SECTION: u8 = 10;
 pub enum ExplanationKind {
     Accepted,
     TooLarge,
-    /// The bytes begin as the text format does.
-    Text,
-    /// They begin as a gzip archive does.
-    Gzip,
+    /// The bytes begin as a file of that form does.
+    OtherForm(Form),
     /// They are fewer than the eight of the magic and the version.
     ShortHeader,
     /// One of the first four is none of the magic.
@@ -54,11 +54,17 @@ fn no_module_kind(what: NoModule) -> ExplanationKind
     ensures { result ≡ kind_of_no_module what }
 {
     match what {
-        NoModule::Text => ExplanationKind::Text,
-        NoModule::Gzip => ExplanationKind::Gzip,
         NoModule::Short => ExplanationKind::ShortHeader,
-        NoModule::Magic { .. } => ExplanationKind::Magic,
-        NoModule::Version { .. } => ExplanationKind::Version,
+        NoModule::Magic {
+            form: Some(form),
+            ..
+        }
+        | NoModule::Version {
+            form: Some(form),
+            ..
+        } => ExplanationKind::OtherForm(form),
+        NoModule::Magic { form: None, .. } => ExplanationKind::Magic,
+        NoModule::Version { form: None, .. } => ExplanationKind::Version,
         NoModule::Sections(_) => ExplanationKind::Sections,
     }
 }

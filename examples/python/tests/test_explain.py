@@ -43,6 +43,14 @@ class Explain(unittest.TestCase):
         self.assertEqual((found.place, found.body), (range(4, 4), None))
         self.assertEqual(str(found), 'refused malformed: byte 4 is 02, and the version is 01 00 00 00')
 
+    def test_another_form(self) -> None:
+        for module, why, byte in ((b'(module)', 201, '28'), (b'\x1f\x8b', 202, '1f'), (b'<html>', 213, '3c'), (b'{"a": 1}', 214, '7b')):
+            with self.subTest(module):
+                found = gate.explain(module)
+                self.assertEqual((found.verdict, found.why), (gate.Verdict(gate.Refusal.MALFORMED), why))
+                self.assertEqual((found.place, found.because), (range(0, 0), f'byte 0 is {byte}, and a module begins with 00 61 73 6d'))
+                self.assertEqual(list(found.lines), ['because', 'hint'])
+
     def test_accepted(self) -> None:
         found = gate.explain(bytearray(HEADER))
         self.assertEqual(found, gate.Explanation(gate.Verdict(), 'accepted\n', 0))
