@@ -13,7 +13,7 @@ use Rattle.c_api.specs.declared.settings.GateSettings.{GateSettings}
 use Rattle.c_api.specs.Ends.{end_fields}
 use Rattle.c_api.specs.Runs.{in_range}
 
--- 4.5.4 why the module has no instance of at most so many pages
+-- 4.5.4 why the module has no instance whose memory has at most `pages` pages
 abbrev pub refusal_in : ℕ → AcceptedModule → Option meant.StartRefusal
 refusal_in pages a = meant.start_refusal pages (module_shape a.«module») (shapes_of a.bodies.items)
 

@@ -28,7 +28,7 @@ abbrev pub IsBodyOf : List ℕ → ℕ → List (List ℕ) → ℕ → Span → 
 IsBodyOf bytes imported bodies f s =
     (position : ℕ) × (f ≡ imported + position) × (slice_get bodies position ≡ Some (between s.from s.to bytes)) × IsBodyAt bytes position s
 
--- 5.5.13 so many locals are declared
+-- 5.5.13 a body declares `count` locals
 abbrev pub Declares : List ℕ → ℕ → Type 0
 Declares body count = (runs : List LocalRun) × (code : List ℕ) × (locals.read body ≡ Some (runs, code)) × (count ≡ locals_of runs)
 

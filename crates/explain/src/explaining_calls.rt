@@ -120,7 +120,7 @@ fn explain_refused(alloc: Global, bytes: &[u8]) -> Result<CallsExplanation, Allo
 
 /// Judges a module, on the calling thread, and reads a text of calls of it. Of a refused module it tells what `explain`
 /// tells; of an accepted one what is wrong with the calls, or which of them does not fit the module, and why an instance does
-/// not start whose memory may have so many pages.
+/// not start whose memory may have `pages` pages.
 pub fn explain_calls(
     alloc: Global,
     bytes: &[u8],

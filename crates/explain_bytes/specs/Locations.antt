@@ -20,16 +20,16 @@ abbrev pub after_one : Option (List ℕ) → Option (List ℕ)
 after_one None = None
 after_one (Some bytes) = rest_of (token_at bytes)
 
--- after so many
+-- after `n` tokens
 abbrev pub left_after : ℕ → List ℕ → Option (List ℕ)
 left_after zero bytes = Some bytes
 left_after (suc n) bytes = after_one (left_after n bytes)
 
--- 5.5.13 after its locals and so many tokens these bytes of the body are left
+-- 5.5.13 after its locals and `position` tokens these bytes of the body are left
 abbrev pub IsLeft : List ℕ → ℕ → List ℕ → Type 0
 IsLeft body position left = (runs : List LocalRun) × (code : List ℕ) × (locals.read body ≡ Some (runs, code)) × (left_after position code ≡ Some left)
 
--- after its locals and so many tokens the body, which begins at offset `start`, has this token, from its first byte on up to the byte after its last
+-- the body begins at offset `start`, and after its locals and `position` tokens comes this one, up to the byte after its last
 pub record IsTokenAt (body : List ℕ) (start position : ℕ) (f : FoundToken) : Type 0 where
   pub before : List ℕ
   pub after : List ℕ
@@ -50,7 +50,7 @@ abbrev pub nested_on : Option (List ℕ) → Option (List Bool) → Option (Opti
 nested_on None now = None
 nested_on (Some bytes) now = nested_next (token_at bytes) now
 
--- 5.4.1 what is open after so many tokens of an expression, the innermost block first, each with whether its else may still come
+-- 5.4.1 what is open after `n` tokens of an expression, the innermost block first, each with whether its else may still come
 abbrev pub nested_after : ℕ → List ℕ → Option (Option (List Bool))
 nested_after zero code = Some (Some [])
 nested_after (suc n) code = on (nested_after n code) (nested_on (left_after n code))
@@ -63,11 +63,11 @@ CannotGoOn now stopped.Else rest = (t : Token) × (after : List ℕ) × (token_a
 CannotGoOn now stopped.Left rest = (rest ≢ []) × (now ≡ Some None)
 CannotGoOn now stopped.Short rest = (rest ≡ []) × (inner : List Bool) × (now ≡ Some (Some inner))
 
--- reading the bytes after the locals stops after so many tokens, before these bytes, and for that
+-- reading the bytes after the locals stops after this number of tokens, before the bytes `rest`, for the reason `why`
 abbrev pub Halts : List ℕ → ℕ → Stopped → List ℕ → Type 0
 Halts code tokens why rest = (left_after tokens code ≡ Some rest) × CannotGoOn (nested_after tokens code) why rest
 
--- reading the body stops there and for that: so many tokens stand before, or it has no locals
+-- reading the body stops there, for that reason: after its locals and `s.tokens` tokens, or at its locals
 abbrev pub HaltsIn : List ℕ → StopLocation → Type 0
 HaltsIn body s = ((runs : List LocalRun) × (code : List ℕ) × (locals.read body ≡ Some (runs, code)) × Halts code s.tokens s.why s.rest.now)
     ⊎ ((locals.read body ≡ None) × (s.why ≡ stopped.Locals) × (s.tokens ≡ 0) × (s.rest.now ≡ body))

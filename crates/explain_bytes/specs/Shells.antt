@@ -133,7 +133,7 @@ abbrev pub after_section : List ℕ → Option (List ℕ)
 after_section [] = None
 after_section (id ∷ sized) = rest_of (blob.read sized)
 
--- 5.5.15 after the header and so many sections
+-- 5.5.15 the bytes after the header and `n` sections
 abbrev pub after_sections : ℕ → List ℕ → Option (List ℕ)
 after_sections zero bytes = Some (drop 8 bytes)
 after_sections (suc n) bytes = on (after_sections n bytes) after_section
@@ -148,7 +148,7 @@ abbrev pub after_one_more : Items → Option (List ℕ) → Option (List ℕ)
 after_one_more items None = None
 after_one_more items (Some bytes) = after items bytes
 
--- after so many
+-- the bytes after `n` items
 abbrev pub after_items : Items → ℕ → List ℕ → Option (List ℕ)
 after_items items zero bytes = Some bytes
 after_items items (suc n) bytes = after_one_more items (after_items items n bytes)
@@ -196,7 +196,7 @@ Comes p left (outcome.After rest segment) = left ≡ Some rest.now
 Comes p left outcome.Unknown = Unit {0}
 Comes p left (outcome.Stopped l) = (l.part ≡ p) × (left ≡ None) × Stands l.wrong l.rest.now
 
--- what comes of reading so many items
+-- what comes of reading `count` items
 abbrev pub ItemsCome : Items → ℕ → List ℕ → ContentsEnd → Type 0
 ItemsCome items count bytes (outcome.After rest segment) = after_items items count bytes ≡ Some rest.now
 ItemsCome items count bytes outcome.Unknown = Unit {0}

@@ -6,7 +6,7 @@ use explanation::{FoundToken, Span};
 use std::alloc::Global;
 use wdecode::{Fault, locals_at, token_at};
 
-/// What is left of the bytes after so many tokens.
+/// What is left of the bytes after `count` tokens.
 fn bytes_after<'a>(alloc: Global, bytes: &'a [u8], count: usize) -> Result<&'a [u8], Fault>
     ensures { IfOk result (λ rest. left_after count bytes.now ≡ Some rest.now) }
 {
@@ -20,7 +20,7 @@ fn bytes_after<'a>(alloc: Global, bytes: &'a [u8], count: usize) -> Result<&'a [
     Ok(rest)
 }
 
-/// What is left of a body after its locals and so many tokens.
+/// What is left of a body after its locals and `position` tokens.
 fn left_of<'a>(alloc: Global, body: &'a [u8], position: usize) -> Result<&'a [u8], Fault>
     ensures { IfOk result (λ rest. IsLeft body.now position rest.now) }
 {

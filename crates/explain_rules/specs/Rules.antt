@@ -28,7 +28,7 @@ IsInitial globals tokens (Constant t) = (n : ℕ) × (tokens ≡ Do (Const t n) 
 IsInitial globals tokens (Get x imported gets) = (tokens ≡ Do (GlobalGet x) ∷ End ∷ []) × (imported ≡ length globals) × (gets ≡ slice_get globals x)
 IsInitial globals tokens Other = has_constant_form tokens ≡ false
 
--- rules 2 and 3: the type at that entry of a list of functions is none of so many
+-- rules 2 and 3: entry `entry` of a list of functions names the type `y`, and there are only `types` types
 abbrev pub TellsType : ModuleShape → List ℕ → ℕ → ℕ → ℕ → Type 0
 TellsType m functions entry y types = IsFirst (λ z. z < length m.types) functions entry y × (types ≡ length m.types)
 
@@ -44,14 +44,14 @@ pub record IsRepeated (es : List ExportShape) (position : ℕ) (name : List ℕ)
   pub first : option_map (λ e. e.item_name) (slice_get es earlier) ≡ Some name
   pub before : AllPairs (λ a b. a.item_name ≢ b.item_name) (take position es)
 
--- rule 12: what is wrong with an element segment, where there are so many tables and functions and these imported globals
+-- rule 12: what is wrong with an element segment, of a module with these numbers of tables and functions and these imported globals
 abbrev pub IsElementFault : ℕ → ℕ → List GlobalType → ElementShape → ItemFault → Type 0
 IsElementFault tables functions globals e (ElementTable table count) = (table ≡ e.table) × (count ≡ tables) × (count ≤ table)
 IsElementFault tables functions globals e (ElementOffset offset) = IsInitial globals e.offset offset × (ConstantOf globals I32 e.offset → ⊥)
 IsElementFault tables functions globals e (ElementFunction entry f count) = IsFirst (λ g. g < functions) e.functions entry f × (count ≡ functions)
 IsElementFault tables functions globals e _ = ⊥
 
--- rule 13: what is wrong with a data segment, where there are so many memories and these imported globals
+-- rule 13: what is wrong with a data segment, of a module with this number of memories and these imported globals
 abbrev pub IsDataFault : ℕ → List GlobalType → DataShape → ItemFault → Type 0
 IsDataFault memories globals d (DataMemory memory count) = (memory ≡ d.memory) × (count ≡ memories) × (count ≤ memory)
 IsDataFault memories globals d (DataOffset offset) = IsInitial globals d.offset offset × (ConstantOf globals I32 d.offset → ⊥)
@@ -125,7 +125,7 @@ IsImportOf kinds kind index position = (option_map (adds kind) (slice_get kinds 
 abbrev pub kinds_of : ModuleShape → List ImportKind
 kinds_of m = map (λ i. i.kind) m.imports
 
--- 2.5.1 the item of that index stands there: it is imported, or after so many imported ones defined, in the section `own`
+-- 2.5.1 the item of that index stands there: it is imported, or defined in the section `own` after `imported` imported ones
 abbrev pub IsPlaceOf : ModuleShape → ExportKind → ℕ → ℕ → ℕ → ℕ → ℕ → Type 0
 IsPlaceOf m kind own imported index section position =
     ((section ≡ 2) × IsImportOf (kinds_of m) kind index position) ⊎ ((section ≡ own) × (index ≡ imported + position))

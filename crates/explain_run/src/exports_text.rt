@@ -96,7 +96,7 @@ fn push_exports(
 }
 
 /// A line for each export of an accepted module, in their order, and after them whether an instance of it starts whose
-/// memory may have so many pages. The module was judged from these bytes: where they are others, the byte of a token is
+/// memory may have `pages` pages. The module was judged from these bytes: where they are others, the byte of a token is
 /// another too.
 pub fn text_of_exports(
     alloc: Global,

@@ -32,9 +32,9 @@ pub enum NotStarting<'a> {
     Import(Import<'a>),
     /// It mentions floats: first there.
     Floats(Option<FloatLocation>),
-    /// Its table has at least so many entries.
+    /// Its table begins with this number of entries or more.
     TableLimit(u32),
-    /// Its memory has at least so many pages.
+    /// Its memory begins with this number of pages or more.
     MemoryLimit(u32),
     /// The element segment at that position ends past the table.
     ElementOutside(u32),
@@ -142,7 +142,7 @@ fn reason_of<'a>(accepted: &Accepted<'a>, refusal: StartRefusal) -> NotStarting<
     }
 }
 
-/// Why no instance of an accepted module starts whose memory may have so many pages; `None` where one does.
+/// Why no instance of an accepted module starts whose memory may have `pages` pages; `None` where one does.
 pub fn not_starting<'a>(accepted: &Accepted<'a>, pages: u32) -> Option<NotStarting<'a>>
     // It is the first reason, as a run has it.
     ensures reason { option_map refusal_named result

@@ -30,7 +30,7 @@ abbrev pub operand_at : List Frame → ℕ → Option (Option ValType)
 operand_at [] position = None
 operand_at (f ∷ fs) position = slice_get f.operands.known position
 
--- the first frame has just so many operands, and what follows in it is reached
+-- the first frame has exactly `count` operands, and what follows in it is reached
 abbrev pub HasJust : List Frame → ℕ → Type 0
 HasJust [] count = ⊥
 HasJust (f ∷ fs) count = (length f.operands.known ≡ count) × (f.operands.is_dead ≡ false)

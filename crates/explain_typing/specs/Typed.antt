@@ -26,7 +26,7 @@ use Rattle.explain_bytes.specs.Locations.{left_after}
 abbrev pub with_next : List Token → Option (List ℕ) → Option (List Token)
 with_next ts left = on left (λ bytes. option_map (λ t. ts ++ t.0 ∷ []) (token_at bytes))
 
--- 5.4 the first so many tokens that bytes spell
+-- 5.4 the first `n` tokens that bytes spell
 abbrev pub first_tokens : ℕ → List ℕ → Option (List Token)
 first_tokens zero bytes = Some []
 first_tokens (suc n) bytes = on (first_tokens n bytes) (λ ts. with_next ts (left_after n bytes))
@@ -50,7 +50,7 @@ pops C (OpenIf b) (f ∷ fs) = option_map (λ s. Some I32 ∷ map Some (enter s)
 pops C Else (f ∷ fs) = Some (map Some f.gives)
 pops C End (f ∷ fs) = Some (map Some f.gives)
 
--- so many operands, one after another, as 7.3 pop_val takes them: fewer where there are fewer
+-- operands one after another, as 7.3 pop_val takes them, until there is none
 abbrev pub and_others : Option (Option ValType × List Frame) → (List Frame → List (Option ValType)) → List (Option ValType)
 and_others None more = []
 and_others (Some x) more = x.0 ∷ more x.1
@@ -123,7 +123,7 @@ abbrev pub opened_at : List ℕ → Option (List ℕ) → List ℕ → List ℕ
 opened_at code None opened = opened
 opened_at code (Some bytes) opened = opened_next (token_at bytes) (length code - length bytes) opened
 
--- where the tokens begin in the code that opened the blocks which are open after so many tokens, the innermost first
+-- where the tokens begin in the code that opened the blocks which are open after `n` tokens, the innermost first
 abbrev pub opened_after : ℕ → List ℕ → List ℕ
 opened_after zero code = []
 opened_after (suc n) code = opened_at code (left_after n code) (opened_after n code)
@@ -135,7 +135,7 @@ opcode_of Loop = 0x03
 opcode_of If = 0x04
 opcode_of Second = 0x05
 
--- the block inside which so many others are open was opened by a token of that kind there, where the code has that offset in the module
+-- the block that has `inner` open ones inside it was opened by a token of that kind at that offset; the code begins at `start`
 abbrev pub IsOpening : List ℕ → ℕ → List ℕ → ℕ → Opening → Type 0
 IsOpening code start opened inner o =
     (from : ℕ) × (slice_get opened inner ≡ Some from) × (o.at ≡ start + from) × (slice_get code from ≡ Some (opcode_of o.kind))
@@ -160,7 +160,7 @@ pub record IsTypingIn (C : Context) (t : Token) (fs : List Frame) (told : Typing
   pub operands : TellsOperands C t fs told
   pub within : map (λ b. type_told b.signature) told.within.items ≡ take 8 (block_types fs)
 
--- the checker goes on by the first so many tokens that bytes spell
+-- the checker goes on by the first `position` tokens that bytes spell
 pub record PassesTo (old : Checking) (code : List ℕ) (position : ℕ) (now : Checking) : Type 0 where
   pub tokens : List Token
   pub read : first_tokens position code ≡ Some tokens

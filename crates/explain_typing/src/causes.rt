@@ -160,7 +160,7 @@ fn is_there(checker: &Checker<'_>, space: Space, index: u32) -> bool
     }
 }
 
-/// How many indices of a space there are, which are at most so many. Halves what is left until one is.
+/// How many indices of a space there are, at most `most`. Halves what is left until one is.
 fn count_of(checker: &Checker<'_>, space: Space, most: u32) -> u32
     requires { size_of space checker.now.inside checker.now.frames ≤ most }
     ensures { result ≡ size_of space checker.now.inside checker.now.frames }

@@ -105,7 +105,7 @@ pub(crate) fn takes_of(
     }
 }
 
-/// How many operands are told, of a token that takes so many.
+/// How many operands are told, of a token that takes `takes`.
 pub(crate) fn count_told(token: Token, takes: usize, known: usize) -> usize
     ensures { (targets : List ℕ) → result ≡ told_of (decoded_as targets token) takes known }
 {
@@ -115,7 +115,7 @@ pub(crate) fn count_told(token: Token, takes: usize, known: usize) -> usize
     }
 }
 
-/// The topmost operands of the innermost frame, so many or fewer, the topmost first.
+/// The topmost `count` operands of the innermost frame, or all where it has fewer, the topmost first.
 fn taken(alloc: Global, checker: &mut Checker<'_>, count: usize) -> Result<Operands, AllocError>
     ensures taken { IfOk result (λ o. o.items ≡ topmost count checker.old.frames) }
     ensures types { map frame_type checker.new.frames ≡ map frame_type checker.old.frames }
@@ -142,7 +142,7 @@ fn turned(alloc: Global, operands: Operands) -> Result<Operands, AllocError>
     Ok(turned)
 }
 
-/// The topmost operands of the innermost frame, so many or fewer. They are taken from it.
+/// The topmost `count` operands of the innermost frame, or all where it has fewer. They are taken from it.
 pub(crate) fn finds_of(
     alloc: Global,
     checker: &mut Checker<'_>,

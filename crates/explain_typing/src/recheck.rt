@@ -101,7 +101,7 @@ fn known_in(checker: &Checker<'_>) -> usize {
     }
 }
 
-/// Goes on by so many tokens of the bytes after the locals of a body.
+/// Goes on by some tokens of the bytes after the locals of a body.
 fn pass_tokens<'a>(
     alloc: Global,
     checker: &mut Checker<'_>,
@@ -178,7 +178,7 @@ fn told_of_name(
     })
 }
 
-/// What is told of a token that takes and finds these operands, so many of which are known.
+/// What is told of a token that takes and finds these operands, `known` of which are known.
 fn told_of_operands(
     alloc: Global,
     checker: &mut Checker<'_>,

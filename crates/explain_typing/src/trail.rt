@@ -132,7 +132,7 @@ impl GivenRuns {
         }
     }
 
-    /// Forgets the topmost operands, so that no more than so many are left.
+    /// Forgets the topmost operands, so that at most `height` are left.
     #[inline(always)]
     fn shrink_to(&mut self, height: usize) {
         for _ in 0..self.held.len() {
@@ -146,7 +146,7 @@ impl GivenRuns {
         self.height = self.height.min(height);
     }
 
-    /// Puts operands of the token that begins there in the code, so that there are so many.
+    /// Puts operands of the token that begins at offset `at` of the code, until there are `height`.
     #[inline(always)]
     fn grow_to(&mut self, height: usize, at: u32) -> Result<(), AllocError> {
         if height > self.height {
@@ -160,8 +160,8 @@ impl GivenRuns {
         Ok(())
     }
 
-    /// How many operands lie below the innermost block after a token, of which so many lie below it before, and how many operands
-    /// of its own it puts, where so many of the innermost block are known after it.
+    /// How many operands lie below the innermost block after a token, and how many it puts itself. A token that opens no block puts
+    /// `own`; `known` operands of the innermost block are known after it.
     #[inline(always)]
     fn moved(&self, token: Token, own: usize, known: usize) -> (usize, usize) {
         let base = self.height.saturating_sub(self.known);
@@ -179,8 +179,8 @@ impl GivenRuns {
         }
     }
 
-    /// Goes on by a token that begins there in the code. It put so many operands of its own, a block or its second branch apart, and
-    /// so many of the innermost block are known after it.
+    /// Goes on by a token that begins at offset `at` of the code. It put `own` operands of its own, a block or its second branch
+    /// apart, and `known` operands of the innermost block are known after it.
     #[inline(always)]
     fn note(&mut self, token: Token, at: u32, own: usize, known: usize) -> Result<(), AllocError> {
         let (base, own) = self.moved(token, own, known);
@@ -201,7 +201,7 @@ impl GivenRuns {
         }
     }
 
-    /// The first run of the topmost operands, so many.
+    /// The run that holds the operand which has `operand` others below it.
     fn first_run(&self, operand: usize) -> usize {
         for back in 1..self.held.len() {
             let run = self.held.len() - back;
@@ -228,8 +228,8 @@ impl<'a> Trail<'a> {
         }
     }
 
-    /// Goes on by a token with so many bytes of the code from its first one on. It put so many operands of its own, a block or its
-    /// second branch apart, and so many of the innermost block are known after it.
+    /// Goes on by a token, where `left` bytes of the code are left from its first one on. It put `own` operands of its own, a block
+    /// or its second branch apart, and `known` operands of the innermost block are known after it.
     #[inline(always)]
     pub(crate) fn note(
         &mut self,

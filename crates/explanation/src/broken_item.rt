@@ -22,13 +22,13 @@ pub enum Initial {
 /// and globals.
 #[derive(Drop)]
 pub enum ItemFault<'a> {
-    /// The type of that imported function is none of so many.
+    /// The type of that imported function does not exist: there are this number of types.
     ImportedType {
         func: usize,
         type_index: u32,
         types: usize,
     },
-    /// The type of that defined function is none of so many.
+    /// The type of that defined function does not exist: there are this number of types.
     DefinedType {
         func: usize,
         type_index: u32,
@@ -44,11 +44,11 @@ pub enum ItemFault<'a> {
         memory: usize,
         limits: Limits,
     },
-    /// It is the second of so many tables.
+    /// It is the second table, of this number.
     SecondTable {
         tables: usize,
     },
-    /// It is the second of so many memories.
+    /// It is the second memory, of this number.
     SecondMemory {
         memories: usize,
     },
@@ -58,7 +58,7 @@ pub enum ItemFault<'a> {
         wanted: ValType,
         initial: Initial,
     },
-    /// What the export of that name names is none of so many.
+    /// What the export of that name names does not exist: there are this number of its kind.
     ExportedIndex {
         name: &'a [u8],
         kind: ExportKind,
@@ -70,7 +70,7 @@ pub enum ItemFault<'a> {
         name: &'a [u8],
         earlier: usize,
     },
-    /// The start function is none of so many.
+    /// The start function does not exist: there are this number of functions.
     StartMissing {
         func: u32,
         functions: usize,
@@ -80,20 +80,20 @@ pub enum ItemFault<'a> {
         func: u32,
         signature: FunctionSignature,
     },
-    /// The table of an element segment is none of so many.
+    /// The table of an element segment does not exist: there are this number of tables.
     ElementTable {
         table: u32,
         tables: usize,
     },
     /// The offset of an element segment is no constant expression of type i32.
     ElementOffset(Initial),
-    /// The function at that position of an element segment is none of so many.
+    /// The function at that position of an element segment does not exist: there are this number of functions.
     ElementFunction {
         position: usize,
         func: u32,
         functions: usize,
     },
-    /// The memory of a data segment is none of so many.
+    /// The memory of a data segment does not exist: there are this number of memories.
     DataMemory {
         memory: u32,
         memories: usize,

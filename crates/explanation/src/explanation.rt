@@ -123,7 +123,7 @@ pub enum BodyExplanation<'a> {
     Malformed {
         stop: Option<StopLocation<'a>>,
     },
-    /// It declares more than 100,000 locals, parameters aside: so many.
+    /// It declares more than 100,000 locals, parameters aside: this number.
     TooManyLocals {
         count: Option<u64>,
     },
@@ -156,7 +156,7 @@ pub struct RefusedFunction<'a> {
 #[derive(Drop)]
 pub enum Explanation<'a> {
     Accepted,
-    /// It has more bytes than a module may have: so many.
+    /// It has more bytes than a module may have: this number.
     TooLarge {
         bytes: usize,
     },

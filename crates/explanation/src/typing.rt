@@ -39,8 +39,8 @@ pub struct Giver {
 pub struct Typing {
     /// What it takes; `None` is an operand of any type. Of a token that names what is not there neither `takes` nor `finds` is told.
     pub takes: Vec<Option<ValType>>,
-    /// The topmost operands of the innermost block, as many as it takes, where there are so many; at the end of a block also those that are
-    /// left over, no more than 64. `None` is an operand of unreachable code, of which the type is not known.
+    /// The topmost operands of the innermost block, as many as it takes, or all where there are fewer; at the end of a block also
+    /// those that are left over, no more than 64. `None` is an operand of unreachable code, of which the type is not known.
     pub finds: Vec<Option<ValType>>,
     /// The tokens that gave these.
     pub given_by: Vec<Giver>,

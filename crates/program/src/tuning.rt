@@ -8,6 +8,6 @@ pub(crate) const ROUND_BYTES: usize = 67_108_864;
 /// reasons.
 pub(crate) const ROUND_FILES: usize = 4_096;
 
-/// A module of so many bytes is judged by all workers, body by body, so that none is waited for long. Halved, the workers wait
-/// for one another at more modules; doubled, the last one may work twice as long alone.
+/// A module of this number of bytes or more is judged by all workers, body by body, so that none is waited for long. Halved, the
+/// workers wait for one another at more modules; doubled, the last one may work twice as long alone.
 pub(crate) const LARGE: usize = 1_048_576;

@@ -51,7 +51,7 @@ fn after_export<'a>(bytes: &'a [u8]) -> Result<&'a [u8], Stuck<'a>>
     }
 }
 
-/// The bytes after so many indices.
+/// The bytes after `count` indices.
 fn indices_in<'a>(count: u32, bytes: &'a [u8]) -> Result<&'a [u8], Stuck<'a>>
     ensures { Passes (rest_of (times_at u32_production.read count bytes.now)) result }
 {

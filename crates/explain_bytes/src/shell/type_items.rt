@@ -21,7 +21,7 @@ pub(crate) fn after_val_type<'a>(bytes: &'a [u8]) -> Result<&'a [u8], Stuck<'a>>
     }
 }
 
-/// The bytes after so many value types.
+/// The bytes after `count` value types.
 fn val_types_in<'a>(count: u32, bytes: &'a [u8]) -> Result<&'a [u8], Stuck<'a>>
     ensures { Passes (rest_of (times_at val_type.read count bytes.now)) result }
 {

@@ -55,7 +55,7 @@ pub(crate) fn global_value<'a>(module: &Module<'_>, spaces: &Spaces) -> FirstIte
     Some((GLOBAL, position, fault))
 }
 
-/// What is wrong with an element segment, where there are so many tables and functions, and these imported globals.
+/// What is wrong with an element segment, of a module with these numbers of tables and functions and these imported globals.
 fn element_fault<'a>(segment: Element<'_>, counts: &SpaceSizes) -> Option<ItemFault<'a>>
     ensures { IfSome result (IsElementFault counts.now.tables counts.now.functions counts.now.constant_globals.items
         (element_shape (element_of segment.entry))) }

@@ -45,7 +45,7 @@ pub(crate) fn defined_type<'a>(module: &Module<'_>, spaces: &Spaces) -> FirstIte
     Some((FUNCTION, position, fault))
 }
 
-/// The section and the position in it of the item of that index in the space of that kind, of which so many are imported, and
+/// The section and the position in it of the item of that index in the space of that kind: the first ones are imported, and
 /// the others are those of the section `own`.
 fn location_in(
     module: &Module<'_>,
