@@ -35,3 +35,12 @@ def sizes(gate):
     gate.equal('the same with a refused module', gate.run('run', gate.short, calls), MALFORMED)
     calls = gate.write('calls.lines', b'f\n' * (LINE_LIMIT + 1))
     gate.equal('one line more', gate.run('run', gate.module, calls), (b'accepted\ncalls line %d refused\n' % (LINE_LIMIT + 1), 3, b''))
+    calls = gate.write('calls.late', b'\n' * 50_000 + b'\t\n' + b'\n' * 20_000)
+    gate.equal('a bad line far behind', gate.run('run', gate.module, calls), (b'accepted\ncalls line 50001 refused\n', 3, b''))
+    calls = gate.write('calls.long', (b'a' * 20_000 + b'\nf\n') * 4)
+    ends = b''.join(b'%d no-export\n%d values fuel 1\n' % (number, number + 1) for number in range(0, 8, 2))
+    ends += b'total 8 values 4 traps 0 exhausted 0 refused 4 no-memory 0 fuel 4\n'
+    gate.equal('long names that are not there', gate.run('run', gate.module, calls), (ends, 0, b''))
+    calls = gate.write('calls.bytes', b'\x00 \xff\r\ti64:9223372036854775807\ti32:-2147483648\ti32:0\n')
+    none = b'0 no-export\ntotal 1 values 0 traps 0 exhausted 0 refused 1 no-memory 0 fuel 0\n'
+    gate.equal('a name of any bytes', gate.run('run', gate.module, calls), (none, 0, b''))

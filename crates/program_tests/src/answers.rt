@@ -1,8 +1,6 @@
-//! The lines word by word, writers that fail, take a byte at a time, or take none, and whole answers, by workers and by one
-//! thread alone.
+//! The lines word by word, writers that fail, take a byte at a time, or take none, and the memory of calls on one thread alone.
 use batch::{
-    AnswerFault, Status, answer, answer_alone, answer_on_alone, call_alone, verdict_line,
-    write_verdict,
+    AnswerFault, Status, answer, answer_on_alone, call_alone, verdict_line, write_verdict,
 };
 use batch_text::{read_calls, report};
 use memory::CleanMem;
@@ -132,90 +130,6 @@ const ADD: &[u8] = b"\0asm\x01\0\0\0\
     \x07\x07\x01\x03add\0\0\
     \x0a\x09\x01\x07\0\x20\0\x20\x01\x6a\x0b";
 
-/// A global that the start function sets to 7, and functions that read it, trap, and go round a loop.
-const STARTED: &[u8] = b"\0asm\x01\0\0\0\
-    \x01\x08\x02\x60\0\0\x60\0\x01\x7f\
-    \x03\x05\x04\0\x01\0\0\
-    \x06\x06\x01\x7f\x01\x41\0\x0b\
-    \x07\x19\x04\x03get\0\x01\x04trap\0\x02\x04spin\0\x03\x01g\x03\0\
-    \x08\x01\0\
-    \x0a\x19\x04\x06\0\x41\x07\x24\0\x0b\x04\0\x23\0\x0b\x03\0\0\x0b\x07\0\x03\x40\x0c\0\x0b\x0b";
-
-/// What is written for a module and calls, and its status. One thread alone has to give the same.
-fn answered<R: AllocGlobal + Threads + Wait + Abort + Sync>(
-    rt: &R,
-    module: &[u8],
-    calls: &[u8],
-) -> Result<(Vec<u8>, Status), Fail> {
-    let plan = Plan::new(3, 2).ok_or("plan")?;
-    let settings = Settings::new(10, 100, 1).ok_or("settings")?;
-    let mut out = Narrow::new(rt.alloc(), 100, 100_000, true);
-    let status = answer(
-        rt,
-        rt.alloc(),
-        module,
-        calls,
-        settings,
-        plan,
-        &Quiet,
-        &mut out,
-    )?;
-    let alone = answer_alone(rt.alloc(), module, calls, settings)?;
-    assert_eq!(rt; alone.text.as_bytes(), out.held.as_slice());
-    assert!(rt; alone.status == status);
-    Ok((out.held, status))
-}
-
-#[test]
-fn a_call_is_answered(rt: HostRuntime) -> Result<(), Fail> {
-    let (text, status) = answered(&rt, ADD, b"add\ti32:2147483647\ti32:1\n")?;
-    assert_eq!(rt;
-        text.as_slice(),
-        "0 values i32:-2147483648 fuel 1\n\
-        total 1 values 1 traps 0 exhausted 0 refused 0 no-memory 0 fuel 1\n"
-            .as_bytes()
-    );
-    assert!(rt; status == Status::Good);
-    Ok(())
-}
-
-#[test]
-fn each_call_is_alone_behind_the_start_function(rt: HostRuntime) -> Result<(), Fail> {
-    let (text, status) = answered(&rt, STARTED, b"get\ntrap\nspin\ng\nno\nget\ti32:1\nget\n")?;
-    assert_eq!(rt;
-        text.as_slice(),
-        "0 values i32:7 fuel 2\n\
-        1 trap unreachable fuel 2\n\
-        2 out-of-fuel fuel 10\n\
-        3 not-a-function\n\
-        4 no-export\n\
-        5 bad-arguments\n\
-        6 values i32:7 fuel 2\n\
-        total 7 values 2 traps 1 exhausted 1 refused 3 no-memory 0 fuel 16\n"
-            .as_bytes()
-    );
-    assert!(rt; status == Status::Good);
-    Ok(())
-}
-
-#[test]
-fn refusals_are_answered(rt: HostRuntime) -> Result<(), Fail> {
-    let (text, status) = answered(&rt, b"\0asm\x02\0\0\0", b"add")?;
-    assert_eq!(rt; text.as_slice(), "refused malformed\n".as_bytes());
-    assert!(rt; status == Status::ModuleRefused);
-    let (text, status) = answered(&rt, ADD, b"add\n\nadd\ti32:01\n")?;
-    assert_eq!(rt;
-        text.as_slice(),
-        "accepted\ncalls line 3 refused\n".as_bytes()
-    );
-    assert!(rt; status == Status::CallsRefused);
-    let long = vec![in rt.alloc(); b'\n'; 4_194_305]?;
-    let (text, status) = answered(&rt, ADD, &long)?;
-    assert_eq!(rt; text.as_slice(), "accepted\ncalls too-large\n".as_bytes());
-    assert!(rt; status == Status::CallsRefused);
-    Ok(())
-}
-
 /// (memory 1)
 /// (func (export "next") (result i32)
 ///   (i32.store (i32.const 0) (i32.add (i32.load (i32.const 0)) (i32.const 1))) (i32.load (i32.const 0)))
@@ -247,49 +161,6 @@ fn calls_alone_have_one_memory_in_turn(rt: HostRuntime) -> Result<(), Fail> {
     let answer = answer_on_alone(alloc, &accepted, text, settings)?;
     assert_eq!(rt; answer.text.as_str(), said);
     assert!(rt; answer.status == Status::Good);
-    Ok(())
-}
-
-/// Texts that are long enough for several workers.
-#[test]
-fn long_texts_are_answered(rt: HostRuntime) -> Result<(), Fail> {
-    let alloc = rt.alloc();
-    let mut late = vec![in alloc; b'\n'; 50_000]?;
-    late.extend_from_slice(b"\t\n")?;
-    late.extend_from_slice(&vec![in alloc; b'\n'; 20_000]?)?;
-    let (text, status) = answered(&rt, ADD, &late)?;
-    assert_eq!(rt;
-        text.as_slice(),
-        "accepted\ncalls line 50001 refused\n".as_bytes()
-    );
-    assert!(rt; status == Status::CallsRefused);
-    let (text, status) = answered(&rt, ADD, &vec![in alloc; b'\n'; 100_001]?)?;
-    assert_eq!(rt;
-        text.as_slice(),
-        "accepted\ncalls line 100001 refused\n".as_bytes()
-    );
-    assert!(rt; status == Status::CallsRefused);
-    let name = vec![in alloc; b'a'; 20_000]?;
-    let mut calls = Vec::new(alloc);
-    for _ in 0..4 {
-        calls.extend_from_slice(&name)?;
-        calls.extend_from_slice(b"\nadd\ti32:1\ti32:2\n")?;
-    }
-    let (text, status) = answered(&rt, ADD, &calls)?;
-    assert_eq!(rt;
-        text.as_slice(),
-        "0 no-export\n\
-        1 values i32:3 fuel 1\n\
-        2 no-export\n\
-        3 values i32:3 fuel 1\n\
-        4 no-export\n\
-        5 values i32:3 fuel 1\n\
-        6 no-export\n\
-        7 values i32:3 fuel 1\n\
-        total 8 values 4 traps 0 exhausted 0 refused 4 no-memory 0 fuel 4\n"
-            .as_bytes()
-    );
-    assert!(rt; status == Status::Good);
     Ok(())
 }
 

@@ -1,8 +1,6 @@
 //! The program over a source and writers in memory.
 mod answers;
 mod reads;
-mod streams;
-mod words;
 mod writes;
 
 use program::{ReadFault, Reason, Source, run};

@@ -1,11 +1,8 @@
-//! What no clause says: the worked rows, that the work is really shared, and how often a job is run.
+//! In which order pieces are taken, what one worker sees of another, how often a job is run, and what faults print.
 mod sharing;
 mod starving;
-mod told;
 
 ghost use Rattle.std.specs.Prelude.{◌≡◌, IfOk, vec_len};
-ghost use Rattle.pieces.specs.Shares.{EachShare};
-ghost use Rattle.pieces.specs.Bags.{IsShareOf};
 
 use pieces::*;
 use std::alloc::Global;
@@ -91,32 +88,6 @@ fn ten_indices_make_three_pieces(rt: HostRuntime) -> Result<(), Fail> {
     Ok(())
 }
 
-fn find_nothing<R: Wait + Abort>(rt: &R, bag: &Bag, mut shares: Vec<Share>)
-    requires { EachShare (IsShareOf bag.now) shares.items }
-{
-    while let Some(mut share) = shares.pop() {
-        assert!(rt; bag.take(rt, &mut share).is_none());
-    }
-}
-
-#[test]
-fn no_index_makes_no_piece(rt: HostRuntime) -> Result<(), Fail> {
-    for workers in 1..65 {
-        for piece in [1, 7, 65_535] {
-            let plan = Plan::new(workers, piece).ok_or("plan")?;
-            assert_eq!(rt; (plan.workers(), plan.piece()), (workers, piece));
-            let (bag, _mark, shares) = open(rt.alloc(), 0, plan)?;
-            assert_eq!(rt; shares.len(), workers as usize);
-            find_nothing(&rt, &bag, shares);
-            let job = new_counting(rt.alloc(), 0, NEVER, NEVER)?;
-            let locals = units(rt.alloc(), workers)?;
-            let outs = try_all(&rt, rt.alloc(), &job, locals, 0, plan);
-            assert!(rt; outs.is_ok());
-        }
-    }
-    Ok(())
-}
-
 #[test]
 fn two_shares_see_one_mark(rt: HostRuntime) -> Result<(), Fail> {
     let plan = Plan::new(2, 1).ok_or("plan")?;
@@ -183,12 +154,14 @@ fn every_plan_gives_the_answer_of_one_thread(rt: HostRuntime) -> Result<(), Fail
 }
 
 #[test]
-fn gathers_up_to_a_refusal(rt: HostRuntime) -> Result<(), Fail> {
-    let plan = Plan::new(1, 2).ok_or("plan")?;
-    let job = new_counting(rt.alloc(), 5, 2, NEVER)?;
-    let locals = units(rt.alloc(), 1)?;
-    let answers = gather(&rt, rt.alloc(), &job, locals, 5, plan)?;
-    let wanted = [(0, Ok(0)), (1, Ok(1)), (2, Err(JobFault::Refused(2)))];
-    assert_eq!(rt; answers.as_slice(), wanted.as_slice());
+fn faults_print_what_they_are(rt: HostRuntime) -> Result<(), Fail> {
+    let stopped: TryFault<u32> = TryFault::Stopped { index: 3, fault: 7 };
+    let memory: TryFault<u32> = TryFault::Memory;
+    let refused: JobFault<u32> = JobFault::Refused(7);
+    let text = format!(in rt.alloc(); "{stopped}, {memory}, {refused}")?;
+    assert_eq!(rt;
+        text.as_str(),
+        "index 3 is refused: 7, out of memory, refused: 7"
+    );
     Ok(())
 }

@@ -1,5 +1,5 @@
-//! What an option's number may look like, and writes that fail within an answer. What the answers are, the tables of the crate
-//! `suite` say, which go through the built program.
+//! Writes that fail within an answer. What the answers are, the tables of the crate `suite` say, which go through the built
+//! program.
 use super::{HeldFiles, Screen, status_of};
 use program::run;
 use std::alloc::Global;
@@ -14,12 +14,9 @@ const LOOPS: [u8; 36] = [
     0x0C, 0x00, 0x0B, 0x0B,
 ];
 
-/// The reports of one call of it, with fuel 5 and without fuel.
+/// The report of one call of it with fuel 5.
 const FIVE: &str =
     "0 out-of-fuel fuel 5\ntotal 1 values 0 traps 0 exhausted 1 refused 0 no-memory 0 fuel 5\n";
-
-const NONE: &str =
-    "0 out-of-fuel fuel 0\ntotal 1 values 0 traps 0 exhausted 1 refused 0 no-memory 0 fuel 0\n";
 
 /// The status, and what both outputs got, of one call of `f` with these options.
 fn looped<'a, R: Threads + Wait + Sync>(
@@ -36,27 +33,6 @@ fn looped<'a, R: Threads + Wait + Sync>(
     let mut err = Screen::wide(alloc);
     let status = run(rt, alloc, words.as_slice(), &mut source, &mut out, &mut err);
     Ok((status, out, err))
-}
-
-#[test]
-fn forms_of_a_number(rt: HostRuntime) -> Result<(), Fail> {
-    let forms: [(&[&str], &str); 5] = [
-        (&["--fuel", "5"], FIVE),
-        (&["--fuel=5"], FIVE),
-        (&["--fuel", "+005"], FIVE),
-        (&["--fuel=-0", "--pages=-00"], NONE),
-        (
-            &["--fuel=5", "--frames", "1", "--workers=8", "--piece", "+7"],
-            FIVE,
-        ),
-    ];
-    for (options, report) in forms {
-        let (status, out, err) = looped(&rt, rt.alloc(), options, 1_000)?;
-        assert_eq!(rt; status, 0, "with {options:?}");
-        assert_eq!(rt; out.shown.as_slice(), report.as_bytes(), "with {options:?}");
-        assert!(rt; err.shown.is_empty());
-    }
-    Ok(())
 }
 
 #[test]

@@ -1,2 +1,0 @@
-mod TwoParts
-pub mod Declared
