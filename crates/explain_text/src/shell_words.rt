@@ -3,7 +3,7 @@
 use crate::opcode_names::Feature;
 use explanation::Wanted;
 
-/// What something of a later standard is of.
+/// The feature or proposal of a later standard that something in a module belongs to.
 #[derive(Clone, Copy, PartialEq, Eq)]
 pub(crate) enum Origin {
     Of(Feature),
