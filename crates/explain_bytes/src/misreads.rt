@@ -77,7 +77,7 @@ fn after_zero<'a>(bytes: &'a [u8], wanted: Wanted) -> Result<&'a [u8], Stuck<'a>
     }
 }
 
-/// The bytes after the type of a block: 40, a value type, or the index of a type, whose first byte is none of a negative number.
+/// The bytes after the type of a block: 40, a value type, or the index of a type, whose first byte begins no negative number.
 fn after_block_type<'a>(bytes: &'a [u8]) -> Result<&'a [u8], Stuck<'a>>
     ensures { IfErr result IsStuck }
 {
@@ -154,7 +154,7 @@ fn after_runs<'a>(bytes: &'a [u8]) -> Result<&'a [u8], Stuck<'a>>
     Ok(rest)
 }
 
-/// What is wrong among the bytes; `None` where it is at the front of no end of them.
+/// What is wrong among the bytes; `None` where reading stopped at bytes that are no suffix of them.
 fn placed(bytes: &[u8], stuck: Stuck<'_>) -> Option<Misread>
     requires { IsStuck stuck }
     ensures { IfSome result (IsMisread bytes.now) }

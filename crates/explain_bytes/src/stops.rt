@@ -89,7 +89,7 @@ pub(crate) fn halt_in<'a>(alloc: Global, code: &'a [u8]) -> Result<Option<Halt<'
     Ok(None)
 }
 
-/// The same with its offset, in a body that begins at offset `start`.
+/// Where reading a body stops, with the offset in the module: the body begins at offset `start`.
 fn placed<'a>(body: &[u8], start: usize, halt: Halt<'a>) -> Option<StopLocation<'a>>
     ensures { IfSome result (λ s. (s.why ≡ halt.entry.why) × (s.tokens ≡ halt.entry.tokens) × (s.rest.now ≡ halt.entry.rest.now)
         × (s.at ≡ start + (length body.now - length halt.entry.rest.now))) }

@@ -263,7 +263,7 @@ fn reason_line(
     Ok(line)
 }
 
-/// The line on the start of an instance: that it starts, or why it does not, and what hinders it.
+/// The line on the start of an instance: that it starts, or why it does not, and the item that is the reason.
 pub(crate) fn start_line(
     alloc: Global,
     bytes: &[u8],

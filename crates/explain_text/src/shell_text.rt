@@ -117,7 +117,7 @@ pub(crate) fn push_opcode(
     say(text, sentence, &[Text(name)])
 }
 
-/// A byte that is none of what is wanted.
+/// A byte that is not one that is wanted.
 fn push_other_byte(text: &mut String, wanted: Wanted, found: u8) -> Result<(), AllocError> {
     let byte = Hex(found as u32);
     let Some((name, origin)) = later_byte(wanted, found) else {

@@ -19,7 +19,7 @@ const NO_VECTORS: &str =
 const NO_EXCEPTIONS: &str =
     "with -fno-exceptions, in Rust with -C panic=abort; in text do without it (docs/GUESTS.md)";
 
-/// What something of a later standard is of.
+/// The feature or proposal of a later standard that something in a module belongs to.
 #[derive(Clone, Copy, PartialEq, Eq)]
 pub(crate) enum Origin {
     Of(Feature),

@@ -8,7 +8,7 @@ use wsyntax::{ExportKind, GlobalType, Limits, ValType};
 pub enum Initial {
     /// One constant of that type.
     Constant(ValType),
-    /// One `global.get`. So many globals are imported; of an imported one its type.
+    /// One `global.get`, with the number of imported globals; of an imported one its type.
     Get {
         global: u32,
         imported: usize,

@@ -61,13 +61,13 @@ pub enum Form {
 pub enum NoModule {
     /// They are fewer than the eight of the magic and the version.
     Short,
-    /// The byte at that offset, below 4, is none of the magic; and of which other form the bytes are.
+    /// The byte at that offset, below 4, is not that of the magic; and of which other form the bytes are.
     Magic {
         at: usize,
         found: u8,
         form: Option<Form>,
     },
-    /// The byte at that offset, from 4 to 7, is none of the version; and of which other form the bytes are.
+    /// The byte at that offset, from 4 to 7, is not that of the version; and of which other form the bytes are.
     Version {
         at: usize,
         found: u8,
@@ -177,7 +177,7 @@ impl BodyExplanation<'_> {
     ghost use Rattle.std.specs.Prelude.{◌≡◌};
     ghost use Rattle.explanation.specs.Told.{refusal_told};
 
-    /// The same without locations.
+    /// The refusal alone, without its locations.
     pub fn refusal(&self) -> BodyRefusal
         ensures { result ≡ refusal_told self.now }
     {

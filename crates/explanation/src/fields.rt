@@ -21,9 +21,9 @@ pub enum ExplanationKind {
     OtherForm(Form),
     /// They are fewer than the eight of the magic and the version.
     ShortHeader,
-    /// One of the first four is none of the magic.
+    /// One of the first four is not that of the magic.
     Magic,
-    /// One of the next four is none of the version.
+    /// One of the next four is not that of the version.
     Version,
     /// What follows are not the sections of a module.
     Sections,

@@ -78,7 +78,7 @@ pub enum Wrong {
     LongConstant(Wanted),
     /// The constant that begins there is outside the range of its type.
     LargeConstant(Wanted),
-    /// The byte there is none of what is wanted.
+    /// The byte there is not one that is wanted.
     Byte {
         wanted: Wanted,
         found: u8,

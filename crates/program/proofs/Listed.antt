@@ -1,4 +1,4 @@
--- What is listed is of what was read.
+-- The exports that `list_file` prints are those of the module that it read, and where the module is refused it prints the verdict.
 use Rattle.std.proofs.Common.{◌≡◌, ℕ, List, Option, Result, Ok, Err, IfOk, IfSome, refl, subst, sym, ap, ◌∙◌}
 use Rattle.std.specs.Prelude.{IsSomeAnd, string_bytes, String}
 use Rattle.std.specs.declared.alloc.AllocError.{AllocError}
@@ -24,7 +24,7 @@ use Rattle.program.specs.Reads.{IsRead}
 use Rattle.program.specs.declared.fault.ProgramFault.{ProgramFault}
 use Rattle.program.specs.declared.fault.ProgramFault.TheVariants.{Usage, Unread, SomeUnread, Names, Write, Memory}
 
--- a list that is had
+-- a list whose text was allocated
 pub listed : (held : Option (List ℕ)) (v : Verdict) (text : Result (String Global) AllocError) (s : Status) (old new : Option (List ℕ)) (r : Result Status ProgramFault)
     → IfOk text (λ t. IsList held v (string_bytes t)) → s ≡ status_of v → ShowsText text s old new r → Lists held old new r
 listed held v (Ok text) s old new (Ok t) list is shown = (v, string_bytes text, list, shown.0 ∙ is, shown.1)

@@ -30,7 +30,7 @@ fails false x e is = cc
 pub byte_there : (bytes : List ℕ) (at : ℕ) → at < length bytes → None ≡ read bytes at 1 → ⊥
 byte_there bytes at within is = fails (nat_le (at + 1) (length bytes)) (little_endian (take 1 (drop at bytes))) (le-leb (at + 1) (length bytes) (omega (arith, within))) is
 
--- the first so many of one list over those of another
+-- the first n bytes of `source` over those of `old`
 abbrev pub over : ℕ → List ℕ → List ℕ → List ℕ
 over n source old = take n source ++ drop n old
 

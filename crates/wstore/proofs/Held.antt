@@ -1,4 +1,4 @@
--- The store after slots without tags.
+-- The slots of a typed store, tagged by their types again, are the store (`tagged_again`); another memory or global keeps it so.
 use Rattle.std.proofs.Common.{◌≡◌, ℕ, zero, suc, ◌<◌, ◌%◌, ◌^◌, Bool, true, false, List, [], ◌∷◌, Some, refl, sym, ap, ◌∙◌, subst, arith}
 use Rattle.std.specs.Prelude.{slice_get, slice_set, length}
 use Rattle.std.proofs.Math.Logic.{∥∥₁_elim}
