@@ -1,7 +1,7 @@
 #!/usr/bin/env python3
 """Makes the packages for Python, Rust and Go out of examples/: each gets the library in it, and builds nothing of it where it is used.
 
-Below FOLDER/examples stand afterwards python/gate-VERSION-py3-none-manylinux_2_17_x86_64.whl, with the shared library in it; the crates
+Below FOLDER/examples stand afterwards the wheel python/gate-VERSION-py3-none-PLATFORMS.whl, with the shared library in it; the crates
 rust and rust/gate-sys, the latter with the archive in `lib`; and the module go with archive and header. `packaging/release` packs the same.
 The wheel has fixed times, and nothing in it is compressed, so that the same files give the same bytes by each version of Python.
 """
@@ -22,7 +22,9 @@ from tools import library
 ARCHIVE, SHARED = f'lib/{library.ARCHIVE}', f'lib/{library.SHARED}'
 HEADER = 'include/gate.h'
 PYTHON, RUST, GO = 'examples/python', 'examples/rust', 'examples/go'
-TAG = 'py3-none-manylinux_2_17_x86_64'
+# One library for both: of a C library it takes six functions by names that glibc and musl have, and musl reads no versions of names.
+PLATFORMS = ['manylinux_2_17_x86_64', 'musllinux_1_1_x86_64']
+TAG = f'py3-none-{".".join(PLATFORMS)}'
 # The least time that a wheel can have.
 TIME = (1980, 1, 1, 0, 0, 0)
 
@@ -35,12 +37,11 @@ Requires-Python: >=3.10
 Description-Content-Type: text/markdown
 
 {readme}"""
-WHEEL = f"""\
+WHEEL = """\
 Wheel-Version: 1.0
 Generator: gate
 Root-Is-Purelib: false
-Tag: {TAG}
-"""
+""" + ''.join(f'Tag: py3-none-{it}\n' for it in PLATFORMS)
 
 # Where versions stand, which are those of the header.
 OF_CRATE = r'(?<!-)version = "([\d.]+)"'

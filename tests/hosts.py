@@ -15,6 +15,8 @@ header      gate.h by the compilers of C and C++, with all warnings; the compile
 C++         gate.hpp by wrapper.cpp, in which memory is refused too, and examples/cpp as it is shown, with all warnings.
 interface   interface/ calls each function, with short buffers, null pointers and numbers that are none, and on four threads.
 debug       interface/ and the hosts in C over debug/gate_debug.c, which has to find no fault; wrong_uses.c, of which it finds each.
+exchanges   hosts that a plug-in asks for what it wants, with one fuel for all calls: examples/*/exchange.*, and the one in Python of HOSTS.
+Dask        on_dask.py of examples/many on two workers here, one of which is killed on the way: the report is that of one run.
 packages    the tests of the packages for Rust, Go and Python, and of the addon for Node; what mypy says of the one for Python.
 refused     refuse_through_c.c refuses each request for memory in turn.
 valgrind    where it is on the machine: no error and no leak in the hosts in C and in interface/, and no race in the latter.
@@ -28,11 +30,13 @@ from concurrent.futures import ThreadPoolExecutor
 
 from tools import library
 from tests.hosting.answers import compare_calls, compare_checks, compare_folder, compare_run
+from tests.hosting.clusters import cluster
 from tests.hosting.compiling import compile_c
 from tests.hosting.header import build, exports, header, level, warned
 from tests.hosting.interface import FEW_ROUNDS, MANY_ROUNDS, MOST_CALLS_REFUSED, SANITIZER, debug, interface, refusals
 from tests.hosting.languages import hosts
-from tests.hosting.packages import exchange_of_python, node, tests_of_go, tests_of_python, tests_of_rust, types_of_python
+from tests.hosting.exchanges import compare_exchange, exchange_of_python
+from tests.hosting.packages import node, tests_of_go, tests_of_python, tests_of_rust, types_of_python
 from tests.hosting.plug_ins import compare_plug_ins, write_plug_ins
 from tests.hosting.processes import MEMCHECK, VALGRIND, Jobs, Tally
 from tests.hosting.tables import SHORT, modules_of_tables, mutants, runs_by_call, runs_of_tables
@@ -51,6 +55,8 @@ def begin_hosts(jobs, found, folder, work, modules, runs):
             jobs.begin(host.name, compare_plug_ins, host, work)
         if host.worker:
             jobs.begin(host.name, compare_worker, host, work)
+        if host.exchange:
+            jobs.begin(host.name, compare_exchange, host.name, [host.exchange], work)
         if host.name == 'C':
             jobs.begin(host.name, compare_folder, host, folder, modules)
             jobs.begin(host.name, compare_deadlines, host, work)
@@ -81,6 +87,7 @@ def begin_others(jobs, folder, work):
     jobs.begin('exports', exports, folder)
     jobs.begin('the notes of the shared library', level, folder)
     jobs.begin('which build it is', build, folder)
+    jobs.begin('Dask', cluster, folder, work)
     jobs.begin('C++', wrapper, folder, work, work)
     jobs.begin('Node', node, folder, work, work)
     jobs.begin('Python', tests_of_python, folder)
@@ -89,7 +96,7 @@ def begin_others(jobs, folder, work):
     jobs.begin('debug', debug, folder, work, [])
     jobs.begin('debug with AddressSanitizer', debug, folder, work, SANITIZER)
     jobs.begin('cargo test', tests_of_rust, folder, work)
-    jobs.begin('go test', tests_of_go, folder)
+    jobs.begin('go test', tests_of_go, folder, work)
 
 
 def all_parts(tally, pool, program, folder, work):

@@ -1,8 +1,8 @@
 """Uses the packages for Python, Rust and Go of a release as strangers do: each in an empty folder, offline, where no variable of the
 environment tells of a library.
 
-Python  The sums in the wheel hold, and its library wants no later glibc than its name says. pip installs it into a fresh environment;
-        there all tests of the package pass, and mypy finds no fault, where it is there.
+Python  The sums in the wheel hold, its library wants no later glibc than its name says, and a host over musl uses it. pip installs it
+        into a fresh environment; there all tests of the package pass, and mypy finds no fault, where it is there.
 Rust    The tests of the crate pass, and clippy finds no fault in both, where it is there. GATE_LIB_DIR comes before the library inside.
 Go      The tests of the module pass, and go vet finds no fault. A host that vendors the module is built too.
 Hosts   What docs/HOSTS.md of the release shows for each language, as a program outside the release, prints what it has to.
@@ -51,6 +51,21 @@ go 1.19
 require example.org/gate v0.0.0
 
 replace example.org/gate => {folder}
+"""
+# It judges a module of eight bytes, and prints the line.
+MUSL_HOST = """\
+#include <gate.h>
+#include <stdio.h>
+
+int main(void) {
+    static const uint8_t module[] = {0, 'a', 's', 'm', 1, 0, 0, 0};
+    uint8_t line[64];
+    size_t length;
+    gate_verdict verdict;
+    if (gate_check(module, sizeof module, &verdict) != GATE_OK) return 1;
+    if (gate_verdict_line(&verdict, line, sizeof line, &length) != GATE_OK) return 1;
+    return fwrite(line, 1, length, stdout) != length;
+}
 """
 
 
@@ -129,6 +144,26 @@ def sums(tally, path):
             tally.expect((total, length) == (wanted, str(len(held))), f'the sum of {name}', (total, length))
 
 
+def platforms(tally, path):
+    """Holds the platforms that the wheel lists beside those in its name, of which pip takes one that it runs on."""
+    *front, last = os.path.basename(path).removesuffix('.whl').split('-')
+    with zipfile.ZipFile(path) as wheel:
+        said = wheel.read(next(it for it in wheel.namelist() if it.endswith('.dist-info/WHEEL'))).decode()
+    listed = re.findall(r'^Tag: py3-none-(\w+)$', said, re.MULTILINE)
+    tally.expect(last.split('.') == listed and front[-2:] == ['py3', 'none'], 'the platforms that the wheel lists', listed)
+    tally.expect([it.partition('_')[0] for it in listed] == ['manylinux', 'musllinux'], 'a wheel for glibc and for musl', listed)
+
+
+def musl(tally, path, work):
+    """A host that musl's loader starts, over the library of the wheel."""
+    compiler, host = needs('musl-gcc'), os.path.join(work, 'musl-host')
+    with zipfile.ZipFile(path) as wheel:
+        library = wheel.extract('gate/libgate.so.1', work)
+    write(f'{host}.c', MUSL_HOST)
+    tally.ends('a host by musl-gcc', run([compiler, f'-I{ROOT}/include', '-o', host, f'{host}.c', library], work))
+    tally.prints('a host over musl', run([host], work, LD_LIBRARY_PATH=os.path.dirname(library)), 'accepted\n')
+
+
 def versions(tally, path, work):
     """Holds the versions of glibc that the library wants beside the one in the wheel's name."""
     needs('objdump')
@@ -143,7 +178,9 @@ def versions(tally, path, work):
 def python(tally, release, work):
     path, folder, environment = wheel_of(release), copied(release, work, 'python'), os.path.join(work, 'environment')
     sums(tally, path)
+    platforms(tally, path)
     attempt(tally, 'the versions of glibc', versions, path, work)
+    attempt(tally, 'musl', musl, path, work)
     made = run([sys.executable, '-m', 'venv', environment], work)
     if made.returncode:
         raise Left('no venv')

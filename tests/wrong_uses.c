@@ -55,6 +55,11 @@ static void null_report_freed(void) {
     WRONG("gate_report_free: the report is { NULL }", gate_report_free(none));
 }
 
+static void null_instance_freed(void) {
+    gate_instance none = { NULL };
+    WRONG("gate_instance_free: the instance is { NULL }", gate_instance_free(none));
+}
+
 static void module_freed_twice(void) {
     gate_module_free(module);
     WRONG("gate_module_free: the module was freed before", gate_module_free(module));
@@ -213,7 +218,8 @@ static void bytes_freed(void) {
 #endif
 
 static void (*const uses[])(void) = {
-    null_module_freed, null_report_freed, module_freed_twice, report_freed_twice, called_after_free, shared_after_free, read_after_free,
+    null_module_freed, null_report_freed, null_instance_freed,
+    module_freed_twice, report_freed_twice, called_after_free, shared_after_free, read_after_free,
     null_verdict, null_explanation, null_text, null_bytes, null_settings, null_line, length_within_out, out_within_module,
     verdict_within_bytes, misaligned, too_long, bytes_unmapped, calls_unmapped, bytes_changed, own_handle, other_handle, two_threads,
     counted_after_free, measured_after_free, null_length_of_a_build, null_found, types_in_one_place, instance_called_after_free,

@@ -13,8 +13,10 @@ PROGRAM = b'''#include "gate.h"
 int main(void) {
     gate_module module = { 0 };
     gate_report report = { 0 };
+    gate_instance instance = { 0 };
     gate_module_drop(module);
     gate_report_drop(report);
+    gate_instance_drop(instance);
     if (gate_i32(-1).width != 32 || gate_i32(-1).bits != 0xFFFFFFFF || gate_i64(-1).width != 64 || ~gate_i64(-1).bits) return 1;
     if (GATE_STATUS_BAD_ARGUMENT != 64 || GATE_STATUS_NO_MEMORY != 70 || GATE_END_BAD_ARGUMENTS != 6 || GATE_END_NO_MEMORY != 8) return 1;
     return gate_version() != GATE_INTERFACE || GATE_TRAP_TYPE_MISMATCH != 4;

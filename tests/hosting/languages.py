@@ -22,6 +22,7 @@ class Host(NamedTuple):
     # The process for a plug-in, and the host that sets it deadlines.
     worker: str = ''
     deadline_host: str = ''
+    exchange: str = ''
 
 
 def by_words(name, words, environment=None, plug_in=()):
@@ -34,9 +35,9 @@ def c_host(name, folder, work, linked):
     target = os.path.join(work, re.sub(r'\W', '_', name))
     flags = 'CFLAGS=' + ' '.join(['-O2'] + WARNINGS)
     built([needs('make'), '-s', '-C', needs_folder('c'), f'LIBRARY={folder}', f'TO={target}', flags] + linked)
-    names = 'judge_folder', 'run_batch', 'call', 'plugin_host', 'worker', 'deadline_host'
-    judge_folder, run_batch, call, plug_in, worker, deadline_host = [os.path.join(target, it) for it in names]
-    return Host(name, [judge_folder, '-'], [run_batch], [call], {}, [plug_in], worker, deadline_host)
+    names = 'judge_folder', 'run_batch', 'call', 'plugin_host', 'worker', 'deadline_host', 'exchange'
+    judge_folder, run_batch, call, plug_in, worker, deadline_host, exchange = [os.path.join(target, it) for it in names]
+    return Host(name, [judge_folder, '-'], [run_batch], [call], {}, [plug_in], worker, deadline_host, exchange)
 
 
 def static_host(folder, work):

@@ -1,13 +1,13 @@
 """The tests of the packages for Rust, Go and Python, and of the addon for Node."""
 import os
-import re
 import sys
 
 from tests import rows
 from tools import library
 from tests.hosting.compiling import INCLUDE, WARNINGS
+from tests.hosting.exchanges import compare_exchange, shown
 from tests.hosting.languages import Host, cargo, go, of_python
-from tests.hosting.plug_ins import PLUG_IN, compare_plug_ins
+from tests.hosting.plug_ins import compare_plug_ins
 from tests.hosting.processes import Left, built, needs, needs_folder, started
 from tools.files import ROOT
 
@@ -15,33 +15,17 @@ NODE_HEADERS = '/usr/include/node'
 
 
 def tests_of_rust(tally, folder, work):
-    cargo(folder, work, 'test')
+    target = cargo(folder, work, 'test')
     tally.expect(True, 'cargo test')
+    compare_exchange(tally, 'Rust', [os.path.join(target, 'release', 'examples', 'exchange')], work)
 
 
-def tests_of_go(tally, folder):
+def tests_of_go(tally, folder, work):
     go(folder, 'test', './...')
     tally.expect(True, 'go test')
-
-
-def shown(language, number=0):
-    """A program in that language that HOSTS shows."""
-    with open(os.path.join(ROOT, 'docs', 'HOSTS.md')) as file:
-        return re.findall(rf'^```{language}\n(.*?)^```$', file.read(), re.MULTILINE | re.DOTALL)[number].encode()
-
-
-def exchange_of_python(tally, folder, work):
-    """The host of HOSTS that a plug-in asks for what it wants."""
-    host, environment = os.path.join(work, 'exchange.py'), {**of_python(folder), 'PYTHONPATH': needs_folder('python')}
-    rows.write(host, shown('python', 1))
-    got = started([sys.executable, host, 'examples/guests/greet.wasm', 'Hello'], None, environment, cwd=ROOT)
-    tally.expect(got == (b'Hello World\n', 0, b''), 'the exchange of HOSTS', got)
-    # It answers `?` after 100,000 turns, each time. So nine times cost 900,018, and the alloc of the tenth leaves 99,981.
-    asks = PLUG_IN + bytes.fromhex('0a 1f 02 04 00 41 08 0b 18 01 01 7f 41 a0 8d 06 21 02 03 40 20 02 41 01 6b 22 02 0d 00 0b 42 01 0b'
-                                   '0b 07 01 00 41 00 0b 01 3f')
-    rows.write(os.path.join(work, 'asks.wasm'), asks)
-    got = started([sys.executable, host, os.path.join(work, 'asks.wasm'), 'Hello'], None, environment, cwd=ROOT)
-    tally.expect(got[1] == 1 and got[2].endswith(b'CallError: out-of-fuel fuel 99981\n'), 'an exchange without end', got)
+    target = os.path.join(work, 'go-exchange')
+    go(folder, 'build', '-o', target, './exchange')
+    compare_exchange(tally, 'Go', [target], work, {'LD_LIBRARY_PATH': folder})
 
 
 def tests_of_python(tally, folder):
@@ -75,6 +59,7 @@ def node(tally, folder, work, place):
     tally.expect(got[1] == 0 and b'# fail 0' in got[0], 'the tests of the addon for Node', got[0][-600:])
     words = ['node', os.path.join(needs_folder('node'), 'plugin_host.js')]
     compare_plug_ins(tally, Host('Node', [], [], [], environment, words), place)
+    compare_exchange(tally, 'Node', ['node', os.path.join(needs_folder('node'), 'exchange.js')], place, environment)
     packages, host = os.path.join(work, 'node_modules'), os.path.join(work, 'host.js')
     os.makedirs(packages)
     os.symlink(needs_folder('node'), os.path.join(packages, 'gate'))

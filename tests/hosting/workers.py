@@ -3,7 +3,7 @@ import os
 import sys
 
 from tests import rows
-from tests.hosting.packages import shown
+from tests.hosting.exchanges import shown
 from tests.hosting.plug_ins import PLUG_IN
 from tests.hosting.processes import started
 from tools.files import ROOT

@@ -3,6 +3,7 @@ import os
 import re
 
 from tests.hosting.compiling import compile_cpp
+from tests.hosting.exchanges import compare_exchange
 from tests.hosting.languages import Host
 from tests.hosting.plug_ins import compare_plug_ins
 from tests.hosting.processes import started
@@ -10,7 +11,7 @@ from tools.files import ROOT
 
 OF_WRAPPER = ['c++17', 'c++20']
 # What the head of an example in C++ shows.
-SHOWN = re.compile(r'^//     \$ \./(?:host|plugin_host) (.*)\n//     (.*)\n', re.MULTILINE)
+SHOWN = re.compile(r'^//     \$ \./(?:host|plugin_host|exchange) (.*)\n//     (.*)\n', re.MULTILINE)
 # The library asks the wrapped ones for memory.
 WRAPPED = ['-Wl,--wrap=malloc', '-Wl,--wrap=realloc']
 
@@ -32,6 +33,7 @@ def wrapper(tally, folder, work, place):
         as_shown(tally, 'host', folder, work, standard)
         plug_in = as_shown(tally, 'plugin_host', folder, work, standard)
         compare_plug_ins(tally, Host(f'C++ by -std={standard}', [], [], [], {}, [plug_in]), place)
+        compare_exchange(tally, f'C++ by -std={standard}', [as_shown(tally, 'exchange', folder, work, standard)], place)
         target = os.path.join(work, f'wrapper-{standard}')
         compile_cpp(os.path.join(ROOT, 'tests', 'wrapper.cpp'), target, folder, standard, WRAPPED)
         got = started([target, os.path.join(ROOT, 'examples', 'add.wasm')])

@@ -8,9 +8,9 @@ use std::fmt;
 /// ```
 /// use gate::{Settings, SettingsError};
 ///
-/// let settings = Settings::new(500, 64, 1)?;
-/// assert_eq!(settings.fuel(), 500);
-/// assert_eq!(Settings::new(500, 0, 1), Err(SettingsError::Frames(0)));
+/// let settings = Settings::default().with_fuel(500)?.with_pages(1)?;
+/// assert_eq!(settings, Settings::new(500, 1_024, 1)?);
+/// assert_eq!(settings.with_frames(0), Err(SettingsError::Frames(0)));
 /// # Ok::<(), SettingsError>(())
 /// ```
 #[derive(Clone, Copy, Debug, PartialEq, Eq, Hash)]
@@ -28,7 +28,7 @@ impl Settings {
     /// The most pages, of 65,536 bytes each.
     pub const MOST_PAGES: u32 = 1_024;
 
-    /// These limits.
+    /// These limits, in this order. Three numbers are easily exchanged: `Settings::default().with_fuel(500)?` names the one that it changes.
     ///
     /// # Errors
     ///
@@ -43,6 +43,33 @@ impl Settings {
         } else {
             Ok(Settings { fuel, frames, pages })
         }
+    }
+
+    /// The same, but for the fuel.
+    ///
+    /// # Errors
+    ///
+    /// [`SettingsError::Fuel`].
+    pub fn with_fuel(self, fuel: u32) -> Result<Self, SettingsError> {
+        Self::new(fuel, self.frames, self.pages)
+    }
+
+    /// The same, but for the frames.
+    ///
+    /// # Errors
+    ///
+    /// [`SettingsError::Frames`].
+    pub fn with_frames(self, frames: u32) -> Result<Self, SettingsError> {
+        Self::new(self.fuel, frames, self.pages)
+    }
+
+    /// The same, but for the pages.
+    ///
+    /// # Errors
+    ///
+    /// [`SettingsError::Pages`].
+    pub fn with_pages(self, pages: u32) -> Result<Self, SettingsError> {
+        Self::new(self.fuel, self.frames, pages)
     }
 
     /// How many functions may be entered and loops begun.
@@ -142,6 +169,17 @@ mod tests {
                 }
             }
         }
+    }
+
+    #[test]
+    fn each_limit_is_changed_alone() {
+        let settings = Settings::new(1, 2, 3).unwrap();
+        assert_eq!(settings.with_fuel(7), Settings::new(7, 2, 3));
+        assert_eq!(settings.with_frames(7), Settings::new(1, 7, 3));
+        assert_eq!(settings.with_pages(7), Settings::new(1, 2, 7));
+        assert_eq!(settings.with_fuel(u32::MAX), Err(SettingsError::Fuel(u32::MAX)));
+        assert_eq!(settings.with_frames(0), Err(SettingsError::Frames(0)));
+        assert_eq!(settings.with_pages(1_025), Err(SettingsError::Pages(1_025)));
     }
 
     #[test]
