@@ -155,7 +155,7 @@ fn after_runs<'a>(bytes: &'a [u8]) -> Result<&'a [u8], Stuck<'a>>
 }
 
 /// What is wrong among the bytes; `None` where reading stopped at bytes that are no suffix of them.
-fn placed(bytes: &[u8], stuck: Stuck<'_>) -> Option<Misread>
+fn misread_of(bytes: &[u8], stuck: Stuck<'_>) -> Option<Misread>
     requires { IsStuck stuck }
     ensures { IfSome result (IsMisread bytes.now) }
 {
@@ -188,7 +188,7 @@ pub(crate) fn immediates_stuck<'a>(bytes: &'a [u8]) -> Option<Stuck<'a>>
 pub fn misread_token(bytes: &[u8]) -> Option<Misread>
     ensures { IfSome result (IsMisread bytes.now) }
 {
-    placed(bytes, immediates_stuck(bytes)?)
+    misread_of(bytes, immediates_stuck(bytes)?)
 }
 
 /// What is wrong with the locals of a body; `None` where they can be read.
@@ -197,6 +197,6 @@ pub fn misread_locals(body: &[u8]) -> Option<Misread>
 {
     match after_runs(body) {
         Ok(_) => None,
-        Err(stuck) => placed(body, stuck),
+        Err(stuck) => misread_of(body, stuck),
     }
 }

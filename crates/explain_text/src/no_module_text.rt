@@ -34,7 +34,7 @@ fn form_hint(form: Form) -> &'static str {
 }
 
 /// The line on what bytes of another form are, where that is known.
-fn push_hint(text: &mut String, form: Option<Form>) -> Result<(), AllocError> {
+fn push_form_hint(text: &mut String, form: Option<Form>) -> Result<(), AllocError> {
     match form {
         Some(form) => say(text, "hint      {}\n", &[Text(form_hint(form))]),
         None => Ok(()),
@@ -53,7 +53,7 @@ pub(crate) fn push_no_module(text: &mut String, no_module: NoModule) -> Result<(
                 "because   byte {} is {}, and a module begins with 00 61 73 6d\n",
                 &[Number(at), Hex(found as u32)],
             )?;
-            push_hint(text, form)
+            push_form_hint(text, form)
         }
         NoModule::Version { at, found, form } => {
             say(
@@ -61,7 +61,7 @@ pub(crate) fn push_no_module(text: &mut String, no_module: NoModule) -> Result<(
                 "because   byte {} is {}, and the version is 01 00 00 00\n",
                 &[Number(at), Hex(found as u32)],
             )?;
-            push_hint(text, form)
+            push_form_hint(text, form)
         }
         NoModule::Sections(Some(location)) => push_location(text, location),
         NoModule::Sections(None) => text.push_str(

@@ -61,7 +61,7 @@ fn push_part(text: &mut String, location: Location) -> Result<(), AllocError> {
 }
 
 /// How to do without it.
-fn push_hint(text: &mut String, origin: Origin) -> Result<(), AllocError> {
+fn push_origin_hint(text: &mut String, origin: Origin) -> Result<(), AllocError> {
     match origin.hint() {
         None => Ok(()),
         Some(hint) => say(text, "hint      build the module {}\n", &[Text(hint)]),
@@ -72,7 +72,7 @@ fn push_hint(text: &mut String, origin: Origin) -> Result<(), AllocError> {
 fn push_origin(text: &mut String, origin: Origin) -> Result<(), AllocError> {
     let sentence = ", of {}, which gate does not admit\n";
     say(text, sentence, &[Text(origin.words())])?;
-    push_hint(text, origin)
+    push_origin_hint(text, origin)
 }
 
 /// Another byte than 00, where something of later standards may stand.
@@ -80,7 +80,7 @@ fn push_reserved(text: &mut String, found: u8, later: Later) -> Result<(), Alloc
     let (name, origin) = later;
     let words = [Hex(found as u32), Text(origin.words()), Text(name)];
     say(text, "00 is wanted, not {}; {} have {} there\n", &words)?;
-    push_hint(text, origin)
+    push_origin_hint(text, origin)
 }
 
 /// The instruction of that opcode where `gate` does not admit it; its name is empty where further bytes name it.

@@ -182,7 +182,7 @@ impl GivenRuns {
     /// Goes on by a token that begins at offset `at` of the code. It put `own` operands of its own, a block or its second branch
     /// apart, and `known` operands of the innermost block are known after it.
     #[inline(always)]
-    fn note(&mut self, token: Token, at: u32, own: usize, known: usize) -> Result<(), AllocError> {
+    fn go_on(&mut self, token: Token, at: u32, own: usize, known: usize) -> Result<(), AllocError> {
         let (base, own) = self.moved(token, own, known);
         let height = base.saturating_add(known);
         self.shrink_to(height.saturating_sub(own));
@@ -246,7 +246,7 @@ impl<'a> Trail<'a> {
             return Err(Fault::Malformed);
         };
         mark(&mut self.opened, token, at)?;
-        self.given.note(token, at, own, known)?;
+        self.given.go_on(token, at, own, known)?;
         Ok(())
     }
 
