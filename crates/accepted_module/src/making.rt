@@ -30,7 +30,13 @@ impl<'a> Accepted<'a> {
     {
         let by_name = positions_by_name(alloc, &module.exports)?;
         let type_ids = ids_of_types(alloc, &module.types)?;
-        let shapes = layouts_of_frames(alloc, &module.types, &type_ids, &module.functions, &bodies)?;
+        let shapes = layouts_of_frames(
+            alloc,
+            &module.types,
+            &type_ids,
+            &module.functions,
+            &bodies,
+        )?;
         let layout = InitialState::of(alloc, &module)?;
         let uses_floats = module_has_floats(&module, &bodies);
         Ok(Accepted {

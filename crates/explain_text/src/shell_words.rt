@@ -33,8 +33,8 @@ impl Origin {
     /// In words.
     pub(crate) fn words(self) -> &'static str {
         match self {
-            Origin::Of(feature) => feature.words(),
-            Origin::Passive => Feature::BulkMemory.words(),
+            Origin::Of(feature) => feature.title(),
+            Origin::Passive => Feature::BulkMemory.title(),
             Origin::Memory64 => "64-bit addresses (Core 3.0)",
             Origin::Memories => "several memories (Core 3.0)",
             Origin::PageSizes => "custom page sizes (a proposal)",

@@ -28,7 +28,11 @@ pub(crate) enum FrontToken<'a> {
 
 /// What a look of the checker made of a token, with these bytes after it.
 #[inline(always)]
-fn as_front_token<'a>(looked: Result<bool, AllocError>, token: Token, after: &'a [u8]) -> FrontToken<'a>
+fn as_front_token<'a>(
+    looked: Result<bool, AllocError>,
+    token: Token,
+    after: &'a [u8],
+) -> FrontToken<'a>
     ensures { result ≡ front_token looked token after.entry }
 {
     match looked {

@@ -166,7 +166,10 @@ impl<'a> Checker<'a> {
         ensures few { result < 2 ^ 32 }
     {
         if self.control.is_open {
-            self.scope.context.list(label_of_frame(self.control.top)).len()
+            self.scope
+                .context
+                .list(label_of_frame(self.control.top))
+                .len()
         } else {
             0
         }

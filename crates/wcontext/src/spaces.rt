@@ -1,4 +1,6 @@
-use crate::imports::{imported_function_types, imported_globals, imported_memories, imported_tables};
+use crate::imports::{
+    imported_function_types, imported_globals, imported_memories, imported_tables,
+};
 use std::alloc::{AllocError, Global};
 use wsyntax::{GlobalType, Limits, Module, Table};
 
