@@ -177,7 +177,7 @@ uint32_t gate_build(uint8_t *out, size_t room, size_t *length) GATE_WRITES(1, 2)
 
 /* Why a module has its verdict. Later versions of the library tell more kinds: the hundreds of a number are the kind of the verdict, so
  * a number that a host does not know says that much. A file that is no module at all, as a web page or a zip archive, is told by 201, 202
- * and 207 to 219; there too `from` is the first byte that is none of the magic or the version. */
+ * and 207 to 219; there too `from` is the first byte that differs from the magic or the version. */
 enum gate_why {
     GATE_WHY_ACCEPTED = 0,
     GATE_WHY_TOO_LARGE = 100,
