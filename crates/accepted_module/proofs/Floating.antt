@@ -1,4 +1,4 @@
--- The types of the declarations of a valid module tell of their floats.
+-- Whether the declarations of a valid module mention a float is known from the types of its functions and globals alone (`types_tell`).
 use Rattle.std.proofs.Common.{◌≡◌, Bool, true, false, ◌||◌, List, [], ◌∷◌, refl, ap, ◌∙◌}
 use Rattle.std.specs.Prelude.{All}
 use Rattle.std.proofs.lemmas.List.Elements.{All-head, All-tail, All-weaker}

@@ -1,4 +1,6 @@
--- Types that get their ids by their sorted indices: two ids are equal exactly where the types are.
+-- Types that get their ids by their sorted indices: two ids are equal exactly where the types are (`given_all`).
+-- It goes by the positions in the sorted list: equal types stand side by side (`together`), and `given_step` gives one id more.
+-- `ids_of_types` of src/type_ids.rt cites it in its answers, and `AreGiven` in its invariant.
 use Rattle.std.proofs.Common.{◌≡◌, ◌⊎◌, ℕ, ◌+◌, ◌-◌, ◌<◌, ◌≤◌, false, true, List, length, get_or, set, Some, sym, ap, subst, ◌∙◌, arith, inl, inr, refl}
 use Rattle.std.specs.Prelude.{slice_get}
 use Rattle.std.specs.List.{All, range_with_len}

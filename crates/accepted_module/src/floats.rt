@@ -49,7 +49,7 @@ fn bodies_have_floats(bodies: &[CheckedBody]) -> bool
 }
 
 /// Whether a valid module with these bodies mentions a float.
-pub(crate) fn has_floats(module: &Module<'_>, bodies: &[CheckedBody]) -> bool
+pub(crate) fn module_has_floats(module: &Module<'_>, bodies: &[CheckedBody]) -> bool
     requires globals { GlobalsConstant (module_shape «module».now) }
     requires elements { ElementsValid (module_shape «module».now) }
     requires segments { SegmentsValid (module_shape «module».now) }

@@ -1,5 +1,5 @@
 use crate::globals::first_words;
-use crate::offsets::{data_offsets, element_offsets};
+use crate::offsets::{offsets_of_data, offsets_of_elements};
 use crate::segments::{first_data_outside, first_element_outside};
 use crate::sizes::{memory_pages, table_size};
 use std::alloc::{AllocError, Global};
@@ -36,8 +36,8 @@ impl InitialState {
         let bytes = memory_pages(module) as usize * PAGE;
         Ok(InitialState {
             globals: first_words(alloc, &module.globals)?,
-            element_offsets: element_offsets(alloc, elements)?,
-            data_offsets: data_offsets(alloc, segments)?,
+            element_offsets: offsets_of_elements(alloc, elements)?,
+            data_offsets: offsets_of_data(alloc, segments)?,
             first_out_of_bounds_elem: first_element_outside(entries, elements),
             data_outside: first_data_outside(bytes, segments),
         })

@@ -6,10 +6,10 @@ ghost use Rattle.soundness.specs.Instances.{SegmentsAreBytes};
 
 use crate::accepted::Accepted;
 use crate::exports::positions_by_name;
-use crate::floats::has_floats;
+use crate::floats::module_has_floats;
 use crate::initial_state::InitialState;
-use crate::shapes::frame_layouts;
-use crate::type_ids::type_ids;
+use crate::shapes::layouts_of_frames;
+use crate::type_ids::ids_of_types;
 use checked_body::CheckedBody;
 use std::alloc::{AllocError, Global};
 use wcontext::Context;
@@ -29,10 +29,16 @@ impl<'a> Accepted<'a> {
         ensures { IfOk result (λ a. (a.«module» ≡ «module».entry) × (a.context ≡ context) × (a.bodies ≡ bodies)) }
     {
         let by_name = positions_by_name(alloc, &module.exports)?;
-        let type_ids = type_ids(alloc, &module.types)?;
-        let shapes = frame_layouts(alloc, &module.types, &type_ids, &module.functions, &bodies)?;
+        let type_ids = ids_of_types(alloc, &module.types)?;
+        let shapes = layouts_of_frames(
+            alloc,
+            &module.types,
+            &type_ids,
+            &module.functions,
+            &bodies,
+        )?;
         let layout = InitialState::of(alloc, &module)?;
-        let uses_floats = has_floats(&module, &bodies);
+        let uses_floats = module_has_floats(&module, &bodies);
         Ok(Accepted {
             module,
             context,

@@ -20,7 +20,7 @@ pub(crate) fn offset_of(offset: &ConstExpr<'_>) -> u32
 }
 
 /// The offset of each element segment in its table.
-pub(crate) fn element_offsets(
+pub(crate) fn offsets_of_elements(
     alloc: Global,
     segments: &Elements<'_>,
 ) -> Result<Vec<u32>, AllocError>
@@ -38,7 +38,7 @@ pub(crate) fn element_offsets(
 }
 
 /// The offset of each data segment in its memory.
-pub(crate) fn data_offsets(alloc: Global, segments: &[Data<'_>]) -> Result<Vec<u32>, AllocError>
+pub(crate) fn offsets_of_data(alloc: Global, segments: &[Data<'_>]) -> Result<Vec<u32>, AllocError>
     requires { All (λ s. IsOffset s.offset) segments.now }
     ensures { IfOk result (λ v. v.items ≡ map data_offset segments.now) }
 {

@@ -32,7 +32,7 @@ fn frame_layout(of_type: FuncType<'_>, type_id: u32, body: &CheckedBody) -> Fram
 }
 
 /// Of each function, by the index of its type, and its body what its entry needs to know.
-pub(crate) fn frame_layouts(
+pub(crate) fn layouts_of_frames(
     alloc: Global,
     types: &FuncTypes,
     type_ids: &[u32],

@@ -69,7 +69,7 @@ fn sorted_indices(alloc: Global, types: &FuncTypes) -> Result<Vec<u32>, AllocErr
 
 /// Of each type its id, equal for equal types alone: the first position that an equal one has among the sorted. The time is near
 /// linear in the length of the types, whatever they are.
-pub(crate) fn type_ids(alloc: Global, types: &FuncTypes) -> Result<Vec<u32>, AllocError>
+pub(crate) fn ids_of_types(alloc: Global, types: &FuncTypes) -> Result<Vec<u32>, AllocError>
     requires { length types.now < 2 ^ 32 }
     ensures { IfOk result (λ v. AreTypeIds types.now v.items) }
 {

@@ -6,7 +6,7 @@ use Rattle.wsyntax.specs.Texts.Words.{newline}
 use Rattle.batch_text.specs.Reading.{SplitsBefore}
 use Rattle.batch.specs.Streams.{IsFree, AreFree, joined}
 
--- so many lines end there, or fewer
+-- the text up to `end` is whole lines, `count` of them at most
 pub record EndsSoFar (count : ℕ) (text : List ℕ) (end : ℕ) : Type 0 where
   pub within : end ≤ length text
   pub lines : List (List ℕ)

@@ -7,7 +7,7 @@ use Rattle.std.proofs.lemmas.Grind.{flat_map-append}
 use Rattle.std.proofs.lemmas.List.{append-nil, drop_more, take_all, take_more, take-append-drop}
 use Rattle.batch_text.specs.Parts.{parts_text}
 use Rattle.batch_text.specs.declared.part.Part.{Part}
-use Rattle.batch.specs.Output.{AppendsFront, AppendsLess}
+use Rattle.batch.specs.Output.{AppendsLess}
 
 -- the texts up to the next part
 texts_more : (parts : List Part) (i : ℕ) (p : Part) → i < length parts → p ≡ get_or parts i p → parts_text (take (i + 1) parts) ≡ parts_text (take i parts) ++ string_bytes p.text
@@ -20,10 +20,6 @@ pub part_written : (parts : List Part) (i : ℕ) (p : Part) (text : List ℕ) (o
     → Appends old mid (parts_text (take i parts)) → Appends mid new text → Appends old new (parts_text (take (i + 1) parts))
 part_written parts i p text old mid new below at is before now =
     subst (Appends old new) (sym (texts_more parts i p below at ∙ ap (λ l. parts_text (take i parts) ++ l) (sym is))) (Appends-trans old mid new _ _ before now)
-
--- a beginning that is not the whole is a beginning
-pub less_front : (old new : Option (List ℕ)) (text : List ℕ) → AppendsLess old new text → AppendsFront old new text
-less_front old new text (front, rest, split, some, now) = (front, rest, split, now)
 
 -- what is not empty is not empty with more after it
 some_more : (xs ys : List ℕ) → (xs ≢ []) → xs ++ ys ≢ []

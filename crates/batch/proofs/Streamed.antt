@@ -1,4 +1,6 @@
--- Calls that are answered while they are read, round after round.
+-- Calls that are answered while they are read: the report on the whole text is written, or the lines before a bad one or before a fault.
+-- It goes by how far the stream is answered (`IsStreaming`): `round_more` adds a round, `stream_more` a piece, `stream_reported` the end.
+-- `answer_round` and `answer_lines` of src/rounds.rt cite it, and `take_piece`, `answer_stream` and `stream` of src/streaming.rt.
 use denote.Ref.{Bor}
 use Rattle.std.proofs.Common.{◌≡◌, ℕ, suc, ◌+◌, ◌-◌, ◌<◌, ◌≤◌, ◌^◌, inl, inr, Bool, false, IsTrue, List, [], ◌∷◌, ◌++◌, Option, Some, None, Result, Ok, Err, length, take, string_bytes, length-append, append_assoc, refl, sym, ap, ◌∙◌, subst, arith}
 use Rattle.std.specs.Prelude.{◌*◌, slice_get, IfSome}

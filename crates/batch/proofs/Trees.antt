@@ -1,4 +1,4 @@
--- The tree of tokens, read from the last token on. Where there is one at all, it is at hand.
+-- Tokens that are those of some tree are read back into it from the last token on, so that the tree is at hand (`tree_of`).
 use Rattle.std.proofs.Common.{◌≡◌, Bool, true, false, List, [], ◌∷◌, ◌++◌, Option, Some, None, refl, sym, ap, ◌∙◌, append_assoc}
 use Rattle.std.specs.Prelude.{IfSome}
 use Rattle.std.proofs.Math.Logic.{∥∥₁_elim}

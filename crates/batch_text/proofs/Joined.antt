@@ -1,4 +1,4 @@
--- What is written so far, and the next part.
+-- A text that is written part by part: the values of a line and the lines of a report so far, and the next one.
 use Rattle.std.proofs.Common.{◌≡◌, ℕ, zero, suc, ◌+◌, ◌<◌, List, [], ◌∷◌, ◌++◌, length, get_or, take, codes, Result, Ok, Err, OnOk, inl, inr, ◌⊎◌, refl, sym, ap, ◌∙◌, append_assoc, arith, length-take}
 use Rattle.std.proofs.lemmas.List.{take_more, map-append, append-nil, length-map}
 use Rattle.wsyntax.specs.declared.value.Value.{Value}

@@ -127,14 +127,16 @@ const EXPORTS_EXAMPLE: &str = "\
 Example, with a module that imports a function:
 
     $ gate exports plugin.wasm
+    import \"env\" \"log\" function [] -> []
     function 1 \"add\" [i32 i32] -> [i32]
     memory 0 \"memory\"
     global 1 \"counter\" i64 mut
     not-started imports: import 0 \"env\" \"log\" is a function
 
-Each export has a line: its kind, its index, its name as a string of the text format, and the type of a function
-or of a global. The last line is `starts` where calls of the module run, else why none does. Of a module that is
-refused only the line of `gate check` is printed.
+Each import has a line, then each export: its kind, its index, its name as a string of the text format, and the
+type of a function or of a global; then each custom section, with the number of its bytes. The last line is
+`starts` where calls of the module run, else why none does. Of a module that is refused only the line of
+`gate check` is printed.
 
 The exit status is that of `gate check`.";
 

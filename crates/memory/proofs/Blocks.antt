@@ -1,4 +1,4 @@
--- What the marks of blocks tell of the bytes.
+-- A byte is zero where neither its block nor that of the address 7 before it is marked: clearing, storing and writing keep this.
 use Rattle.std.proofs.Common.{◌≡◌, ◌≢◌, ℕ, ◌+◌, ◌-◌, ◌*◌, ◌/◌, ◌<◌, ◌≤◌, min, List, length, set, get_or, Bool, true, false, true≢false, sym, ap, ◌∙◌, ⊎_elim, ◌⊎◌, inl, inr, arith, get_or-set_same, get_or-set_other}
 use Rattle.std.proofs.lemmas.List.{get_or_past}
 use Rattle.std.proofs.lemmas.Bool.{cases_eq, cases_lt}

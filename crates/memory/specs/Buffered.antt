@@ -1,6 +1,6 @@
 -- 4.2.8 A memory instance in the buffer that holds its bytes.
 -- What is lent is zero. What a write, a growth and a segment leave is the definition's.
-use Rattle.std.specs.Prelude.{◌≡◌, ℕ, ◌+◌, ◌*◌, ◌/◌, ◌<◌, ◌≤◌, ◌⊎◌, List, length, take, replicate, slice_index, slice_index_or, Bool, true, false, Option, Some, None, IsSome, Vec, vec_len}
+use Rattle.std.specs.Prelude.{◌≡◌, ℕ, ◌+◌, ◌*◌, ◌/◌, ◌<◌, ◌≤◌, List, length, take, replicate, slice_index, slice_index_or, Bool, true, false, Option, Some, None, IsSome, Vec, vec_len}
 use Rattle.std.specs.declared.alloc.Global.{Global}
 use Rattle.wsyntax.specs.Execution.Store.{Memory, page, may_have, write, grown}
 use Rattle.wsyntax.specs.Execution.Allocation.{overwrite}
@@ -22,10 +22,6 @@ StaysShort old n new = (vec_len new ≡ vec_len old) × (vec_len old < n) × (ne
 -- 4.5.3 a memory of `min` pages of zeros, with its declared maximum and the setting
 abbrev pub zeros : ℕ → Option ℕ → ℕ → Memory
 zeros min most pages = record { bytes = replicate (min * page) 0; most = most; pages = pages }
-
--- the numbers of bytes of which a load or a store has one
-abbrev pub IsWidth : ℕ → Type 0
-IsWidth width = (width ≡ 1) ⊎ (width ≡ 2) ⊎ (width ≡ 4) ⊎ (width ≡ 8)
 
 -- 4.4.4 what a write of a number leaves, by whether it lies within the memory: the definition's bytes, or all as it was
 abbrev pub Writes : Buffered → ℕ → ℕ → ℕ → Bool → Buffered → Type 0

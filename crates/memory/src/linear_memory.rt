@@ -55,7 +55,7 @@ impl LinearMemory {
     ghost use Rattle.wsyntax.specs.Execution.Store.{page, read};
     ghost use Rattle.wsyntax.specs.Execution.Allocation.{overwrite};
     ghost use Rattle.wsyntax.specs.Execution.ConfigTyped.{MemoryTyped};
-    ghost use Rattle.memory.specs.Buffered.{IsWidth, Writes, Grows, LacksRoomFor, Overwrites};
+    ghost use Rattle.memory.specs.Buffered.{Writes, Grows, LacksRoomFor, Overwrites};
 
     /// A memory of `min` pages of zeros in the bytes that are lent, with the declared maximum `most` and the
     /// setting `pages`. It takes memory only where fewer bytes are lent than it needs; where memory is refused,
@@ -165,20 +165,6 @@ impl LinearMemory {
         }
     }
 
-    /// The number in `width` bytes from address `at` on, little-endian. `None` exactly where they reach past the end.
-    pub fn read(&self, at: u64, width: u32) -> Option<u64>
-        requires at { at < 2 ^ 33 }
-        requires width { IsWidth width }
-        ensures { result ≡ read self.now.memory.bytes at width }
-    {
-        match width {
-            1 => self.read_8(at).map(u64::from),
-            2 => self.read_16(at).map(u64::from),
-            4 => self.read_32(at).map(u64::from),
-            _ => self.read_64(at),
-        }
-    }
-
     /// Writes the 8 lowest bits at an address. Where they reach past the end it answers false, and nothing changes.
     #[inline(always)]
     pub fn write_8(&mut self, at: u64, bits: u64) -> bool
@@ -237,21 +223,6 @@ impl LinearMemory {
         mark(&mut self.marks, at);
         put_64(&mut self.bytes, at, bits);
         true
-    }
-
-    /// Writes the `width` lowest bytes of `bits` from address `at` on, little-endian. Where they reach past the end it
-    /// answers false, and nothing changes.
-    pub fn write(&mut self, at: u64, width: u32, bits: u64) -> bool
-        requires at { at < 2 ^ 33 }
-        requires width { IsWidth width }
-        ensures { Writes self.old at width bits result self.new }
-    {
-        match width {
-            1 => self.write_8(at, bits),
-            2 => self.write_16(at, bits),
-            4 => self.write_32(at, bits),
-            _ => self.write_64(at, bits),
-        }
     }
 
     /// Writes `bytes` from address `at` on, as a data segment does.

@@ -15,9 +15,6 @@ use Rattle.pieces.proofs.Totals.{total-append}
 use Rattle.pieces.proofs.DequeSteps.{times-both}
 use Rattle.pieces.proofs.Crews.{EachShare-snoc}
 
-pub absorbs_none : (v : BagView) (n : MarkView) (ss : List Share) → Absorbs v n ss v n ss
-absorbs_none v n ss = record { bag_parts = refl; mark_parts = refl; made = refl; taken = λ x. refl; met = λ p. p; calls = λ h. refl; seen = λ log a b c. (a, b, c) }
-
 pub EachShare-init : (P : Share → Type 0) (ss : List Share) (s : Share) → EachShare P (ss ++ s ∷ []) → EachShare P ss × P s
 EachShare-init P [] s h = (tt, h.0)
 EachShare-init P (x ∷ xs) s h = let r = EachShare-init P xs s h.1 in ((h.0, r.0), r.1)

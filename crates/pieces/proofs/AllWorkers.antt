@@ -1,4 +1,6 @@
--- Lists of workers.
+-- All workers together answer each index, in rising order, but for those above one that is refused or finds no memory (`gathered`).
+-- It goes by induction over the list of workers, those after the run beside the same ones before it (`Pairs`).
+-- `gather`, `split_crew` and `sorted` of src/gathering.rt cite it.
 use Rattle.std.proofs.Common.{◌≡◌, ℕ, zero, suc, ◌+◌, ◌/◌, ◌<◌, ◌≤◌, ◌||◌, Bool, true, false, true≢false, List, [], ◌∷◌, ◌++◌, All, map, length, sym, refl, ap, ◌∙◌, subst, arith, ⊎_elim, ◌⊎◌, inl, inr, append_assoc, append-nil}
 use Rattle.std.specs.Prelude.{sum_by, IsPermutation, slice_index_or}
 use Rattle.std.specs.List.Sorted.{IsNonDecreasingBy}

@@ -1,4 +1,4 @@
--- Lists of shares.
+-- Lists of shares: those that `open` hands out make a crew, and a share keeps its kind and its deque while its worker uses it.
 use Rattle.std.proofs.Common.{◌≡◌, ℕ, ◌+◌, ◌-◌, ◌<◌, ◌≤◌, false, List, [], ◌∷◌, ◌++◌, length, sym, refl, ap, ◌∙◌, subst, arith}
 use Rattle.atomic_table.specs.Seated.{TableId}
 use Rattle.pieces.specs.declared.share.Access.{Access}

@@ -1,4 +1,7 @@
--- Each move of a share keeps the rule of the deque.
+-- Each move of a share keeps the rule of the deque, `IsInOrder` of specs/Deque.
+-- It goes by the moves, with one lemma for each: `begins`, `adds`, `adds_end`, `takes`, `forks`, `merges` and `learns`.
+-- Functions of src/opening.rt, bag.rt and settling.rt cite the lemma of their move.
+-- AllWorkers.antt, Absorbing.antt and Settles.antt cite `times-both`, and OneWorker.antt cites `times_more`.
 use Rattle.std.proofs.Common.{◌≡◌, ◌≢◌, ℕ, zero, suc, ◌+◌, ◌-◌, ◌<◌, ◌≤◌, ◌==◌, ◌||◌, Bool, true, false, true≢false, List, [], ◌∷◌, ◌++◌, length, set, sym, refl, ap, ◌∙◌, subst, arith, ⊎_elim, ◌⊎◌, inl, inr}
 use Rattle.std.specs.Prelude.{if◌then◌else◌}
 use Rattle.std.proofs.lemmas.Bool.Decides.{nat_tests}

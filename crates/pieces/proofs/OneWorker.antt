@@ -26,9 +26,6 @@ within first at i = if nat_le first i && nat_lt i at then 1 else 0
 within_more : (first at i : ℕ) → first ≤ at → within first (at + 1) i ≡ within first at i + is_one at i
 within_more first at i up = grind (arith, nat_tests)
 
-within_none : (first i : ℕ) → within first first i ≡ 0
-within_none first i = grind (arith, nat_tests)
-
 within_in : (first at i : ℕ) → 0 < within first at i → (first ≤ i) × (i < at)
 within_in first at i h = grind (arith, nat_tests)
 

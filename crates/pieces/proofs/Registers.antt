@@ -1,4 +1,4 @@
--- What a register of a longer history has is no greater.
+-- A register never rises: after a longer history of calls it holds no greater index.
 use Rattle.std.proofs.Common.{◌≡◌, ℕ, ◌≤◌, List, [], ◌∷◌, ◌++◌, sym, refl, ap, ◌∙◌, subst, arith, append_assoc}
 use Rattle.std.specs.Prelude.{Option, Some, None, ◌<◌}
 use Rattle.std.proofs.lemmas.Bool.Decides.{nat_tests}

@@ -1,4 +1,4 @@
--- The examples compute.
+-- The examples of src/examples.rt: the definitions, computed on small inputs, give the answers that were written down beforehand.
 use Rattle.std.proofs.Common.{refl}
 use Rattle.std.specs.Fmt.{digits}
 use Rattle.wnum.specs.Arithmetic.{leading, trailing, ones}

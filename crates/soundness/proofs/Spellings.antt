@@ -1,4 +1,4 @@
--- Numbers and names at the edges.
+-- Examples of bytes that spell a number, a block type or a name, and of bytes just past the edges that spell none.
 use Rattle.std.proofs.Common.{◌≡◌, ℕ, ◌<◌, List, [], ◌∷◌, ◌++◌, length, true, false, Some, None, refl, sym, ap, ◌∙◌, subst, append-nil, arith}
 use Rattle.std.specs.Str.{IsUtf8, is_utf8, chars}
 use Rattle.std.proofs.lemmas.Str.{is_utf8-from_IsUtf8}
@@ -79,7 +79,7 @@ count_is n k (b ∷ c ∷ x) y rest l h e =
     let same : n ≡ b = cc in
     absurd (omega (arith, h.number.0, l))
 
--- so a name after it is all of the other bytes, which are so many and UTF-8
+-- so a name after the count n is all of the other bytes: there are n of them, and they are UTF-8
 name_is : (n : ℕ) (rest a : List ℕ) → n < 128 → name.spells (n ∷ rest) a → (length rest ≡ n) × IsUtf8 rest
 unfolding name
 name_is n rest a l (x, y, s, e, (x', y', k, e', num, (same, count)), (nil, is, utf8)) =

@@ -29,7 +29,7 @@ whole = body_of adds_five ∷ body_of gives_global ∷ []
 abbrev pub floating : List BodyShape
 floating = body_of (Plain (Const F32 0) (Plain Drop Stop)) ∷ body_of gives_global ∷ []
 
--- a call of this name with these arguments ends so, where memory is had
+-- a call of this name with these arguments ends so, where no allocation fails
 abbrev pub Ending : List BodyShape → List ℕ → List Value → CallEnd → Type 0
 Ending bodies name args end = EndOf exporter bodies (fuel 10) ⊥ (calling name args) end
 

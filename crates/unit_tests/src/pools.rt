@@ -9,7 +9,7 @@ use std::process::Abort;
 use std::sync::Wait;
 use std::test::*;
 
-/// What is left of a memory of so many pages.
+/// What is left of a memory of `pages` pages.
 fn closed(alloc: Global, pages: u32) -> Result<CleanMem, Fail>
     requires { pages ≤ 3 }
 {

@@ -1,4 +1,6 @@
--- A body that passes in one loop is accepted.
+-- A body that passes in one loop is accepted: the theorem is `not_refused`.
+-- The frames tell which blocks are open, by cases of the token (`follows`); by induction over the tokens all are read, and each is taken.
+-- Functions of src/passing.rt and src/front_token.rt cite it, and so do WholeBodies.antt, KeptPass.antt and FrontTokens.antt.
 use Rattle.std.proofs.Common.{Bor, ◌≡◌, ℕ, zero, suc, ◌+◌, ◌-◌, get_or, take, drop, ◌<◌, ◌≤◌, Bool, true, false, List, [], ◌∷◌, ◌++◌, length, Option, Some, None, Result, Ok, Err, IfOk, refl, sym, ap, subst, ◌∙◌, arith}
 use Rattle.std.proofs.lemmas.List.{append-nil, take_rest}
 use Rattle.wnum.specs.Reading.{◌>>=◌}

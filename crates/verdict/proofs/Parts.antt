@@ -1,4 +1,6 @@
--- From what is known of each part of a module to the verdict on it.
+-- From what is known of each part of a module, its bodies and the rest, to the verdict on the module: the theorem is `run_judged`.
+-- It goes by the parts in their order: all pass (`all_judged`), or one is refused and all before it pass (`first_judged`).
+-- Functions of src/head.rt, jobs.rt, rest.rt and examining.rt cite it, and Rules.antt cites `each_has_type`.
 use Rattle.std.proofs.Common.{Bor, get_or, map, Option, ◌≡◌, ◌≢◌, ℕ, zero, suc, ◌+◌, ◌-◌, ◌*◌, ◌<◌, ◌≤◌, min, List, length, Some, None, refl, sym, ap, subst, ◌∙◌, arith}
 use Rattle.std.specs.Prelude.{Result, Ok, Err, MatchResult, IfSome, IsErrAnd, ◌↔◌}
 use Rattle.std.proofs.Math.Nat.{min-eq_left, min-eq_right}

@@ -1,4 +1,6 @@
--- How many function types, imports, bodies and segments a module of some length has, and how long its bodies are: each takes a byte at least.
+-- How many function types, imports, bodies and segments a module has at most, and how long its bodies are: each takes a byte at least.
+-- It goes up the grammar: single items, vectors (`vector_fills`, by induction), the kinds of section, and all sections (`shell_holds`).
+-- Smallness.antt, Firsts.antt, Parts.antt and Rules.antt cite the bounds at its end.
 use Rattle.std.proofs.Common.{◌≡◌, ℕ, zero, suc, ◌+◌, ◌≤◌, List, [], ◌∷◌, ◌++◌, length, Option, Some, None, ap, subst, ◌∙◌, arith}
 use Rattle.std.specs.Prelude.{slice_get, filter_map}
 use Rattle.std.specs.List.{cons_option}

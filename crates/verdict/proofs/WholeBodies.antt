@@ -1,4 +1,6 @@
--- A body that is read and judged in one loop.
+-- One loop that reads and judges a body finds the refusal that the definition has (`refusal_few`, `refusal_many`, `refusal_none`).
+-- It goes token by token: what is known before a token and what is known after it give the body the same refusal (`TellsSame`).
+-- The functions of src/body.rt cite it, `Scratch::pass` of src/passing.rt cites `body_passes`, and KeptPass.antt two lemmas on reading.
 use Rattle.std.proofs.Common.{◌≡◌, ℕ, suc, ◌+◌, ◌-◌, ◌<◌, ◌≤◌, Bool, true, false, cond, eqb, leb, ltb, List, [], ◌∷◌, ◌++◌, length, reverse, Option, Some, None, Ok, Err, refl, sym, ap, subst, ◌∙◌, arith}
 use Rattle.std.proofs.lemmas.Bool.{eqb-true, ltb-true, ltb-false, leb-true, le-leb}
 use Rattle.std.proofs.lemmas.List.{append-nil, nil_from_length}

@@ -28,7 +28,11 @@ pub(crate) enum FrontToken<'a> {
 
 /// What a look of the checker made of a token, with these bytes after it.
 #[inline(always)]
-fn looked_at<'a>(looked: Result<bool, AllocError>, token: Token, after: &'a [u8]) -> FrontToken<'a>
+fn as_front_token<'a>(
+    looked: Result<bool, AllocError>,
+    token: Token,
+    after: &'a [u8],
+) -> FrontToken<'a>
     ensures { result ≡ front_token looked token after.entry }
 {
     match looked {
@@ -41,7 +45,7 @@ fn looked_at<'a>(looked: Result<bool, AllocError>, token: Token, after: &'a [u8]
 /// Lets the checker look at a token that is its opcode alone.
 macro_rules! step_bare {
     ($checker:expr, $token:expr, $after:expr) => {
-        looked_at($checker.step($token, &[]), $token, $after)
+        as_front_token($checker.step($token, &[]), $token, $after)
     };
 }
 

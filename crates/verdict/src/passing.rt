@@ -101,7 +101,7 @@ pub(crate) enum FirstToken<'a> {
 
 /// What a look of the checker made of a token, with these bytes after it.
 #[inline(always)]
-fn looked_at<'a>(looked: Result<bool, AllocError>, after: &'a [u8]) -> FirstToken<'a>
+fn as_first_token<'a>(looked: Result<bool, AllocError>, after: &'a [u8]) -> FirstToken<'a>
     ensures { result ≡ first_token looked after.entry }
 {
     match looked {
@@ -114,7 +114,7 @@ fn looked_at<'a>(looked: Result<bool, AllocError>, after: &'a [u8]) -> FirstToke
 /// Lets the checker look at a token that is its opcode alone.
 macro_rules! step_bare {
     ($checker:expr, $token:expr, $after:expr) => {
-        looked_at($checker.step($token, &[]), $after)
+        as_first_token($checker.step($token, &[]), $after)
     };
 }
 
@@ -231,7 +231,7 @@ fn any_passes<'a>(
 {
     targets.clear();
     match token_at(targets, bytes) {
-        Ok((token, after)) => looked_at(checker.step(token, targets), after),
+        Ok((token, after)) => as_first_token(checker.step(token, targets), after),
         Err(Fault::Malformed) => FirstToken::Refused,
         Err(Fault::Memory) => FirstToken::Memory,
     }

@@ -1,4 +1,6 @@
 -- One list of operands, of which the innermost frame has those above a height: what a change of the list is to that frame.
+-- It goes by the changes: operands are put on top, taken or replaced there, and cut off; each is computed with `take` and `drop`.
+-- The methods of `OperandStack` in src/operand_stack.rt cite it.
 use Rattle.std.proofs.Common.{◌≡◌, ◌≤◌, ◌<◌, ◌-◌, ◌+◌, ℕ, Bool, false, List, [], ◌∷◌, ◌++◌, map, drop, take, reverse, length, Option, Some, sym, ap, ◌∙◌, arith, length-append, length-drop}
 use Rattle.std.specs.Prelude.{min}
 use Rattle.std.proofs.lemmas.List.{reverse-append, reverse-reverse, length-reverse, length-map, length-take, take-append-drop, take-append-le, append-nil, drop-append-le, take-take, take_min}

@@ -6,8 +6,8 @@ ghost use Rattle.side_table.specs.Pass.{reachable_height, outer_dead, below_size
 
 mod inspect;
 
-use crate::control::{Control, is_past_expanded, step_control, try_fast_step};
-use crate::frames::{ControlFrame, is_last_dead, label};
+use crate::control::{Control, is_past_expanded, step_control, try_fast_step_control};
+use crate::frames::{ControlFrame, is_last_dead, label_of_frame};
 use crate::locals::Locals;
 use crate::operand_stack::OperandStack;
 use crate::scope::{Scope, none};
@@ -69,8 +69,8 @@ impl<'a> Checker<'a> {
     pub fn reserve(&mut self) -> Result<(), AllocError>
         ensures { self.new ≡ self.old }
     {
-        self.scope.locals.reserve(LOCAL_RUNS)?;
-        self.control.operands.reserve(OPERANDS)?;
+        self.scope.locals.reserve_runs(LOCAL_RUNS)?;
+        self.control.operands.reserve_entries(OPERANDS)?;
         self.control.outer.reserve(OPEN_FRAMES)
     }
 
@@ -123,7 +123,7 @@ impl<'a> Checker<'a> {
         ensures same { result ≡ true → self.new ≡ with_frames self.old self.new.frames }
         ensures others { result ≡ false → self.new ≡ self.old }
     {
-        try_fast_step(&self.scope, &mut self.control, token)
+        try_fast_step_control(&self.scope, &mut self.control, token)
     }
 
     /// Whether the body has ended: it is typed where each token so far was taken.
@@ -166,7 +166,10 @@ impl<'a> Checker<'a> {
         ensures few { result < 2 ^ 32 }
     {
         if self.control.is_open {
-            self.scope.context.list(label(self.control.top)).len()
+            self.scope
+                .context
+                .list(label_of_frame(self.control.top))
+                .len()
         } else {
             0
         }

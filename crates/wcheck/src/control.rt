@@ -221,7 +221,7 @@ pub(crate) fn is_past_expanded(scope: &Scope, token: Token) -> bool {
 /// One token, where the operands that it takes are known to be there. `false`: nothing was done, which says nothing of
 /// the token.
 #[inline(always)]
-pub(crate) fn try_fast_step(scope: &Scope, control: &mut Control, token: Token) -> bool
+pub(crate) fn try_fast_step_control(scope: &Scope, control: &mut Control, token: Token) -> bool
     requires open { control.old.is_open ≡ true }
     requires types { control.old.operands.types ≡ scope.now.context.now.context.types }
     ensures frames { result ≡ true →

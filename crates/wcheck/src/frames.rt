@@ -30,7 +30,7 @@ pub(crate) struct OuterFrame {
 
 /// What a branch to this frame takes.
 #[inline]
-pub(crate) fn label(frame: ControlFrame) -> TypeList
+pub(crate) fn label_of_frame(frame: ControlFrame) -> TypeList
     ensures { (types : List FuncType) → reverse (list_of types result) ≡ label_of types frame }
 {
     if frame.is_loop {
@@ -48,14 +48,14 @@ pub(crate) fn label_at(frame: ControlFrame, outer: &[OuterFrame], l: u32) -> Opt
         (λ r. slice_get (labels_in types frame outer.now) l ≡ Some (reverse (list_of types r))) }
 {
     if l == 0 {
-        return Some(label(frame));
+        return Some(label_of_frame(frame));
     }
     let depth = l as usize;
     if depth > outer.len() {
         return None;
     }
     let frame = &outer[outer.len() - depth];
-    Some(label(frame.frame))
+    Some(label_of_frame(frame.frame))
 }
 
 /// Whether what follows in the last of these is unreachable; `false` where there is none.

@@ -177,7 +177,7 @@ impl<'a> Locals<'a> {
     }
 
     /// Makes room for the locals that are written out first, and for `runs` more runs.
-    pub(crate) fn reserve(&mut self, runs: usize) -> Result<(), AllocError>
+    pub(crate) fn reserve_runs(&mut self, runs: usize) -> Result<(), AllocError>
         ensures { self.new ≡ self.old }
     {
         self.runs.reserve(runs)?;

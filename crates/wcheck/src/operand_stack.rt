@@ -66,7 +66,7 @@ impl<'a> OperandStack<'a> {
     }
 
     /// Makes room for `entries` more entries, and for some runs.
-    pub(crate) fn reserve(&mut self, entries: usize) -> Result<(), AllocError>
+    pub(crate) fn reserve_entries(&mut self, entries: usize) -> Result<(), AllocError>
         ensures { self.new ≡ self.old }
     {
         self.entries.reserve(entries)?;

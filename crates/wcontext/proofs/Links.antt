@@ -1,4 +1,6 @@
--- The links of nodes, and nodes that are made.
+-- The nodes of the trie keep their texts (`AreNodes`): each link leads to an earlier node whose text is a suffix of its own.
+-- It goes by what is done to nodes: the first is made (`first_node`), one more is made (`made_after`), a link is passed (`passed`).
+-- Functions of src/nodes.rt cite it, and Gathering.antt, Tries.antt and Walks.antt its lemmas on texts and suffixes.
 use Rattle.std.proofs.Common.{◌≡◌, ◌≢◌, ◌⊎◌, ℕ, zero, suc, ◌+◌, ◌<◌, List, [], ◌∷◌, ◌++◌, length, set, refl, sym, ap, subst, ◌∙◌, arith, inl, inr, length-set}
 use Rattle.std.proofs.lemmas.Bool.{cases_lt, cases_eq}
 use Rattle.std.proofs.lemmas.List.{get_or_append_left, get_or_at, get_or_push, get_or_past, get_or-set_same, get_or-set_other, append-nil, append_assoc, length_push}

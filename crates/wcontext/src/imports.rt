@@ -46,7 +46,10 @@ fn imported_global(kind: ImportKind) -> Option<GlobalType>
 }
 
 /// The imported functions, each by the index of its type.
-pub fn imported_functions(alloc: Global, imports: &[Import<'_>]) -> Result<Vec<u32>, AllocError>
+pub fn imported_function_types(
+    alloc: Global,
+    imports: &[Import<'_>],
+) -> Result<Vec<u32>, AllocError>
     ensures { IfOk result (λ v. v.items ≡ filter_map (λ i. imported_function i.kind) imports.now) }
 {
     imports

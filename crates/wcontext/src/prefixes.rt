@@ -41,7 +41,7 @@ impl Context {
             IsSuffix (prefix_of self.now.context.types short) (prefix_of self.now.context.types long)) }
     {
         let tree = self.ends.as_ref()?;
-        tree.is_suffix(short.list, short_count, long.list, long_count)
+        tree.has_suffix(short.list, short_count, long.list, long_count)
     }
 
     /// Whether the types of `short` are a suffix of those of `long`. It takes constant time, but where a prefix has fewer

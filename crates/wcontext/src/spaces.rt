@@ -1,4 +1,6 @@
-use crate::imports::{imported_functions, imported_globals, imported_memories, imported_tables};
+use crate::imports::{
+    imported_function_types, imported_globals, imported_memories, imported_tables,
+};
 use std::alloc::{AllocError, Global};
 use wsyntax::{GlobalType, Limits, Module, Table};
 
@@ -39,7 +41,7 @@ impl Spaces {
     fn functions(alloc: Global, module: &Module<'_>) -> Result<Vec<u32>, AllocError>
         ensures { IfOk result (λ v. v.items ≡ functions_of (module_shape «module».now)) }
     {
-        let mut functions = imported_functions(alloc, &module.imports)?;
+        let mut functions = imported_function_types(alloc, &module.imports)?;
         functions.extend_from_slice(&module.functions)?;
         Ok(functions)
     }

@@ -243,7 +243,7 @@ impl SuffixTree {
     /// Whether the first `short_count` types of `short` are a suffix of the first `long_count` types of `long`, where
     /// both lists are long and have as many.
     #[inline]
-    pub(crate) fn is_suffix(
+    pub(crate) fn has_suffix(
         &self,
         short: TypeList,
         short_count: usize,

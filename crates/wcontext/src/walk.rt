@@ -15,7 +15,7 @@ fn count_themselves(nodes: &mut [Node])
 }
 
 /// Puts into `below` of each node how many it and all below it are.
-fn count(nodes: &mut [Node]) -> Option<()>
+fn count_below(nodes: &mut [Node]) -> Option<()>
     ensures links { HaveLinksOf nodes.old nodes.new }
     ensures counted { IfSome result (λ _. AreCounted nodes.new) }
 {
@@ -64,7 +64,7 @@ fn assign_counted(nodes: &mut [Node]) -> Option<()>
 pub(crate) fn assign_preorder(nodes: &mut [Node]) -> Option<()>
     ensures { IfSome result (λ _. ArePreorderOf nodes.old nodes.new) }
 {
-    count(nodes)?;
+    count_below(nodes)?;
     assign_counted(nodes)?;
     Some(())
 }

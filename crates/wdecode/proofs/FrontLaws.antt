@@ -1,4 +1,6 @@
 -- Sections that are read step by step, up to the data segments and from there on, agree with the grammar of a module.
+-- It goes section by section: how the rest may end (`EndsAs`) stays so with one section more (`carried`), and `front_made` ends the front.
+-- Functions of src/module.rt and src/rule.rt cite it, and so do `ModuleHead::whole` and `segments_pass` of src/front.rt.
 use Rattle.std.proofs.Common.{◌≡◌, ℕ, ◌-◌, ◌<◌, Bool, true, false, eqb, eq-eqb, List, [], ◌∷◌, ◌++◌, length, take, drop, Some, None, Result, Err, ◌≢◌, ◌↔◌, refl, sym, ap, subst, ◌∙◌, arith}
 use Rattle.std.specs.Prelude.{IsTrue, All}
 use Rattle.std.proofs.lemmas.List.{take_all}

@@ -1,4 +1,4 @@
--- What is read after an opcode.
+-- What is read after an opcode, the immediates or a block's type, makes the token that begins with that opcode.
 use Rattle.std.specs.Prelude.{IfSome}
 use Rattle.std.proofs.Common.{◌≡◌, ℕ, ◌≤◌, ◌-◌, get_or, take, drop, List, [], ◌∷◌, length, Option, Some, IsTrue, refl, sym, ap, subst, ◌∙◌, arith}
 use Rattle.std.proofs.lemmas.List.{take_rest}

@@ -1,4 +1,6 @@
--- Sections one after the other, and the header before them, as the grammar of a module has them.
+-- Sections one after the other, and the header before them, as the grammar has them: bytes spell one module at most (`one_shell`).
+-- It goes by the kinds of section for the id of one (`contents_section_id`), by induction over the sections for their list (`one_list`).
+-- FrontLaws.antt and Determined.antt cite it, `advance` and `decode_module` of src/module.rt, and the law `shells_are_determined`.
 use Rattle.std.proofs.Common.{◌≡◌, ℕ, ◌<◌, ◌≤◌, Bool, true, false, cond, eqb, ltb, eq-eqb, List, [], ◌∷◌, ◌++◌, length, Option, Some, None, ◌≢◌, ◌↔◌, refl, sym, ap, subst, ◌∙◌, arith}
 use Rattle.std.proofs.lemmas.List.{length-append}
 use Rattle.std.proofs.lemmas.Bool.{eqb-true, lt-ltb, le-ltb, ne_eqb}

@@ -1,4 +1,6 @@
--- Reading flat with a stack agrees with the trees: what closes the open blocks, one after the other.
+-- Reading code flat, with a stack of the blocks that are open, agrees with the trees of the grammar: the theorem is `expression_agrees`.
+-- Trees spell what is read, by induction over the tokens (`tokens_close`); what trees spell is read, by induction over code (`code_runs`).
+-- SectionLaws.antt and the law `grammar_is_read` cite it; other files on flat code take `Tokens` and `push` from here.
 use Rattle.std.proofs.Common.{◌≡◌, ℕ, zero, suc, ◌+◌, ◌-◌, ◌≤◌, Bool, true, false, List, [], ◌∷◌, ◌++◌, length, Option, Some, None, refl, sym, ap, subst, ◌∙◌, ◌⊎◌, inl, inr, append_assoc, arith}
 use Rattle.std.proofs.lemmas.List.{length-append}
 use Rattle.wsyntax.specs.declared.instructions.BlockType.{BlockType}

@@ -5,6 +5,6 @@
 // PERF: this stack is made anew for each body, and most bodies are not that deep.
 pub const FEW_BLOCKS: usize = 16;
 
-/// For how many tokens there is room at first, where so many bytes are left. Halved, most bodies are moved once more while they
-/// grow; doubled, short bodies hold twice the memory until they are cut to size.
+/// For how many tokens there is room at first; for one a byte where fewer bytes are left. Halved, most bodies are moved once more
+/// while they grow; doubled, short bodies hold twice the memory until they are cut to size.
 pub(crate) const FEW_TOKENS: usize = 32;

@@ -1,6 +1,5 @@
 pub mod Numbers
 pub mod Ten
-pub mod Offsets
 pub mod Counts
 pub mod Shifts
 pub mod Ranges

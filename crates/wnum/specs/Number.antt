@@ -1,5 +1,5 @@
 -- 5.2.2 Integers: which bytes spell a number of N bits, in LEB128. Bytes are below 256.
-use Rattle.std.specs.Prelude.{◌≡◌, ℕ, ◌+◌, ◌*◌, ◌/◌, ◌%◌, ◌^◌, ◌-◌, ◌<◌, ◌≤◌, List, [], ◌∷◌, ◌++◌, length, drop, slice_range, nat_lt, if◌then◌else◌}
+use Rattle.std.specs.Prelude.{◌≡◌, ℕ, ◌+◌, ◌*◌, ◌/◌, ◌%◌, ◌^◌, ◌-◌, ◌<◌, ◌≤◌, List, [], ◌∷◌, length, nat_lt, if◌then◌else◌}
 use Rattle.std.specs.Prelude.{ℤ, pos, ◌-ℤ◌, neg_ℤ, ◌≤ℤ◌, ◌<ℤ◌}
 
 -- 5.2.2 uN, sN: a number ends with its first byte below 128, so each byte but the last has its top bit set
@@ -53,11 +53,3 @@ SpellsUnsigned N = SpellsNumber N groups (FitsUnsignedBits N)
 -- 5.2.2 the bytes spell v as sN
 abbrev pub SpellsSigned : ℕ → List ℕ → ℤ → Type 0
 SpellsSigned N = SpellsNumber N signed_groups (FitsSignedBits N)
-
--- 5.1 the bytes from an offset up to another spell a value. Ours: the standard has no offsets here
-abbrev pub IsSpelledAt : {A : Type 0} → (List ℕ → A → Type 0) → List ℕ → ℕ → A × ℕ → Type 0
-IsSpelledAt spells bytes at found = (at ≤ found.1) × (found.1 ≤ length bytes) × spells (slice_range bytes at found.1) found.0
-
--- 5.1 no front of the bytes from an offset on spells a value. Ours: the standard has no offsets here
-abbrev pub NoneSpelledAt : {A : Type 0} → (List ℕ → A → Type 0) → List ℕ → ℕ → Type 0
-NoneSpelledAt {A} spells bytes at = (front rest : List ℕ) (v : A) → drop at bytes ≡ front ++ rest → spells front v → ⊥

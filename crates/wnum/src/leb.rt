@@ -1,9 +1,8 @@
 //! Numbers in LEB128 (5.2.2): one or two bytes are read in place, longer ones by their groups.
-ghost use Rattle.std.specs.Prelude.{◌≡◌, ◌≤◌, ◌<◌, ◌*◌, ◌+◌, ℕ, List, ◌++◌, length, drop, slice_range};
-ghost use Rattle.std.specs.Prelude.{Option, Some, IfSome, IfNone};
+ghost use Rattle.std.specs.Prelude.{◌≡◌, ◌≤◌, ◌<◌, ◌*◌, ◌+◌, Some, IfSome};
 ghost use Rattle.std.specs.Option.{option_map};
 ghost use Rattle.wnum.specs.Reading.{sums_at, ranged, signed_value, fits_signed_bits, unsigned_at, signed_at};
-ghost use Rattle.wnum.specs.Number.{five, SpellsUnsigned, SpellsSigned, IsSpelledAt, NoneSpelledAt};
+ghost use Rattle.wnum.specs.Number.{five};
 
 /// A number at the front: the sum of its groups, what a negative one subtracts from that, and the bytes after it.
 #[derive(Clone, Copy)]
@@ -244,61 +243,5 @@ fn joined_s64(low: u64, high: Groups<'_>) -> Option<(i64, &[u8])>
         Some((low as i64 + 34359738368 * value, high.rest))
     } else {
         None
-    }
-}
-
-/// The number u32 that is spelled at an offset, and the offset after it (5.2.2).
-pub fn read_u32(bytes: &[u8], at: usize) -> Option<(u32, usize)>
-    requires { at ≤ length bytes.now }
-    // What is read is spelled so.
-    ensures found { IfSome result (IsSpelledAt (SpellsUnsigned 32) bytes.now at) }
-    // Nothing is read only where no front spells a number.
-    ensures none { IfNone result (NoneSpelledAt (SpellsUnsigned 32) bytes.now at) }
-{
-    match front_u32(&bytes[at..]) {
-        None => None,
-        Some((value, rest)) => Some((value, bytes.len() - rest.len())),
-    }
-}
-
-/// The number s32 that is spelled at an offset, and the offset after it (5.2.2).
-pub fn read_s32(bytes: &[u8], at: usize) -> Option<(i32, usize)>
-    requires { at ≤ length bytes.now }
-    // What is read is spelled so.
-    ensures found { IfSome result (IsSpelledAt (SpellsSigned 32) bytes.now at) }
-    // Nothing is read only where no front spells a number.
-    ensures none { IfNone result (NoneSpelledAt (SpellsSigned 32) bytes.now at) }
-{
-    match front_s32(&bytes[at..]) {
-        None => None,
-        Some((value, rest)) => Some((value, bytes.len() - rest.len())),
-    }
-}
-
-/// The number s33 that is spelled at an offset, and the offset after it (5.2.2).
-pub fn read_s33(bytes: &[u8], at: usize) -> Option<(i64, usize)>
-    requires { at ≤ length bytes.now }
-    // What is read is spelled so.
-    ensures found { IfSome result (IsSpelledAt (SpellsSigned 33) bytes.now at) }
-    // Nothing is read only where no front spells a number.
-    ensures none { IfNone result (NoneSpelledAt (SpellsSigned 33) bytes.now at) }
-{
-    match front_s33(&bytes[at..]) {
-        None => None,
-        Some((value, rest)) => Some((value, bytes.len() - rest.len())),
-    }
-}
-
-/// The number s64 that is spelled at an offset, and the offset after it (5.2.2).
-pub fn read_s64(bytes: &[u8], at: usize) -> Option<(i64, usize)>
-    requires { at ≤ length bytes.now }
-    // What is read is spelled so.
-    ensures found { IfSome result (IsSpelledAt (SpellsSigned 64) bytes.now at) }
-    // Nothing is read only where no front spells a number.
-    ensures none { IfNone result (NoneSpelledAt (SpellsSigned 64) bytes.now at) }
-{
-    match front_s64(&bytes[at..]) {
-        None => None,
-        Some((value, rest)) => Some((value, bytes.len() - rest.len())),
     }
 }

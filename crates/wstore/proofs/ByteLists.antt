@@ -2,10 +2,9 @@
 use Rattle.std.proofs.Common.{◌≡◌, ℕ, zero, suc, ◌+◌, ◌<◌, ◌≤◌, Bool, true, false, Some, None, if◌then◌else◌, List, [], ◌∷◌, ◌++◌, length, take, drop, get_or, slice_set, sym, ap, ◌∙◌, arith, length-drop}
 use Rattle.std.specs.Prelude.{nat_le}
 use Rattle.std.proofs.lemmas.Bool.{le-leb}
-use Rattle.std.proofs.lemmas.List.{get_or-drop, take-append-drop}
+use Rattle.std.proofs.lemmas.List.{get_or-drop}
 use Rattle.wsyntax.specs.Table.{little_endian}
 use Rattle.wsyntax.specs.Execution.Store.{read}
-use Rattle.wsyntax.specs.Execution.Allocation.{overwrite}
 
 -- the number in the byte at an address is that byte
 one_byte : (bytes : List ℕ) (at : ℕ) → at < length bytes → little_endian (take 1 (drop at bytes)) ≡ get_or bytes at 0
@@ -22,15 +21,7 @@ pub byte_read : (bytes : List ℕ) (at v : ℕ) → at < length bytes → Some v
 byte_read bytes at v within is =
     passes (nat_le (at + 1) (length bytes)) (little_endian (take 1 (drop at bytes))) v (le-leb (at + 1) (length bytes) (omega (arith, within))) is ∙ one_byte bytes at within
 
-fails : (b : Bool) (x : ℕ) → b ≡ true → None ≡ (if b then Some x else None) → ⊥
-fails true x e is = cc
-fails false x e is = cc
-
--- and something is
-pub byte_there : (bytes : List ℕ) (at : ℕ) → at < length bytes → None ≡ read bytes at 1 → ⊥
-byte_there bytes at within is = fails (nat_le (at + 1) (length bytes)) (little_endian (take 1 (drop at bytes))) (le-leb (at + 1) (length bytes) (omega (arith, within))) is
-
--- the first so many of one list over those of another
+-- the first n bytes of `source` over those of `old`
 abbrev pub over : ℕ → List ℕ → List ℕ → List ℕ
 over n source old = take n source ++ drop n old
 
@@ -46,10 +37,3 @@ pub copied_more : (at i v : ℕ) (bytes old : List ℕ) → at + length old ≤ 
     → slice_set (over i (drop at bytes) old) i v ≡ over (suc i) (drop at bytes) old
 copied_more at i v bytes old within below is =
     over_more i v (drop at bytes) old (omega (arith, within, below, length-drop at bytes)) below (is ∙ sym (get_or-drop at bytes i 0))
-
--- no byte changes nothing
-pub overwrite_none : (at : ℕ) (none bytes : List ℕ) → length none ≡ 0 → overwrite at none bytes ≡ bytes
-overwrite_none at [] bytes e =
-    let here : at + 0 ≡ at = omega arith in
-    ap (λ n. take at bytes ++ drop n bytes) here ∙ take-append-drop at bytes
-overwrite_none at (x ∷ none) bytes e = absurd (omega (arith, e))

@@ -1,6 +1,6 @@
--- The store after slots without tags.
+-- The slots of a typed store, tagged by their types again, are the store (`tagged_again`); another memory keeps it so.
 use Rattle.std.proofs.Common.{◌≡◌, ℕ, zero, suc, ◌<◌, ◌%◌, ◌^◌, Bool, true, false, List, [], ◌∷◌, Some, refl, sym, ap, ◌∙◌, subst, arith}
-use Rattle.std.specs.Prelude.{slice_get, slice_set, length}
+use Rattle.std.specs.Prelude.{slice_get, length}
 use Rattle.std.proofs.Math.Logic.{∥∥₁_elim}
 use Rattle.std.proofs.Props.{props}
 use Rattle.std.proofs.lemmas.List.{length-map}
@@ -11,7 +11,7 @@ use Rattle.wsyntax.specs.declared.value.Value.TheVariants.{I32 as V32, I64 as V6
 use Rattle.wsyntax.specs.Validation.Context.{Context}
 use Rattle.wsyntax.specs.Execution.Values.{type_of, types, IsWord, AreWords}
 use Rattle.wsyntax.specs.Execution.Store.{Memory, Store}
-use Rattle.wsyntax.specs.Execution.ConfigTyped.{IsInteger, Has, MemoryTyped, StoreTyped, ValuesTyped, global_types}
+use Rattle.wsyntax.specs.Execution.ConfigTyped.{IsInteger, Has, MemoryTyped, StoreTyped, global_types}
 use Rattle.soundness.specs.Slots.{SlotStore, bits, slots, tagged, all_tagged, slot_store}
 use Rattle.wstore.specs.Held.{store_of, IsHeld}
 
@@ -70,12 +70,6 @@ no_type : (ts : List ValType) (x : ℕ) (t : ValType) → ts ≡ [] → slice_ge
 no_type [] x t e at = cc
 no_type (u ∷ ts) x t e at = cc
 
-pub set_tagged : (ts : List ValType) (ns : List ℕ) (x : ℕ) (v : Value) → slice_get ts x ≡ Some (type_of v) → IsWord v → all_tagged ts (slice_set ns x (bits v)) ≡ slice_set (all_tagged ts ns) x v
-set_tagged [] ns x v e w = absurd cc
-set_tagged (t ∷ ts) [] x v e w = refl
-set_tagged (t ∷ ts) (n ∷ ns) zero v e w = let h : type_of v ≡ t = cc in ap (λ y. y ∷ all_tagged ts ns) (tagged_bits v h w)
-set_tagged (t ∷ ts) (n ∷ ns) (suc x) v e w = ap (λ l. tagged t n ∷ l) (set_tagged ts ns x v e w)
-
 integer_at : (vs : List Value) (ts : List ValType) (x : ℕ) (t : ValType) → types vs ≡ ts → slice_get ts x ≡ Some t → IsInteger t
 integer_at [] ts x t e at = let none : ts ≡ [] = cc in absurd (no_type ts x t none at)
 integer_at (u ∷ vs) [] x t e at = absurd cc
@@ -95,34 +89,3 @@ as_many C s held =
     ∥∥₁_elim held (hlevel props) (λ h.
     let vs : List Value = (store_of C s).globals in
     sym (ap (λ (y : SlotStore). length y.globals) h.same) ∙ length-map vs bits ∙ sym (length-map vs type_of) ∙ ap length h.typed.globals.typed ∙ length-map C.globals (λ (g : GlobalType). g.val_type))
-
-slots_set : (vs : List Value) (x : ℕ) (v : Value) → slots (slice_set vs x v) ≡ slice_set (slots vs) x (bits v)
-slots_set [] x v = refl
-slots_set (u ∷ vs) zero v = refl
-slots_set (u ∷ vs) (suc x) v = ap (λ ns. bits u ∷ ns) (slots_set vs x v)
-
-types_set : (ts : List ValType) (vs : List Value) (x : ℕ) (v : Value) → types vs ≡ ts → slice_get ts x ≡ Some (type_of v) → types (slice_set vs x v) ≡ ts
-types_set ts [] x v e is = e
-types_set [] (u ∷ vs) x v e is = absurd cc
-types_set (t ∷ ts) (u ∷ vs) zero v e is = cc
-types_set (t ∷ ts) (u ∷ vs) (suc x) v e is =
-    let h : types vs ≡ ts = cc in
-    cc (types_set ts vs x v h is)
-
-words_set : (vs : List Value) (x : ℕ) (v : Value) → AreWords vs → IsWord v → AreWords (slice_set vs x v)
-words_set [] x v all w = tt
-words_set (u ∷ vs) zero v all w = (w, all.1)
-words_set (u ∷ vs) (suc x) v all w = (all.0, words_set vs x v all.1 w)
-
-pub other_global : (C : Context) (s : SlotStore) (x : ℕ) (v : Value) → slice_get (global_types C.globals) x ≡ Some (type_of v) → IsWord v → IsHeld C s → IsHeld C (record s { globals = slice_set s.globals x (bits v) })
-other_global C s x v is w h =
-    let old : List Value = (store_of C s).globals in
-    let values : ValuesTyped (slice_set old x v) (global_types C.globals) = record {
-      typed = types_set (global_types C.globals) old x v h.typed.globals.typed is;
-      words = words_set old x v h.typed.globals.words w;
-    } in
-    let new : Store = record (store_of C s) { globals = slice_set old x v } in
-    let typed : StoreTyped C new = record { memory = h.typed.memory; table = h.typed.table; globals = values } in
-    let same : slots (slice_set old x v) ≡ slice_set s.globals x (bits v) =
-    slots_set old x v ∙ ap (λ (y : SlotStore). slice_set y.globals x (bits v)) h.same in
-    subst (IsHeld C) (ap (λ ns. record s { globals = ns }) same) (is_held C new typed)

@@ -14,7 +14,7 @@ abbrev pub taken_if : Bool → List ℕ → ℕ → ℕ → Option (List ℕ)
 taken_if true bytes at count = Some (take count (drop at bytes))
 taken_if false bytes at count = None
 
--- 4.2.8 so many bytes from an address on; None exactly where there is no memory, or where they reach past its end
+-- 4.2.8 `count` bytes from an address on; None exactly where there is no memory, or where they reach past its end
 abbrev pub bytes_at : Option Memory → ℕ → ℕ → Option (List ℕ)
 bytes_at (Some m) at count = taken_if (nat_le (at + count) (length m.bytes)) m.bytes at count
 bytes_at None at count = None

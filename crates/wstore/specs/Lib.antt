@@ -3,7 +3,6 @@ pub mod Faults
 pub mod LaidOut
 pub mod Settings
 pub mod CallLimits
-pub mod Stores
 pub mod Held
 pub mod Views
 pub mod Runs

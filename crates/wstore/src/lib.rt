@@ -3,13 +3,12 @@
 //!
 //! Proved: `Settings::new` takes exactly the ranges. `instantiate` gives an instance with the definition's fresh store
 //! exactly where nothing refuses its start, else the first refusal, with the memory as it was lent. The store of an
-//! instance is typed, by its type, and its parts are read, written and grown as the definition says, its memory by bytes too.
-//! `close` gives back a clean memory of no fewer bytes than were lent.
+//! instance is typed, by its type. Its memory is read and written by bytes, and its exported globals are read, as the
+//! definition says. `close` gives back a clean memory of no fewer bytes than were lent.
 #![tactic(auto)]
 
 mod bytes;
 mod detached;
-mod entry;
 mod execution;
 mod exported;
 mod fault;
@@ -24,7 +23,6 @@ mod table_part;
 mod word;
 
 pub use detached::Detached;
-pub use entry::TableElem;
 pub use fault::{NotStarted, StartFault};
 pub use instance::Instance;
 pub use instantiating::instantiate;

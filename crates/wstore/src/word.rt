@@ -1,23 +1,11 @@
 //! Values as words without tags: an i32 stands in the low half of its word.
 
 ghost use Rattle.std.specs.Prelude.{◌≡◌};
-ghost use Rattle.wsyntax.specs.Execution.Values.{IsWord};
 ghost use Rattle.wsyntax.specs.Execution.ConfigTyped.{IsInteger};
-ghost use Rattle.soundness.specs.Slots.{bits, tagged};
+ghost use Rattle.soundness.specs.Slots.{tagged};
 
 use wnum::conversions::wrap;
 use wsyntax::{ValType, Value};
-
-/// The word of a value.
-pub(crate) fn word_of(value: Value) -> u64
-    ensures bits { result ≡ bits value }
-    ensures word { IsWord value }
-{
-    match value {
-        Value::I32(number) => u64::from(number),
-        Value::I64(number) => number,
-    }
-}
 
 /// The value of an integer type that stands in a word. A float type is never met.
 pub(crate) fn value_in(of_type: ValType, word: u64) -> Value

@@ -21,16 +21,6 @@ fn access(of_type: ValType, natural: u32) -> AccessRow
     AccessRow { of_type, natural }
 }
 
-impl AccessRow {
-    /// How many bytes of memory are read or written.
-    pub(crate) fn width(self) -> u32
-        requires { self.natural ≤ 3 }
-        ensures { result ≡ 2 ^ self.natural }
-    {
-        1 << self.natural
-    }
-}
-
 impl Load {
     /// The load's row in the table of accesses.
     #[inline(always)]

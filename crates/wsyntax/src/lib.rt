@@ -3,17 +3,16 @@
 //! instance is not made (4.2.2, 4.5.4 and 4.5.5), stand here too: instances, the interpreter and the texts of reports
 //! share these types.
 //!
-//! Proved: `Opcode::from_byte` and `row` are the table of opcodes for all 256 bytes. `Operator::row`, `Load::row` and
-//! `Store::row` say what each operator and access takes and gives, and the code says it nowhere else. `FuncTypes` and
-//! `Elements` are lists: what is pushed comes last, and what is lent is the one of that index. An `OtherExpression` is
-//! neither one constant nor one `global.get`, by its type.
+//! Proved: `Opcode::from_byte` is the table of opcodes for all 256 bytes. `Operator::row`, `Load::row` and `Store::row`
+//! say what each operator and access takes and gives, and the code says it nowhere else. `FuncTypes` and `Elements` are
+//! lists: what is pushed comes last, and what is lent is the one of that index. An `OtherExpression` is neither one
+//! constant nor one `global.get`, by its type.
 #![tactic(auto)]
 
 mod access_rows;
 mod bounds;
 mod elements;
 mod func_types;
-mod instruction_row;
 mod instructions;
 mod module;
 mod opcode;
@@ -21,8 +20,6 @@ mod operator_rows;
 mod other_expression;
 mod outcome;
 mod positions;
-mod rows;
-mod signature;
 mod start_refusal;
 mod types;
 mod value;
@@ -34,7 +31,6 @@ pub use bounds::{
 };
 pub use elements::{Element, Elements};
 pub use func_types::{FuncType, FuncTypes};
-pub use instruction_row::{Immediates, Row};
 pub use instructions::{BlockType, BranchTarget, Label, Load, Operator, Store, Token};
 pub use module::{
     Body, ConstExpr, Data, Export, ExportKind, Expression, Global, Import, ImportKind, LocalRun,
@@ -44,7 +40,6 @@ pub use opcode::Opcode;
 pub use operator_rows::{Arity, OperatorRow};
 pub use other_expression::OtherExpression;
 pub use outcome::Outcome;
-pub use rows::row;
 pub use start_refusal::StartRefusal;
 pub use types::{GlobalType, Limits, ValType};
 pub use value::{Trap, Value};

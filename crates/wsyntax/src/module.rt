@@ -108,7 +108,7 @@ pub struct Import<'a> {
     pub kind: ImportKind,
 }
 
-/// So many declared locals of one type (5.5.13).
+/// A number of declared locals of one type (5.5.13).
 #[derive(Clone, Copy, PartialEq, Eq)]
 pub struct LocalRun {
     pub count: u32,

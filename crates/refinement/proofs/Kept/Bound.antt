@@ -1,4 +1,6 @@
--- What a turn costs: each dispatch makes the worth of the state smaller, where a unit of fuel is worth L dispatches.
+-- What a turn costs: each dispatch makes the worth of the machine smaller (`turn_costs`).
+-- The worth counts the tokens that remain here and in the callers, and L for each unit of fuel, where no body has more than L tokens.
+-- The proof goes by the token, and for an instruction by its form. Reaching.antt cites it, and Entering.antt cites `remains_le`.
 use Rattle.std.proofs.Common.{◌≡◌, ℕ, zero, suc, ◌+◌, ◌-◌, ◌*◌, ◌<◌, ◌≤◌, Bool, true, false, List, [], ◌∷◌, length, min, map, Option, Some, None, refl, ap, ◌∙◌, arith, ⊎_elim, if◌then◌else◌}
 use Rattle.std.specs.Prelude.{slice_get, nat_le, nat_eq, ◌^◌, ◌%◌}
 use Rattle.std.proofs.lemmas.Option.{slice_get_within}

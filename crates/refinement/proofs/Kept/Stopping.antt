@@ -1,4 +1,4 @@
--- A call that is given up where it stands.
+-- A call may be given up before its function is entered, and at each token that is no loop (`stops_anywhere`).
 use Rattle.std.proofs.Common.{◌≡◌, ℕ, ◌+◌, ◌*◌, ◌≤◌, List, [], length, Option, Some, None, false, refl, sym, subst, arith}
 use Rattle.std.specs.Prelude.{slice_get}
 use Rattle.std.proofs.lemmas.Option.{slice_get_within}

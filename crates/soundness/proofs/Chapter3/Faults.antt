@@ -1,4 +1,6 @@
--- The laws.
+-- The laws of validation: the algorithm accepts a body exactly where it is typed, and else refuses it at its first fault.
+-- They go by induction over the tokens (`accepted-run`, `refused-run`), and cite the walk over code (Walk.antt, Trees.antt, Parse.antt).
+-- The laws of src/validation.rt cite them by their names, and Chapter4/Checked.antt cites `accepted_is_typed`.
 use Rattle.std.proofs.Common.{◌≡◌, ℕ, zero, suc, ◌+◌, ◌-◌, ◌<◌, false, List, [], ◌∷◌, ◌++◌, length, length-append, take, drop, Option, Some, None, refl, sym, ap, ◌∙◌, subst, arith, inl, inr, add-one}
 use Rattle.std.specs.Prelude.{◌⊎◌}
 use Rattle.std.proofs.lemmas.Option.{same_Some}

@@ -1,4 +1,6 @@
--- Chains of steps from typed configurations.
+-- Chains of steps from typed configurations: each of these is typed and not stuck, and a call ends in one way (`never_stuck`, `one_end`).
+-- A single step goes by cases of what comes next (`NextTyped` of Ops.antt), a chain by induction over its steps.
+-- Laws of src/execution.rt cite it, Running.antt and Weight.antt, Joined/Calls.antt and Joined/Ends.antt, and Calling.antt of wmachine.
 use Rattle.std.proofs.Common.{◌⊎◌, inl, inr, ◌≡◌, ℕ, ◌+◌, ◌<◌, List, [], ◌∷◌, None, refl, sym, ap, ◌∙◌, subst, subst₂, arith, reverse, append-nil}
 use Rattle.std.proofs.lemmas.List.{reverse-reverse}
 use Rattle.wsyntax.specs.Types.{FuncType}

@@ -1,4 +1,6 @@
--- One instruction without a body: it steps to a typed configuration, or leaves the level over values of the type of the label or of the function.
+-- One instruction without a body: it steps to a typed configuration, or leaves the level over values of the type of label or function.
+-- The theorem is `act_ok`, with a case for each instruction; `NextTyped` says what may come next of typed work, which is never `Stuck`.
+-- Sound.antt and Straight.antt cite it; Chains.antt takes `NextTyped` from here, and Weight.antt the lemma `cond_ok`.
 use Rattle.std.proofs.Common.{◌≡◌, ℕ, zero, suc, arith, ◌+◌, ◌/◌, Bool, true, false, cond, List, [], ◌∷◌, ◌++◌, length, map, Option, Some, None, Ok, Err, refl, sym, ap, ◌∙◌, get_or, append_assoc, append-nil}
 use Rattle.std.specs.Prelude.{slice_get, nat_eq, All}
 use Rattle.std.proofs.lemmas.List.{length-reverse}

@@ -1,4 +1,4 @@
--- What is computed is so.
+-- What the bounded run of the definition computes is a chain within the limits to such an end (`computed`), by induction over its bound.
 use Rattle.std.proofs.Common.{◌≡◌, ℕ, zero, suc, ◌+◌, ◌<◌, ◌≤◌, Bool, true, false, List, [], ◌∷◌, Option, Some, None, refl, subst, arith, ltb-true, ltb-false, reverse}
 use Rattle.std.specs.Prelude.{nat_lt}
 use Rattle.wsyntax.specs.Instructions.{Stop}

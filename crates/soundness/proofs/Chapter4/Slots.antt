@@ -1,4 +1,6 @@
--- On typed values the effect on slots is the step.
+-- On typed values the effect of an instruction on slots is its step in the standard: the theorem is `effect_is_step`.
+-- It goes by the instructions that neither branch nor call; lemmas such as `two_top` take operands off the values and the slots at once.
+-- The laws `effect_is_step` and `tee_is_set` of src/execution.rt cite it, and so does Leads.antt.
 use Rattle.std.proofs.Common.{◌≡◌, ℕ, zero, suc, ◌+◌, Bool, true, false, cond, List, [], ◌∷◌, ◌++◌, length, reverse, Option, Some, None, Ok, Err, refl, sym, ap, ◌∙◌, subst, arith, ◌%◌, ◌^◌, ◌<◌}
 use Rattle.std.specs.Prelude.{slice_get, slice_set, nat_eq}
 use Rattle.std.proofs.lemmas.List.{length-reverse}

@@ -1,4 +1,6 @@
 -- How a configuration steps where its innermost level does, and what its type says of that level.
+-- It goes by induction over the labels and frames around the level: a step, a branch, a return and a trap pass them one by one.
+-- Laws of src/execution.rt, from `steps_there` to `state_typed`, cite it; Leads.antt cites `steps_there` and `trap_falls`.
 use Rattle.std.proofs.Common.{◌≡◌, ℕ, zero, suc, ◌+◌, ◌≤◌, List, [], ◌∷◌, ◌++◌, length, map, take, drop, append-nil, Option, Some, None, refl, ap, ◌∙◌, subst, arith}
 use Rattle.std.specs.Prelude.{slice_get}
 use Rattle.wsyntax.specs.declared.types.ValType.{ValType}

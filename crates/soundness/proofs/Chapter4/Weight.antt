@@ -1,4 +1,6 @@
--- Uncharged steps make the work lighter, and so a typed call ends.
+-- Steps that are not charged make the work lighter (`lighter`), and so a typed call ends within any limits (`end_exists`).
+-- The first goes by the cases of a step; the second by induction over the fuel, and for each amount of fuel over the weight.
+-- The laws of these names in src/execution.rt cite them, and Joined/Calls.antt cites `end_exists`.
 use Rattle.std.proofs.Common.{◌≡◌, ℕ, zero, suc, ◌+◌, ◌<◌, ◌≤◌, ⊎_elim, cond, List, [], ◌∷◌, length, Option, Some, None, Ok, Err, refl, subst, arith, reverse, ◌++◌}
 use Rattle.std.specs.Prelude.{slice_get, nat_eq}
 use Rattle.std.proofs.lemmas.Bool.{cases_lt}

@@ -10,7 +10,7 @@ ghost use Rattle.wcheck.specs.Views.{token_rule};
 ghost use Rattle.wcheck.specs.Inspected.{IsInnermost, TakesOperand, SharesSpaces, labels_of};
 
 use super::Checker;
-use crate::frames::{label, label_at};
+use crate::frames::{label_at, label_of_frame};
 use crate::rule::{OperandRule, rule_of_token};
 use crate::scope::block_signature;
 use wcontext::{Context, ListPair};
@@ -51,7 +51,7 @@ impl<'a> Checker<'a> {
         let top = self.control.top;
         Some(OpenFrame {
             is_then: top.is_if,
-            label: context.list(label(top)),
+            label: context.list(label_of_frame(top)),
             starts: context.list(top.start_types),
             gives: context.list(top.end_types),
             height: self.control.operands.height() - self.control.operands.base(),

@@ -10,20 +10,20 @@ use Rattle.accepted_module.proofs.accepted.Accepted.of.Goals as goal
 -- What the shapes ask for.
 
 -- rule 3 is kept
-pub frame_layouts-requires-clause-typed : goal.frame_layouts-requires-clause-typed
-frame_layouts-requires-clause-typed c =
+pub layouts_of_frames-requires-clause-typed : goal.layouts_of_frames-requires-clause-typed
+layouts_of_frames-requires-clause-typed c =
     typed_same c.args.«module».types c.deref-3.result.now c.args.«module».functions.items c.deref-3.ensures.value (c.requires.judged.rules 3)
 
-pub frame_layouts-requires-clause-identified : goal.frame_layouts-requires-clause-identified
-frame_layouts-requires-clause-identified c =
+pub layouts_of_frames-requires-clause-identified : goal.layouts_of_frames-requires-clause-identified
+layouts_of_frames-requires-clause-identified c =
     identified_same c.args.«module».types c.deref-2.result.now c.in_ok-type_ids.type_ids.items c.deref-2.ensures.value c.in_ok-type_ids.ensures
 
-pub frame_layouts-requires-clause-paired : goal.frame_layouts-requires-clause-paired
-frame_layouts-requires-clause-paired c =
+pub layouts_of_frames-requires-clause-paired : goal.layouts_of_frames-requires-clause-paired
+layouts_of_frames-requires-clause-paired c =
     paired_same c.deref-3.result.now c.deref-4.result.now c.args.bodies.items (module_shape c.args.«module») c.args.context c.deref-3.ensures.value c.deref-4.ensures.value c.requires.judged
 
-pub frame_layouts-requires-clause-few : goal.frame_layouts-requires-clause-few
-frame_layouts-requires-clause-few c = few_same c.deref-4.result.now c.args.bodies.items (module_shape c.args.«module») c.args.context c.deref-4.ensures.value c.requires.judged
+pub layouts_of_frames-requires-clause-few : goal.layouts_of_frames-requires-clause-few
+layouts_of_frames-requires-clause-few c = few_same c.deref-4.result.now c.args.bodies.items (module_shape c.args.«module») c.args.context c.deref-4.ensures.value c.requires.judged
 
 -- What the layout asks for.
 
@@ -41,14 +41,14 @@ of-requires-clause-segments c = c.requires.judged.rules 13
 -- What the search for floats asks for.
 
 -- rule 8 is kept
-pub has_floats-uses_floats-requires-clause-globals : goal.has_floats-uses_floats-requires-clause-globals
-has_floats-uses_floats-requires-clause-globals c = c.requires.judged.rules 8
+pub module_has_floats-uses_floats-requires-clause-globals : goal.module_has_floats-uses_floats-requires-clause-globals
+module_has_floats-uses_floats-requires-clause-globals c = c.requires.judged.rules 8
 
-pub has_floats-uses_floats-requires-clause-elements : goal.has_floats-uses_floats-requires-clause-elements
-has_floats-uses_floats-requires-clause-elements c = c.requires.judged.rules 12
+pub module_has_floats-uses_floats-requires-clause-elements : goal.module_has_floats-uses_floats-requires-clause-elements
+module_has_floats-uses_floats-requires-clause-elements c = c.requires.judged.rules 12
 
-pub has_floats-uses_floats-requires-clause-segments : goal.has_floats-uses_floats-requires-clause-segments
-has_floats-uses_floats-requires-clause-segments c = c.requires.judged.rules 13
+pub module_has_floats-uses_floats-requires-clause-segments : goal.module_has_floats-uses_floats-requires-clause-segments
+module_has_floats-uses_floats-requires-clause-segments c = c.requires.judged.rules 13
 
 -- What the holders know.
 
@@ -80,4 +80,4 @@ invariant_of-result-clause-shaped c =
 
 pub invariant_of-result-clause-looked : goal.invariant_of-result-clause-looked
 invariant_of-result-clause-looked c =
-    looked_same c.has_floats-uses_floats.result (module_shape c.args.«module») c.deref-5.result.now c.args.bodies.items c.deref-5.ensures.value c.has_floats-uses_floats.ensures
+    looked_same c.module_has_floats-uses_floats.result (module_shape c.args.«module») c.deref-5.result.now c.args.bodies.items c.deref-5.ensures.value c.module_has_floats-uses_floats.ensures

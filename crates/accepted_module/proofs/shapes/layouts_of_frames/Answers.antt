@@ -6,7 +6,7 @@ use Rattle.wsyntax.specs.Validation.ModuleContext.{type_at, empty_type}
 use Rattle.checked_body.specs.declared.frame_layout.FrameLayout.{FrameLayout}
 use Rattle.accepted_module.specs.FrameLayouts.{frame_layout, frame_layouts}
 use Rattle.accepted_module.proofs.FrameLayouts.{shapes_more}
-use Rattle.accepted_module.proofs.shapes.frame_layouts.Goals as goal
+use Rattle.accepted_module.proofs.shapes.layouts_of_frames.Goals as goal
 
 pub loop-position-preserved : goal.loop-position-preserved
 loop-position-preserved c =

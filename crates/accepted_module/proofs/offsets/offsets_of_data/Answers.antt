@@ -2,7 +2,7 @@ use Rattle.std.proofs.Common.{sym, subst}
 use Rattle.wsyntax.specs.declared.module.Data.{Data}
 use Rattle.accepted_module.specs.Segments.{IsOffset, data_offset}
 use Rattle.accepted_module.proofs.Words.{one_more}
-use Rattle.accepted_module.proofs.offsets.data_offsets.Goals as goal
+use Rattle.accepted_module.proofs.offsets.offsets_of_data.Goals as goal
 
 pub offset_of-requires : goal.offset_of-requires
 offset_of-requires c = subst (λ (s : Data). IsOffset s.offset) (sym c.segment-item.is) (c.requires c.loop-segment.segment-index c.segment-item.result c.loop-segment-test.true)

@@ -1,7 +1,7 @@
 use Rattle.std.proofs.Common.{[]}
 use Rattle.wsyntax.specs.Modules.{decoded_as}
 use Rattle.wcheck.proofs.KnownSteps.{known_step}
-use Rattle.wcheck.proofs.control.try_fast_step.Goals as goal
+use Rattle.wcheck.proofs.control.try_fast_step_control.Goals as goal
 
 pub returns-in-Some-clause-frames : goal.returns-in-Some-clause-frames
 returns-in-Some-clause-frames c = λ known.

@@ -2,7 +2,7 @@ use Rattle.wsyntax.specs.Elements.{element_of}
 use Rattle.accepted_module.specs.Segments.{element_offset}
 use Rattle.accepted_module.proofs.ConstantOffsets.{element_has_offset}
 use Rattle.accepted_module.proofs.Words.{one_more_read}
-use Rattle.accepted_module.proofs.offsets.element_offsets.Goals as goal
+use Rattle.accepted_module.proofs.offsets.offsets_of_elements.Goals as goal
 
 pub offset_of-requires : goal.offset_of-requires
 offset_of-requires c = element_has_offset c.args.segments.now c.loop-index.index (element_of c.in-Some.segment) c.requires c.in-Some.ensures

@@ -1,7 +1,7 @@
 use Rattle.std.proofs.Common.{◌≡◌, ◌∙◌, ℕ, ◌+◌, length, set, sym, subst, arith, inl, inr}
 use Rattle.accepted_module.proofs.GivenIds.{AreGiven, IsRun, as_many, given_all, given_step, low_at, read, run_more}
-use Rattle.accepted_module.proofs.type_ids.type_ids.Goals as goal
-use Rattle.accepted_module.proofs.type_ids.type_ids.Goals.{then-is_ne, else-is_ne}
+use Rattle.accepted_module.proofs.type_ids.ids_of_types.Goals as goal
+use Rattle.accepted_module.proofs.type_ids.ids_of_types.Goals.{then-is_ne, else-is_ne}
 
 pub overflow_cast-first : goal.overflow_cast-first
 overflow_cast-first c =
