@@ -15,4 +15,4 @@ abbrev pub TellsHeader : List ℕ → NoModule → Type 0
 TellsHeader bytes Short = length bytes < 8
 TellsHeader bytes (Magic at found form) = (at < 4) × IsOther bytes at found × IfSome form (HasForm bytes)
 TellsHeader bytes (Version at found form) = (4 ≤ at) × IsOther bytes at found × IfSome form (HasForm bytes)
-TellsHeader bytes (Sections location) = IfSome location (TellsLocation bytes)
+TellsHeader bytes (Sections location sign) = IfSome location (TellsLocation bytes)

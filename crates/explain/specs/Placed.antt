@@ -10,6 +10,10 @@ use Rattle.wsyntax.specs.Validation.ModuleContext.{module_context, imported_func
 use Rattle.explanation.specs.declared.explanation.Span.{Span}
 use Rattle.explanation.specs.declared.explanation.BodyExplanation.{BodyExplanation}
 use Rattle.explanation.specs.declared.explanation.BodyExplanation.TheVariants.{Malformed, TooManyLocals, IllTyped}
+use Rattle.explanation.specs.declared.explanation.IllTypedToken.{IllTypedToken}
+use Rattle.explanation.specs.declared.explanation.StopLocation.{StopLocation}
+use Rattle.explanation.specs.declared.explanation.Stopped.TheVariants as stopped
+use Rattle.explanation.specs.declared.typing.OpenBlocks.{OpenBlocks}
 use Rattle.explanation.specs.declared.explanation.RefusedFunction.{RefusedFunction}
 use Rattle.explanation.specs.declared.explanation.Explanation.{Explanation}
 use Rattle.explanation.specs.declared.explanation.Explanation.TheVariants as told
@@ -17,7 +21,7 @@ use Rattle.explanation.specs.Functions.{first_name, type_told}
 use Rattle.explain.specs.Headers.{TellsHeader}
 use Rattle.explain_bytes.specs.Locations.{IsStopOf, IsTokenAt}
 use Rattle.explain_bytes.specs.Shells.{IsBodyAt}
-use Rattle.explain_typing.specs.Typed.{IsTypingOf}
+use Rattle.explain_typing.specs.Typed.{AreOpenAfter, IsTypingOf}
 use Rattle.explain_typing.specs.Causes.{IsCauseOf}
 use Rattle.explain_rules.specs.Rules.{Breaks}
 
@@ -32,16 +36,27 @@ IsBodyOf bytes imported bodies f s =
 abbrev pub Declares : List ℕ → ℕ → Type 0
 Declares body count = (runs : List LocalRun) × (code : List ℕ) × (locals.read body ≡ Some (runs, code)) × (count ≡ locals_of runs)
 
+-- of a token of the body that is ill typed
+abbrev pub TellsToken : Context → ℕ → List ℕ → ℕ → IllTypedToken → Type 0
+TellsToken C f body start t =
+    IsTokenAt body start t.position t.found × IsTypingOf C f body start t.position t.typing × IfSome t.cause (IsCauseOf C f body t.position)
+
+-- the blocks that are open where reading the body stopped
+abbrev pub TellsOpen : List ℕ → ℕ → Option StopLocation → OpenBlocks → Type 0
+TellsOpen body start None blocks = ⊥
+TellsOpen body start (Some s) blocks = (s.why ≡ stopped.Short) × AreOpenAfter body start s.tokens blocks
+
 -- the locations that a fault tells are those of the body of function f, which begins at offset `start`
 abbrev pub TellsLocations : Context → ℕ → List ℕ → ℕ → BodyExplanation → Type 0
-TellsLocations C f body start (Malformed stop) = IfSome stop (IsStopOf body start)
+TellsLocations C f body start (Malformed stop unclosed before) =
+    IfSome stop (IsStopOf body start) × IfSome unclosed (TellsOpen body start stop) × IfSome before (TellsToken C f body start)
 TellsLocations C f body start (TooManyLocals count) = IfSome count (Declares body)
 TellsLocations C f body start (IllTyped position found typing cause) =
     IfSome found (IsTokenAt body start position) × IfSome typing (IsTypingOf C f body start position) × IfSome cause (IsCauseOf C f body position)
 
 -- it tells none
 abbrev pub TellsNoLocations : BodyExplanation → Type 0
-TellsNoLocations (Malformed stop) = stop ≡ None
+TellsNoLocations (Malformed stop unclosed before) = (stop ≡ None) × (unclosed ≡ None) × (before ≡ None)
 TellsNoLocations (TooManyLocals count) = count ≡ None
 TellsNoLocations (IllTyped position found typing cause) = (found ≡ None) × (typing ≡ None) × (cause ≡ None)
 
@@ -72,6 +87,6 @@ IsSo bytes r = (m : ModuleShape) → Shell bytes m → IsSoIn bytes m r
 abbrev pub AreSo : List ℕ → Explanation → Type 0
 AreSo bytes (told.TooLarge n) = n ≡ length bytes
 AreSo bytes (told.Malformed what) = TellsHeader bytes what
-AreSo bytes (told.Rule rule item) = IfSome item (Breaks bytes rule)
+AreSo bytes (told.Rule rule item sign) = IfSome item (Breaks bytes rule)
 AreSo bytes (told.Body r) = IsSo bytes r
 AreSo bytes _ = Unit {0}

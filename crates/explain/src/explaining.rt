@@ -8,7 +8,7 @@ ghost use Rattle.explanation.specs.Told.{Tells, verdict_told};
 
 use crate::faults::{Located, locate, not_located};
 use crate::headers::no_module;
-use explain_bytes::{location_of, name_of};
+use explain_bytes::{location_of, name_of, sign_of};
 use explain_rules::broken_item;
 use explanation::{Explanation, NoModule, RefusedFunction, first_export, signature_of};
 use std::alloc::{AllocError, Global};
@@ -29,6 +29,7 @@ fn bare_body<'a>(func: u32, refusal: BodyRefusal) -> RefusedFunction<'a>
         export: None,
         signature: None,
         fault,
+        sign: None,
     }
 }
 
@@ -66,6 +67,7 @@ fn body_of<'a>(
         export: first_export(&front.module.exports, func),
         signature,
         fault,
+        sign: sign_of(bytes),
     })
 }
 
@@ -91,9 +93,10 @@ fn not_spelled(alloc: Global, bytes: &[u8]) -> Result<NoModule, AllocError>
     ensures { IfOk result (TellsHeader bytes.now) }
 {
     match no_module(bytes) {
-        NoModule::Sections(_) => {
+        NoModule::Sections { .. } => {
             let location = location_of(alloc, bytes)?;
-            Ok(NoModule::Sections(location))
+            let sign = sign_of(bytes);
+            Ok(NoModule::Sections { location, sign })
         }
         other => Ok(other),
     }
@@ -114,7 +117,10 @@ pub fn explain(alloc: Global, bytes: &[u8]) -> Explanation<'_>
             Err(AllocError) => Explanation::Memory,
         },
         Err(Refusal::Rule(rule)) => match broken_item(alloc, bytes, rule) {
-            Ok(item) => Explanation::Rule { rule, item },
+            Ok(item) => {
+                let sign = sign_of(bytes);
+                Explanation::Rule { rule, item, sign }
+            }
             Err(AllocError) => Explanation::Memory,
         },
         Err(Refusal::Body { func, refusal }) => match refused_body(alloc, bytes, func, refusal) {

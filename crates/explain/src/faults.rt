@@ -3,11 +3,11 @@ ghost use Rattle.std.specs.Prelude.{◌≡◌, IfOk, IfSome, Some, None, map, sl
 ghost use Rattle.wsyntax.specs.Binary.Sections.{locals_of};
 ghost use Rattle.refusal.specs.declared.refusal.BodyRefusal.TheVariants as refusal;
 ghost use Rattle.explanation.specs.Told.{refusal_told};
-ghost use Rattle.explain.specs.Placed.{Declares, TellsBody, TellsLocations, TellsNoLocations};
+ghost use Rattle.explain.specs.Placed.{Declares, TellsBody, TellsLocations, TellsNoLocations, TellsOpen, TellsToken};
 
 use explain_bytes::{body_span, stop_of};
-use explain_typing::{Told, find_told};
-use explanation::{BodyExplanation, Span};
+use explain_typing::{Told, find_open, find_told, first_ill_typed};
+use explanation::{BodyExplanation, IllTypedToken, OpenBlocks, Span, StopLocation, Stopped};
 use refusal::BodyRefusal;
 use std::alloc::{AllocError, Global};
 use wcontext::Context;
@@ -20,7 +20,11 @@ fn bare_fault<'a>(refusal: BodyRefusal) -> BodyExplanation<'a>
     ensures locations { TellsNoLocations result }
 {
     match refusal {
-        BodyRefusal::Malformed => BodyExplanation::Malformed { stop: None },
+        BodyRefusal::Malformed => BodyExplanation::Malformed {
+            stop: None,
+            unclosed: None,
+            before: None,
+        },
         BodyRefusal::TooManyLocals => BodyExplanation::TooManyLocals { count: None },
         BodyRefusal::IllTyped { at } => BodyExplanation::IllTyped {
             position: at,
@@ -83,6 +87,91 @@ fn placed_token<'a>(
     }
 }
 
+/// The blocks that are open where a body ends that begins at offset `start`, and stops there.
+fn unclosed_in(
+    alloc: Global,
+    body: &[u8],
+    start: usize,
+    stop: &StopLocation<'_>,
+) -> Result<Option<OpenBlocks>, AllocError>
+    ensures { IfOk result (λ blocks. IfSome blocks (TellsOpen body.now start (Some stop.now))) }
+{
+    if stop.why != Stopped::Short {
+        return Ok(None);
+    }
+    match find_open(alloc, body, start, stop.tokens) {
+        Ok(blocks) => Ok(Some(blocks)),
+        Err(Fault::Malformed) => Ok(None),
+        Err(Fault::Memory) => Err(AllocError),
+    }
+}
+
+/// The first token that is ill typed among that many of a body that begins at offset `start`.
+fn find_ill_typed(
+    alloc: Global,
+    context: &Context,
+    func: u32,
+    body: &[u8],
+    start: usize,
+    count: usize,
+) -> Result<Option<IllTypedToken>, Fault>
+    ensures { IfOk result (λ token. IfSome token (TellsToken context.now.context func body.now start)) }
+{
+    let Some(position) = first_ill_typed(alloc, context, func, body, count)? else {
+        return Ok(None);
+    };
+    let Told {
+        found,
+        typing,
+        cause,
+    } = find_told(alloc, context, func, body, start, position)?;
+    Ok(Some(IllTypedToken {
+        position,
+        found,
+        typing,
+        cause,
+    }))
+}
+
+/// The same where it is found.
+fn ill_typed_in(
+    alloc: Global,
+    context: &Context,
+    func: u32,
+    body: &[u8],
+    start: usize,
+    count: usize,
+) -> Result<Option<IllTypedToken>, AllocError>
+    ensures { IfOk result (λ token. IfSome token (TellsToken context.now.context func body.now start)) }
+{
+    match find_ill_typed(alloc, context, func, body, start, count) {
+        Ok(token) => Ok(token),
+        Err(Fault::Malformed) => Ok(None),
+        Err(Fault::Memory) => Err(AllocError),
+    }
+}
+
+/// Why the body of the function of that index is malformed, which begins at offset `start`.
+fn malformed_body<'a>(
+    alloc: Global,
+    context: &Context,
+    func: u32,
+    body: &'a [u8],
+    start: usize,
+) -> Result<BodyExplanation<'a>, AllocError>
+    ensures refusal { IfOk result (λ f. refusal_told f ≡ refusal.Malformed) }
+    ensures locations { IfOk result (TellsLocations context.now.context func body.now start) }
+{
+    let Some(stop) = stop_of(alloc, body, start)? else {
+        return Ok(bare_fault(BodyRefusal::Malformed));
+    };
+    Ok(BodyExplanation::Malformed {
+        stop: Some(stop),
+        unclosed: unclosed_in(alloc, body, start, &stop)?,
+        before: ill_typed_in(alloc, context, func, body, start, stop.tokens)?,
+    })
+}
+
 /// Why the body of the function of that index is refused, which begins at offset `start`.
 fn placed_fault<'a>(
     alloc: Global,
@@ -96,10 +185,7 @@ fn placed_fault<'a>(
     ensures locations { IfOk result (TellsLocations context.now.context func body.now start) }
 {
     match refusal {
-        BodyRefusal::Malformed => {
-            let stop = stop_of(alloc, body, start)?;
-            Ok(BodyExplanation::Malformed { stop })
-        }
+        BodyRefusal::Malformed => { malformed_body(alloc, context, func, body, start) }
         BodyRefusal::TooManyLocals => {
             let count = declared_locals(alloc, body)?;
             Ok(BodyExplanation::TooManyLocals { count })

@@ -35,5 +35,8 @@ pub(crate) fn no_module(bytes: &[u8]) -> NoModule
             return other_byte(bytes, at, *found);
         }
     }
-    NoModule::Sections(None)
+    NoModule::Sections {
+        location: None,
+        sign: None,
+    }
 }

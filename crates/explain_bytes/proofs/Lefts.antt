@@ -1,4 +1,4 @@
--- What is left of a body, one token more.
+-- What is left of a body after one token more, and which blocks are open then or why reading stops there.
 use Rattle.std.proofs.Common.{◌≡◌, ◌≢◌, ℕ, ◌+◌, ◌≤◌, Bool, List, [], ◌∷◌, ◌++◌, length, get_or, Option, Some, None, ap, sym, subst, refl, ◌∙◌, add-one, append-nil, arith}
 use Rattle.std.specs.Prelude.{IfSome, true, false, if◌then◌else◌}
 use Rattle.wsyntax.specs.declared.instructions.Token.{Token as Held}

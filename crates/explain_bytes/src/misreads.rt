@@ -77,7 +77,7 @@ fn after_zero<'a>(bytes: &'a [u8], wanted: Wanted) -> Result<&'a [u8], Stuck<'a>
     }
 }
 
-/// The bytes after the type of a block: 40, a value type, or the index of a type, whose first byte is none of a negative number.
+/// The bytes after the type of a block: 40, a value type, or the index of a type, whose first byte begins no negative number.
 fn after_block_type<'a>(bytes: &'a [u8]) -> Result<&'a [u8], Stuck<'a>>
     ensures { IfErr result IsStuck }
 {
@@ -117,7 +117,7 @@ fn after_access<'a>(bytes: &'a [u8]) -> Result<&'a [u8], Stuck<'a>>
 }
 
 /// The bytes after the immediates of the instruction of that opcode.
-fn after_immediates<'a>(opcode: u8, bytes: &'a [u8]) -> Result<&'a [u8], Stuck<'a>>
+pub(crate) fn after_immediates<'a>(opcode: u8, bytes: &'a [u8]) -> Result<&'a [u8], Stuck<'a>>
     ensures { IfErr result IsStuck }
 {
     match opcode {
@@ -154,8 +154,8 @@ fn after_runs<'a>(bytes: &'a [u8]) -> Result<&'a [u8], Stuck<'a>>
     Ok(rest)
 }
 
-/// What is wrong among the bytes; `None` where it is at the front of no end of them.
-fn placed(bytes: &[u8], stuck: Stuck<'_>) -> Option<Misread>
+/// What is wrong among the bytes; `None` where reading stopped at bytes that are no suffix of them.
+fn misread_of(bytes: &[u8], stuck: Stuck<'_>) -> Option<Misread>
     requires { IsStuck stuck }
     ensures { IfSome result (IsMisread bytes.now) }
 {
@@ -188,7 +188,7 @@ pub(crate) fn immediates_stuck<'a>(bytes: &'a [u8]) -> Option<Stuck<'a>>
 pub fn misread_token(bytes: &[u8]) -> Option<Misread>
     ensures { IfSome result (IsMisread bytes.now) }
 {
-    placed(bytes, immediates_stuck(bytes)?)
+    misread_of(bytes, immediates_stuck(bytes)?)
 }
 
 /// What is wrong with the locals of a body; `None` where they can be read.
@@ -197,6 +197,6 @@ pub fn misread_locals(body: &[u8]) -> Option<Misread>
 {
     match after_runs(body) {
         Ok(_) => None,
-        Err(stuck) => placed(body, stuck),
+        Err(stuck) => misread_of(body, stuck),
     }
 }

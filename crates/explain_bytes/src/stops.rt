@@ -89,8 +89,8 @@ pub(crate) fn halt_in<'a>(alloc: Global, code: &'a [u8]) -> Result<Option<Halt<'
     Ok(None)
 }
 
-/// The same with its offset, in a body that begins at offset `start`.
-fn placed<'a>(body: &[u8], start: usize, halt: Halt<'a>) -> Option<StopLocation<'a>>
+/// Where reading a body stops, with the offset in the module: the body begins at offset `start`.
+fn stop_location<'a>(body: &[u8], start: usize, halt: Halt<'a>) -> Option<StopLocation<'a>>
     ensures { IfSome result (λ s. (s.why ≡ halt.entry.why) × (s.tokens ≡ halt.entry.tokens) × (s.rest.now ≡ halt.entry.rest.now)
         × (s.at ≡ start + (length body.now - length halt.entry.rest.now))) }
 {
@@ -113,7 +113,7 @@ pub fn stop_of<'a>(
 {
     match locals_at(alloc, body) {
         Ok((_runs, code)) => match halt_in(alloc, code)? {
-            Some(halt) => Ok(placed(body, start, halt)),
+            Some(halt) => Ok(stop_location(body, start, halt)),
             None => Ok(None),
         },
         Err(Fault::Malformed) => {
@@ -122,7 +122,7 @@ pub fn stop_of<'a>(
                 tokens: 0,
                 rest: body,
             };
-            Ok(placed(body, start, halt))
+            Ok(stop_location(body, start, halt))
         }
         Err(Fault::Memory) => Err(AllocError),
     }

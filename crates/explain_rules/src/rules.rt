@@ -10,8 +10,8 @@ mod repeats;
 mod spaces;
 mod start;
 
-use explain_bytes::item_offset;
-use explanation::{BrokenItem, ItemFault};
+use explain_bytes::{item_offset, value_at};
+use explanation::{BrokenItem, Initial, InitialValue, ItemFault};
 use std::alloc::{AllocError, Global};
 use wcontext::{SpaceSizes, Spaces};
 use wdecode::{DecodeFault, decode_module};
@@ -63,8 +63,22 @@ fn item_in<'a>(
             section,
             position,
             at: None,
+            value: None,
             fault,
         })),
+    }
+}
+
+/// The initial value or the offset of an item that begins at that offset, where that is not one constant.
+fn value_told(bytes: &[u8], item: &BrokenItem<'_>, at: Option<usize>) -> Option<InitialValue> {
+    match item.fault {
+        ItemFault::GlobalValue {
+            initial: Initial::Other,
+            ..
+        }
+        | ItemFault::ElementOffset(Initial::Other)
+        | ItemFault::DataOffset(Initial::Other) => value_at(bytes, item.section, at?),
+        _ => None,
     }
 }
 
@@ -82,7 +96,8 @@ fn placed_item<'a>(
         None => Ok(None),
         Some(item) => {
             let at = item_offset(alloc, bytes, item.section, item.position)?;
-            Ok(Some(BrokenItem { at, ..item }))
+            let value = value_told(bytes, &item, at);
+            Ok(Some(BrokenItem { at, value, ..item }))
         }
     }
 }

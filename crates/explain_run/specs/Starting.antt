@@ -1,4 +1,4 @@
--- 4.5.4 Why no instance of a module starts, and where what hinders it stands.
+-- 4.5.4 Why no instance of a module starts, and where the reason stands.
 use Rattle.std.specs.Prelude.{◌≡◌, ℕ, suc, List, [], ◌∷◌, ◌++◌, Option, Some, None, codes, option_map, position, slice_get, unwrap_or, if◌then◌else◌}
 use Rattle.std.specs.List.{between}
 use Rattle.wsyntax.specs.Modules.{ModuleShape, BodyShape, import_shape}
@@ -45,7 +45,7 @@ first_float m bodies =
     or_else (option_map location.Type (position type_has_floats m.types))
     (or_else (option_map location.Global (position global_has_floats m.globals)) (first_in 0 bodies))
 
--- what is named is the first that hinders the start
+-- the item that is named is the first reason against the start
 abbrev pub IsNamed : ModuleShape → List BodyShape → NotStarting → Type 0
 IsNamed m bodies (Import i) = first m.imports ≡ Some (import_shape i)
 IsNamed m bodies (Floats at) = at ≡ first_float m bodies

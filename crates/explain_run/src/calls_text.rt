@@ -102,7 +102,7 @@ fn kind_words(kind: ExportKind) -> &'static str {
 }
 
 /// The name of an export, and what is wrong with it.
-fn push_named(text: &mut String, name: &[u8], wrong: &str) -> Result<(), AllocError> {
+fn push_wrong_name(text: &mut String, name: &[u8], wrong: &str) -> Result<(), AllocError> {
     text.push_str(" names export ")?;
     push_name(text, name)?;
     text.push_str(wrong)
@@ -155,9 +155,9 @@ pub fn push_misfit(
     let line = misfit.position.saturating_add(1);
     write!(text, "calls     line {line}")?;
     match &misfit.why {
-        Misfit::NoExport => push_named(text, call.name, missing_words(call.name))?,
+        Misfit::NoExport => push_wrong_name(text, call.name, missing_words(call.name))?,
         Misfit::NoFunction(kind) => {
-            push_named(text, call.name, ", which is ")?;
+            push_wrong_name(text, call.name, ", which is ")?;
             text.push_str(kind_words(*kind))?;
         }
         Misfit::Arguments { func, passes } => push_passed(

@@ -1,4 +1,4 @@
-//! Why no instance of an accepted module starts (4.5.4), and where what hinders it stands.
+//! Why no instance of an accepted module starts (4.5.4), and where the reason stands.
 ghost use Rattle.std.specs.Prelude.{◌≡◌, ℕ, [], IfSome, Some, option_map, position};
 ghost use Rattle.wsyntax.specs.Modules.{body_shape, global_shape, module_shape, decoded_as};
 ghost use Rattle.wsyntax.specs.Execution.Start.{run_has_floats, start_refusal};
@@ -147,7 +147,7 @@ pub fn not_starting<'a>(accepted: &Accepted<'a>, pages: u32) -> Option<NotStarti
     // It is the first reason, as a run has it.
     ensures reason { option_map refusal_named result
         ≡ start_refusal pages (module_shape accepted.now.«module») (shapes_of accepted.now.bodies.items) }
-    // What it names hinders the start, and is the first that does.
+    // What it names is a reason against the start, and the first one.
     ensures named { IfSome result (IsNamed (module_shape accepted.now.«module») (shapes_of accepted.now.bodies.items)) }
 {
     let refusal = accepted.start_refusal(pages)?;

@@ -77,7 +77,7 @@ fn push_import(text: &mut String, import: &Import<'_>) -> Result<(), AllocError>
 }
 
 /// A function by its index, and its name, or that of its first export.
-fn push_named(
+fn push_function(
     text: &mut String,
     bytes: &[u8],
     module: &Module<'_>,
@@ -104,7 +104,7 @@ fn push_float_token(
     func: usize,
     position: usize,
 ) -> Result<(), AllocError> {
-    push_named(text, bytes, module, func)?;
+    push_function(text, bytes, module, func)?;
     write!(text, " token {position}")?;
     if let Some(found) = token_of(alloc, bytes, module, func, position)? {
         text.push_str(" ")?;
@@ -147,7 +147,7 @@ fn push_float_locals(
     func: usize,
     run: usize,
 ) -> Result<(), AllocError> {
-    push_named(text, bytes, accepted.module(), func)?;
+    push_function(text, bytes, accepted.module(), func)?;
     text.push_str(" declares locals")?;
     if let Some(body) = accepted.bodies().get(func) {
         if let Some(run) = body.locals().get(run) {
@@ -263,7 +263,7 @@ fn reason_line(
     Ok(line)
 }
 
-/// The line on the start of an instance: that it starts, or why it does not, and what hinders it.
+/// The line on the start of an instance: that it starts, or why it does not, and the item that is the reason.
 pub(crate) fn start_line(
     alloc: Global,
     bytes: &[u8],

@@ -125,7 +125,7 @@ fn cause_words<'a>(opcode: u8, cause: &'a Cause, owner: &'static str) -> [Word<'
 }
 
 /// Whose stack the token takes its operands from.
-fn owner_of(typing: &Option<Typing>) -> &'static str {
+fn owner_of(typing: Option<&Typing>) -> &'static str {
     match typing {
         Some(typing) if typing.within.is_empty() => "the function's",
         Some(_) => "the block's",
@@ -133,19 +133,17 @@ fn owner_of(typing: &Option<Typing>) -> &'static str {
     }
 }
 
-/// The line on the cause.
+/// The sentence on the cause.
 pub(crate) fn push_cause(
     text: &mut String,
     found: &FoundToken,
-    typing: &Option<Typing>,
+    typing: Option<&Typing>,
     cause: &Cause,
 ) -> Result<(), AllocError> {
-    text.push_str("because   ")?;
     push_subject(text, found, cause)?;
     say(
         text,
         cause_sentence(cause),
         &cause_words(found.opcode, cause, owner_of(typing)),
-    )?;
-    text.push_str("\n")
+    )
 }

@@ -1,10 +1,18 @@
 //! What bytes are that spell no module, in words: the byte that refuses them, and what to do with a file of another form.
 
-use crate::sentence::Word::{Hex, Number, Text};
+use crate::sentence::Word::{Address, Hex, Number, Text};
 use crate::sentence::say;
 use crate::shell_text::push_location;
-use explanation::{Form, NoModule};
+use explanation::{Form, NoModule, Places, Sign};
 use std::alloc::AllocError;
+
+/// The hint on an object file.
+const OBJECT: &str =
+    "hint      this is an object file, not linked yet; wasm-ld makes a module of it, and so does clang without -c (docs/GUESTS.md)\n";
+
+/// The hint on a file that was read as text.
+const READ_AS_TEXT: &str =
+    "hint      {} stands at byte {} ({}), {} in all{}: the file was read as text on its way; copy or download it anew, as binary\n";
 
 /// What bytes of another form are, and what to do.
 fn form_hint(form: Form) -> &'static str {
@@ -34,11 +42,28 @@ fn form_hint(form: Form) -> &'static str {
 }
 
 /// The line on what bytes of another form are, where that is known.
-fn push_hint(text: &mut String, form: Option<Form>) -> Result<(), AllocError> {
+fn push_form_hint(text: &mut String, form: Option<Form>) -> Result<(), AllocError> {
     match form {
         Some(form) => say(text, "hint      {}\n", &[Text(form_hint(form))]),
         None => Ok(()),
     }
+}
+
+/// What a file is that has the header of a module, or what became of it, and what to do.
+pub(crate) fn push_sign(text: &mut String, sign: Sign) -> Result<(), AllocError> {
+    let (found, Places { at, count }, only) = match sign {
+        Sign::Object => return text.push_str(OBJECT),
+        Sign::Replaced(places) => ("ef bf bd", places, ""),
+        Sign::LineEnds(places) => ("0d 0a", places, ", and 0a nowhere else"),
+    };
+    let words = [
+        Text(found),
+        Number(at),
+        Address(at),
+        Number(count),
+        Text(only),
+    ];
+    say(text, READ_AS_TEXT, &words)
 }
 
 /// The lines on bytes that spell no module.
@@ -53,7 +78,7 @@ pub(crate) fn push_no_module(text: &mut String, no_module: NoModule) -> Result<(
                 "because   byte {} is {}, and a module begins with 00 61 73 6d\n",
                 &[Number(at), Hex(found as u32)],
             )?;
-            push_hint(text, form)
+            push_form_hint(text, form)
         }
         NoModule::Version { at, found, form } => {
             say(
@@ -61,10 +86,13 @@ pub(crate) fn push_no_module(text: &mut String, no_module: NoModule) -> Result<(
                 "because   byte {} is {}, and the version is 01 00 00 00\n",
                 &[Number(at), Hex(found as u32)],
             )?;
-            push_hint(text, form)
+            push_form_hint(text, form)
         }
-        NoModule::Sections(Some(location)) => push_location(text, location),
-        NoModule::Sections(None) => text.push_str(
+        NoModule::Sections {
+            location: Some(location),
+            ..
+        } => push_location(text, location),
+        NoModule::Sections { location: None, .. } => text.push_str(
             "because   after its first eight bytes, which are right, it has no sections of a module\n",
         ),
     }

@@ -86,7 +86,7 @@ pub(crate) enum Feature {
 
 impl Feature {
     /// Its name, and where it is defined.
-    pub(crate) fn words(self) -> &'static str {
+    pub(crate) fn title(self) -> &'static str {
         match self {
             Feature::SaturatingTruncation => "saturating truncation (Core 2.0)",
             Feature::BulkMemory => "bulk memory (Core 2.0)",

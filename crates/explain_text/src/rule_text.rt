@@ -2,6 +2,7 @@
 
 use crate::sentence::Word::{Address, Empty, Index, Name, Number, Signature, Text, There, Type};
 use crate::sentence::{Word, say};
+use crate::shell_text::push_value;
 use explain_bytes::{DATA, ELEMENT, EXPORT, IMPORT, START};
 use explanation::{BrokenItem, Initial, ItemFault};
 use std::alloc::AllocError;
@@ -195,7 +196,9 @@ pub(crate) fn push_broken_item(text: &mut String, item: &BrokenItem<'_>) -> Resu
     if let Some(at) = item.at {
         say(text, ", byte {} ({})", &[Number(at), Address(at)])?;
     }
-    text.push_str("\nbecause   ")?;
+    text.push_str("\n")?;
+    push_value(text, item.value)?;
+    text.push_str("because   ")?;
     push_positioned(text, item)?;
     say(text, fault_sentence(&item.fault), &fault_words(&item.fault))?;
     match &item.fault {

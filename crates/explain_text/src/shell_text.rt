@@ -1,13 +1,15 @@
 //! Where reading a module stopped that is malformed outside its bodies, and why, in words.
 
 use crate::opcode_names::{Feature, feature_of_byte, name_of_later, named_after_fc};
-use crate::sentence::Word::{Address, Empty, Hex, Index, Number, Text};
+use crate::sentence::Word::{Address, Empty, Hex, Index, Number, Opcode, Text};
 use crate::sentence::{Word, say};
 use crate::shell_words::{
     Later, Origin, item_name, later_byte, later_section, later_segment, section_name, wanted_bytes,
 };
 use explain_bytes::{DATA_COUNT, TAG};
-use explanation::{FoundSection, Location, OtherSegment, SectionPart, Span, Wanted, Wrong};
+use explanation::{
+    FoundSection, InitialValue, Location, OtherSegment, SectionPart, Span, Wanted, Wrong,
+};
 use std::alloc::AllocError;
 
 /// The first byte of opcodes that a number follows, most of them of Core 2.0.
@@ -60,8 +62,25 @@ fn push_part(text: &mut String, location: Location) -> Result<(), AllocError> {
     say(text, ", byte {} ({})\n", &at)
 }
 
+/// The line on an initial value or an offset.
+pub(crate) fn push_value(text: &mut String, value: Option<InitialValue>) -> Result<(), AllocError> {
+    let Some(InitialValue { at, other }) = value else {
+        return Ok(());
+    };
+    say(
+        text,
+        "value     from byte {} ({}) on",
+        &[Number(at), Address(at)],
+    )?;
+    if let Some((offset, opcode)) = other {
+        let words = [Opcode(opcode), Number(offset), Address(offset)];
+        say(text, "; {} at byte {} ({}) is no constant", &words)?;
+    }
+    text.push_str("\n")
+}
+
 /// How to do without it.
-fn push_hint(text: &mut String, origin: Origin) -> Result<(), AllocError> {
+fn push_origin_hint(text: &mut String, origin: Origin) -> Result<(), AllocError> {
     match origin.hint() {
         None => Ok(()),
         Some(hint) => say(text, "hint      build the module {}\n", &[Text(hint)]),
@@ -72,7 +91,7 @@ fn push_hint(text: &mut String, origin: Origin) -> Result<(), AllocError> {
 fn push_origin(text: &mut String, origin: Origin) -> Result<(), AllocError> {
     let sentence = ", of {}, which gate does not admit\n";
     say(text, sentence, &[Text(origin.words())])?;
-    push_hint(text, origin)
+    push_origin_hint(text, origin)
 }
 
 /// Another byte than 00, where something of later standards may stand.
@@ -80,7 +99,7 @@ fn push_reserved(text: &mut String, found: u8, later: Later) -> Result<(), Alloc
     let (name, origin) = later;
     let words = [Hex(found as u32), Text(origin.words()), Text(name)];
     say(text, "00 is wanted, not {}; {} have {} there\n", &words)?;
-    push_hint(text, origin)
+    push_origin_hint(text, origin)
 }
 
 /// The instruction of that opcode where `gate` does not admit it; its name is empty where further bytes name it.
@@ -117,7 +136,7 @@ pub(crate) fn push_opcode(
     say(text, sentence, &[Text(name)])
 }
 
-/// A byte that is none of what is wanted.
+/// A byte that is not one that is wanted.
 fn push_other_byte(text: &mut String, wanted: Wanted, found: u8) -> Result<(), AllocError> {
     let byte = Hex(found as u32);
     let Some((name, origin)) = later_byte(wanted, found) else {
@@ -252,6 +271,7 @@ pub(crate) fn push_location(text: &mut String, location: Location) -> Result<(),
         return push_segment(text, segment, item_name(id), later);
     }
     push_part(text, location)?;
+    push_value(text, location.value)?;
     text.push_str("because   ")?;
     let whole = match location.part {
         SectionPart::Size => "the module ends",

@@ -19,7 +19,7 @@ const NO_VECTORS: &str =
 const NO_EXCEPTIONS: &str =
     "with -fno-exceptions, in Rust with -C panic=abort; in text do without it (docs/GUESTS.md)";
 
-/// What something of a later standard is of.
+/// The feature or proposal of a later standard that something in a module belongs to.
 #[derive(Clone, Copy, PartialEq, Eq)]
 pub(crate) enum Origin {
     Of(Feature),
@@ -33,8 +33,8 @@ impl Origin {
     /// In words.
     pub(crate) fn words(self) -> &'static str {
         match self {
-            Origin::Of(feature) => feature.words(),
-            Origin::Passive => Feature::BulkMemory.words(),
+            Origin::Of(feature) => feature.title(),
+            Origin::Passive => Feature::BulkMemory.title(),
             Origin::Memory64 => "64-bit addresses (Core 3.0)",
             Origin::Memories => "several memories (Core 3.0)",
             Origin::PageSizes => "custom page sizes (a proposal)",

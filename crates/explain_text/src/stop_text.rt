@@ -3,8 +3,9 @@
 use crate::sentence::Word::{Address, Bytes, Index, Number, Opcode};
 use crate::sentence::say;
 use crate::shell_text::{push_opcode, push_wrong};
+use crate::typing_text::push_opening;
 use explain_bytes::{Misread, misread_locals, misread_token};
-use explanation::{StopLocation, Stopped};
+use explanation::{OpenBlocks, StopLocation, Stopped};
 use std::alloc::AllocError;
 
 /// The number after that first byte of the bytes, where it is one that a number follows, and the bytes of both.
@@ -81,8 +82,34 @@ fn push_no_locals(text: &mut String, at: usize, body: &[u8]) -> Result<(), Alloc
     }
 }
 
+/// That a body ends before its last `end`, and the blocks that are open there.
+fn push_short(text: &mut String, unclosed: &Option<OpenBlocks>) -> Result<(), AllocError> {
+    let Some(blocks) = unclosed else {
+        return text.push_str("because   the body ends there, before its last end\n");
+    };
+    let sentence = match blocks.count {
+        0 => return text.push_str("because   the body ends there, before its last end\n"),
+        1 => "because   {} block is open where the body ends",
+        _ => "because   {} blocks are open where the body ends",
+    };
+    say(text, sentence, &[Number(blocks.count)])?;
+    for (position, opening) in blocks.outermost.iter().enumerate() {
+        text.push_str(if position == 0 { ": " } else { ", " })?;
+        push_opening(text, *opening)?;
+    }
+    let others = blocks.count.saturating_sub(blocks.outermost.len());
+    if others > 0 {
+        say(text, ", and {} more", &[Number(others)])?;
+    }
+    text.push_str("; an end is missing\n")
+}
+
 /// Why reading a malformed body stopped.
-pub(crate) fn push_stop(text: &mut String, stop: StopLocation<'_>) -> Result<(), AllocError> {
+pub(crate) fn push_stop(
+    text: &mut String,
+    stop: StopLocation<'_>,
+    unclosed: &Option<OpenBlocks>,
+) -> Result<(), AllocError> {
     if stop.why != Stopped::Locals {
         let words = [Number(stop.tokens), Number(stop.at), Address(stop.at)];
         say(text, "token     {}, byte {} ({})\n", &words)?;
@@ -92,9 +119,10 @@ pub(crate) fn push_stop(text: &mut String, stop: StopLocation<'_>) -> Result<(),
         Stopped::Token => return push_no_token(text, stop.at, stop.rest),
         Stopped::Else => "because   it is an else that stands in no if\n",
         Stopped::Left if stop.rest.len() == 1 =>
-            "because   the body ended before it: {} byte is left\n",
-        Stopped::Left => "because   the body ended before it: {} bytes are left\n",
-        Stopped::Short => "because   the body ends there, before its last end\n",
+            "because   the end at byte {} closed the body: {} byte is left\n",
+        Stopped::Left => "because   the end at byte {} closed the body: {} bytes are left\n",
+        Stopped::Short => return push_short(text, unclosed),
     };
-    say(text, sentence, &[Number(stop.rest.len())])
+    let words = [Number(stop.at.saturating_sub(1)), Number(stop.rest.len())];
+    say(text, sentence, &words)
 }

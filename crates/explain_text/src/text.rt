@@ -5,14 +5,16 @@ ghost use Rattle.explain_text.specs.Texts.{BeginsWith};
 ghost use Rattle.explanation.specs.Told.{verdict_told};
 
 use crate::cause_text::push_cause;
-use crate::no_module_text::push_no_module;
+use crate::no_module_text::{push_no_module, push_sign};
 use crate::rule_text::push_broken_item;
 use crate::sentence::Word::{Address, Name, Number, Signature, Text};
 use crate::sentence::say;
 use crate::stop_text::push_stop;
 use crate::token_text::push_token;
 use crate::typing_text::push_typing;
-use explanation::{BodyExplanation, Explanation, FoundToken, RefusedFunction, Span};
+use explanation::{
+    BodyExplanation, Explanation, FoundToken, IllTypedToken, NoModule, RefusedFunction, Sign, Span,
+};
 use refusal::body_line;
 use std::alloc::{AllocError, Global};
 use wsyntax::{LOCAL_LIMIT, MODULE_LIMIT};
@@ -53,22 +55,40 @@ fn push_function(text: &mut String, body: &RefusedFunction<'_>) -> Result<(), Al
     text.push_str("\n")
 }
 
-/// The line on the token that is refused.
+/// A token that is refused: its position, and its bytes.
 fn push_found(text: &mut String, position: usize, found: &FoundToken) -> Result<(), AllocError> {
     let Span { from, to } = found.span;
-    write!(text, "token     {position} ")?;
+    write!(text, "{position} ")?;
     push_token(text, found)?;
-    say(
-        text,
-        ", bytes {} to {} ({})\n",
-        &[Number(from), Number(to), Address(from)],
-    )
+    let words = [Number(from), Number(to), Address(from)];
+    say(text, ", bytes {} to {} ({})", &words)
+}
+
+/// The line on a token that is ill typed, in a body that reading stops in after it.
+fn push_before(text: &mut String, before: &IllTypedToken) -> Result<(), AllocError> {
+    text.push_str("before    token ")?;
+    push_found(text, before.position, &before.found)?;
+    text.push_str(", is ill typed")?;
+    if let Some(cause) = &before.cause {
+        text.push_str(": ")?;
+        push_cause(text, &before.found, Some(&before.typing), cause)?;
+    }
+    text.push_str("\n")
 }
 
 /// The lines on why a body is refused.
 fn push_fault(text: &mut String, fault: &BodyExplanation<'_>) -> Result<(), AllocError> {
     match fault {
-        BodyExplanation::Malformed { stop: Some(stop) } => push_stop(text, *stop),
+        BodyExplanation::Malformed {
+            stop: Some(stop),
+            unclosed,
+            before,
+        } => {
+            if let Some(before) = before {
+                push_before(text, before)?;
+            }
+            push_stop(text, *stop, unclosed)
+        }
         BodyExplanation::TooManyLocals { count: Some(count) } => {
             write!(
                 text,
@@ -81,14 +101,18 @@ fn push_fault(text: &mut String, fault: &BodyExplanation<'_>) -> Result<(), Allo
             typing,
             cause,
         } => {
+            text.push_str("token     ")?;
             push_found(text, *position, found)?;
+            text.push_str("\n")?;
             if let Some(typing) = typing {
                 push_typing(text, typing)?;
             }
-            match cause {
-                Some(cause) => push_cause(text, found, typing, cause),
-                None => Ok(()),
+            if let Some(cause) = cause {
+                text.push_str("because   ")?;
+                push_cause(text, found, typing.as_ref(), cause)?;
+                text.push_str("\n")?;
             }
+            Ok(())
         }
         _ => Ok(()),
     }
@@ -129,7 +153,11 @@ fn push_details(text: &mut String, explanation: &Explanation<'_>) -> Result<(), 
             item: Some(item),
             ..
         } => push_broken_item(text, item),
-        Explanation::Rule { rule, item: None } => {
+        Explanation::Rule {
+            rule,
+            item: None,
+            ..
+        } => {
             say(
                 text,
                 "because   this has to hold: {}\n",
@@ -143,6 +171,28 @@ fn push_details(text: &mut String, explanation: &Explanation<'_>) -> Result<(), 
     }
 }
 
+/// What a refused file is, or what became of it, where that is told.
+fn sign_told(explanation: &Explanation<'_>) -> Option<Sign> {
+    match explanation {
+        Explanation::Malformed(NoModule::Sections { sign, .. }) | Explanation::Rule { sign, .. } =>
+            *sign,
+        Explanation::Body(body) => body.sign,
+        _ => None,
+    }
+}
+
+/// These lines with the hint of a sign, in place of one on what stands in the module, which would lead astray.
+fn with_sign(alloc: Global, details: &String, sign: Sign) -> Result<String, AllocError> {
+    let mut text = String::new(alloc);
+    let mut pieces = details.as_str().split("\nhint ");
+    text.push_str(pieces.next().unwrap_or(""))?;
+    if pieces.next().is_some() {
+        text.push_str("\n")?;
+    }
+    push_sign(&mut text, sign)?;
+    Ok(text)
+}
+
 /// The text of an explanation: the line of the verdict, and then lines of a key and what it says. There is none where memory
 /// was refused.
 pub fn explanation_text(alloc: Global, explanation: &Explanation<'_>) -> Result<String, AllocError>
@@ -151,6 +201,9 @@ pub fn explanation_text(alloc: Global, explanation: &Explanation<'_>) -> Result<
     let mut text = first_line(alloc, explanation)?;
     let mut details = String::new(alloc);
     push_details(&mut details, explanation)?;
+    if let Some(sign) = sign_told(explanation) {
+        details = with_sign(alloc, &details, sign)?;
+    }
     text.push_str(details.as_str())?;
     Ok(text)
 }

@@ -4,7 +4,7 @@ use crate::sentence::Word::{Number, Signature, Text};
 use crate::sentence::say;
 use crate::token_text::push_instruction;
 use crate::type_text::type_name;
-use explanation::{BlockKind, Giver, OpenBlock, Typing};
+use explanation::{BlockKind, Giver, OpenBlock, Opening, Typing};
 use std::alloc::AllocError;
 use wsyntax::ValType;
 
@@ -60,6 +60,10 @@ fn push_givers(text: &mut String, givers: &[Giver]) -> Result<(), AllocError> {
         text.push_str(if position == 0 { "" } else { "," })?;
         write!(text, " token {} ", giver.position)?;
         push_instruction(text, giver.opcode, giver.token, &[])?;
+        if let Some(opening) = giver.ends {
+            text.push_str(" of the ")?;
+            push_opening(text, opening)?;
+        }
     }
     text.push_str("\n")
 }
@@ -74,14 +78,20 @@ fn block_name(kind: BlockKind) -> &'static str {
     }
 }
 
+/// A block, and the byte where it begins.
+pub(crate) fn push_opening(text: &mut String, opening: Opening) -> Result<(), AllocError> {
+    let words = [Text(block_name(opening.kind)), Number(opening.at)];
+    say(text, "{} at byte {}", &words)
+}
+
 /// The line on an open block.
 fn push_within(text: &mut String, block: &OpenBlock) -> Result<(), AllocError> {
     let Some(opening) = block.opening else {
         return Ok(());
     };
-    let kind = Text(block_name(opening.kind));
-    let words = [kind, Number(opening.at), Signature(&block.signature)];
-    say(text, "within    {} at byte {}, {}\n", &words)
+    text.push_str("within    ")?;
+    push_opening(text, opening)?;
+    say(text, ", {}\n", &[Signature(&block.signature)])
 }
 
 /// The lines on the typing of a token.

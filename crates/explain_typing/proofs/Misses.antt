@@ -1,4 +1,6 @@
--- Each cause alone refuses the token.
+-- Each cause alone refuses the token: where it holds, the algorithm takes no step (`refused`).
+-- It goes by the causes, and for operands and indices by the tokens that take or name them.
+-- `find_told` of src/recheck.rt cites `refused`; `end_cause` of src/causes.rt cites `lacks`, the case of an if without an else.
 use Rattle.std.proofs.Common.{◌≡◌, inl, inr, ℕ, zero, suc, ◌<◌, ◌≤◌, ◌^◌, Bool, true, false, ◌&&◌, List, [], ◌∷◌, ◌++◌, map, reverse, length, slice_get, Option, Some, None, refl, sym, ap, ◌∙◌, subst, arith}
 use Rattle.std.specs.Prelude.{nat_le, cond, option_map, IsSomeAnd}
 use Rattle.std.proofs.lemmas.Bool.{lt-leb}

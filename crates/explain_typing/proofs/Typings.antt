@@ -1,4 +1,4 @@
--- What is told of a token, step by step.
+-- What a token takes, and what the tokens before it left in the open blocks, is found by running the check over them one by one.
 use Rattle.std.proofs.Common.{◌≡◌, ℕ, zero, suc, ◌+◌, ◌-◌, ◌<◌, Bool, true, false, List, [], ◌∷◌, ◌++◌, map, reverse, take, drop, option_map, Option, Some, None, refl, sym, ap, ◌∙◌, subst, append_assoc, add-one, arith}
 use Rattle.std.proofs.lemmas.List.{reverse-append, map-append, reverse-reverse}
 use Rattle.wsyntax.specs.declared.ValType.{ValType}

@@ -15,6 +15,7 @@ use Rattle.explain_typing.specs.declared.trail.Trail.{Trail}
 use Rattle.explanation.specs.declared.typing.BlockKind.{BlockKind}
 use Rattle.explanation.specs.declared.typing.BlockKind.TheVariants.{Block, Loop, If, Else as Second}
 use Rattle.explanation.specs.declared.typing.OpenBlock.{OpenBlock as OpenedBlock}
+use Rattle.explanation.specs.declared.typing.OpenBlocks.{OpenBlocks}
 use Rattle.explanation.specs.declared.typing.Opening.{Opening}
 use Rattle.explanation.specs.declared.typing.Typing.{Typing}
 use Rattle.explanation.specs.Functions.{type_told}
@@ -143,6 +144,18 @@ IsOpening code start opened inner o =
 -- what is told of each of these blocks, the innermost first
 abbrev pub AreOpenings : List ℕ → ℕ → List ℕ → List OpenedBlock → Type 0
 AreOpenings code start opened blocks = (k : ℕ) (b : OpenedBlock) → slice_get blocks k ≡ Some b → IfSome b.opening (IsOpening code start opened k)
+
+-- these are the outermost of the blocks that `opened` says, the outermost first
+abbrev pub AreOutermost : List ℕ → ℕ → List ℕ → List Opening → Type 0
+AreOutermost code start opened blocks = (k : ℕ) (o : Opening) → slice_get blocks k ≡ Some o → IsOpening code start opened k o
+
+-- of the body that begins at offset `start` these blocks are open after its locals and `n` tokens
+pub record AreOpenAfter (body : List ℕ) (start n : ℕ) (blocks : OpenBlocks) : Type 0 where
+  pub runs : List LocalRun
+  pub code : List ℕ
+  pub declared : locals.read body ≡ Some (runs, code)
+  pub count : blocks.count ≡ length (opened_after n code)
+  pub outermost : AreOutermost code (start + (length body - length code)) (reverse (opened_after n code)) blocks.outermost.items
 
 -- ---- as they are kept
 

@@ -9,4 +9,5 @@ mod operands;
 mod recheck;
 mod trail;
 
-pub use recheck::{Told, find_told};
+pub use recheck::{Told, find_told, first_ill_typed};
+pub use trail::find_open;

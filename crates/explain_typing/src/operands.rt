@@ -130,7 +130,7 @@ fn taken(alloc: Global, checker: &mut Checker<'_>, count: usize) -> Result<Opera
     Ok(operands)
 }
 
-/// The same from the other end.
+/// These operands in the reverse order.
 fn turned(alloc: Global, operands: Operands) -> Result<Operands, AllocError>
     ensures { IfOk result (λ o. reverse o.items ≡ operands.items) }
 {

@@ -101,6 +101,32 @@ fn known_in(checker: &Checker<'_>) -> usize {
     }
 }
 
+/// The position of the first of that many tokens of a body that is ill typed; Malformed where there are fewer.
+pub fn first_ill_typed(
+    alloc: Global,
+    context: &Context,
+    func: u32,
+    body: &[u8],
+    count: usize,
+) -> Result<Option<usize>, Fault> {
+    if func as usize >= context.function_count() {
+        return Ok(None);
+    }
+    let (runs, mut rest) = locals_at(alloc, body)?;
+    let mut checker = Checker::new(alloc, context);
+    checker.begin(func, &runs)?;
+    let mut targets = Vec::new(alloc);
+    for position in 0..count {
+        targets.clear();
+        let (token, after) = token_at(&mut targets, rest)?;
+        if !step_token(&mut checker, token, &targets)? {
+            return Ok(Some(position));
+        }
+        rest = after;
+    }
+    Ok(None)
+}
+
 /// Goes on by some tokens of the bytes after the locals of a body.
 fn pass_tokens<'a>(
     alloc: Global,

@@ -2,15 +2,19 @@
 //!
 //! Of a token only the offset of its bytes is kept, four bytes, and it is read again where it is told. So what is kept of the blocks
 //! and operands of a body is little beside what the checker has of them.
-ghost use Rattle.std.specs.Prelude.{◌≡◌, ◌-◌, ℕ, List, [], IfOk, IfSome, length, reverse};
+ghost use Rattle.std.specs.Prelude.{◌≡◌, ◌+◌, ◌-◌, ℕ, List, [], IfOk, IfSome, Some, length, reverse, slice_get};
 ghost use Rattle.wsyntax.specs.Modules.{decoded_as};
-ghost use Rattle.explain_typing.specs.Typed.{IsOpening, KeepsCode, opcode_of, opened_by};
+ghost use Rattle.explain_typing.specs.Typed.{AreOpenAfter, AreOutermost, IsOpening, KeepsCode, opcode_of, opened_after, opened_by};
 
-use explanation::{BlockKind, Giver, Opening};
+use explain_bytes::offset_of;
+use explanation::{BlockKind, Giver, OpenBlocks, Opening};
 use std::alloc::{AllocError, Global};
 use wcheck::Checker;
-use wdecode::{Fault, op, token_at};
+use wdecode::{Fault, locals_at, op, token_at};
 use wsyntax::{Token, ValType};
+
+/// How many open blocks are told of a body that ends in them.
+const BLOCKS: usize = 8;
 
 /// Operands side by side that one token gave.
 #[derive(Clone, Copy)]
@@ -19,7 +23,7 @@ struct GivenRun {
     below: usize,
     /// The position of the token.
     position: u32,
-    /// Where it begins in the code.
+    /// Where it begins in the code; of the `end` of a block where the token begins that opened it.
     at: u32,
 }
 
@@ -182,7 +186,7 @@ impl GivenRuns {
     /// Goes on by a token that begins at offset `at` of the code. It put `own` operands of its own, a block or its second branch
     /// apart, and `known` operands of the innermost block are known after it.
     #[inline(always)]
-    fn note(&mut self, token: Token, at: u32, own: usize, known: usize) -> Result<(), AllocError> {
+    fn go_on(&mut self, token: Token, at: u32, own: usize, known: usize) -> Result<(), AllocError> {
         let (base, own) = self.moved(token, own, known);
         let height = base.saturating_add(known);
         self.shrink_to(height.saturating_sub(own));
@@ -228,6 +232,20 @@ impl<'a> Trail<'a> {
         }
     }
 
+    /// Keeps what a token opens or ends, where `left` bytes of the code are left from its first one on, and gives where it begins.
+    #[inline(always)]
+    fn mark_next(&mut self, token: Token, left: usize) -> Result<u32, Fault>
+        ensures same { IfOk result (λ _. KeepsCode self.old self.new) }
+        ensures opened { IfOk result (λ _. (targets : List ℕ) → reverse self.new.opened.items
+            ≡ opened_by (decoded_as targets token) (length self.old.code.now - left) (reverse self.old.opened.items)) }
+    {
+        let Ok(at) = u32::try_from(self.code.len().saturating_sub(left)) else {
+            return Err(Fault::Malformed);
+        };
+        mark(&mut self.opened, token, at)?;
+        Ok(at)
+    }
+
     /// Goes on by a token, where `left` bytes of the code are left from its first one on. It put `own` operands of its own, a block
     /// or its second branch apart, and `known` operands of the innermost block are known after it.
     #[inline(always)]
@@ -242,12 +260,32 @@ impl<'a> Trail<'a> {
         ensures opened { IfOk result (λ _. (targets : List ℕ) → reverse self.new.opened.items
             ≡ opened_by (decoded_as targets token) (length self.old.code.now - left) (reverse self.old.opened.items)) }
     {
-        let Ok(at) = u32::try_from(self.code.len().saturating_sub(left)) else {
-            return Err(Fault::Malformed);
+        let innermost = self.opened.last().copied();
+        let at = self.mark_next(token, left)?;
+        let from = match token {
+            Token::End => innermost.unwrap_or(at),
+            _ => at,
         };
-        mark(&mut self.opened, token, at)?;
-        self.given.note(token, at, own, known)?;
+        self.given.go_on(token, from, own, known)?;
         Ok(())
+    }
+
+    /// The token that begins there in the code, where it opens a block.
+    fn opening_at(&self, from: u32) -> Option<Opening>
+        ensures { IfSome result (λ o. (o.at ≡ self.now.start + from) × (slice_get self.now.code.now from ≡ Some (opcode_of o.kind))) }
+    {
+        let opcode = self.code.get(from as usize)?;
+        Some(Opening {
+            kind: kind_of(*opcode)?,
+            at: self.start.checked_add(from as usize)?,
+        })
+    }
+
+    /// The token that opened the block which lies in that many blocks.
+    fn outer_opening(&self, position: usize) -> Option<Opening>
+        ensures { IfSome result (IsOpening self.now.code.now self.now.start self.now.opened.items position) }
+    {
+        self.opening_at(*self.opened.get(position)?)
     }
 
     /// The token that opened the block which that many blocks lie in.
@@ -255,16 +293,29 @@ impl<'a> Trail<'a> {
         ensures { IfSome result (IsOpening self.now.code.now self.now.start (reverse self.now.opened.items) inner) }
     {
         let position = self.opened.len().checked_sub(inner)?.checked_sub(1)?;
-        let from = *self.opened.get(position)? as usize;
-        let opcode = self.code.get(from)?;
-        Some(Opening {
-            kind: kind_of(*opcode)?,
-            at: self.start.checked_add(from)?,
-        })
+        self.opening_at(*self.opened.get(position)?)
+    }
+
+    /// The block that has ended whose opening token begins there in the code.
+    fn ended_at(&self, at: u32) -> Option<Opening> {
+        if self.opened.as_slice().binary_search(&at).is_ok() {
+            return None;
+        }
+        self.opening_at(at)
     }
 
     /// The token that gave a run of operands.
     fn giver(&self, alloc: Global, held: GivenRun) -> Result<Option<Giver>, AllocError> {
+        let position = held.position as usize;
+        let ends = self.ended_at(held.at);
+        if ends.is_some() {
+            return Ok(Some(Giver {
+                position,
+                opcode: op::END,
+                token: Token::End,
+                ends,
+            }));
+        }
         let bytes = self.code.get(held.at as usize..).unwrap_or(&[]);
         let [opcode, ..] = bytes else {
             return Ok(None);
@@ -272,9 +323,10 @@ impl<'a> Trail<'a> {
         let mut targets = Vec::new(alloc);
         match token_at(&mut targets, bytes) {
             Ok((token, _after)) => Ok(Some(Giver {
-                position: held.position as usize,
+                position,
                 opcode: *opcode,
                 token,
+                ends,
             })),
             Err(Fault::Malformed) => Ok(None),
             Err(Fault::Memory) => Err(AllocError),
@@ -303,4 +355,58 @@ impl<'a> Trail<'a> {
         }
         Ok(givers)
     }
+}
+
+/// Goes on by some tokens of the code: keeps what they open and end.
+fn mark_tokens(alloc: Global, trail: &mut Trail<'_>, code: &[u8], count: usize) -> Result<(), Fault>
+    requires code { trail.old.code.now ≡ code.now }
+    requires opened { trail.old.opened.items ≡ [] }
+    ensures same { IfOk result (λ _. KeepsCode trail.old trail.new) }
+    ensures opened { IfOk result (λ _. reverse trail.new.opened.items ≡ opened_after count code.now) }
+{
+    let mut targets = Vec::new(alloc);
+    let mut rest = code;
+    for position in 0..count {
+        targets.clear();
+        let (token, after) = token_at(&mut targets, rest)?;
+        trail.mark_next(token, rest.len())?;
+        rest = after;
+    }
+    Ok(())
+}
+
+/// The open blocks.
+fn open_blocks(alloc: Global, trail: &Trail<'_>) -> Result<OpenBlocks, Fault>
+    ensures count { IfOk result (λ o. o.count ≡ length trail.now.opened.items) }
+    ensures outermost { IfOk result (λ o. AreOutermost trail.now.code.now trail.now.start trail.now.opened.items o.outermost.items) }
+{
+    let mut outermost = Vec::new(alloc);
+    for position in 0..trail.opened.len().min(BLOCKS) {
+        let Some(opening) = trail.outer_opening(position) else {
+            return Err(Fault::Malformed);
+        };
+        outermost.push(opening)?;
+    }
+    Ok(OpenBlocks {
+        count: trail.opened.len(),
+        outermost,
+    })
+}
+
+/// The blocks that are open after that many tokens of a body, which begins at offset `start`; Malformed where there are none.
+pub fn find_open(
+    alloc: Global,
+    body: &[u8],
+    start: usize,
+    count: usize,
+) -> Result<OpenBlocks, Fault>
+    ensures { IfOk result (AreOpenAfter body.now start count) }
+{
+    let (_runs, code) = locals_at(alloc, body)?;
+    let Some(begins) = offset_of(start, body, code) else {
+        return Err(Fault::Malformed);
+    };
+    let mut trail = Trail::new(alloc, code, begins);
+    mark_tokens(alloc, &mut trail, code, count)?;
+    open_blocks(alloc, &trail)
 }

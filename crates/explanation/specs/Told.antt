@@ -13,7 +13,7 @@ use Rattle.explanation.specs.declared.explanation.Explanation.TheVariants.{Accep
 
 -- why a body is refused, without locations
 abbrev pub refusal_told : BodyExplanation → BodyRefusal
-refusal_told (fault.Malformed stop) = refusal.Malformed
+refusal_told (fault.Malformed stop unclosed before) = refusal.Malformed
 refusal_told (fault.TooManyLocals count) = refusal.TooManyLocals
 refusal_told (fault.IllTyped position found typing cause) = refusal.IllTyped position
 
@@ -22,7 +22,7 @@ abbrev pub verdict_told : Explanation → Option Verdict
 verdict_told Accepted = Some meant.Accepted
 verdict_told (TooLarge bytes) = Some meant.TooLarge
 verdict_told (Malformed what) = Some meant.Malformed
-verdict_told (Rule k item) = Some (RuleBroken k)
+verdict_told (Rule k item sign) = Some (RuleBroken k)
 verdict_told (Body b) = Some (BodyRefused b.func (fault_of (refusal_told b.fault)))
 verdict_told Memory = None
 

@@ -1,6 +1,7 @@
 //! An item of a module that breaks a module rule, and what is wrong with it.
 
 use crate::explanation::FunctionSignature;
+use crate::shell_location::InitialValue;
 use wsyntax::{ExportKind, GlobalType, Limits, ValType};
 
 /// The expression of a first value or of an offset.
@@ -8,7 +9,7 @@ use wsyntax::{ExportKind, GlobalType, Limits, ValType};
 pub enum Initial {
     /// One constant of that type.
     Constant(ValType),
-    /// One `global.get`. So many globals are imported; of an imported one its type.
+    /// One `global.get`, with the number of imported globals; of an imported one its type.
     Get {
         global: u32,
         imported: usize,
@@ -111,5 +112,7 @@ pub struct BrokenItem<'a> {
     pub position: usize,
     /// The offset of its first byte in the module.
     pub at: Option<usize>,
+    /// Its initial value or its offset, where that is not one constant.
+    pub value: Option<InitialValue>,
     pub fault: ItemFault<'a>,
 }

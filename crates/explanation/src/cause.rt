@@ -27,7 +27,7 @@ pub enum Cause {
         position: usize,
         wanted: Option<ValType>,
     },
-    /// So many operands are left where a block ends.
+    /// Operands are left where a block ends: this number of them.
     LeftOver {
         count: usize,
     },

@@ -3,7 +3,7 @@
 use crate::broken_item::BrokenItem;
 use crate::cause::Cause;
 use crate::shell_location::Location;
-use crate::typing::Typing;
+use crate::typing::{OpenBlocks, Typing};
 use refusal::{BodyRefusal, Refusal};
 use wsyntax::{Token, ValType};
 
@@ -56,25 +56,46 @@ pub enum Form {
     LfsPointer,
 }
 
+/// Where some bytes stand: the offset of the first of them, and at how many places.
+#[derive(Clone, Copy, PartialEq, Eq)]
+pub struct Places {
+    pub at: usize,
+    pub count: usize,
+}
+
+/// What a refused file with the header of a module is, or what became of it on its way.
+#[derive(Clone, Copy, PartialEq, Eq)]
+pub enum Sign {
+    /// An object file, which is not linked: it has a custom section named `linking`, or one whose name begins with `reloc.`.
+    Object,
+    /// It was read as text: it is UTF-8, and has `ef bf bd` there, which stands for bytes that are none.
+    Replaced(Places),
+    /// It was read as text: it has `0d 0a` there, and `0a` nowhere else.
+    LineEnds(Places),
+}
+
 /// What bytes are that spell no module.
 #[derive(Clone, Copy, PartialEq, Eq)]
 pub enum NoModule {
     /// They are fewer than the eight of the magic and the version.
     Short,
-    /// The byte at that offset, below 4, is none of the magic; and of which other form the bytes are.
+    /// The byte at that offset, below 4, is not that of the magic; and of which other form the bytes are.
     Magic {
         at: usize,
         found: u8,
         form: Option<Form>,
     },
-    /// The byte at that offset, from 4 to 7, is none of the version; and of which other form the bytes are.
+    /// The byte at that offset, from 4 to 7, is not that of the version; and of which other form the bytes are.
     Version {
         at: usize,
         found: u8,
         form: Option<Form>,
     },
     /// Magic and version are right, and what follows are not the sections of a module; and where reading stopped.
-    Sections(Option<Location>),
+    Sections {
+        location: Option<Location>,
+        sign: Option<Sign>,
+    },
 }
 
 /// Why reading a body stopped.
@@ -116,12 +137,24 @@ pub struct FoundToken {
     pub targets: Vec<u32>,
 }
 
+/// A token that is ill typed, at that position of its body, and why.
+#[derive(Drop)]
+pub struct IllTypedToken {
+    pub position: usize,
+    pub found: FoundToken,
+    pub typing: Typing,
+    pub cause: Option<Cause>,
+}
+
 /// Why a body is refused. What is `None` could not be found; nothing false is said instead.
 #[derive(Drop)]
 pub enum BodyExplanation<'a> {
-    /// Its bytes spell no body.
+    /// Its bytes spell no body: where reading stopped, the blocks that are open where the body ends, and the first token before that
+    /// is ill typed.
     Malformed {
         stop: Option<StopLocation<'a>>,
+        unclosed: Option<OpenBlocks>,
+        before: Option<IllTypedToken>,
     },
     /// It declares more than 100,000 locals, parameters aside: this number.
     TooManyLocals {
@@ -150,6 +183,7 @@ pub struct RefusedFunction<'a> {
     pub export: Option<&'a [u8]>,
     pub signature: Option<FunctionSignature>,
     pub fault: BodyExplanation<'a>,
+    pub sign: Option<Sign>,
 }
 
 /// What is said of a module.
@@ -166,6 +200,7 @@ pub enum Explanation<'a> {
     Rule {
         rule: u32,
         item: Option<BrokenItem<'a>>,
+        sign: Option<Sign>,
     },
     /// The first body that is refused.
     Body(RefusedFunction<'a>),
@@ -177,7 +212,7 @@ impl BodyExplanation<'_> {
     ghost use Rattle.std.specs.Prelude.{◌≡◌};
     ghost use Rattle.explanation.specs.Told.{refusal_told};
 
-    /// The same without locations.
+    /// The refusal alone, without its locations.
     pub fn refusal(&self) -> BodyRefusal
         ensures { result ≡ refusal_told self.now }
     {

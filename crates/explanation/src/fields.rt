@@ -21,9 +21,9 @@ pub enum ExplanationKind {
     OtherForm(Form),
     /// They are fewer than the eight of the magic and the version.
     ShortHeader,
-    /// One of the first four is none of the magic.
+    /// One of the first four is not that of the magic.
     Magic,
-    /// One of the next four is none of the version.
+    /// One of the next four is not that of the version.
     Version,
     /// What follows are not the sections of a module.
     Sections,
@@ -65,7 +65,7 @@ fn no_module_kind(what: NoModule) -> ExplanationKind
         } => ExplanationKind::OtherForm(form),
         NoModule::Magic { form: None, .. } => ExplanationKind::Magic,
         NoModule::Version { form: None, .. } => ExplanationKind::Version,
-        NoModule::Sections(_) => ExplanationKind::Sections,
+        NoModule::Sections { .. } => ExplanationKind::Sections,
     }
 }
 
@@ -87,8 +87,11 @@ fn fault_kind(fault: &BodyExplanation<'_>) -> ExplanationKind
     ensures { result ≡ kind_of_fault fault.now }
 {
     match fault {
-        BodyExplanation::Malformed { stop: Some(stop) } => stop_kind(stop.why),
-        BodyExplanation::Malformed { stop: None } => ExplanationKind::BodyMalformed,
+        BodyExplanation::Malformed {
+            stop: Some(stop),
+            ..
+        } => stop_kind(stop.why),
+        BodyExplanation::Malformed { stop: None, .. } => ExplanationKind::BodyMalformed,
         BodyExplanation::TooManyLocals { .. } => ExplanationKind::TooManyLocals,
         BodyExplanation::IllTyped { .. } => ExplanationKind::IllTyped,
     }
@@ -107,7 +110,10 @@ fn no_module_span(what: NoModule) -> Option<Span>
 {
     match what {
         NoModule::Magic { at, .. } | NoModule::Version { at, .. } => Some(offset_alone(at)),
-        NoModule::Sections(Some(location)) => Some(offset_alone(location.at)),
+        NoModule::Sections {
+            location: Some(location),
+            ..
+        } => Some(offset_alone(location.at)),
         _ => None,
     }
 }
@@ -141,7 +147,10 @@ fn fault_span(fault: &BodyExplanation<'_>) -> Option<Span>
     ensures { result ≡ span_of_fault fault.now }
 {
     match fault {
-        BodyExplanation::Malformed { stop: Some(stop) } => Some(offset_alone(stop.at)),
+        BodyExplanation::Malformed {
+            stop: Some(stop),
+            ..
+        } => Some(offset_alone(stop.at)),
         BodyExplanation::IllTyped {
             found: Some(found),
             ..
@@ -165,7 +174,10 @@ fn fault_opcode(fault: &BodyExplanation<'_>) -> Option<u8>
     ensures { result ≡ opcode_of_fault fault.now }
 {
     match fault {
-        BodyExplanation::Malformed { stop: Some(stop) } => stop_opcode(stop),
+        BodyExplanation::Malformed {
+            stop: Some(stop),
+            ..
+        } => stop_opcode(stop),
         BodyExplanation::IllTyped {
             found: Some(found),
             ..
@@ -227,7 +239,12 @@ impl Explanation<'_> {
     {
         match self {
             Explanation::Body(_) => Some(CODE_SECTION),
-            Explanation::Malformed(NoModule::Sections(Some(location))) => section_id(location),
+            Explanation::Malformed(
+                NoModule::Sections {
+                    location: Some(location),
+                    ..
+                },
+            ) => section_id(location),
             Explanation::Rule {
                 item: Some(item),
                 ..
@@ -241,9 +258,12 @@ impl Explanation<'_> {
         ensures { result ≡ item_told self.now }
     {
         match self {
-            Explanation::Malformed(NoModule::Sections(Some(location))) => item_position(
-                location.part,
-            ),
+            Explanation::Malformed(
+                NoModule::Sections {
+                    location: Some(location),
+                    ..
+                },
+            ) => item_position(location.part),
             Explanation::Rule {
                 item: Some(item),
                 ..

@@ -15,10 +15,12 @@ mod typing;
 pub use broken_item::{BrokenItem, Initial, ItemFault};
 pub use cause::{Cause, Space};
 pub use explanation::{
-    BodyExplanation, Explanation, Form, FoundToken, FunctionSignature, NoModule, RefusedFunction,
-    Span, StopLocation, Stopped,
+    BodyExplanation, Explanation, Form, FoundToken, FunctionSignature, IllTypedToken, NoModule,
+    Places, RefusedFunction, Sign, Span, StopLocation, Stopped,
 };
 pub use fields::ExplanationKind;
 pub use functions::{first_export, signature_of};
-pub use shell_location::{FoundSection, Location, OtherSegment, SectionPart, Wanted, Wrong};
-pub use typing::{BlockKind, Giver, OpenBlock, Opening, Typing};
+pub use shell_location::{
+    FoundSection, InitialValue, Location, OtherSegment, SectionPart, Wanted, Wrong,
+};
+pub use typing::{BlockKind, Giver, OpenBlock, OpenBlocks, Opening, Typing};

@@ -78,7 +78,7 @@ pub enum Wrong {
     LongConstant(Wanted),
     /// The constant that begins there is outside the range of its type.
     LargeConstant(Wanted),
-    /// The byte there is none of what is wanted.
+    /// The byte there is not one that is wanted.
     Byte {
         wanted: Wanted,
         found: u8,
@@ -130,6 +130,15 @@ pub struct OtherSegment {
     pub at: usize,
 }
 
+/// The initial value of a global, or the offset of a segment.
+#[derive(Clone, Copy, PartialEq, Eq)]
+pub struct InitialValue {
+    /// The offset of the first byte of its expression.
+    pub at: usize,
+    /// The offset and the first byte of the first instruction in it that is no constant.
+    pub other: Option<(usize, u8)>,
+}
+
 /// Where reading stopped, and why.
 #[derive(Clone, Copy, PartialEq, Eq)]
 pub struct Location {
@@ -141,4 +150,6 @@ pub struct Location {
     pub wrong: Wrong,
     /// The first such segment of the section, up to where reading stopped.
     pub segment: Option<OtherSegment>,
+    /// The first initial value or offset of the section in which an instruction is no constant, or which is not read to its end.
+    pub value: Option<InitialValue>,
 }

@@ -26,12 +26,20 @@ pub struct OpenBlock {
     pub signature: FunctionSignature,
 }
 
-/// A token that gave an operand: its position, and the first of its bytes.
+/// Blocks that are open: how many, and the outermost of them, the outermost first, no more than eight.
+#[derive(Drop)]
+pub struct OpenBlocks {
+    pub count: usize,
+    pub outermost: Vec<Opening>,
+}
+
+/// A token that gave an operand: its position, and the first of its bytes; of an `end` the token that opened its block.
 #[derive(Clone, Copy)]
 pub struct Giver {
     pub position: usize,
     pub opcode: u8,
     pub token: Token,
+    pub ends: Option<Opening>,
 }
 
 /// What is told of an ill-typed token. Of operands the lowest comes first, so the last is on top.

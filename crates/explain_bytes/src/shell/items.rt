@@ -63,7 +63,7 @@ fn indices_in<'a>(count: u32, bytes: &'a [u8]) -> Result<&'a [u8], Stuck<'a>>
 }
 
 /// The bytes after a vector of indices.
-fn after_indices<'a>(bytes: &'a [u8]) -> Result<&'a [u8], Stuck<'a>>
+pub(crate) fn after_indices<'a>(bytes: &'a [u8]) -> Result<&'a [u8], Stuck<'a>>
     ensures { Passes (rest_of (vector_at u32_production.read bytes.now)) result }
 {
     let (count, rest) = number_at(bytes, Wanted::Count)?;

@@ -7,6 +7,7 @@ ghost use Rattle.explain_bytes.specs.Shells.{AreUnlike, Holds, IsOfId, IsWrong, 
 use crate::sections::{CODE, CUSTOM, DATA, DATA_COUNT, FUNCTION, GLOBAL, HEADER, TAG};
 use crate::shell::contents::{ContentsEnd, Lapse, LaterSegment, after_contents};
 use crate::shell::primitives::{Stuck, sized_at};
+use crate::values::first_value;
 use explanation::{FoundSection, Location, OtherSegment, SectionPart, Span, Wanted, Wrong};
 use std::alloc::{AllocError, Global};
 
@@ -62,6 +63,7 @@ fn told(bytes: &[u8], section: FoundSection, lapse: Lapse<'_>) -> Option<Locatio
         at,
         wrong: lapse.wrong,
         segment: segment_in(to, lapse),
+        value: first_value(bytes.get(..at)?, section),
     })
 }
 
@@ -275,6 +277,7 @@ fn end_location(bytes: &[u8], walk: Walk) -> Option<Location>
         at: bytes.len(),
         wrong: Wrong::Counts { functions, bodies },
         segment: None,
+        value: None,
     })
 }
 

@@ -87,7 +87,7 @@ pub(crate) fn sized_at<'a>(
 }
 
 /// Whether bytes are UTF-8.
-fn is_text(bytes: &[u8]) -> bool
+pub(crate) fn is_text(bytes: &[u8]) -> bool
     ensures { result ≡ is_utf8 bytes.now }
 {
     match simdutf8::basic::from_utf8(bytes) {

@@ -86,6 +86,7 @@ pub(crate) fn exported_name<'a>(
         section: EXPORT,
         position: later,
         at: None,
+        value: None,
         fault: ItemFault::ExportedName { name, earlier },
     }))
 }
