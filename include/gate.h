@@ -18,8 +18,8 @@
  *          meanwhile, in this process or in another one (of a mapped file). A length is below 2^63 bytes. A null pointer is allowed
  *          with length 0 only. `verdict` of gate_verdict_line and `settings` are never null.
  * Written  `out` and `results` have room for as many elements as their room says, and are null with room 0 only. A room, too, is below
- *          2^63 bytes. `verdict`, `explanation`, `length`, `kept`, `module`, `other`, `found`, `ended`, `instance`, `size` and
- *          `value` are never null. None of them overlaps another one, or anything that the call reads. All pointers are aligned as their
+ *          2^63 bytes. `verdict`, `explanation`, `length`, `kept`, `module`, `other`, `found`, `measures`, `ended`, `instance`,
+ *          `size` and `value` are never null. None of them overlaps another one, or anything that the call reads. All pointers are aligned as their
  *          types ask.
  * Handles  A gate_report, gate_module or gate_instance is one that the library wrote and that is not freed yet: { NULL } is none, and a
  *          call with it reads address 0. gate_report_drop and its like free a handle, and take { NULL } too. Who got it, frees it, once;
@@ -100,13 +100,13 @@ extern "C" {
 /* The number of the interface: GATE_INTERFACE of the header that the library was made with. */
 uint32_t gate_version(void);
 
-#define GATE_REVISION 1
+#define GATE_REVISION 2
 
 /* The number of what the library has beside the functions that came first: GATE_REVISION of the header that it was made with. What came
  * with a revision says so below; a library without it has no such symbol. This function came with revision 1. */
 uint32_t gate_revision(void);
 
-/* What every function answers but gate_version, gate_revision, gate_module_export_count, gate_module_size and the freeing ones. */
+/* What every function answers but gate_version, gate_revision, gate_module_size, the two that count, and the freeing ones. */
 enum gate_status {
     GATE_OK = 0,              /* the module is accepted; the text, the report or the end is written */
     GATE_MODULE_REFUSED = 2,  /* the module is refused, and verdict or text say why */
@@ -240,6 +240,16 @@ uint32_t gate_explain(const uint8_t *bytes, size_t bytes_length, gate_explanatio
  *   GATE_NO_MEMORY */
 uint32_t gate_explain_text(const uint8_t *bytes, size_t bytes_length, uint8_t *out, size_t room, size_t *length)
     GATE_READS(1, 2) GATE_WRITES(3, 4) GATE_NOT_NULL((5)) GATE_ANSWERS;
+
+/* Judges a module, and writes what `gate exports` prints: a line for each import, each export and each custom section, and a last one that
+ * says whether an instance starts within these limits, and if not, why, and at which item or token. Of a refused module it is the line
+ * of the verdict. Without a NUL. Since revision 2.
+ *   GATE_OK, GATE_MODULE_REFUSED  the first *length bytes of out are the text
+ *   GATE_BAD_ARGUMENT             a limit is out of its range, fuel and frames too, which change nothing here
+ *   GATE_SHORT_BUFFER             *length bytes are wanted
+ *   GATE_NO_MEMORY */
+uint32_t gate_exports_text(const uint8_t *bytes, size_t bytes_length, const gate_settings *settings, uint8_t *out, size_t room,
+                           size_t *length) GATE_READS(1, 2) GATE_WRITES(4, 5) GATE_NOT_NULL((3, 6)) GATE_ANSWERS;
 
 /* An answer that is kept because the buffer was short. */
 typedef struct gate_report { void *at; } gate_report;
@@ -416,6 +426,16 @@ uint64_t gate_module_export_count(gate_module module) GATE_ANSWERS;
  * questions on long lists of types. */
 uint64_t gate_module_size(gate_module module) GATE_ANSWERS;
 
+/* Numbers of a module by which a host may refuse it by a rule of its own: L, D and V of docs/SECURITY.md, "Time of a run". */
+typedef struct gate_measures {
+    uint64_t tokens; /* of the longest body: its instructions, with each `else` and `end` */
+    uint64_t locals; /* the most of a function: its parameters, and those that it declares */
+    uint64_t values; /* the longest list of types: the parameters or the results of a function type */
+} gate_measures;
+
+/* Writes these numbers. It answers GATE_OK. Since revision 2. */
+uint32_t gate_module_measures(gate_module module, gate_measures *measures) GATE_NOT_NULL((2));
+
 /* Tells an export by its number, from 0, in the order of the module.
  *   GATE_OK       it is written
  *   GATE_NOTHING  there are no more */
@@ -440,6 +460,34 @@ uint32_t gate_module_find(gate_module module, const uint8_t *name, size_t name_l
  *   GATE_SHORT_BUFFER  one of the two has not room enough, and both are as they were */
 uint32_t gate_module_types(gate_module module, uint32_t function, uint8_t *params, size_t params_room, uint8_t *results,
                            size_t results_room) GATE_WRITES(3, 4) GATE_WRITES(5, 6) GATE_ANSWERS;
+
+/* What a module imports, since revision 2. No call of such a module runs. */
+
+typedef struct gate_import {
+    uint32_t kind;    /* gate_export_kind */
+    uint32_t params;  /* how many parameters a function has, else 0 */
+    uint32_t results; /* how many results a function has, else 0 */
+} gate_import;
+
+/* How many imports there are. */
+uint64_t gate_module_import_count(gate_module module) GATE_ANSWERS;
+
+/* Tells an import by its number, from 0, in the order of the module. Imported functions have the first indices, in this order: so
+ * gate_module_types tells their types.
+ *   GATE_OK       it is written
+ *   GATE_NOTHING  there are no more */
+uint32_t gate_module_import(gate_module module, uint64_t number, gate_import *found) GATE_NOT_NULL((3)) GATE_ANSWERS;
+
+/* Writes the name of the module that an import is of: UTF-8, not ended by a NUL.
+ *   GATE_OK            the first *length bytes of out are the name
+ *   GATE_NOTHING       there are no more imports
+ *   GATE_SHORT_BUFFER  *length bytes are wanted */
+uint32_t gate_module_import_module(gate_module module, uint64_t number, uint8_t *out, size_t room, size_t *length)
+    GATE_WRITES(3, 4) GATE_NOT_NULL((5)) GATE_ANSWERS;
+
+/* Writes its name in that module, likewise. */
+uint32_t gate_module_import_name(gate_module module, uint64_t number, uint8_t *out, size_t room, size_t *length)
+    GATE_WRITES(3, 4) GATE_NOT_NULL((5)) GATE_ANSWERS;
 
 /* Says whether a call would get an instance, and if not, why. It makes the instance and gives it back, and runs no code. So the start
  * function may still trap, or use up fuel or frames, at each call.
@@ -531,6 +579,10 @@ GATE_HOLDS(offsetof(gate_call, fuel) == 12 && offsetof(gate_call, results) == 16
 GATE_IS(gate_export, 16, 4);
 GATE_HOLDS(offsetof(gate_export, kind) == 0 && offsetof(gate_export, index) == 4);
 GATE_HOLDS(offsetof(gate_export, params) == 8 && offsetof(gate_export, results) == 12);
+GATE_IS(gate_import, 12, 4);
+GATE_HOLDS(offsetof(gate_import, kind) == 0 && offsetof(gate_import, params) == 4 && offsetof(gate_import, results) == 8);
+GATE_IS(gate_measures, 24, 8);
+GATE_HOLDS(offsetof(gate_measures, tokens) == 0 && offsetof(gate_measures, locals) == 8 && offsetof(gate_measures, values) == 16);
 GATE_IS(gate_report, 8, 8);
 GATE_IS(gate_module, 8, 8);
 GATE_IS(gate_explanation, 80, 8);

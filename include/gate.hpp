@@ -101,6 +101,17 @@ inline Explanation explain(Bytes module) {
     }
 }
 
+/// Judges a module, and gives what `gate exports` prints: its imports, exports and custom sections, and whether an instance starts within
+/// these limits, and if not, why and where. Of a refused module it is the line of the verdict.
+inline std::string exports_text(Bytes module, const gate_settings &settings = usual) {
+    std::string text(1024, '\0');
+    for (std::size_t length = 0;; text.resize(length)) {
+        auto *out = reinterpret_cast<std::uint8_t *>(text.data());
+        const std::uint32_t status = answered(gate_exports_text(module.at, module.length, &settings, out, text.size(), &length));
+        if (status != GATE_STATUS_SHORT_BUFFER) return text.resize(length), text;
+    }
+}
+
 /// A module is refused; what() says why in a sentence.
 struct Refused : std::runtime_error {
     explicit Refused(Explanation found) : std::runtime_error(found.sentence()), explanation(std::move(found)) {}
@@ -150,6 +161,9 @@ struct FunctionType { std::vector<std::uint8_t> params, results; };
 /// What is exported under a name; the type is that of a function.
 struct Export { std::string name; gate_export item; FunctionType type; };
 
+/// What is imported from a module under a name; the type is that of a function.
+struct Import { std::string module, name; gate_import item; FunctionType type; };
+
 /// How a call ended, as the line of a report says it, but for its values and its fuel: `trap unreachable`.
 inline std::string words(const gate_call &ended) {
     static constexpr const char *ENDS[] = {"values", "trap", "out-of-fuel", "out-of-frames", "no-export", "not-a-function",
@@ -186,9 +200,11 @@ struct Call {
     }
 };
 
-/// There is no instance; `ended` says why: GATE_END_NOT_STARTED, GATE_END_NO_MEMORY, or how the start function ended.
+/// There is no instance; `ended` says why: GATE_END_NOT_STARTED, GATE_END_NO_MEMORY, or how the start function ended. Of one that was not
+/// started what() says more, as `gate exports` does.
 struct NoInstance : std::runtime_error {
-    explicit NoInstance(const gate_call &why) : std::runtime_error("no instance: " + words(why)), ended(why) {}
+    explicit NoInstance(const gate_call &why, const std::string &place = {})
+        : std::runtime_error("no instance: " + words(why) + (place.empty() ? "" : ": " + place)), ended(why) {}
     gate_call ended;
 };
 
@@ -227,11 +243,32 @@ public:
         std::vector<Export> found(gate_module_export_count(handle_));
         for (std::size_t number = 0; number < found.size(); number++) {
             answered(gate_module_export(handle_, number, &found[number].item));
-            found[number].name = name_of(number);
+            found[number].name = name_of(gate_module_export_name, number);
             found[number].type = type_of(found[number].item);
         }
         return found;
     }
+    /// What the module imports, in its order. No call of a module with imports runs.
+    std::vector<Import> imports() {
+        std::vector<Import> found(gate_module_import_count(handle_));
+        std::uint32_t function = 0;
+        for (std::size_t number = 0; number < found.size(); number++) {
+            Import &it = found[number];
+            answered(gate_module_import(handle_, number, &it.item));
+            it.module = name_of(gate_module_import_module, number);
+            it.name = name_of(gate_module_import_name, number);
+            if (it.item.kind == GATE_EXPORT_FUNCTION) it.type = type_of(function++, it.item.params, it.item.results);
+        }
+        return found;
+    }
+    /// Numbers by which a host may refuse the module.
+    gate_measures measures() {
+        gate_measures found = {};
+        answered(gate_module_measures(handle_, &found));
+        return found;
+    }
+    /// What `gate exports` prints of it within these limits. It is judged anew.
+    std::string exports_text(const gate_settings &settings = usual) const { return gate::exports_text(*bytes_, settings); }
     /// The export of that name.
     std::optional<Export> find(std::string_view name) {
         gate_export item = {};
@@ -273,19 +310,20 @@ private:
         const Bytes text(name);
         return answered(gate_module_find(handle_, text.at, text.length, &item)) == GATE_STATUS_OK;
     }
-    std::string name_of(std::uint64_t number) {
+    template <class Write> std::string name_of(Write write, std::uint64_t number) {
         std::string name(64, '\0');
         std::size_t length = 0;
-        while (gate_module_export_name(handle_, number, reinterpret_cast<std::uint8_t *>(name.data()), name.size(), &length)
-               == GATE_STATUS_SHORT_BUFFER)
+        while (write(handle_, number, reinterpret_cast<std::uint8_t *>(name.data()), name.size(), &length) == GATE_STATUS_SHORT_BUFFER)
             name.resize(length);
         name.resize(length);
         return name;
     }
     FunctionType type_of(const gate_export &item) {
-        FunctionType type = {std::vector<std::uint8_t>(item.params), std::vector<std::uint8_t>(item.results)};
-        if (item.kind == GATE_EXPORT_FUNCTION)
-            answered(gate_module_types(handle_, item.index, type.params.data(), item.params, type.results.data(), item.results));
+        return item.kind == GATE_EXPORT_FUNCTION ? type_of(item.index, item.params, item.results) : FunctionType{};
+    }
+    FunctionType type_of(std::uint32_t function, std::uint32_t params, std::uint32_t results) {
+        FunctionType type = {std::vector<std::uint8_t>(params), std::vector<std::uint8_t>(results)};
+        answered(gate_module_types(handle_, function, type.params.data(), params, type.results.data(), results));
         return type;
     }
     Shared bytes_;
@@ -368,8 +406,15 @@ public:
     void reset() { tell(gate_instance_reset(handle_, &started_)); }
 
 private:
+    /// The first cause of a refused start.
+    std::string place() const {
+        if (started_.end != GATE_END_NOT_STARTED) return {};
+        const std::string text = module_.exports_text(settings_);
+        const std::size_t colon = text.find(": ", text.rfind('\n', text.size() - 2) + 1);
+        return colon == std::string::npos ? std::string() : text.substr(colon + 2, text.size() - colon - 3);
+    }
     void tell(std::uint32_t status) {
-        if (answered(status) == GATE_STATUS_NO_INSTANCE) throw NoInstance(started_);
+        if (answered(status) == GATE_STATUS_NO_INSTANCE) throw NoInstance(started_, place());
     }
     std::uint32_t live(std::uint32_t status) const {
         if (started_.end != GATE_END_VALUES) throw NoInstance(started_);

@@ -155,6 +155,30 @@ static void exports(gate::Module &module) {
     HOLDS(pages.call(std::string(70, 'n'), {}).ended.end == GATE_END_NOT_A_FUNCTION);
 }
 
+// Of type [i32 i64] -> [i32] the function f of env; its memory m; its function h of [] -> [].
+static const std::vector<std::uint8_t> IMPORTS = {0, 'a', 's', 'm', 1, 0, 0, 0, 1, 10, 2, 0x60, 2, 0x7F, 0x7E, 1, 0x7F, 0x60, 0, 0,
+                                                  2, 26, 3, 3, 'e', 'n', 'v', 1, 'f', 0, 0, 3, 'e', 'n', 'v', 1, 'm', 2, 0, 1, 3, 'e', 'n',
+                                                  'v', 1, 'h', 0, 1};
+
+static void imports(gate::Module &add) {
+    gate::Module module(IMPORTS);
+    const std::vector<gate::Import> all = module.imports();
+    HOLDS(all.size() == 3 && all[0].module == "env" && all[0].name == "f" && all[0].item.kind == GATE_EXPORT_FUNCTION);
+    HOLDS(all[0].type.params == (std::vector<std::uint8_t>{GATE_TYPE_I32, GATE_TYPE_I64}) && all[0].type.results.size() == 1);
+    HOLDS(all[1].name == "m" && all[1].item.kind == GATE_EXPORT_MEMORY && all[1].type.params.empty());
+    HOLDS(all[2].name == "h" && all[2].type.params.empty() && all[2].type.results.empty());
+    HOLDS(add.imports().empty() && add.measures().tokens == 4 && add.measures().locals == 2 && add.measures().values == 2);
+    const std::string text = "import \"env\" \"f\" function [i32 i64] -> [i32]\nimport \"env\" \"m\" memory\n"
+                             "import \"env\" \"h\" function [] -> []\nnot-started imports: import 0 \"env\" \"f\" is a function\n";
+    HOLDS(module.exports_text() == text && gate::exports_text(IMPORTS) == text);
+    HOLDS(gate::exports_text(std::string_view("\0asm", 4)) == "refused malformed\n");
+    std::vector<std::uint8_t> bytes(IMPORTS.begin(), IMPORTS.begin() + 8);
+    std::string lines;
+    for (int i = 0; i < 1000; i++) bytes.insert(bytes.end(), {0, 2, 1, 'a'}), lines += "custom \"a\" 0\n";
+    HOLDS(gate::exports_text(bytes) == lines + "starts\n");
+    HOLDS(throws<std::invalid_argument>([&] { module.exports_text({0, 0, 1}); }));
+}
+
 // The report of many calls is longer than the buffer.
 static void run(gate::Module &module, const std::vector<std::uint8_t> &bytes) {
     std::string calls;
@@ -275,7 +299,8 @@ static std::string no_instance(const std::vector<std::uint8_t> &bytes, const gat
     try {
         gate::Module(bytes).instance(settings);
     } catch (const gate::NoInstance &none) {
-        return none.what() == "no instance: " + gate::words(none.ended) ? gate::words(none.ended) : "other words";
+        const std::string said = none.what(), front = "no instance: ";
+        return said.rfind(front + gate::words(none.ended), 0) == 0 ? said.substr(front.size()) : "other words";
     }
     return {};
 }
@@ -301,8 +326,9 @@ static void instances(const std::vector<std::uint8_t> &add) {
     fails_to_reset(it);
     HOLDS(without.memory_size() == 0 && lie_outside(without, 0, 1, 0) && lie_outside(without, 0, 0, 0) && !without.global("add"));
     HOLDS(is_forty_two(without.call("add", {gate_i32(40), gate_i32(2)})));
-    HOLDS(no_instance(START_TRAPS) == "trap unreachable" && no_instance(SEGMENT_OUTSIDE) == "not-started data-outside 1");
-    HOLDS(no_instance(GOES_ON, {1, 1, 0}) == "not-started memory-limit" && no_instance(GOES_ON, {0, 1, 1}) == "out-of-fuel");
+    HOLDS(no_instance(START_TRAPS) == "trap unreachable" && no_instance(GOES_ON, {0, 1, 1}) == "out-of-fuel");
+    HOLDS(no_instance(SEGMENT_OUTSIDE) == "not-started data-outside 1: it has 2 bytes from 65535 on, and the memory has 65536");
+    HOLDS(no_instance(GOES_ON, {1, 1, 0}) == "not-started memory-limit: the memory has 1 pages, and 0 are the most");
     HOLDS(throws<std::invalid_argument>([] { gate::Module(GOES_ON).instance({0, 0, 1}); }));
     gate::Instance loop = gate::Module(LOOP).instance({5, 1, 1});
     HOLDS(loop.call("f", {}).ended.fuel == 5 && loop.call("f", std::vector<gate_value>{}).ended.fuel == 5);
@@ -328,6 +354,7 @@ int main(int count, char **words) {
     explain(bytes);
     call(module);
     exports(module);
+    imports(module);
     run(module, bytes);
     instances(bytes);
     move(std::move(module));

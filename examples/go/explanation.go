@@ -37,7 +37,9 @@ func Explain(module []byte) (Explanation, error) {
 	if status != C.GATE_OK && status != C.GATE_MODULE_REFUSED {
 		panic(beyondInterface("status", status))
 	}
-	text, err := textOf(at, length)
+	text, err := textBy(func(out *C.uint8_t, room C.size_t, wanted *C.size_t) C.uint32_t {
+		return C.gate_explain_text(at, length, out, room, wanted)
+	})
 	if err != nil {
 		return Explanation{}, err
 	}
@@ -49,13 +51,13 @@ func Explain(module []byte) (Explanation, error) {
 	return found, nil
 }
 
-// textOf is the text of an explanation, with as much room as it needs.
-func textOf(at *C.uint8_t, length C.size_t) (string, error) {
+// textBy is the text that `write` makes of a module, with as much room as it needs.
+func textBy(write func(out *C.uint8_t, room C.size_t, wanted *C.size_t) C.uint32_t) (string, error) {
 	for room := C.size_t(firstTextRoom); ; {
 		var wanted C.size_t
 		text := make([]byte, room)
 		out, _ := inC(text)
-		switch status := C.gate_explain_text(at, length, out, room, &wanted); status {
+		switch status := write(out, room, &wanted); status {
 		case C.GATE_OK, C.GATE_MODULE_REFUSED:
 			return string(text[:wanted]), nil
 		case C.GATE_SHORT_BUFFER:

@@ -40,6 +40,22 @@ type Export struct {
 	Results []ValueType // of a function, the lowest first
 }
 
+// Import is what is imported: the item of that name of another module.
+type Import struct {
+	Module  string
+	Name    string
+	Kind    ExportKind
+	Params  []ValueType // of a function
+	Results []ValueType // of a function, the lowest first
+}
+
+// Measures are numbers by which a host may refuse a module: those of the formula in SECURITY, "Time of a run".
+type Measures struct {
+	Tokens uint64 // of the longest body
+	Locals uint64 // the most of a function: its parameters, and those that it declares
+	Values uint64 // the longest list of types: the parameters or the results of a function type
+}
+
 // firstName is the room that the name of an export has at first.
 const firstName = 64
 
@@ -66,6 +82,27 @@ func (e Export) String() string {
 	return fmt.Sprintf("%s: %v %d", e.Name, e.Kind, e.Index)
 }
 
+func (i Import) String() string {
+	if i.Kind == Function {
+		return fmt.Sprintf("%s %s: function %s -> %s", i.Module, i.Name, typesText(i.Params), typesText(i.Results))
+	}
+	return fmt.Sprintf("%s %s: %v", i.Module, i.Name, i.Kind)
+}
+
+// ExportsText judges a module, and is what `gate exports` prints: its imports, exports and custom sections, and whether an instance starts
+// within these limits, and if not, why and where. Of a refused module it is the line of the verdict. The error is a SettingsError or
+// ErrNoMemory.
+func ExportsText(module []byte, settings Settings) (string, error) {
+	limits, err := settings.inC()
+	if err != nil {
+		return "", err
+	}
+	at, length := inC(module)
+	return textBy(func(out *C.uint8_t, room C.size_t, wanted *C.size_t) C.uint32_t {
+		return C.gate_exports_text(at, length, &limits, out, room, wanted)
+	})
+}
+
 // Size is how many bytes the module's lists take, its own bytes apart. The error is ErrClosed.
 func (m *Module) Size() (uint64, error) {
 	m.mutex.Lock()
@@ -90,6 +127,40 @@ func (m *Module) Exports() ([]Export, error) {
 		exports[number] = m.exportOf(m.exportName(number), told)
 	}
 	return exports, nil
+}
+
+// Imports is what the module imports, in its order. No call of a module with imports runs. The error is ErrClosed.
+func (m *Module) Imports() ([]Import, error) {
+	m.mutex.Lock()
+	defer m.mutex.Unlock()
+	if m.bytes == nil {
+		return nil, ErrClosed
+	}
+	imports := make([]Import, C.gate_module_import_count(m.handle))
+	functions := C.uint32_t(0)
+	for number := range imports {
+		var told C.gate_import
+		expectOK(C.gate_module_import(m.handle, C.uint64_t(number), &told))
+		found := Import{Module: m.importModule(number), Name: m.importName(number), Kind: kindOf(told.kind)}
+		if found.Kind == Function {
+			found.Params, found.Results = m.typesOf(functions, told.params, told.results)
+			functions++
+		}
+		imports[number] = found
+	}
+	return imports, nil
+}
+
+// Measures are numbers by which a host may refuse the module. The error is ErrClosed.
+func (m *Module) Measures() (Measures, error) {
+	m.mutex.Lock()
+	defer m.mutex.Unlock()
+	if m.bytes == nil {
+		return Measures{}, ErrClosed
+	}
+	var told C.gate_measures
+	expectOK(C.gate_module_measures(m.handle, &told))
+	return Measures{uint64(told.tokens), uint64(told.locals), uint64(told.values)}, nil
 }
 
 // Find is the export of that name, and whether there is one. The error is ErrClosed.
@@ -136,9 +207,27 @@ func (m *Module) told(name []byte) (C.gate_export, bool) {
 }
 
 func (m *Module) exportName(number int) string {
+	return nameBy(func(out *C.uint8_t, room C.size_t, length *C.size_t) C.uint32_t {
+		return C.gate_module_export_name(m.handle, C.uint64_t(number), out, room, length)
+	})
+}
+
+func (m *Module) importModule(number int) string {
+	return nameBy(func(out *C.uint8_t, room C.size_t, length *C.size_t) C.uint32_t {
+		return C.gate_module_import_module(m.handle, C.uint64_t(number), out, room, length)
+	})
+}
+
+func (m *Module) importName(number int) string {
+	return nameBy(func(out *C.uint8_t, room C.size_t, length *C.size_t) C.uint32_t {
+		return C.gate_module_import_name(m.handle, C.uint64_t(number), out, room, length)
+	})
+}
+
+func nameBy(write func(out *C.uint8_t, room C.size_t, length *C.size_t) C.uint32_t) string {
 	for room := C.size_t(firstName); ; {
 		name := make([]byte, room)
-		status := C.gate_module_export_name(m.handle, C.uint64_t(number), (*C.uint8_t)(unsafe.Pointer(&name[0])), room, &room)
+		status := write((*C.uint8_t)(unsafe.Pointer(&name[0])), room, &room)
 		if status != C.GATE_SHORT_BUFFER {
 			expectOK(status)
 			return string(name[:room])
@@ -147,18 +236,27 @@ func (m *Module) exportName(number int) string {
 }
 
 func (m *Module) exportOf(name string, told C.gate_export) Export {
-	export := Export{Name: name, Kind: ExportKind(told.kind), Index: uint32(told.index)}
-	if export.Kind > Global {
-		panic(beyondInterface("kind of export", told.kind))
-	}
+	export := Export{Name: name, Kind: kindOf(told.kind), Index: uint32(told.index)}
 	if export.Kind == Function {
-		params, results := make([]byte, told.params), make([]byte, told.results)
-		paramsAt, paramsRoom := inC(params)
-		resultsAt, resultsRoom := inC(results)
-		expectOK(C.gate_module_types(m.handle, told.index, paramsAt, paramsRoom, resultsAt, resultsRoom))
-		export.Params, export.Results = typesOf(params), typesOf(results)
+		export.Params, export.Results = m.typesOf(told.index, told.params, told.results)
 	}
 	return export
+}
+
+func kindOf(kind C.uint32_t) ExportKind {
+	if ExportKind(kind) > Global {
+		panic(beyondInterface("kind of item", kind))
+	}
+	return ExportKind(kind)
+}
+
+// typesOf is the types of the function of that index, which has so many parameters and results.
+func (m *Module) typesOf(function, params, results C.uint32_t) (of, give []ValueType) {
+	paramBytes, resultBytes := make([]byte, params), make([]byte, results)
+	paramsAt, paramsRoom := inC(paramBytes)
+	resultsAt, resultsRoom := inC(resultBytes)
+	expectOK(C.gate_module_types(m.handle, function, paramsAt, paramsRoom, resultsAt, resultsRoom))
+	return typesOf(paramBytes), typesOf(resultBytes)
 }
 
 func typesOf(bytes []byte) []ValueType {

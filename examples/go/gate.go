@@ -39,7 +39,7 @@ func Interface() uint32 {
 	return uint32(C.gate_version())
 }
 
-// Revision is the number of what the library has beside its first functions. This package wants 1 at least.
+// Revision is the number of what the library has beside its first functions. This package wants 2 at least.
 func Revision() uint32 {
 	return uint32(C.gate_revision())
 }

@@ -2,6 +2,7 @@ package gate
 
 import (
 	"bytes"
+	"context"
 	"errors"
 	"fmt"
 	"os"
@@ -65,7 +66,7 @@ func sevens(count int) []byte {
 }
 
 func TestInterface(t *testing.T) {
-	if Interface() != 1 || Revision() != 1 || !strings.HasPrefix(Build(), "gate 0.2.0 (commit ") {
+	if Interface() != 1 || Revision() != 2 || !strings.HasPrefix(Build(), "gate 0.2.0 (commit ") {
 		t.Error(Interface(), Revision(), Build())
 	}
 }
@@ -111,6 +112,69 @@ func TestExports(t *testing.T) {
 	if none, err := opened(t, []byte(header)).Exports(); err != nil || len(none) != 0 {
 		t.Error(none, err)
 	}
+}
+
+// imports is of type [i32 i64] -> [i32] the function f of env; its table t, a memory m of no module, its function h of [] -> [], its global
+// g; and a custom section.
+const imports = header + "\x01\x0a\x02\x60\x02\x7f\x7e\x01\x7f\x60\x00\x00\x02\x2a\x05\x03env\x01f\x00\x00\x03env\x01t\x01\x70\x00\x01" +
+	"\x00\x01m\x02\x00\x01\x03env\x01h\x00\x01\x03env\x01g\x03\x7f\x00\x00\x08\x04note\x01\x02\x03"
+
+func TestImports(t *testing.T) {
+	wanted := []Import{
+		{"env", "f", Function, []ValueType{TypeI32, TypeI64}, []ValueType{TypeI32}}, {"env", "t", Table, nil, nil},
+		{"", "m", Memory, nil, nil}, {"env", "h", Function, []ValueType{}, []ValueType{}}, {"env", "g", Global, nil, nil},
+	}
+	got, err := opened(t, []byte(imports)).Imports()
+	if err != nil || !reflect.DeepEqual(got, wanted) {
+		t.Fatal(got, err)
+	}
+	if text := fmt.Sprint(got); text != "[env f: function (i32, i64) -> (i32) env t: table  m: memory env h: function () -> () env g: global]" {
+		t.Error(text)
+	}
+	if none, err := opened(t, []byte(header)).Imports(); err != nil || len(none) != 0 {
+		t.Error(none, err)
+	}
+}
+
+func TestMeasures(t *testing.T) {
+	for module, wanted := range map[string]Measures{header: {}, string(allKinds()): {3, 2, 2}, imports: {Values: 2}} {
+		if got, err := opened(t, []byte(module)).Measures(); err != nil || got != wanted {
+			t.Error(got, err)
+		}
+	}
+}
+
+func TestExportsText(t *testing.T) {
+	const wanted = "import \"env\" \"f\" function [i32 i64] -> [i32]\nimport \"env\" \"t\" table\nimport \"\" \"m\" memory\n" +
+		"import \"env\" \"h\" function [] -> []\nimport \"env\" \"g\" global i32\ncustom \"note\" 3\n" +
+		"not-started imports: import 0 \"env\" \"f\" is a function\n"
+	long := header + strings.Repeat("\x00\x02\x01a", 1000)
+	texts := map[string]string{imports: wanted, header[:7]: "refused malformed\n", long: strings.Repeat("custom \"a\" 0\n", 1000) + "starts\n"}
+	for module, wanted := range texts {
+		if got, err := ExportsText([]byte(module), DefaultSettings()); err != nil || got != wanted {
+			t.Error(got, err)
+		}
+	}
+	if text, err := ExportsText([]byte(header), Settings{0, 0, 0}); err == nil {
+		t.Error(text)
+	}
+}
+
+func TestCallContext(t *testing.T) {
+	ctx, cancel := context.WithCancel(context.Background())
+	module := opened(t, example(t, "add.wasm"))
+	if call, err := module.CallContext(ctx, "add", DefaultSettings(), I32(40), I32(2)); err != nil || call.Results[0] != I32(42) {
+		t.Error(call, err)
+	}
+	cancel()
+	if call, err := module.CallContext(ctx, "add", DefaultSettings(), I32(40), I32(2)); !errors.Is(err, context.Canceled) {
+		t.Error(call, err)
+	}
+	instance := instanceOf(t, goesOn())
+	if call, err := instance.CallContext(ctx, "add", DefaultSettings(), I32(2)); !errors.Is(err, context.Canceled) {
+		t.Error(call, err)
+	}
+	expectNumber(t, instance, "add", 2, 2)
 }
 
 func TestNamesOfAnyLength(t *testing.T) {

@@ -4,6 +4,7 @@ package gate
 import "C"
 
 import (
+	"context"
 	"errors"
 	"runtime"
 	"sync"
@@ -88,12 +89,19 @@ func done(status C.uint32_t) error {
 // Call calls an export on the instance as it is, under the fuel and the frames of the settings. After a trap, or where fuel or frames
 // ran out, it is as the call left it, and goes on. After ErrNoMemory each further call ends so, until a Reset.
 //
-// It takes no context, since nothing ends a call that runs but its fuel.
-//
 // The error is an End, a Trap, a SettingsError, ErrNoMemory or ErrClosed; and that of the last Reset where it made no instance.
 func (i *Instance) Call(name string, settings Settings, args ...Value) (Call, error) {
+	return i.CallContext(context.Background(), name, settings, args...)
+}
+
+// CallContext is as Call, but where the context is done before the call begins, as while another call runs: then nothing runs, and the error
+// is the context's. A call that has begun goes on, since nothing ends it but its fuel.
+func (i *Instance) CallContext(ctx context.Context, name string, settings Settings, args ...Value) (Call, error) {
 	i.mutex.Lock()
 	defer i.mutex.Unlock()
+	if err := ctx.Err(); err != nil {
+		return Call{}, err
+	}
 	return i.call(name, settings, args)
 }
 

@@ -5,6 +5,7 @@ package gate
 import "C"
 
 import (
+	"context"
 	"errors"
 	"runtime"
 	"sync"
@@ -56,6 +57,12 @@ func moduleOf(handle C.gate_module, bytes *shared) *Module {
 // Call calls an export. Which arguments it takes, Find tells. The error is an End, a Trap, NotStarted, a SettingsError, ErrNoMemory or
 // ErrClosed.
 func (m *Module) Call(name string, settings Settings, args ...Value) (Call, error) {
+	return m.CallContext(context.Background(), name, settings, args...)
+}
+
+// CallContext is as Call, but where the context is done before the call begins, as while another call runs: then nothing runs, and the error
+// is the context's. A call that has begun goes on, since nothing ends it but its fuel.
+func (m *Module) CallContext(ctx context.Context, name string, settings Settings, args ...Value) (Call, error) {
 	limits, err := settings.inC()
 	if err != nil {
 		return Call{}, err
@@ -64,6 +71,9 @@ func (m *Module) Call(name string, settings Settings, args ...Value) (Call, erro
 	defer m.mutex.Unlock()
 	if m.bytes == nil {
 		return Call{}, ErrClosed
+	}
+	if err := ctx.Err(); err != nil {
+		return Call{}, err
 	}
 	return m.called(name, args, func(in operands, results []C.gate_value, ended *C.gate_call) C.uint32_t {
 		resultsAt, resultsRoom := valuesInC(results)

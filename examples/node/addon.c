@@ -3,6 +3,8 @@
  *   build()                                which build the library is
  *   check(bytes)                           the line of the verdict
  *   explain(bytes)                         what `gate explain` prints
+ *   exportsText(bytes, limits)             what `gate exports` prints within these limits
+ *   measures(bytes)                        numbers by which a host may refuse an accepted module
  *   open(bytes, limits)                    an instance of the module, which goes on from call to call
  *   exports(instance)                      what its module exports, with the types of functions
  *   call(instance, name, args, limits)     the values of a call of an export: an i32 is a Number, an i64 a BigInt
@@ -192,17 +194,34 @@ static napi_value check(napi_env env, napi_callback_info info) {
     return line;
 }
 
-/* What `gate explain` prints, ended by a NUL; the caller frees it. NULL where memory is refused. */
-static char *explanation_of(bytes module, size_t *length) {
+/* Writes a text on a module, as a function of gate.h does. */
+typedef uint32_t writes(bytes module, const gate_settings *limits, uint8_t *out, size_t room, size_t *length);
+
+static uint32_t write_explanation(bytes module, const gate_settings *limits, uint8_t *out, size_t room, size_t *length) {
+    (void)limits;
+    return gate_explain_text(module.at, module.length, out, room, length);
+}
+
+static uint32_t write_exports(bytes module, const gate_settings *limits, uint8_t *out, size_t room, size_t *length) {
+    return gate_exports_text(module.at, module.length, limits, out, room, length);
+}
+
+/* The text, ended by a NUL, which the caller frees. NULL where there is none, and *status says why. */
+static char *text_by(writes *write, bytes module, const gate_settings *limits, size_t *length, uint32_t *status) {
     size_t room = 1024;
     for (;;) {
         char *text = malloc(room + 1);
-        uint32_t status = text ? gate_explain_text(module.at, module.length, (uint8_t *)text, room, length) : GATE_NO_MEMORY;
-        if (status == GATE_OK || status == GATE_MODULE_REFUSED) return text[*length] = 0, text;
+        *status = text ? write(module, limits, (uint8_t *)text, room, length) : GATE_NO_MEMORY;
+        if (*status == GATE_OK || *status == GATE_MODULE_REFUSED) return text[*length] = 0, text;
         free(text);
-        if (status != GATE_SHORT_BUFFER) return NULL;
+        if (*status != GATE_SHORT_BUFFER) return NULL;
         room = *length;
     }
+}
+
+static char *explanation_of(bytes module, size_t *length) {
+    uint32_t status;
+    return text_by(write_explanation, module, &SETTINGS, length, &status);
 }
 
 static napi_value explain(napi_env env, napi_callback_info info) {
@@ -212,6 +231,21 @@ static napi_value explain(napi_env env, napi_callback_info info) {
     if (!arguments(env, info, args) || !is_bytes(env, args[0], &module)) return wrong(env, "bytes are wanted");
     char *told = explanation_of(module, &length);
     if (!told) return no_memory(env);
+    napi_create_string_utf8(env, told, length, &text);
+    free(told);
+    return text;
+}
+
+static napi_value exports_text(napi_env env, napi_callback_info info) {
+    napi_value args[MOST_ARGUMENTS], text = NULL;
+    bytes module;
+    gate_settings limits;
+    size_t length = 0;
+    uint32_t status;
+    if (!arguments(env, info, args) || !is_bytes(env, args[0], &module)) return wrong(env, "bytes are wanted");
+    if (!are_limits(env, args[1], SETTINGS, &limits)) return NULL;
+    char *told = text_by(write_exports, module, &limits, &length, &status);
+    if (!told) return no_answer(env, status);
     napi_create_string_utf8(env, told, length, &text);
     free(told);
     return text;
@@ -234,6 +268,40 @@ static bool refuse(napi_env env, bytes module) {
     return free(sentence), free(told), false;
 }
 
+static napi_value measures(napi_env env, napi_callback_info info) {
+    napi_value args[MOST_ARGUMENTS], object, number;
+    bytes given;
+    gate_verdict verdict;
+    gate_module module;
+    gate_measures found;
+    if (!arguments(env, info, args) || !is_bytes(env, args[0], &given)) return wrong(env, "bytes are wanted");
+    uint32_t status = gate_module_new(given.at, given.length, &verdict, &module);
+    if (status == GATE_MODULE_REFUSED) return refuse(env, given), NULL;
+    if (status != GATE_OK) return no_memory(env);
+    gate_module_measures(module, &found);
+    gate_module_free(module);
+    const char *const names[] = { "tokens", "locals", "values" };
+    const uint64_t numbers[] = { found.tokens, found.locals, found.values };
+    if (napi_create_object(env, &object) != napi_ok) return NULL;
+    for (int i = 0; i < 3; i++)
+        if (napi_create_double(env, (double)numbers[i], &number) == napi_ok) napi_set_named_property(env, object, names[i], number);
+    return object;
+}
+
+/* Throws why there is no instance, with the first cause of a refused start. */
+static napi_value throw_none(napi_env env, bytes module, const gate_settings *limits, const gate_call *ended) {
+    size_t length = 0;
+    uint32_t status;
+    char *told = ended->end == GATE_END_NOT_STARTED ? text_by(write_exports, module, limits, &length, &status) : NULL;
+    if (!told) return throw_end(env, ended, "no instance: ");
+    told[length - 1] = 0; /* for its newline */
+    const char *newline = strrchr(told, '\n'), *line = newline ? newline + 1 : told;
+    char *words = malloc(length + LINE_ROOM);
+    if (words) snprintf(words, length + LINE_ROOM, "no instance: %s", line);
+    fail(env, ENDS[ended->end], words ? words : "no instance");
+    return free(words), free(told), NULL;
+}
+
 /* Makes the instance of a copy of the bytes; whether it is there. */
 static bool begin(napi_env env, plug_in *it, bytes module) {
     gate_verdict verdict;
@@ -244,7 +312,7 @@ static bool begin(napi_env env, plug_in *it, bytes module) {
     uint32_t status = gate_module_new(it->bytes, module.length, &verdict, &it->module);
     if (status == GATE_MODULE_REFUSED) return refuse(env, module);
     if (status == GATE_OK) status = gate_instance_new(it->module, &it->limits, &it->instance, &ended);
-    if (status == GATE_NO_INSTANCE) return throw_end(env, &ended, "no instance: ");
+    if (status == GATE_NO_INSTANCE) return throw_none(env, module, &it->limits, &ended);
     it->fuel = ended.fuel;
     return status == GATE_OK || no_answer(env, status);
 }
@@ -501,7 +569,8 @@ static napi_value close(napi_env env, napi_callback_info info) {
 }
 
 static const struct { const char *name; napi_callback function; } FUNCTIONS[] = {
-    { "build", build }, { "check", check }, { "explain", explain }, { "open", open }, { "exports", exports_of }, { "call", call },
+    { "build", build }, { "check", check }, { "explain", explain },
+    { "exportsText", exports_text }, { "measures", measures }, { "open", open }, { "exports", exports_of }, { "call", call },
     { "callOrReset", call_or_reset }, { "fuel", fuel }, { "memorySize", memory_size }, { "read", read }, { "write", write },
     { "global", global }, { "reset", reset }, { "close", close },
 };

@@ -39,6 +39,10 @@ export function build(): string;
 export function check(bytes: Uint8Array): string;
 /** What `gate explain` prints. */
 export function explain(bytes: Uint8Array): string;
+/** What `gate exports` prints: imports, exports and custom sections, and whether an instance starts, and if not, why and where. */
+export function exportsText(bytes: Uint8Array, limits?: Limits): string;
+/** Numbers by which a host may refuse an accepted module: tokens of the longest body, locals of a function, values of a list of types. */
+export function measures(bytes: Uint8Array): { tokens: number; locals: number; values: number };
 /** Judges a module, makes an instance, and runs its start function. */
 export function open(bytes: Uint8Array, limits?: Limits): Instance;
 /** What its module exports, in the order of the module. */

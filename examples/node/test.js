@@ -89,13 +89,34 @@ test('exports', () => {
     { name: 'grow', kind: 'function', index: 2, params: i32, results: i32 }, { name: 'count', kind: 'global', index: 0 }]);
 });
 
+test('exportsText', () => {
+  const imports = Buffer.from(HEADER + '010a0260027f7e017f600000022a0503656e7601660000' + '03656e76017401700001' + '00016d020001' +
+    '03656e7601680001' + '03656e760167037f00' + '0008046e6f7465010203', 'hex');
+  assert.strictEqual(gate.exportsText(imports), 'import "env" "f" function [i32 i64] -> [i32]\nimport "env" "t" table\n' +
+    'import "" "m" memory\nimport "env" "h" function [] -> []\nimport "env" "g" global i32\ncustom "note" 3\n' +
+    'not-started imports: import 0 "env" "f" is a function\n');
+  assert.throws(() => gate.open(imports), { code: 'NOT_STARTED', message: 'no instance: not-started imports: import 0 "env" "f" is a function' });
+  assert.strictEqual(gate.exportsText(FILL), 'refused body 0 malformed\n');
+  const long = Buffer.from(HEADER + '00020161'.repeat(1000), 'hex');
+  assert.strictEqual(gate.exportsText(long), 'custom "a" 0\n'.repeat(1000) + 'starts\n');
+  assert.throws(() => gate.exportsText(long, { frames: 0 }), RangeError);
+  assert.throws(() => gate.exportsText('bytes'), TypeError);
+});
+
+test('measures', () => {
+  assert.deepStrictEqual(gate.measures(add), { tokens: 4, locals: 2, values: 2 });
+  assert.deepStrictEqual(gate.measures(BOTH), { tokens: 3, locals: 2, values: 2 });
+  assert.throws(() => gate.measures(FILL), { code: 'REFUSED', message: `refused body 0 malformed: ${BECAUSE}` });
+  assert.throws(() => gate.measures('bytes'), TypeError);
+});
+
 test('limits and fuel', () => {
   const it = gate.open(LOOP, { fuel: 5 });
   assert.strictEqual(gate.fuel(it), 0);
   assert.throws(() => gate.call(it, 'f', []), { code: 'OUT_OF_FUEL', message: 'out-of-fuel fuel 5' });
   assert.strictEqual(gate.fuel(it), 5);
   assert.throws(() => gate.call(it, 'f', [], { fuel: 7, frames: 1 }), { code: 'OUT_OF_FUEL', message: 'out-of-fuel fuel 7' });
-  assert.throws(() => gate.open(GOES_ON, { pages: 0 }), { code: 'NOT_STARTED', message: 'no instance: not-started memory-limit' });
+  assert.throws(() => gate.open(GOES_ON, { pages: 0 }), { code: 'NOT_STARTED', message: 'no instance: not-started memory-limit: the memory has 1 pages, and 0 are the most' });
   for (const limits of [{ fuel: -1 }, { fuel: 1e9 + 1 }, { fuel: 0.5 }, { frames: 0 }, { frames: 4097 }, { pages: 1025 }, { pages: NaN }])
     assert.throws(() => gate.open(GOES_ON, limits), RangeError);
   assert.throws(() => gate.call(it, 'f', [], { frames: 0 }), RangeError);

@@ -67,9 +67,11 @@ def exports(tally, folder):
         looked_at = set(re.findall(r'^#define (gate_\w+)\(', file.read(), re.MULTILINE))
     tally.expect(declared - looked_at == {'gate_version', 'gate_revision'}, 'what gate_debug.h looks at', declared - looked_at)
     shared, archive = os.path.join(folder, library.SHARED), os.path.join(folder, library.ARCHIVE)
-    exported = symbols(shared, '-D', '--defined-only') - {'GATE_1', 'GATE_1.1'}
+    exported = symbols(shared, '-D', '--defined-only') - {'GATE_1', 'GATE_1.1', 'GATE_1.2'}
     tally.expect(exported == declared, 'what libgate.so.1 exports', exported ^ declared)
-    wanted = symbols(archive, '--undefined-only') - symbols(archive, '--defined-only')
+    named = symbols(archive, '--extern-only', '--defined-only')
+    tally.expect(named == declared, 'what libgate.a names', named ^ declared)
+    wanted = symbols(archive, '--undefined-only')
     tally.expect(wanted == WANTED_OF_LIBC, 'what libgate.a wants', wanted)
 
 

@@ -44,6 +44,7 @@ void explanations(void);
 void reports(void);
 void calls(void);
 void exports(void);
+void imports(void);
 void instances(void);
 void threads(long rounds);
 

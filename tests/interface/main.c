@@ -8,6 +8,7 @@ int main(int count, char **words) {
     reports();
     calls();
     exports();
+    imports();
     instances();
     threads(count > 1 ? atol(words[1]) : 10000);
     if (!failed) printf("%u\n", held);

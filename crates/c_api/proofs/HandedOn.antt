@@ -2,7 +2,9 @@
 --     to_loose       a handle becomes a `Loose`: it owns what the `Loose` owns
 --     from_loose     a `Loose` becomes a struct that owns what it owns
 --     with_number    a number and a `Loose` become a struct of the number that owns the box
--- Each says that a function of that code meets its clauses. An export takes no struct with type arguments, so each handle has a function of its own; this is their proof.
+-- Each says that a function of that code meets its clauses, and goes through the code statement by statement (`hands`, `numbers`).
+-- An export takes no struct with type arguments, so each handle has a function of its own; this is their proof.
+-- The proofs of `loose`, `tied` and `of` of modules, reports and instances cite it, and that of `ModuleCount::of`.
 use Rattle.std.proofs.Common.{◌≡◌, ◌∙◌, ℕ, List, [], ◌∷◌, ◌++◌, ◌<◌, ◌^◌, refl, sym, ap, subst}
 use lib.Dec.{T, lit<}
 use seplogic.Ra.Ura.{Ura}

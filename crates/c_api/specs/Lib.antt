@@ -9,6 +9,8 @@ pub mod Handed
 pub mod Runs
 pub mod Calls
 pub mod Exported
+pub mod Imported
+pub mod Listed
 pub mod Starts
 pub mod Explained
 pub mod Beginnings
@@ -16,4 +18,5 @@ pub mod CallsOn
 pub mod Instances
 pub mod Made
 pub mod Sizes
+pub mod Measures
 pub mod Builds

@@ -58,7 +58,7 @@ fn put_values(values: &[Value], results: &mut [GateValue])
 }
 
 /// How a call ends, or the status that says why there is none.
-pub(crate) fn call(
+pub(crate) fn end_of_call(
     alloc: Global,
     accepted: &Accepted<'_>,
     name: &[u8],

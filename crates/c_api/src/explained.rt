@@ -57,7 +57,7 @@ fn code_of_form(form: Form) -> u32
 }
 
 /// The code of a kind, as `gate_why` of gate.h has it.
-fn code_of_kind(kind: ExplanationKind) -> u32
+fn explanation_kind_code(kind: ExplanationKind) -> u32
     ensures { result ≡ kind_code kind }
 {
     match kind {
@@ -124,7 +124,7 @@ pub(crate) fn status_with(found: &Explanation<'_>) -> u32
 fn why(found: &Explanation<'_>) -> u32
     ensures { result ≡ kind_code (kind_told found.now) }
 {
-    code_of_kind(found.kind())
+    explanation_kind_code(found.kind())
 }
 
 /// The id of the section.

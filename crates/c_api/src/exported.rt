@@ -29,7 +29,7 @@ pub struct GateExport {
 const _: () = prove!(size_of::<GateExport>() == 16 && align_of::<GateExport>() == 4);
 
 /// The code of a kind, as `gate_export_kind` of gate.h has it.
-fn code_of_kind(kind: ExportKind) -> u32
+fn export_kind_code(kind: ExportKind) -> u32
     ensures { result ≡ kind_code kind }
 {
     match kind {
@@ -64,7 +64,7 @@ impl GateExport {
             ExportKind::Table | ExportKind::Memory | ExportKind::Global => (0, 0),
         };
         GateExport {
-            kind: code_of_kind(kind),
+            kind: export_kind_code(kind),
             index,
             params,
             results,

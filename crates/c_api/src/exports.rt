@@ -12,7 +12,7 @@ ghost use Rattle.c_api.specs.Statuses.{code_of};
 ghost use Rattle.c_api.specs.Texts.{Hands};
 ghost use Rattle.c_api.specs.Verdicts.{Answers, HandsLine};
 
-use crate::calling::{call, tell_end};
+use crate::calling::{end_of_call, tell_end};
 use crate::ending::GateCall;
 use crate::handing::hand_out;
 use crate::held::Held;
@@ -121,7 +121,7 @@ pub extern "C" fn gate_report_read(
     ensures alive { result.value ≡ report.value }
 {
     let kept = report.loose();
-    let status = kept.as_ref().read(out, length);
+    let status = kept.as_ref().hand(out, length);
     ReportStatus::of(status, kept)
 }
 
@@ -147,7 +147,7 @@ pub extern "C" fn gate_module_new(
         Ok(accepted) => accepted,
         Err(refusal) => return refuse(refusal, verdict),
     };
-    let Some(held) = Held::boxed(alloc, accepted) else {
+    let Some(held) = Held::sole_owner(alloc, accepted) else {
         return NO_MEMORY;
     };
     *verdict = GateVerdict::accepted();
@@ -216,7 +216,7 @@ pub extern "C" fn gate_module_call(
     ensures alive { result.value ≡ «module».value }
 {
     let held = module.loose();
-    let status = match call(alloc, &held.as_ref().accepted, name, args, settings) {
+    let status = match end_of_call(alloc, &held.as_ref().accepted, name, args, settings) {
         Ok(line) => {
             tell_end(&line, results, ended);
             OK

@@ -26,12 +26,12 @@ pub(crate) fn hand_out(
 {
     let answer = Kept { answer };
     if answer.fits(out) {
-        return answer.read(out, length);
+        return answer.hand(out, length);
     }
     let Ok(report) = Box::new(alloc, sendable(answer)) else {
         return NO_MEMORY;
     };
-    let status = report.read(out, length);
+    let status = report.hand(out, length);
     *kept = ReportSlot::of(report);
     status
 }

@@ -18,7 +18,7 @@ impl Held {
     ghost use Rattle.std.specs.Prelude.{◌≡◌, IfSome};
 
     /// An accepted module in a box; `None` where memory was refused.
-    pub(crate) fn boxed(alloc: Global, accepted: Accepted<'static>) -> Option<Box<Held>>
+    pub(crate) fn sole_owner(alloc: Global, accepted: Accepted<'static>) -> Option<Box<Held>>
         requires { IsOfBytes accepted }
         ensures { IfSome result (λ b. b.value.accepted.value ≡ accepted.entry) }
     {

@@ -27,7 +27,7 @@ const _: () = prove!(size_of::<GateVerdict>() == 24 && align_of::<GateVerdict>()
 
 impl GateVerdict {
     /// A verdict of that kind alone.
-    fn plain(kind: u32) -> GateVerdict
+    fn of_kind(kind: u32) -> GateVerdict
         ensures kind { result.kind ≡ kind }
         ensures rule { result.rule ≡ 0 }
         ensures function { result.function ≡ 0 }
@@ -71,7 +71,7 @@ impl GateVerdict {
     pub(crate) fn accepted() -> GateVerdict
         ensures { result ≡ fields_of Accepted }
     {
-        GateVerdict::plain(0)
+        GateVerdict::of_kind(0)
     }
 
     /// The verdict of a refusal; `None` where memory was refused.
@@ -79,8 +79,8 @@ impl GateVerdict {
         ensures { result ≡ option_map fields_of (verdict_of refusal) }
     {
         match refusal {
-            Refusal::TooLarge => Some(GateVerdict::plain(1)),
-            Refusal::Malformed => Some(GateVerdict::plain(2)),
+            Refusal::TooLarge => Some(GateVerdict::of_kind(1)),
+            Refusal::Malformed => Some(GateVerdict::of_kind(2)),
             Refusal::Rule(rule) => Some(GateVerdict {
                 kind: 3,
                 rule,

@@ -27,7 +27,7 @@ impl Kept {
     }
 
     /// Writes the text, where there is room for it, and its length; the status of the answer, or that the buffer is short.
-    pub(crate) fn read(&self, out: &mut [u8], length: &mut usize) -> u32
+    pub(crate) fn hand(&self, out: &mut [u8], length: &mut usize) -> u32
         ensures { Hands (string_bytes self.now.answer.text) (code_of self.now.answer.status) out.old out.new length.new result }
     {
         let status = status_code(self.answer.status);

@@ -2,24 +2,27 @@
 
 ghost use Rattle.std.specs.Prelude.{◌≡◌, length};
 ghost use Rattle.c_api.specs.Exported.{exports_of, TellsExport, FindsExport, TellsName, TellsTypes};
+ghost use Rattle.c_api.specs.Measures.{measures_of};
 ghost use Rattle.c_api.specs.Sizes.{capped, module_bytes};
 ghost use Rattle.c_api.specs.Starts.{AnswersStart};
 
 use crate::counted::ModuleCount;
 use crate::ending::GateCall;
 use crate::exported::{GateExport, find, tell_export, tell_name, tell_types};
+use crate::measures::GateMeasures;
 use crate::module::{GateModule, ModuleStatus};
 use crate::settings::GateSettings;
 use crate::size::module_size;
 use crate::starting::tell_start;
+use crate::status::OK;
 use std::alloc::Global;
 
 /// The number of what this interface has beside its first functions.
 #[unsafe(no_mangle)]
 pub extern "C" fn gate_revision() -> u32
-    ensures { result ≡ 1 }
+    ensures { result ≡ 2 }
 {
-    1
+    2
 }
 
 /// How many exports a module has.
@@ -44,6 +47,22 @@ pub extern "C" fn gate_module_size(module: GateModule) -> ModuleCount
     let held = module.loose();
     let count = module_size(&held.as_ref().accepted);
     ModuleCount::of(count, held)
+}
+
+/// Writes the numbers of a module by which a host may refuse it. 0: they are written.
+#[unsafe(no_mangle)]
+pub extern "C" fn gate_module_measures(
+    module: GateModule,
+    measures: &mut GateMeasures,
+) -> ModuleStatus
+    ensures status { result.status ≡ 0 }
+    ensures measures { measures.new ≡ measures_of «module».value.accepted.value }
+    ensures handle { result.at ≡ «module».at }
+    ensures alive { result.value ≡ «module».value }
+{
+    let held = module.loose();
+    *measures = GateMeasures::of(&held.as_ref().accepted);
+    ModuleStatus::of(OK, held)
 }
 
 /// Writes the export at that position, from 0, in the order of the module. 0: it is written; 4: there is none.

@@ -11,7 +11,7 @@
 written. All functions raise `MemoryError` where memory is refused. ctypes lets other threads run during a call.
 """
 from gate.ends import CallError, End, EndKind, NotStarted, Trap
-from gate.exports import Export, ExportKind, FunctionType, ValueType
+from gate.exports import Export, ExportKind, FunctionType, Import, Measures, ValueType, exports_text
 from gate.explanation import Explanation, ModuleRefused, explain
 from gate.function import BadArguments
 from gate.handle import Closed
@@ -24,5 +24,6 @@ from gate.verdict import Refusal, Verdict, build, check
 
 __version__ = '0.2.0'
 __all__ = ['BadArguments', 'CallError', 'Closed', 'End', 'EndKind', 'Explanation', 'Export', 'ExportKind', 'FunctionType', 'I32', 'I64',
-           'Instance', 'Module', 'ModuleRefused', 'NoGlobal', 'NoInstance', 'NotStarted', 'OutsideMemory', 'Refusal', 'Report', 'Settings',
-           'Status', 'Trap', 'Value', 'ValueType', 'Verdict', '__version__', 'build', 'call_line', 'check', 'explain', 'run', 'value_of']
+           'Import', 'Instance', 'Measures', 'Module', 'ModuleRefused', 'NoGlobal', 'NoInstance', 'NotStarted', 'OutsideMemory', 'Refusal', 'Report', 'Settings',
+           'Status', 'Trap', 'Value', 'ValueType', 'Verdict', '__version__', 'build', 'call_line', 'check', 'explain', 'exports_text', 'run',
+           'value_of']

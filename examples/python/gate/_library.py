@@ -1,7 +1,7 @@
 """Finds libgate, and declares its functions as `gate.h` does.
 
-The library is `libgate.so.1` beside this file, as a wheel has it; else the file that the environment names as `GATE_LIBRARY`; else
-the one that the linker finds as `gate`.
+The library is `libgate.so.1` beside this file, as a wheel has it; else the file that the environment names as `GATE_LIBRARY`; else that of
+the release in which this file lies; else the one that the linker finds as `gate`.
 """
 from __future__ import annotations
 
@@ -12,8 +12,10 @@ from typing import Any, Union
 
 INTERFACE = 1
 # The least revision of the library.
-REVISION = 1
-BESIDE = os.path.join(os.path.dirname(os.path.abspath(__file__)), f'libgate.so.{INTERFACE}')
+REVISION = 2
+FOLDER, NAME = os.path.dirname(os.path.abspath(__file__)), f'libgate.so.{INTERFACE}'
+BESIDE = os.path.join(FOLDER, NAME)
+OF_RELEASE = os.path.join(FOLDER, '..', '..', '..', 'lib', NAME)
 
 OK = 0
 MODULE_REFUSED = 2
@@ -67,6 +69,14 @@ class CExport(Structure):
     _fields_ = [('kind', c_uint32), ('index', c_uint32), ('params', c_uint32), ('results', c_uint32)]
 
 
+class CImport(Structure):
+    _fields_ = [('kind', c_uint32), ('params', c_uint32), ('results', c_uint32)]
+
+
+class CMeasures(Structure):
+    _fields_ = [('tokens', c_uint64), ('locals', c_uint64), ('values', c_uint64)]
+
+
 TEXT = [c_char_p, c_size_t]
 WRITTEN = [c_char_p, c_size_t, POINTER(c_size_t)]
 
@@ -78,6 +88,7 @@ FUNCTIONS: dict[str, tuple[Any, list[Any] | None]] = {
     'gate_verdict_line': (c_uint32, [POINTER(CVerdict)] + WRITTEN),
     'gate_explain': (c_uint32, TEXT + [POINTER(CExplanation)]),
     'gate_explain_text': (c_uint32, TEXT + WRITTEN),
+    'gate_exports_text': (c_uint32, TEXT + [POINTER(CSettings)] + WRITTEN),
     'gate_run': (c_uint32, TEXT + TEXT + [POINTER(CSettings)] + WRITTEN + [POINTER(CReport)]),
     'gate_report_read': (c_uint32, [CReport] + WRITTEN),
     'gate_report_free': (None, [CReport]),
@@ -90,10 +101,15 @@ FUNCTIONS: dict[str, tuple[Any, list[Any] | None]] = {
     'gate_build': (c_uint32, WRITTEN),
     'gate_module_size': (c_uint64, [CModule]),
     'gate_module_export_count': (c_uint64, [CModule]),
+    'gate_module_measures': (c_uint32, [CModule, POINTER(CMeasures)]),
     'gate_module_export': (c_uint32, [CModule, c_uint64, POINTER(CExport)]),
     'gate_module_export_name': (c_uint32, [CModule, c_uint64] + WRITTEN),
     'gate_module_find': (c_uint32, [CModule] + TEXT + [POINTER(CExport)]),
     'gate_module_types': (c_uint32, [CModule, c_uint32, c_char_p, c_size_t, c_char_p, c_size_t]),
+    'gate_module_import_count': (c_uint64, [CModule]),
+    'gate_module_import': (c_uint32, [CModule, c_uint64, POINTER(CImport)]),
+    'gate_module_import_module': (c_uint32, [CModule, c_uint64] + WRITTEN),
+    'gate_module_import_name': (c_uint32, [CModule, c_uint64] + WRITTEN),
     'gate_module_starts': (c_uint32, [CModule, POINTER(CSettings), POINTER(CCall)]),
     'gate_instance_new': (c_uint32, [CModule, POINTER(CSettings), POINTER(CInstance), POINTER(CCall)]),
     'gate_instance_call': (c_uint32, None),
@@ -108,7 +124,9 @@ FUNCTIONS: dict[str, tuple[Any, list[Any] | None]] = {
 
 def find() -> str | None:
     """The path or the name of the library."""
-    return BESIDE if os.path.exists(BESIDE) else os.environ.get('GATE_LIBRARY') or ctypes.util.find_library('gate')
+    if os.path.exists(BESIDE):
+        return BESIDE
+    return os.environ.get('GATE_LIBRARY') or (OF_RELEASE if os.path.exists(OF_RELEASE) else ctypes.util.find_library('gate'))
 
 
 def load() -> CDLL:

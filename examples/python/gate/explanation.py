@@ -2,7 +2,9 @@
 from __future__ import annotations
 
 import ctypes
+from collections.abc import Callable
 from dataclasses import dataclass, field
+from typing import Any
 
 from gate._library import MODULE_REFUSED, OK, SHORT_BUFFER, Bytes, CExplanation, expect, library, whole
 from gate.verdict import Verdict, verdict_of
@@ -69,11 +71,12 @@ def lines_of(text: str) -> dict[str, str]:
     return found
 
 
-def text_of(data: bytes) -> str:
+def whole_text(write: Callable[..., int]) -> str:
+    """The text that `write` makes on a module. It takes a buffer, its room and the length."""
     room, length = ROOM, ctypes.c_size_t()
     while True:
         out = ctypes.create_string_buffer(room)
-        status = expect(library.gate_explain_text(data, len(data), out, room, length), OK, MODULE_REFUSED, SHORT_BUFFER)
+        status = expect(write(out, room, length), OK, MODULE_REFUSED, SHORT_BUFFER)
         if status != SHORT_BUFFER:
             return ctypes.string_at(out, length.value).decode()
         room = length.value
@@ -83,7 +86,12 @@ def explain(module: Bytes) -> Explanation:
     """Judges a module, and says of a refusal where and why."""
     data, said = whole(module), CExplanation()
     expect(library.gate_explain(data, len(data), said), OK, MODULE_REFUSED)
-    text = text_of(data)
+
+    def write(*out: Any) -> int:
+        status: int = library.gate_explain_text(data, len(data), *out)
+        return status
+
+    text = whole_text(write)
     return Explanation(verdict_of(said.verdict), text, said.why, told(said.section, 32), told(said.item), told(said.opcode, 32),
                        span(said.body_from, said.body_to), span(said.begin, said.end), lines_of(text))
 

@@ -22,11 +22,12 @@ MOST_PLACE, MOST_LENGTH = 2 ** 64 - 1, 2 ** 63 - 1
 
 
 class NoInstance(RuntimeError):
-    """There is no instance; `end` says why: it was not started, memory was refused, or how the start function ended."""
+    """There is no instance; `end` says why: it was not started, memory was refused, or how the start function ended. Of one that was not
+    started `place` says more, as `gate exports` does: `function 0 "half" token 0 f32.const 0x00000000, byte 29 (0x1d)`."""
 
-    def __init__(self, end: End) -> None:
-        super().__init__(f'no instance: {end}')
-        self.end = end
+    def __init__(self, end: End, place: str = '') -> None:
+        super().__init__(f'no instance: {end}: {place}' if place else f'no instance: {end}')
+        self.end, self.place = end, place
 
 
 class OutsideMemory(IndexError):
@@ -75,7 +76,13 @@ class Instance(Handle[CInstance]):
     def _tell_start(self, status: int, ended: CCall) -> None:
         self._started = end_of(ended)
         if status == NO_INSTANCE:
-            raise NoInstance(self._started)
+            raise NoInstance(self._started, self._place())
+
+    def _place(self) -> str:
+        """The first cause of a refused start."""
+        if self._started.kind is not EndKind.NOT_STARTED:
+            return ''
+        return self._module.exports_text(self._settings).splitlines()[-1].partition(': ')[2]
 
     def _live(self) -> CInstance:
         """The handle, where the last reset made an instance, for who holds the lock."""

@@ -7,7 +7,7 @@ from typing import Any
 from gate._library import MODULE_REFUSED, OK, Bytes, CCall, CModule, CVerdict, expect, library, whole
 from gate.ends import End, end_of
 from gate.explanation import ModuleRefused, explain
-from gate.exports import Export, exports_of, find
+from gate.exports import Export, Import, Measures, exports_of, exports_text, find, imports_of, measures_of
 from gate.function import Functions
 from gate.handle import Handle
 from gate.instance import Instance
@@ -34,9 +34,10 @@ class Module(Handle[CModule]):
             raise ModuleRefused(explain(data))
         self._hold(handle, held)
 
-    def _hold(self, handle: CModule, held: object) -> None:
+    def _hold(self, handle: CModule, held: ctypes.Array[ctypes.c_char]) -> None:
         """Owns the handle, and keeps the bytes for as long."""
         self._own(handle, library.gate_module_free, held)
+        self._bytes = held
         self._functions = Functions()
 
     @property
@@ -51,6 +52,24 @@ class Module(Handle[CModule]):
         """What the module exports, in its order."""
         with self._lock:
             return exports_of(self._open())
+
+    @property
+    def imports(self) -> tuple[Import, ...]:
+        """What the module imports, in its order. No call of a module with imports runs."""
+        with self._lock:
+            return imports_of(self._open())
+
+    @property
+    def measures(self) -> Measures:
+        """Numbers by which a host may refuse the module."""
+        with self._lock:
+            return measures_of(self._open())
+
+    def exports_text(self, settings: Settings = DEFAULT) -> str:
+        """What `gate exports` prints of it within these limits. It is judged anew."""
+        with self._lock:
+            self._open()
+        return exports_text(memoryview(self._bytes), settings)
 
     def find(self, name: str | bytes) -> Export | None:
         """The export of that name."""
@@ -96,5 +115,5 @@ class Module(Handle[CModule]):
         with self._lock:
             expect(library.gate_module_share(self._open(), handle), OK)
         other = object.__new__(Module)
-        other._hold(handle, self._held)
+        other._hold(handle, self._bytes)
         return other

@@ -33,6 +33,8 @@ GOES_ON = HEADER + bytes.fromhex(
     '06 00 20 00 40 00 0b 09 00 41 00 41 07 3a 00 00 0b 0b 07 01 00 41 08 0b 01 05')
 # A memory of one page, and a second data segment, of two bytes at 65,535.
 SEGMENT_OUTSIDE = HEADER + bytes.fromhex('05 03 01 00 01 0b 10 02 00 41 00 0b 01 00 00 41 ff ff 03 0b 02 00 00')
+# `half`, whose first token is f32.const 0.
+HALF = HEADER + bytes.fromhex('01 04 01 60 00 00 03 02 01 00 07 08 01 04 68 61 6c 66 00 00 0a 0a 01 08 00 43 00 00 00 00 1a 0b')
 # `f` turns for ever: each turn costs one unit, and its entry one.
 LOOP = HEADER + bytes.fromhex('01 04 01 60 00 00 03 02 01 00 07 05 01 01 66 00 00 0a 09 01 07 00 03 40 0c 00 0b 0b')
 # The start function is `unreachable`.

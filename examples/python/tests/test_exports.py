@@ -1,4 +1,4 @@
-"""What modules export, and calls by plain numbers."""
+"""What modules import and export, their measures, and calls by plain numbers."""
 import re
 import unittest
 from collections.abc import Callable
@@ -7,13 +7,17 @@ from unittest import mock
 import gate
 from gate import I32, I64, ExportKind, FunctionType, ValueType
 from gate._library import library
-from tests.modules import HEADER, MANY, RESULTS, example
+from tests.modules import HEADER, ILL_TYPED, MANY, RESULTS, example
 
 # `both` of type [i64 i32] -> [i32 i64] gives its second and its first parameter; `f` of [f64] -> [], the memory `m`, the global `g`, the
 # table `t` with an empty name.
 ALL = HEADER + bytes.fromhex(
     '01 0c 02 60 02 7e 7f 02 7f 7e 60 01 7c 00  03 03 02 00 01  04 04 01 70 00 01  05 03 01 00 01  06 06 01 7f 00 41 05 0b'
     '07 17 05 04 62 6f 74 68 00 00  01 66 00 01  01 6d 02 00  01 67 03 00  00 01 00  0a 0b 02 06 00 20 01 20 00 0b 02 00 0b')
+# Of type [i32 i64] -> [i32] the function f of env; its table t, a memory m of no module, its function h, its global g; a section `note`.
+IMPORTS = HEADER + bytes.fromhex(
+    '01 0a 02 60 02 7f 7e 01 7f 60 00 00  02 2a 05 03 65 6e 76 01 66 00 00  03 65 6e 76 01 74 01 70 00 01  00 01 6d 02 00 01'
+    '03 65 6e 76 01 68 00 01  03 65 6e 76 01 67 03 7f 00  00 08 04 6e 6f 74 65 01 02 03')
 # Its memory has two pages.
 TWO_PAGES = HEADER + bytes.fromhex('05 03 01 00 02')
 BOTH = FunctionType((ValueType.I64, ValueType.I32), (ValueType.I32, ValueType.I64))
@@ -48,10 +52,55 @@ class Exports(unittest.TestCase):
     def test_closed(self) -> None:
         module = gate.Module(HEADER)
         module.close()
-        uses: tuple[Callable[[], object], ...] = (lambda: module.exports), (lambda: module.find('f')), module.starts
+        uses: tuple[Callable[[], object], ...] = (
+            lambda: module.exports, lambda: module.find('f'), module.starts, lambda: module.imports, lambda: module.measures,
+            module.exports_text)
         for use in uses:
             with self.assertRaisesRegex(ValueError, 'closed'):
                 use()
+
+
+class Imports(unittest.TestCase):
+    def test_all_kinds(self) -> None:
+        with gate.Module(IMPORTS) as module:
+            self.assertEqual(module.imports, (
+                gate.Import('env', 'f', ExportKind.FUNCTION, FunctionType((ValueType.I32, ValueType.I64), (ValueType.I32,))),
+                gate.Import('env', 't', ExportKind.TABLE), gate.Import('', 'm', ExportKind.MEMORY),
+                gate.Import('env', 'h', ExportKind.FUNCTION, FunctionType((), ())), gate.Import('env', 'g', ExportKind.GLOBAL)))
+            self.assertEqual('; '.join(map(str, module.imports)),
+                             'env f: function (i32, i64) -> (i32); env t: table;  m: memory; env h: function () -> (); env g: global')
+            self.assertEqual(module.exports_text(), gate.exports_text(IMPORTS))
+            with module.share() as other:
+                self.assertEqual((other.imports, other.exports_text()), (module.imports, module.exports_text()))
+
+    def test_none(self) -> None:
+        with gate.Module(ALL) as module:
+            self.assertEqual(module.imports, ())
+
+
+class Texts(unittest.TestCase):
+    def test_an_accepted_module(self) -> None:
+        self.assertEqual(gate.exports_text(IMPORTS).splitlines(), [
+            'import "env" "f" function [i32 i64] -> [i32]', 'import "env" "t" table', 'import "" "m" memory',
+            'import "env" "h" function [] -> []', 'import "env" "g" global i32', 'custom "note" 3',
+            'not-started imports: import 0 "env" "f" is a function'])
+        self.assertEqual(gate.exports_text(TWO_PAGES), 'starts\n')
+        self.assertEqual(gate.exports_text(TWO_PAGES, gate.Settings(pages=1)),
+                         'not-started memory-limit: the memory has 2 pages, and 1 are the most\n')
+
+    def test_a_refused_module(self) -> None:
+        self.assertEqual(gate.exports_text(ILL_TYPED), 'refused body 0 ill-typed at 1\n')
+
+    def test_a_long_text(self) -> None:
+        data = HEADER + bytes.fromhex('00 02 01 61') * 1000
+        self.assertEqual(gate.exports_text(data), 'custom "a" 0\n' * 1000 + 'starts\n')
+
+
+class Measured(unittest.TestCase):
+    def test_measures(self) -> None:
+        for data, measures in (HEADER, (0, 0, 0)), (example('add.wasm'), (4, 2, 2)), (ALL, (3, 2, 2)), (IMPORTS, (0, 0, 2)):
+            with gate.Module(data) as module:
+                self.assertEqual(module.measures, gate.Measures(*measures))
 
 
 class PlainNumbers(unittest.TestCase):

@@ -12,7 +12,7 @@ from unittest import mock
 import gate
 from gate import I32, End, EndKind, NotStarted, Trap
 from gate._library import CCall, CInstance, library
-from tests.modules import GOES_ON, LOOP, MANY, RESULTS, SEGMENT_OUTSIDE, START_TRAPS, example
+from tests.modules import GOES_ON, HALF, LOOP, MANY, RESULTS, SEGMENT_OUTSIDE, START_TRAPS, example
 from tests.test_module import side_by_side
 
 PAGE = 65_536
@@ -207,15 +207,19 @@ class Resets(Goes):
 class FromTheBeginning(unittest.TestCase):
     """There is no instance from the beginning."""
 
-    def ends(self, data: bytes, wanted: End, settings: gate.Settings = gate.Settings()) -> None:
+    def ends(self, data: bytes, wanted: End, settings: gate.Settings = gate.Settings(), place: str = '') -> None:
         with gate.Module(data) as module, self.assertRaises(gate.NoInstance) as caught:
             module.instance(settings)
-        self.assertEqual(caught.exception.end, wanted)
-        self.assertEqual(str(caught.exception), f'no instance: {wanted}')
+        self.assertEqual((caught.exception.end, caught.exception.place), (wanted, place))
+        self.assertEqual(str(caught.exception), f'no instance: {wanted}: {place}' if place else f'no instance: {wanted}')
 
     def test_not_started(self) -> None:
-        self.ends(SEGMENT_OUTSIDE, End(EndKind.NOT_STARTED, reason=NotStarted.DATA_OUTSIDE, place=1))
-        self.ends(GOES_ON, End(EndKind.NOT_STARTED, reason=NotStarted.MEMORY_LIMIT), gate.Settings(pages=0))
+        self.ends(SEGMENT_OUTSIDE, End(EndKind.NOT_STARTED, reason=NotStarted.DATA_OUTSIDE, place=1),
+                  place='it has 2 bytes from 65535 on, and the memory has 65536')
+        self.ends(GOES_ON, End(EndKind.NOT_STARTED, reason=NotStarted.MEMORY_LIMIT), gate.Settings(pages=0),
+                  'the memory has 1 pages, and 0 are the most')
+        self.ends(HALF, End(EndKind.NOT_STARTED, reason=NotStarted.FLOATS),
+                  place='function 0 "half" token 0 f32.const 0x00000000, byte 33 (0x21)')
 
     def test_start_function(self) -> None:
         self.ends(START_TRAPS, End(EndKind.TRAP, reason=Trap.UNREACHABLE, fuel=1))

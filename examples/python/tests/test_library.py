@@ -19,7 +19,8 @@ class Library(unittest.TestCase):
     def setUp(self) -> None:
         folder = tempfile.TemporaryDirectory()
         self.addCleanup(folder.cleanup)
-        self.folder, self.package = folder.name, os.path.join(folder.name, 'gate')
+        self.release, self.folder = folder.name, os.path.join(folder.name, 'examples', 'python')
+        self.package = os.path.join(self.folder, 'gate')
         shutil.copytree(PACKAGE, self.package, ignore=shutil.ignore_patterns(BESIDE, '__pycache__'))
 
     def imports_with(self, library: str) -> str:
@@ -44,6 +45,16 @@ class Library(unittest.TestCase):
         self.assertEqual(self.imports_with(found), '')
         shutil.copyfile(found, os.path.join(self.package, BESIDE))
         self.assertEqual(self.imports_with('/nowhere/libgate.so.1'), '')
+
+    def test_in_a_release(self) -> None:
+        found = _library.find()
+        if found is None or not os.path.exists(found):
+            self.skipTest('the library is found by name')
+        os.mkdir(os.path.join(self.release, 'lib'))
+        shutil.copyfile(found, os.path.join(self.release, 'lib', BESIDE))
+        self.assertEqual(self.imports_with(''), '')
+        # The environment comes first.
+        self.assertRegex(self.imports_with('/nowhere/libgate.so.1'), 'ImportError: /nowhere/libgate.so.1 is no libgate')
 
     def test_version(self) -> None:
         with open(os.path.join(ROOT, 'include', 'gate.h')) as header:

@@ -139,12 +139,20 @@ impl fmt::Display for Explanation {
 
 /// The text of an explanation.
 fn text_of(bytes: &[u8]) -> Result<String, NoMemory> {
+    text_by(|out, room, length| {
+        // SAFETY: the slice is borrowed for the call; `out` has the room that is told, and nobody else reaches it or `length`.
+        unsafe { ffi::gate_explain_text(bytes.as_ptr(), bytes.len(), out, room, length) }
+    })
+}
+
+/// The text that `write` makes of a module, as a function of the library that has such a buffer, its room, and the length that is written or
+/// wanted.
+pub(crate) fn text_by(write: impl Fn(*mut u8, usize, &mut usize) -> u32) -> Result<String, NoMemory> {
     let mut room = ROOM;
     loop {
         let mut text: Vec<u8> = error::room(room)?;
         let mut length = 0;
-        // SAFETY: the slice is borrowed for the call; `text` has the room that is told, and nobody else reaches it or `length`.
-        match unsafe { ffi::gate_explain_text(bytes.as_ptr(), bytes.len(), text.as_mut_ptr(), room, &mut length) } {
+        match write(text.as_mut_ptr(), room, &mut length) {
             // SAFETY: the library has written `length` bytes, which are within the room.
             ffi::GATE_OK | ffi::GATE_MODULE_REFUSED => unsafe { text.set_len(length) },
             ffi::GATE_SHORT_BUFFER => {

@@ -1,6 +1,7 @@
-//! What a module exports.
+//! What a module imports and exports, and the numbers by which a host may refuse it.
 use crate::error::{self, beyond_interface};
-use crate::{ffi, Module, NoMemory};
+use crate::explanation::text_by;
+use crate::{ffi, Module, NoMemory, Settings};
 use std::fmt;
 
 /// What is exported under a name. It displays as `add: function (i32, i32) -> (i32)`.
@@ -14,7 +15,29 @@ pub struct Export {
     pub index: u32,
 }
 
-/// What may be exported.
+/// What is imported: the item of that name of another module. It displays as `env log: function (i32) -> ()`.
+#[derive(Clone, Debug, PartialEq, Eq, Hash)]
+pub struct Import {
+    /// The name of the other module.
+    pub module: String,
+    /// The item's name there.
+    pub name: String,
+    /// What it is.
+    pub item: Item,
+}
+
+/// Numbers by which a host may refuse a module: those of the formula in SECURITY, "Time of a run".
+#[derive(Clone, Copy, Debug, PartialEq, Eq, Hash)]
+pub struct Measures {
+    /// The tokens of the longest body.
+    pub tokens: u64,
+    /// The most locals of a function: its parameters, and those that it declares.
+    pub locals: u64,
+    /// The longest list of types: the parameters or the results of a function type.
+    pub values: u64,
+}
+
+/// What may be imported or exported.
 #[derive(Clone, Debug, PartialEq, Eq, Hash)]
 pub enum Item {
     /// A function of this type.
@@ -68,6 +91,29 @@ fn types_of(bytes: &[u8]) -> Result<Vec<ValueType>, NoMemory> {
     Ok(types)
 }
 
+/// A function of the library that writes a name of an item.
+type WritesName = unsafe extern "C" fn(ffi::gate_module, u64, *mut u8, usize, *mut usize) -> u32;
+
+/// Judges a module, and gives what `gate exports` prints: its imports, exports and custom sections, and whether an instance starts within
+/// these limits, and if not, why and where. Of a refused module it is the line of the verdict.
+///
+/// ```
+/// let text = gate::exports_text(&std::fs::read("../add.wasm")?, gate::Settings::default())?;
+/// assert_eq!(text, "function 0 \"add\" [i32 i32] -> [i32]\nstarts\n");
+/// # Ok::<(), Box<dyn std::error::Error>>(())
+/// ```
+///
+/// # Errors
+///
+/// [`NoMemory`], where memory was refused.
+pub fn exports_text(bytes: &[u8], settings: Settings) -> Result<String, NoMemory> {
+    let settings = settings.to_c();
+    text_by(|out, room, length| {
+        // SAFETY: the slice is borrowed for the call; `out` has the room that is told, and nobody else reaches it or `length`.
+        unsafe { ffi::gate_exports_text(bytes.as_ptr(), bytes.len(), &settings, out, room, length) }
+    })
+}
+
 impl Module<'_> {
     /// How many bytes the module's lists take, its own bytes apart.
     #[must_use]
@@ -96,11 +142,60 @@ impl Module<'_> {
             let mut told = ffi::gate_export::default();
             // SAFETY: likewise, and `told` is reached by nobody else.
             match unsafe { ffi::gate_module_export(self.handle, number, &mut told) } {
-                ffi::GATE_OK => exports.push(self.export_of(self.export_name(number)?, &told)?),
+                ffi::GATE_OK => exports.push(self.export_of(self.name_by(ffi::gate_module_export_name, number)?, &told)?),
                 status => beyond_interface("status", status),
             }
         }
         Ok(exports)
+    }
+
+    /// What the module imports, in its order. No call of a module with imports runs.
+    ///
+    /// # Errors
+    ///
+    /// [`NoMemory`], where memory was refused.
+    pub fn imports(&self) -> Result<Vec<Import>, NoMemory> {
+        // SAFETY: the handle is not freed, and no other call has it.
+        let count = unsafe { ffi::gate_module_import_count(self.handle) };
+        let mut imports = error::room(usize::try_from(count).map_err(|_| NoMemory)?)?;
+        let mut functions = 0;
+        for number in 0..count {
+            let mut told = ffi::gate_import::default();
+            // SAFETY: likewise, and `told` is reached by nobody else.
+            match unsafe { ffi::gate_module_import(self.handle, number, &mut told) } {
+                ffi::GATE_OK => {}
+                status => beyond_interface("status", status),
+            }
+            imports.push(Import {
+                module: self.name_by(ffi::gate_module_import_module, number)?,
+                name: self.name_by(ffi::gate_module_import_name, number)?,
+                item: self.item_of(told.kind, functions, told.params, told.results)?,
+            });
+            functions += u32::from(told.kind == 0);
+        }
+        Ok(imports)
+    }
+
+    /// Numbers by which a host may refuse the module.
+    ///
+    /// ```
+    /// let bytes = std::fs::read("../add.wasm")?;
+    /// let measures = gate::Module::new(&bytes)?.measures();
+    /// assert_eq!((measures.tokens, measures.locals, measures.values), (4, 2, 2));
+    /// # Ok::<(), Box<dyn std::error::Error>>(())
+    /// ```
+    #[must_use]
+    pub fn measures(&self) -> Measures {
+        let mut told = ffi::gate_measures::default();
+        // SAFETY: the handle is not freed, and no other call has it; `told` is reached by nobody else.
+        match unsafe { ffi::gate_module_measures(self.handle, &mut told) } {
+            ffi::GATE_OK => Measures {
+                tokens: told.tokens,
+                locals: told.locals,
+                values: told.values,
+            },
+            status => beyond_interface("status", status),
+        }
     }
 
     /// The export of that name.
@@ -128,26 +223,30 @@ impl Module<'_> {
     }
 
     fn export_of(&self, name: String, told: &ffi::gate_export) -> Result<Export, NoMemory> {
-        let item = match told.kind {
-            0 => Item::Function(self.type_of(told)?),
-            1 => Item::Table,
-            2 => Item::Memory,
-            3 => Item::Global,
-            kind => beyond_interface("kind of export", kind),
-        };
         Ok(Export {
             name,
-            item,
+            item: self.item_of(told.kind, told.index, told.params, told.results)?,
             index: told.index,
         })
     }
 
-    fn export_name(&self, number: u64) -> Result<String, NoMemory> {
+    fn item_of(&self, kind: u32, index: u32, params: u32, results: u32) -> Result<Item, NoMemory> {
+        Ok(match kind {
+            0 => Item::Function(self.type_of(index, params, results)?),
+            1 => Item::Table,
+            2 => Item::Memory,
+            3 => Item::Global,
+            kind => beyond_interface("kind of item", kind),
+        })
+    }
+
+    /// The name that a function of the library writes of an item of that number.
+    fn name_by(&self, write: WritesName, number: u64) -> Result<String, NoMemory> {
         let mut bytes = error::zeros(64)?;
         loop {
             let mut length = 0;
             // SAFETY: the handle is not freed, and no other call has it; the vector has as many bytes as are told.
-            match unsafe { ffi::gate_module_export_name(self.handle, number, bytes.as_mut_ptr(), bytes.len(), &mut length) } {
+            match unsafe { write(self.handle, number, bytes.as_mut_ptr(), bytes.len(), &mut length) } {
                 ffi::GATE_OK => bytes.truncate(length),
                 ffi::GATE_SHORT_BUFFER => {
                     bytes = error::zeros(length)?;
@@ -155,17 +254,17 @@ impl Module<'_> {
                 }
                 status => beyond_interface("status", status),
             }
-            return Ok(String::from_utf8(bytes).unwrap_or_else(|_| beyond_interface("name of export", number)));
+            return Ok(String::from_utf8(bytes).unwrap_or_else(|_| beyond_interface("name of item", number)));
         }
     }
 
-    fn type_of(&self, told: &ffi::gate_export) -> Result<FunctionType, NoMemory> {
-        let (mut params, mut results) = (error::zeros(told.params as usize)?, error::zeros(told.results as usize)?);
+    fn type_of(&self, function: u32, params: u32, results: u32) -> Result<FunctionType, NoMemory> {
+        let (mut params, mut results) = (error::zeros(params as usize)?, error::zeros(results as usize)?);
         // SAFETY: the handle is not freed, and no other call has it; the vectors have as many bytes as are told.
         let status = unsafe {
             ffi::gate_module_types(
                 self.handle,
-                told.index,
+                function,
                 params.as_mut_ptr(),
                 params.len(),
                 results.as_mut_ptr(),
@@ -211,14 +310,28 @@ impl fmt::Display for FunctionType {
     }
 }
 
+impl fmt::Display for Item {
+    fn fmt(&self, f: &mut fmt::Formatter<'_>) -> fmt::Result {
+        match self {
+            Item::Function(of_type) => write!(f, "function {of_type}"),
+            Item::Table => f.write_str("table"),
+            Item::Memory => f.write_str("memory"),
+            Item::Global => f.write_str("global"),
+        }
+    }
+}
+
 impl fmt::Display for Export {
     fn fmt(&self, f: &mut fmt::Formatter<'_>) -> fmt::Result {
-        let kind = match &self.item {
-            Item::Function(of_type) => return write!(f, "{}: function {of_type}", self.name),
-            Item::Table => "table",
-            Item::Memory => "memory",
-            Item::Global => "global",
-        };
-        write!(f, "{}: {kind} {}", self.name, self.index)
+        match &self.item {
+            Item::Function(_) => write!(f, "{}: {}", self.name, self.item),
+            _ => write!(f, "{}: {} {}", self.name, self.item, self.index),
+        }
+    }
+}
+
+impl fmt::Display for Import {
+    fn fmt(&self, f: &mut fmt::Formatter<'_>) -> fmt::Result {
+        write!(f, "{} {}: {}", self.module, self.name, self.item)
     }
 }

@@ -35,7 +35,7 @@ use gate_sys as ffi;
 pub use call::{Call, CallError, End, NotStarted, Trap};
 pub use error::{CheckError, InstanceError, NoMemory};
 pub use explanation::{explain, Explanation};
-pub use export::{Export, FunctionType, Item, ValueType};
+pub use export::{exports_text, Export, FunctionType, Import, Item, Measures, ValueType};
 pub use instance::Instance;
 pub use module::{Module, SharedModule};
 pub use report::{run, Report, Status};
@@ -50,7 +50,7 @@ pub fn interface() -> u32 {
     unsafe { ffi::gate_version() }
 }
 
-/// The number of what the library has beside its first functions. This crate wants 1 at least.
+/// The number of what the library has beside its first functions. This crate wants 2 at least.
 #[must_use]
 pub fn revision() -> u32 {
     // SAFETY: it takes and touches nothing.

@@ -18,7 +18,7 @@ fn with_body(body: &[u8]) -> Vec<u8> {
 
 #[test]
 fn the_interface_is_the_crate_s() {
-    assert_eq!((gate::interface(), gate::revision()), (1, 1));
+    assert_eq!((gate::interface(), gate::revision()), (1, 2));
     assert!(gate::build().unwrap().starts_with("gate 0.2.0 (commit "));
 }
 
@@ -194,6 +194,37 @@ fn all_kinds() -> Vec<u8> {
         (7, b"\x05\x04both\0\0\x01f\0\x01\x01m\x02\0\x01g\x03\0\0\x01\0"),
         (10, &[2, 6, 0, 0x20, 1, 0x20, 0, 0x0b, 2, 0, 0x0b]),
     ])
+}
+
+/// Of type [i32 i64] -> [i32] the function f of env; its table t, a memory m of no module, its function h of [] -> [], its global g; and a
+/// custom section.
+const IMPORTS: &[u8] = b"\0asm\x01\0\0\0\x01\x0a\x02\x60\x02\x7f\x7e\x01\x7f\x60\0\0\x02\x2a\x05\x03env\x01f\0\0\x03env\x01t\x01\x70\0\x01\
+    \0\x01m\x02\0\x01\x03env\x01h\0\x01\x03env\x01g\x03\x7f\0\0\x08\x04note\x01\x02\x03";
+
+#[test]
+fn imports() {
+    let module = Module::new(IMPORTS).unwrap();
+    let shown: Vec<_> = module.imports().unwrap().iter().map(ToString::to_string).collect();
+    let wanted = ["env f: function (i32, i64) -> (i32)", "env t: table", " m: memory", "env h: function () -> ()", "env g: global"];
+    assert_eq!(shown, wanted);
+    assert_eq!(Module::new(HEADER).unwrap().imports(), Ok(vec![]));
+    let text = gate::exports_text(IMPORTS, Settings::default()).unwrap();
+    let wanted = "import \"env\" \"f\" function [i32 i64] -> [i32]\nimport \"env\" \"t\" table\nimport \"\" \"m\" memory\n\
+                  import \"env\" \"h\" function [] -> []\nimport \"env\" \"g\" global i32\ncustom \"note\" 3\n\
+                  not-started imports: import 0 \"env\" \"f\" is a function\n";
+    assert_eq!(text, wanted);
+    assert_eq!(gate::exports_text(b"\0asm", Settings::default()).unwrap(), "refused malformed\n");
+    let long: Vec<u8> = HEADER.iter().chain([0, 2, 1, b'a'].iter().cycle().take(4000)).copied().collect();
+    assert_eq!(gate::exports_text(&long, Settings::default()).unwrap(), "custom \"a\" 0\n".repeat(1000) + "starts\n");
+}
+
+#[test]
+fn measures() {
+    let bytes = all_kinds();
+    for (bytes, wanted) in [(HEADER, (0, 0, 0)), (&bytes, (3, 2, 2)), (IMPORTS, (0, 0, 2))] {
+        let found = Module::new(bytes).unwrap().measures();
+        assert_eq!((found.tokens, found.locals, found.values), wanted);
+    }
 }
 
 #[test]

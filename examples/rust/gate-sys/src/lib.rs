@@ -1,4 +1,4 @@
-//! The declarations of `gate.h`, of interface 1 and revision 1, and its archive. What a function answers, and what a caller owes, stands
+//! The declarations of `gate.h`, of interface 1 and revision 2, and its archive. What a function answers, and what a caller owes, stands
 //! in that header. The crate `gate` is the safe one.
 #![no_std]
 #![allow(non_camel_case_types)]
@@ -145,6 +145,30 @@ pub struct gate_export {
     pub results: u32,
 }
 
+/// What is imported.
+#[repr(C)]
+#[derive(Clone, Copy, Debug, Default)]
+pub struct gate_import {
+    /// `enum gate_export_kind`.
+    pub kind: u32,
+    /// How many parameters a function has, else 0.
+    pub params: u32,
+    /// How many results a function has, else 0.
+    pub results: u32,
+}
+
+/// Numbers of a module by which a host may refuse it.
+#[repr(C)]
+#[derive(Clone, Copy, Debug, Default)]
+pub struct gate_measures {
+    /// Of the longest body.
+    pub tokens: u64,
+    /// The most of a function.
+    pub locals: u64,
+    /// The longest list of types.
+    pub values: u64,
+}
+
 const fn is_laid_out<T>(size: usize, alignment: usize) -> bool {
     size_of::<T>() == size && align_of::<T>() == alignment
 }
@@ -154,7 +178,8 @@ const _: () = assert!(is_laid_out::<gate_explanation>(80, 8));
 const _: () = assert!(is_laid_out::<gate_report>(8, 8) && is_laid_out::<gate_module>(8, 8));
 const _: () = assert!(is_laid_out::<gate_instance>(8, 8));
 const _: () = assert!(is_laid_out::<gate_value>(16, 8) && is_laid_out::<gate_call>(24, 8));
-const _: () = assert!(is_laid_out::<gate_export>(16, 4));
+const _: () = assert!(is_laid_out::<gate_export>(16, 4) && is_laid_out::<gate_import>(12, 4));
+const _: () = assert!(is_laid_out::<gate_measures>(24, 8));
 
 extern "C" {
     /// The number of the interface.
@@ -171,6 +196,16 @@ extern "C" {
 
     /// The same as a text.
     pub fn gate_explain_text(bytes: *const u8, bytes_length: usize, out: *mut u8, room: usize, length: *mut usize) -> u32;
+
+    /// Judges a module, and writes what `gate exports` prints.
+    pub fn gate_exports_text(
+        bytes: *const u8,
+        bytes_length: usize,
+        settings: *const gate_settings,
+        out: *mut u8,
+        room: usize,
+        length: *mut usize,
+    ) -> u32;
 
     /// Judges a module, and runs the calls of a text.
     pub fn gate_run(
@@ -237,6 +272,9 @@ extern "C" {
     /// How many exports there are.
     pub fn gate_module_export_count(module: gate_module) -> u64;
 
+    /// Writes numbers by which a host may refuse a module.
+    pub fn gate_module_measures(module: gate_module, measures: *mut gate_measures) -> u32;
+
     /// Tells an export by its number.
     pub fn gate_module_export(module: gate_module, number: u64, found: *mut gate_export) -> u32;
 
@@ -255,6 +293,18 @@ extern "C" {
         results: *mut u8,
         results_room: usize,
     ) -> u32;
+
+    /// How many imports there are.
+    pub fn gate_module_import_count(module: gate_module) -> u64;
+
+    /// Tells an import by its number.
+    pub fn gate_module_import(module: gate_module, number: u64, found: *mut gate_import) -> u32;
+
+    /// Writes the name of the module that an import is of.
+    pub fn gate_module_import_module(module: gate_module, number: u64, out: *mut u8, room: usize, length: *mut usize) -> u32;
+
+    /// Writes the name of an import in that module.
+    pub fn gate_module_import_name(module: gate_module, number: u64, out: *mut u8, room: usize, length: *mut usize) -> u32;
 
     /// Says whether a call would have an instance.
     pub fn gate_module_starts(module: gate_module, settings: *const gate_settings, ended: *mut gate_call) -> u32;
