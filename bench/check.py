@@ -1,6 +1,6 @@
 """Measures `gate check` beside other validators.
 
-A row is a module of bench/modules.py of each of the sizes that are given, or a module that is given as a file: real programs.
+A row is a module of tools/ordinary_modules.py of each of the sizes that are given, or a module that is given as a file: real programs.
 All engines take turns, so that all meet the same load, and the best of seven counts, in MB/s of the file, by the clock. With
 --median it is the median of that many turns: on a machine whose processors are often away the best of few says little. Three are
 measured alike: by their own clocks, the file being read, the best of three in one process (with --first, the first of the
@@ -147,7 +147,7 @@ def modules(folder, words):
     for kind, label in KINDS.items():
         for size in sizes:
             path = os.path.join(folder, f'{kind}.wasm')
-            maker = [sys.executable, '-m', 'bench.modules', kind, str(int(size * 1e6)), '7']
+            maker = [sys.executable, '-m', 'tools.ordinary_modules', kind, str(int(size * 1e6)), '7']
             with open(path, 'wb') as file:
                 subprocess.run(maker, stdout=file, cwd=ROOT, check=True)
             yield f'{label}, {size:g} MB', path, kind in LONG_LISTS

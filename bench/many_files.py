@@ -18,10 +18,10 @@ import sys
 import tempfile
 import time
 
-from bench.modules import module
 from bench.recording import Recorder
 from tools import arguments
 from tools.files import write
+from tools.ordinary_modules import module
 from tools.random_modules import typed_module
 
 HERE = os.path.dirname(os.path.abspath(__file__))

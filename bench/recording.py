@@ -5,6 +5,7 @@ the rows. A field that was not measured is empty.
 """
 import datetime
 import os
+import re
 import shutil
 import subprocess
 import sys
@@ -25,10 +26,20 @@ def said(words):
     return lines[0].strip() if lines else ''
 
 
+def plain(model):
+    """The name of a processor without marks and empty words: Intel(R) Xeon(R) Processor @ 2.50GHz is Intel Xeon at 2.5 GHz."""
+    name = re.sub(r'\((?:R|TM)\)|\b(?:CPU|Processor)\b', ' ', model)
+    name = re.sub(r'@ *(\d+(?:\.\d*[1-9])?)[.0]*GHz', r'at \1 GHz', name)
+    return ' '.join(name.split())
+
+
 def processor():
+    """The machine, as heads and documents name it."""
     with open('/proc/cpuinfo') as file:
-        names = [line.split(':', 1)[1].strip() for line in file if line.startswith('model name')]
-    return f'{names[0]}, {os.cpu_count()} cores' if names else ''
+        told = file.read()
+    model = re.search(r'^model name\s*: (.*)', told, re.M)
+    where = ' in a virtual machine' if re.search(r'^flags.* hypervisor\b', told, re.M) else ''
+    return f'{plain(model[1])}{where}, {os.cpu_count()} cores' if model else ''
 
 
 def commit():

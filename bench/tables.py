@@ -1,7 +1,7 @@
 """Writes into the documents what bench/results/*.tsv say: blocks between `<!-- begin NAME -->` and `<!-- end NAME -->`, and plots.
 
-With --check nothing is written: a block or a plot that is not that of its file is a fault, and so is a family of modules that takes
-more than docs/SECURITY.md advises to plan with. Its rows `check: time`, `check: memory`, `judging: time` and `judging: memory` have
+With --check nothing is written: a block or a plot that is not that of its file is a fault, and so are a file of results without its
+machine, and a family of modules that takes more than docs/SECURITY.md advises to plan with. Its rows `check: time`, `check: memory`, `judging: time` and `judging: memory` have
 the advice: `N times` ordinary code, `N s` for a module of 16 MB, `N lengths` of the module.
 """
 import glob
@@ -302,7 +302,7 @@ def head_line(name, before):
 
 
 def sources():
-    names = ('check', 'kernels', 'batch', 'judging', 'families')
+    names = ('check', 'kernels', 'batch', 'judging', 'plugins', 'embedding', 'families', 'families_again', 'judging_workers', 'large_pages')
     return '\n'.join(map(head_line, names, (None,) + names))
 
 
@@ -348,10 +348,11 @@ def readme_speed():
     return '\n'.join([
         table(['you want to', '`gate`', 'V8'], rows), '',
         f'- A check of real programs is {mean_beside(("gate", "1"), ("V8", "1")):.2f} times as fast as V8 on one thread, '
-        f'{mean_beside(("gate", "4"), ("V8", "all")):.2f} times on all.',
+        f'{mean_beside(("gate", "4"), ("V8", "all")):.2f} times on all threads.',
         f'- The worst hostile module known takes {most_seconds("families*", "check"):.1f} s for 16 MB, '
         f'{most("families*", "times_ordinary", "check"):.0f} times ordinary code.',
-        f'- Measured on an {results("check").head["processor"]}; V8 of {results("check").head["peers"].split("(")[1].split(")")[0]}.'])
+        f'- Measured on an {results("check").head["processor"]}, V8 of {results("check").head["peers"].split("(")[1].split(")")[0]}; '
+        'SPEED names the older runs.'])
 
 
 BLOCKS = {'README.md': {'readme-speed': readme_speed},
@@ -411,8 +412,17 @@ def advised():
             ('lengths', most('judging*', 'memory_lengths', 'judging'), 'judging: memory', r'(?:lengths\b|times\b)')]
 
 
+def without_machine():
+    """The files of results that do not say on which machine, other than those that were transcribed from a page."""
+    for path in sorted(glob.glob(os.path.join(FOLDER, '*.tsv'))):
+        head = Results(path).head
+        if not head['processor'] and not head.get('note', '').startswith('transcribed'):
+            yield os.path.relpath(path, ROOT)
+
+
 def faults():
     """What the documents say otherwise than the files of results."""
+    yield from (f'{path}: no machine' for path in without_machine())
     for name, text, missing in documents():
         yield from (f'{name}: no marks for the block {block}' for block in missing)
         if text != read(name):

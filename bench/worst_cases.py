@@ -15,11 +15,11 @@ import sys
 import tempfile
 
 from bench.measuring import peak
-from bench.modules import module
 from bench.recording import Recorder
 from tools import arguments
 from tools.encoding import function_type, signed, sized, unsigned, whole
 from tools.files import write
+from tools.ordinary_modules import module
 from tools.processes import processor_seconds
 from tools.worst_cases import FAMILIES, KEPT, module_of
 

@@ -226,6 +226,16 @@ uint32_t gate_debug_explain_text(const char *file, int line, const uint8_t *byte
     return (gate_explain_text)(bytes, bytes_length, out, room, length);
 }
 
+uint32_t gate_debug_exports_text(const char *file, int line, const uint8_t *bytes, size_t bytes_length, const gate_settings *settings,
+                                 uint8_t *out, size_t room, size_t *length) {
+    const site here = { file, line, "gate_exports_text" };
+    const area areas[] = {
+        READS(uint8_t, bytes, bytes_length), READS(gate_settings, settings, 1), WRITES(uint8_t, out, room), WRITES(size_t, length, 1),
+    };
+    look_at(here, areas, COUNT_OF(areas));
+    return (gate_exports_text)(bytes, bytes_length, settings, out, room, length);
+}
+
 uint32_t gate_debug_run(const char *file, int line, const uint8_t *module, size_t module_length, const uint8_t *calls,
                         size_t calls_length, const gate_settings *settings, uint8_t *out, size_t room, size_t *length,
                         gate_report *kept) {
@@ -345,6 +355,16 @@ uint64_t gate_debug_module_size(const char *file, int line, gate_module module) 
     return size;
 }
 
+uint32_t gate_debug_module_measures(const char *file, int line, gate_module module, gate_measures *measures) {
+    const site here = { file, line, "gate_module_measures" };
+    handle *used = begin(here, module.at, MODULE, false);
+    const area areas[] = { READS_BYTES_OF(used), WRITES(gate_measures, measures, 1) };
+    look_at(here, areas, COUNT_OF(areas));
+    const uint32_t status = (gate_module_measures)(module, measures);
+    finish(used);
+    return status;
+}
+
 uint32_t gate_debug_module_export(const char *file, int line, gate_module module, uint64_t number, gate_export *found) {
     const site here = { file, line, "gate_module_export" };
     handle *used = begin(here, module.at, MODULE, false);
@@ -386,6 +406,47 @@ uint32_t gate_debug_module_types(const char *file, int line, gate_module module,
     const uint32_t status = (gate_module_types)(module, function, params, params_room, results, results_room);
     finish(used);
     return status;
+}
+
+uint64_t gate_debug_module_import_count(const char *file, int line, gate_module module) {
+    const site here = { file, line, "gate_module_import_count" };
+    handle *used = begin(here, module.at, MODULE, false);
+    const uint64_t count = (gate_module_import_count)(module);
+    finish(used);
+    return count;
+}
+
+uint32_t gate_debug_module_import(const char *file, int line, gate_module module, uint64_t number, gate_import *found) {
+    const site here = { file, line, "gate_module_import" };
+    handle *used = begin(here, module.at, MODULE, false);
+    const area areas[] = { READS_BYTES_OF(used), WRITES(gate_import, found, 1) };
+    look_at(here, areas, COUNT_OF(areas));
+    const uint32_t status = (gate_module_import)(module, number, found);
+    finish(used);
+    return status;
+}
+
+typedef uint32_t names_import(gate_module module, uint64_t number, uint8_t *out, size_t room, size_t *length);
+
+static uint32_t name_import(site here, names_import *names, gate_module module, uint64_t number, uint8_t *out, size_t room, size_t *length) {
+    handle *used = begin(here, module.at, MODULE, false);
+    const area areas[] = { READS_BYTES_OF(used), WRITES(uint8_t, out, room), WRITES(size_t, length, 1) };
+    look_at(here, areas, COUNT_OF(areas));
+    const uint32_t status = names(module, number, out, room, length);
+    finish(used);
+    return status;
+}
+
+uint32_t gate_debug_module_import_module(const char *file, int line, gate_module module, uint64_t number, uint8_t *out, size_t room,
+                                         size_t *length) {
+    const site here = { file, line, "gate_module_import_module" };
+    return name_import(here, gate_module_import_module, module, number, out, room, length);
+}
+
+uint32_t gate_debug_module_import_name(const char *file, int line, gate_module module, uint64_t number, uint8_t *out, size_t room,
+                                       size_t *length) {
+    const site here = { file, line, "gate_module_import_name" };
+    return name_import(here, gate_module_import_name, module, number, out, room, length);
 }
 
 uint32_t gate_debug_module_starts(const char *file, int line, gate_module module, const gate_settings *settings, gate_call *ended) {

@@ -28,6 +28,8 @@ uint32_t gate_debug_build(const char *file, int line, uint8_t *out, size_t room,
 uint32_t gate_debug_explain(const char *file, int line, const uint8_t *bytes, size_t bytes_length, gate_explanation *explanation);
 uint32_t gate_debug_explain_text(const char *file, int line, const uint8_t *bytes, size_t bytes_length, uint8_t *out, size_t room,
                                  size_t *length);
+uint32_t gate_debug_exports_text(const char *file, int line, const uint8_t *bytes, size_t bytes_length, const gate_settings *settings,
+                                 uint8_t *out, size_t room, size_t *length);
 uint32_t gate_debug_run(const char *file, int line, const uint8_t *module, size_t module_length, const uint8_t *calls,
                         size_t calls_length, const gate_settings *settings, uint8_t *out, size_t room, size_t *length,
                         gate_report *kept);
@@ -46,6 +48,7 @@ void gate_debug_module_free(const char *file, int line, gate_module module);
 void gate_debug_module_drop(const char *file, int line, gate_module module);
 uint64_t gate_debug_module_export_count(const char *file, int line, gate_module module);
 uint64_t gate_debug_module_size(const char *file, int line, gate_module module);
+uint32_t gate_debug_module_measures(const char *file, int line, gate_module module, gate_measures *measures);
 uint32_t gate_debug_module_export(const char *file, int line, gate_module module, uint64_t number, gate_export *found);
 uint32_t gate_debug_module_export_name(const char *file, int line, gate_module module, uint64_t number, uint8_t *out, size_t room,
                                        size_t *length);
@@ -53,6 +56,12 @@ uint32_t gate_debug_module_find(const char *file, int line, gate_module module, 
                                 gate_export *found);
 uint32_t gate_debug_module_types(const char *file, int line, gate_module module, uint32_t function, uint8_t *params,
                                  size_t params_room, uint8_t *results, size_t results_room);
+uint64_t gate_debug_module_import_count(const char *file, int line, gate_module module);
+uint32_t gate_debug_module_import(const char *file, int line, gate_module module, uint64_t number, gate_import *found);
+uint32_t gate_debug_module_import_module(const char *file, int line, gate_module module, uint64_t number, uint8_t *out, size_t room,
+                                         size_t *length);
+uint32_t gate_debug_module_import_name(const char *file, int line, gate_module module, uint64_t number, uint8_t *out, size_t room,
+                                       size_t *length);
 uint32_t gate_debug_module_starts(const char *file, int line, gate_module module, const gate_settings *settings, gate_call *ended);
 uint32_t gate_debug_instance_new(const char *file, int line, gate_module module, const gate_settings *settings,
                                  gate_instance *instance, gate_call *ended);
@@ -78,6 +87,7 @@ void gate_debug_instance_drop(const char *file, int line, gate_instance instance
 #define gate_build(...) gate_debug_build(__FILE__, __LINE__, __VA_ARGS__)
 #define gate_explain(...) gate_debug_explain(__FILE__, __LINE__, __VA_ARGS__)
 #define gate_explain_text(...) gate_debug_explain_text(__FILE__, __LINE__, __VA_ARGS__)
+#define gate_exports_text(...) gate_debug_exports_text(__FILE__, __LINE__, __VA_ARGS__)
 #define gate_run(...) gate_debug_run(__FILE__, __LINE__, __VA_ARGS__)
 #define gate_report_read(...) gate_debug_report_read(__FILE__, __LINE__, __VA_ARGS__)
 #define gate_report_free(...) gate_debug_report_free(__FILE__, __LINE__, __VA_ARGS__)
@@ -90,10 +100,15 @@ void gate_debug_instance_drop(const char *file, int line, gate_instance instance
 #define gate_module_drop(...) gate_debug_module_drop(__FILE__, __LINE__, __VA_ARGS__)
 #define gate_module_export_count(...) gate_debug_module_export_count(__FILE__, __LINE__, __VA_ARGS__)
 #define gate_module_size(...) gate_debug_module_size(__FILE__, __LINE__, __VA_ARGS__)
+#define gate_module_measures(...) gate_debug_module_measures(__FILE__, __LINE__, __VA_ARGS__)
 #define gate_module_export(...) gate_debug_module_export(__FILE__, __LINE__, __VA_ARGS__)
 #define gate_module_export_name(...) gate_debug_module_export_name(__FILE__, __LINE__, __VA_ARGS__)
 #define gate_module_find(...) gate_debug_module_find(__FILE__, __LINE__, __VA_ARGS__)
 #define gate_module_types(...) gate_debug_module_types(__FILE__, __LINE__, __VA_ARGS__)
+#define gate_module_import_count(...) gate_debug_module_import_count(__FILE__, __LINE__, __VA_ARGS__)
+#define gate_module_import(...) gate_debug_module_import(__FILE__, __LINE__, __VA_ARGS__)
+#define gate_module_import_module(...) gate_debug_module_import_module(__FILE__, __LINE__, __VA_ARGS__)
+#define gate_module_import_name(...) gate_debug_module_import_name(__FILE__, __LINE__, __VA_ARGS__)
 #define gate_module_starts(...) gate_debug_module_starts(__FILE__, __LINE__, __VA_ARGS__)
 #define gate_instance_new(...) gate_debug_instance_new(__FILE__, __LINE__, __VA_ARGS__)
 #define gate_instance_call(...) gate_debug_instance_call(__FILE__, __LINE__, __VA_ARGS__)

@@ -11,7 +11,8 @@ exports.tsv        name, the module, what `gate exports` prints, its status
 Bytes are in hexadecimal; `xNN*K` stands for K times the bytes NN. In calls and in what is printed \\t is a tab, \\n a
 newline and \\r the byte 0d. Lines that begin with # are comments.
 
-Over a program of `./gate --unproved` the runs with small stacks are left out, and counted.
+Over a program of `./gate --unproved` the runs with small stacks are left out, and counted. What does not pass is printed at once, and
+what several plans of a row say alike only once; the last line counts runs.
 
 It imports nothing of this repository where it is no script, since the tests of examples/python take it alone.
 """
@@ -24,8 +25,8 @@ import tempfile
 
 here = os.path.dirname(os.path.abspath(__file__))
 tables = os.path.join(here, '..', 'crates', 'suite', 'data')
-# Seconds that a run may take.
-LONGEST = 120
+# Seconds that a run may take, and how many times as long one of a program with a sanitizer, on a machine that may be busy.
+LONGEST, WITH_SANITIZER = 120, 5
 
 
 def bytes_of(text):
@@ -68,23 +69,31 @@ def write(path, contents):
 
 def main(gate, text='', has_small_stacks=True):
     from tools.counting import difference
-    passed, failed, left_out = 0, 0, 0
+    passed, failed, left_out, told = 0, 0, 0, set()
     # The thread that starts them all has a call open for each.
     many = ['--workers', '64', '--piece', '1']
+    longest = LONGEST if has_small_stacks else WITH_SANITIZER * LONGEST
+
+    def fail(line):
+        # What several plans say alike is printed once.
+        nonlocal failed
+        failed += 1
+        if line not in told:
+            print(line, flush=True)
+        told.add(line)
 
     def expect(name, words, text, status, **settings):
-        nonlocal passed, failed
+        nonlocal passed
         try:
-            ran = subprocess.run([gate] + words, capture_output=True, timeout=LONGEST, **settings)
+            ran = subprocess.run([gate] + words, capture_output=True, timeout=longest, **settings)
         except subprocess.TimeoutExpired:
-            failed += 1
-            print(f'{name}: no end within {LONGEST} s')
+            fail(f'{name}: no end within {longest} s')
             return
-        if (ran.stdout, ran.returncode, ran.stderr) == (text, status, b''):
+        got, wanted = (ran.stdout, ran.returncode, ran.stderr), (text, status, b'')
+        if got == wanted:
             passed += 1
         else:
-            failed += 1
-            print(f'{name}: {difference((ran.stdout, ran.returncode, ran.stderr), (text, status, b""))}')
+            fail(f'{name}: {difference(got, wanted)}')
 
     def expect_on_small_stacks(name, words, text, status):
         nonlocal left_out

@@ -1,6 +1,6 @@
 """Runs generated modules through `check` and `run`, and ends at the first difference.
 
-Modules are generated ones (bench/modules.py, tools/random_modules.py, short ones of tools/worst_cases, and small ones with loops,
+Modules are generated ones (tools/ordinary_modules.py, tools/random_modules.py, short ones of tools/worst_cases, and small ones with loops,
 calls, memory, tables, traps), the same with bytes changed, cut or doubled, and random bytes after a header. A generator that says
 the verdict of a module is held to it. Each is judged and run by one worker, and then with other numbers of workers and pieces,
 two of them the least and the greatest and three at random, with stacks of 64 KiB, and with the address space held to what was drawn:
@@ -8,7 +8,7 @@ those answers must be equal to that of one worker. Where memory is held, and onc
 (tests/refuse_memory.c), they may be out of memory (status 70, nothing on standard output; a call's line `no-memory`).
 A crash, a run of ten minutes or another answer ends the soak. It prints seeds and counts; a seed makes the same run again.
 
-Where node is installed, its answers are compared too (bench/answers.js): whether `WebAssembly.validate` accepts the module, and
+Where node is installed, its answers are compared too (tests/answers.js): whether `WebAssembly.validate` accepts the module, and
 how each call ends on a fresh instance, by its values or its trap. A module is passed over, and counted, where node refuses it by
 a limit of its own, and where the part that `gate` refuses may spell what was added after Core 1.0; a call is where it ended for
 want of fuel, frames or memory, and where its memory may grow past the pages that `gate` was given.
@@ -22,9 +22,8 @@ import sys
 import tempfile
 import time
 
-from bench import modules
-from bench.beside_node import Node
-from tools import arguments
+from tests.beside_node import Node
+from tools import arguments, ordinary_modules
 from tools.encoding import HEADER, section, signed, sized, unsigned, vector
 from tools.files import ROOT
 from tools.random_modules import typed_module
@@ -131,9 +130,9 @@ def generated(r):
         form = r.choice(FAMILIES[name][0])
         verdict = b'accepted' if form.endswith('accepted') else b'refused'
         return module_of(name, form, r.choice([300, 1_000, 4_000]), r.randrange(2 ** 32)), {'f': []}, verdict
-    kind = r.choice(modules.KINDS)
+    kind = r.choice(ordinary_modules.KINDS)
     size = r.choice([2_000, 40_000] if kind in ('lists', 'labels') else [2_000, 40_000, 300_000])
-    return modules.module(kind, size, r.randrange(2 ** 32)), {'f': [b'\x7F'] * 2}, b'accepted'
+    return ordinary_modules.module(kind, size, r.randrange(2 ** 32)), {'f': [b'\x7F'] * 2}, b'accepted'
 
 
 def calls_of(r, exports):

@@ -56,7 +56,8 @@ BY_NAMES = re.compile('a proof file names what (it|the edit) took away')
 ONE_JOB = ['--jobs', '1']
 # The status of a check that was called wrongly, as with a name that fits no function or several.
 CALLED_WRONGLY = 2
-# Of tests/wrong_bodies so many minutes of a processor in a run over all crates; one edit takes about this part of the crate's proof.
+# How many minutes of a processor the edits of tests/wrong_bodies may take in a run over all crates; and which part of its crate's proof one
+# edit takes, about.
 MOST_MINUTES, PART_OF_A_PROOF = 10, 0.08
 
 HEADER = re.compile(r'^([ \t]*)(?:pub(?:\([a-z]+\))? )?(?:const |extern "C" )?fn (\w+)', re.M)
@@ -231,7 +232,10 @@ def refused_by_names(said, crate, bodies):
 def named_beside(said, crate, bodies):
     """The functions that the check does not prove, but those in the files that the bodies turn, and what calls one of these.
 
-    A method goes by the file of its type there, so that the names of what is turned are left out too."""
+    A method goes by the file of its type there, so that the names of what is turned are left out too. A body that turns no function, as a
+    constant, stands alone in its round, so whatever is not proved there is its work."""
+    if not all(it.functions for it in bodies):
+        return []
     files = {it for body in bodies for it in body.files()}
     modules = tuple(f'{crate.name}::{module_of(it)}::' for it in files)
     turned = {it.name for body in bodies for it in body.functions}

@@ -1,6 +1,7 @@
 """Makes the library for hosts in other languages from the object that `rt lib` left of the proved crate c_api.
 
-FOLDER gets libgate.a, one archive in which the three functions of the heap from the kit stand too, so that a host links nothing else;
+FOLDER gets libgate.a, one object in which the three functions of the heap from the kit stand too, so that a host links nothing else, and
+whose names but those of gate.h are its own, so that another library of this kit may stand beside it in a host;
 libgate.so.1, which exports the functions of include/gate.h alone; and libgate.so, a link to it. The same objects give the same bytes.
 libgate.so.1 tells the loader which processors it wants, where the linker can say so, and debuggers by a hash of its bytes which one it is.
 With --commit the twelve dashes of the text of gate_build are those characters in what is made.
@@ -42,10 +43,13 @@ def objects_of(archive, folder):
 def make_archive(archives, path):
     with tempfile.TemporaryDirectory() as folder:
         objects = [it for n, archive in enumerate(archives) for it in objects_of(archive, os.path.join(folder, str(n)))]
+        joined = os.path.join(folder, 'libgate.o')
+        run(['ld', '-r', '-o', joined, *objects])
+        run(['objcopy', '--wildcard', '--keep-global-symbol=gate_*', joined])
         if os.path.exists(path):
             os.remove(path)
-        # D: no times, owners and modes of files. q: objects of the same name stand beside each other.
-        run(['ar', 'qcsD', path] + objects)
+        # D: no times, owners and modes of files.
+        run(['ar', 'qcsD', path, joined])
 
 
 def make_shared(archive, path):

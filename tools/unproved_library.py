@@ -3,14 +3,13 @@
     $ python3 -m tools.unproved_library out/unproved-library/libc_api.a
 
 `rt lib` builds a library only where it is proved, and `rt try` builds programs alone. So a copy of the crates has c_api as a program,
-whose `main` calls each export. `rt try` hands the module of that program to clang, which is a script here, in a copy of the kit: it keeps
-the module and stops, so nothing runs. The exports then get their names, and the kit's clang makes an object of them, without the sanitizer.
-Overflows and the like, which a proof rules out, end the process of the host, by SIGILL.
+whose `main` calls each export. Its module is kept (tools/tried_module.py), and nothing runs. The exports then get their names, and the
+kit's clang makes an object of them, without the sanitizer. Overflows and the like, which a proof rules out, end the process of the host,
+by SIGILL.
 """
 import glob
 import os
 import re
-import shlex
 import shutil
 import signal
 import subprocess
@@ -20,17 +19,8 @@ import tempfile
 from .arguments import parser
 from .files import ROOT, read, write
 from .kit import in_kit
+from .tried_module import AS_TEXT, CLANG, keep_module
 
-# What finds the kit by where it stands; what a try asks for a hint alone; and what it hands the module to.
-COPIED, MUTE, CLANG = ['bin/rt', 'bin/rtlib.py'], 'bin/rattle', 'toolchain/bin/clang'
-KEEPS = '''#!/bin/sh
-case " $* " in *" module.bc "*" -fsanitize=address "*)
-    cp module.bc {kept}/module.bc && printf '%s\\n' "$@" >{kept}/words
-    exit 1;;
-esac
-exec {clang} "$@"
-'''
-AS_TEXT = ['--no-default-config', '-S', '-emit-llvm', '-O0', '-Xclang', '-disable-llvm-passes']
 # Of the words that a try gives clang those that this object is not made with.
 LEFT_OUT = {'-fsanitize=address', '-c', '-x', 'ir', 'module.bc', '-o', 'module.o', '-fPIE', '-O0'}
 EXPORT = re.compile(r'^#\[unsafe\(no_mangle\)\]\npub extern "C" fn (\w+)\(', re.M)
@@ -91,34 +81,6 @@ def copy_crates(to):
     return crate
 
 
-def copy_kit(to, kept):
-    """A copy of the kit, of links and few files, whose clang keeps the module of a program in a folder, and stops."""
-    for part, but in (('', ('bin', 'toolchain')), ('bin', (MUTE, *COPIED)), ('toolchain', ('bin',)), ('toolchain/bin', (CLANG,))):
-        os.makedirs(os.path.join(to, part), exist_ok=True)
-        for name in set(os.listdir(in_kit(part))) - {os.path.basename(it) for it in but}:
-            os.symlink(in_kit(part, name), os.path.join(to, part, name))
-    for name in COPIED:
-        shutil.copy(in_kit(name), os.path.join(to, name))
-    keeps = KEEPS.format(kept=shlex.quote(kept), clang=shlex.quote(in_kit(CLANG)))
-    for name, text in ((MUTE, '#!/bin/sh\nexit 0\n'), (CLANG, keeps)):
-        write(os.path.join(to, name), text)
-        os.chmod(os.path.join(to, name), 0o755)
-
-
-def module_of(crate, kit, kept):
-    """Has a try hand over the module of that program; answers the words for clang."""
-    with subprocess.Popen([sys.executable, os.path.join(kit, 'bin', 'rt'), 'try'], cwd=crate, stdin=subprocess.DEVNULL, errors='replace',
-                          stdout=subprocess.PIPE, stderr=subprocess.STDOUT, env={**os.environ, 'TMPDIR': kept}) as tried:
-        try:
-            said, _ = tried.communicate()
-        finally:
-            # It ends what it has begun.
-            tried.terminate()
-    if not os.path.exists(os.path.join(kept, 'words')):
-        sys.exit(f'unproved_library: rt try handed no module to clang. It said\n{said}')
-    return [it for it in read(os.path.join(kept, 'words')).splitlines() if it not in LEFT_OUT]
-
-
 def named(text):
     """The text of a module in which the exports have their names, and nothing else is seen from outside; and these names."""
     names = {found[2]: found[3] for found in DEFINED.finditer(text)}
@@ -126,10 +88,11 @@ def named(text):
     return NAMED.sub(lambda found: '@' + names[found[1]], text), set(names.values())
 
 
-def compiled(flags, kept, folder):
-    """Compiles the module as a library; answers the object."""
+def compiled(module, given, folder):
+    """Compiles the module as a library, by the words that clang got for a program; answers the object."""
+    flags = [it for it in given if it not in LEFT_OUT]
     before, after, made = (os.path.join(folder, name) for name in ('before.ll', 'after.ll', 'c_api.o'))
-    run(in_kit(CLANG), *AS_TEXT, '-x', 'ir', os.path.join(kept, 'module.bc'), '-o', before)
+    run(in_kit(CLANG), *AS_TEXT, '-x', 'ir', module, '-o', before)
     text, names = named(read(before))
     wanted = {name for _, name, _ in exports(os.path.join(ROOT, 'crates', 'c_api'))}
     if names != wanted:
@@ -143,12 +106,9 @@ def compiled(flags, kept, folder):
 def make(path):
     signal.signal(signal.SIGTERM, lambda number, _: sys.exit(128 + number))
     with tempfile.TemporaryDirectory(prefix='gate-library-') as work:
-        tree, kit, kept = (os.path.join(work, name) for name in ('tree', 'kit', 'kept'))
-        for folder in (tree, kit, kept):
-            os.mkdir(folder)
-        crate = copy_crates(tree)
-        copy_kit(kit, kept)
-        made = compiled(module_of(crate, kit, kept), kept, work)
+        tree = os.path.join(work, 'tree')
+        os.mkdir(tree)
+        made = compiled(*keep_module(copy_crates(tree), work), work)
         if os.path.exists(path):
             os.remove(path)
         run('ar', 'qcsD', path, made)

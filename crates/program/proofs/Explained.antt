@@ -1,4 +1,4 @@
--- What is explained is what was read.
+-- What `explain_file` and `explain_files` print explains the bytes that they read, and their status goes by the verdict.
 use Rattle.std.proofs.Common.{◌≡◌, ℕ, List, Option, Some, None, Result, Ok, Err, IfSome, refl, sym, ap, subst, ◌∙◌}
 use Rattle.std.specs.Prelude.{IsSomeAnd}
 use Rattle.wsyntax.specs.Binary.Shell.{module_limit}

@@ -1,4 +1,4 @@
--- What is listed is of what was read.
+-- The exports that `list_file` prints are those of the module that it read, and where the module is refused it prints the verdict.
 use Rattle.std.proofs.Common.{◌≡◌, ℕ, List, Option, Result, Ok, Err, IfOk, IfSome, refl, subst, sym, ap, ◌∙◌}
 use Rattle.std.specs.Prelude.{IsSomeAnd, string_bytes, String}
 use Rattle.std.specs.declared.alloc.AllocError.{AllocError}
@@ -24,7 +24,7 @@ use Rattle.program.specs.Reads.{IsRead}
 use Rattle.program.specs.declared.fault.ProgramFault.{ProgramFault}
 use Rattle.program.specs.declared.fault.ProgramFault.TheVariants.{Usage, Unread, SomeUnread, Names, Write, Memory}
 
--- a list that is had
+-- a list whose text was allocated
 pub listed : (held : Option (List ℕ)) (v : Verdict) (text : Result (String Global) AllocError) (s : Status) (old new : Option (List ℕ)) (r : Result Status ProgramFault)
     → IfOk text (λ t. IsList held v (string_bytes t)) → s ≡ status_of v → ShowsText text s old new r → Lists held old new r
 listed held v (Ok text) s old new (Ok t) list is shown = (v, string_bytes text, list, shown.0 ∙ is, shown.1)
@@ -47,14 +47,14 @@ is_list held bytes slice text v read same verdict list = record {
 
 -- in the context of the module
 in_context : (slice : List ℕ) (a : AcceptedModule) (text : List ℕ) → IsAcceptedFrom slice a
-    → IsExportsText a.context.context (start_refusal 256 (module_shape a.«module») (shapes_of a.bodies.items)) (module_shape a.«module»).exports text → IsListOf a text
+    → IsExportsText a.context.context (start_refusal 256 (module_shape a.«module») (shapes_of a.bodies.items)) (module_shape a.«module») text → IsListOf a text
 in_context slice a text parts told =
-    subst (λ (C : Context). IsExportsText C (start_refusal 256 (module_shape a.«module») (shapes_of a.bodies.items)) (module_shape a.«module»).exports text)
+    subst (λ (C : Context). IsExportsText C (start_refusal 256 (module_shape a.«module») (shapes_of a.bodies.items)) (module_shape a.«module») text)
     (ap (λ x. x.context) parts.context) told
 
 -- the text of an accepted module
 good_text : (held : Option (List ℕ)) (bytes slice : List ℕ) (a : AcceptedModule) (text : Result (String Global) AllocError) → IsRead module_limit held bytes → slice ≡ bytes → IsVerdict slice Accepted → IsAcceptedFrom slice a
-    → IfOk text (λ t. IsExportsText a.context.context (start_refusal 256 (module_shape a.«module») (shapes_of a.bodies.items)) (module_shape a.«module»).exports (string_bytes t))
+    → IfOk text (λ t. IsExportsText a.context.context (start_refusal 256 (module_shape a.«module») (shapes_of a.bodies.items)) (module_shape a.«module») (string_bytes t))
     → IfOk text (λ t. IsList held Accepted (string_bytes t))
 good_text held bytes slice a (Ok text) read same verdict parts told =
     is_list held bytes slice (string_bytes text) Accepted read same verdict (a, parts, in_context slice a (string_bytes text) parts told)
@@ -62,7 +62,7 @@ good_text held bytes slice a (Err e) read same verdict parts told = tt
 
 pub listed_good : (held : Option (List ℕ)) (bytes slice : List ℕ) (a : AcceptedModule) (text : Result (String Global) AllocError) (old new : Option (List ℕ)) (r : Result Status ProgramFault)
     → IsRead module_limit held bytes → slice ≡ bytes → IsVerdict slice Accepted → IsAcceptedFrom slice a
-    → IfOk text (λ t. IsExportsText a.context.context (start_refusal 256 (module_shape a.«module») (shapes_of a.bodies.items)) (module_shape a.«module»).exports (string_bytes t))
+    → IfOk text (λ t. IsExportsText a.context.context (start_refusal 256 (module_shape a.«module») (shapes_of a.bodies.items)) (module_shape a.«module») (string_bytes t))
     → ShowsText text Good old new r → Lists held old new r
 listed_good held bytes slice a text old new r read same verdict parts told shown =
     listed held Accepted text Good old new r (good_text held bytes slice a text read same verdict parts told) refl shown

@@ -1,4 +1,4 @@
--- What stands after a status.
+-- What a command has printed, by the status that `run` of src/obeying.rt ends with: three lemmas, each by cases of the request.
 use Rattle.std.proofs.Common.{◌≡◌, ℕ, List, [], ◌∷◌, Option, Ok, Bor, codes, inl, inr, map, refl, sym, subst, ◌∙◌}
 use Rattle.std.specs.Io.KnownBytes.{Appends}
 use Rattle.wsyntax.specs.Validation.Verdict.{Verdict, Accepted, TooLarge, Malformed, RuleBroken, BodyRefused}

@@ -1,4 +1,6 @@
--- What stands after the status of a check of many files.
+-- What a check of many files has printed, by its status: all lines (`named_all`), those of the first files (`short`), or none (`silent`).
+-- It goes by the requests, and where the program fails by the faults of a status: 64 for mistakes in words, 70 where memory is wanted.
+-- Printed.antt cites the lemmas for a program that ends with a status of its files; `run` of src/obeying.rt cites those for its faults.
 use Rattle.std.proofs.Common.{◌≡◌, ◌⊎◌, ℕ, Bool, List, [], ◌∷◌, Option, Result, Ok, Err, ap, inl, inr, refl, sym, subst, arith, codes, map, Bor, string_bytes, String}
 use Rattle.std.specs.declared.alloc.Global.{Global}
 use Rattle.std.specs.Io.KnownBytes.{Appends, Keeps}

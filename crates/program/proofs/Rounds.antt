@@ -1,4 +1,6 @@
--- The lines of a round, and those of rounds one after another.
+-- The lines of a round are those of its files, and rounds one after another print the lines of all files (`files_end`, `names_spread`).
+-- It goes file by file, and then round by round: each lemma joins one more to what is known so far (`one_line`, `rounds_printed`).
+-- Functions of src/checking_all.rt, file_lines.rt, name_list.rt, spreading.rt and taking.rt cite it; Streamed.antt cites `paths_joined`.
 use Rattle.std.proofs.Common.{◌≡◌, ◌⊎◌, ℕ, ◌+◌, ◌-◌, ◌<◌, Bool, true, false, Bor, List, [], ◌∷◌, ◌++◌, Option, Some, None, Result, Ok, Err, length, map, take, drop, inl, inr, refl, sym, ap, subst, ◌∙◌, arith, append_assoc, append-nil, suc, add-one, drop-cons, get_or}
 use Rattle.std.specs.Prelude.{IfErr, IfSome, IsSomeAnd, Vec}
 use Rattle.std.specs.declared.alloc.Global.{Global}

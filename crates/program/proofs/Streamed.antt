@@ -1,4 +1,4 @@
--- What is streamed is on what was read.
+-- The report that `stream_files` prints is on the module and the calls that it read, and a path that cannot be read ends it.
 use Rattle.std.proofs.Common.{◌≡◌, ◌≢◌, ℕ, List, [], ◌∷◌, Option, Some, None, Result, Ok, Err, IfOk, IfSome, inl, inr, refl, subst, sym}
 use Rattle.std.specs.Prelude.{IsErrAnd, IsSomeAnd, string_bytes, String}
 use Rattle.std.specs.Io.KnownBytes.{Appends, Keeps}

@@ -20,10 +20,10 @@ use Rattle.program.specs.Reads.{IsRead}
 use Rattle.program.specs.declared.fault.ProgramFault.{ProgramFault}
 use Rattle.program.specs.declared.fault.ProgramFault.TheVariants as fault
 
--- the lines of the exports of that module, and the one on its start within the pages that a call has where the words say none
+-- the lines of the imports and exports of that module, and the one on its start within the pages that a call has where the words say none
 abbrev pub IsListOf : AcceptedModule → List ℕ → Type 0
 IsListOf a text =
-    let m = module_shape a.«module» in IsExportsText (module_context m) (start_refusal 256 m (shapes_of a.bodies.items)) m.exports text
+    let m = module_shape a.«module» in IsExportsText (module_context m) (start_refusal 256 m (shapes_of a.bodies.items)) m text
 
 -- of an accepted module the list of its exports, of a refused one its verdict line
 abbrev pub IsListBy : List ℕ → Verdict → List ℕ → Type 0

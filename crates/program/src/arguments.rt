@@ -3,8 +3,8 @@ use crate::disk::Disk;
 use crate::fault::{ProgramFault, end};
 use crate::obeying::run;
 use crate::progress::ProgressWriter;
+use crate::spreading::texts_of;
 use command::{WordsFault, usage};
-use std::alloc::{AllocError, Global};
 use std::env;
 use std::io::{ErrorKind, Read, Write};
 use std::rt::{Env, Files};
@@ -53,8 +53,4 @@ fn words_of<R: Env + AllocGlobal>(rt: &R) -> Result<Vec<String>, WordsFault> {
         Err(error) if error.kind() == ErrorKind::OutOfMemory => Err(WordsFault::Memory),
         Err(_) => Err(usage(rt.alloc(), "error: the words are not UTF-8\n")),
     }
-}
-
-fn texts_of<'a>(alloc: Global, words: &'a [String]) -> Result<Vec<&'a str>, AllocError> {
-    words.iter().map(|word| word.as_str()).collect(alloc)
 }

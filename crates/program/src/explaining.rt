@@ -19,7 +19,7 @@ use std::io::Write;
 use wsyntax::{CALLS_LIMIT, MODULE_LIMIT};
 
 /// The status that goes with an explanation.
-fn status(explanation: &Explanation<'_>) -> Status
+fn explanation_status(explanation: &Explanation<'_>) -> Status
     ensures { (v : Verdict) → verdict_told explanation.now ≡ Some v → result ≡ status_of v }
 {
     match explanation {
@@ -40,7 +40,7 @@ pub fn explain_file<'a, S: Source, O: Write>(
 {
     let bytes = read_file(alloc, path, MODULE_LIMIT, source)?;
     let explanation = explain(alloc, bytes.as_slice());
-    let status = status(&explanation);
+    let status = explanation_status(&explanation);
     match explanation_text(alloc, &explanation) {
         Ok(text) => show(text.as_bytes(), status, out),
         Err(_) => Err(ProgramFault::Memory),

@@ -2,7 +2,7 @@
 use std::io;
 use std::io::Write;
 
-/// So many lines stand between two reports, or more, where more are written at once.
+/// How many lines stand between two reports; more, where more are written at once.
 const LINES: u64 = 1_000;
 
 /// How many lines were written, and how many there were at the last report.

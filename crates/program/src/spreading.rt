@@ -24,7 +24,7 @@ pub fn spread<S: Source>(
     Ok(files)
 }
 
-/// The same as texts.
+/// The names of these files as string slices.
 pub fn texts_of<'a>(alloc: Global, files: &'a [String]) -> Result<Vec<&'a str>, AllocError>
     ensures { IfOk result (λ texts. map (λ t. t.now) texts.items ≡ map string_bytes files.now) }
 {
