@@ -5,9 +5,12 @@
 #![tactic(auto)]
 
 mod cause_text;
+mod instruction_lines;
+mod lines;
 mod no_module_text;
 mod opcode_names;
 mod quoting;
+mod refused_token;
 mod rule_text;
 mod sentence;
 mod shell_text;

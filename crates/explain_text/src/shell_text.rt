@@ -1,5 +1,6 @@
 //! Where reading a module stopped that is malformed outside its bodies, and why, in words.
 
+use crate::lines::Lines;
 use crate::opcode_names::{Feature, feature_of_byte, name_of_later, named_after_fc};
 use crate::sentence::Word::{Address, Empty, Hex, Index, Number, Opcode, Text};
 use crate::sentence::{Word, say};
@@ -31,7 +32,7 @@ fn push_section(text: &mut String, section: FoundSection) -> Result<(), AllocErr
         "section   {} ({}), bytes {} to {}\n"
     };
     let Span { from, to } = span;
-    let words = [Index(id as u32), Text(name), Number(from), Number(to)];
+    let words = [Index(id as u32), Text(name), Address(from), Address(to)];
     say(text, sentence, &words)
 }
 
@@ -49,7 +50,6 @@ fn part_name(part: SectionPart) -> &'static str {
 
 /// The line on what could not be read.
 fn push_part(text: &mut String, location: Location) -> Result<(), AllocError> {
-    let at = [Number(location.at), Address(location.at)];
     text.push_str("item      ")?;
     match (location.section, location.part) {
         (None, _) => text.push_str("after the sections")?,
@@ -59,7 +59,7 @@ fn push_part(text: &mut String, location: Location) -> Result<(), AllocError> {
         }
         (Some(_), part) => text.push_str(part_name(part))?,
     }
-    say(text, ", byte {} ({})\n", &at)
+    say(text, ", byte {}\n", &[Address(location.at)])
 }
 
 /// The line on an initial value or an offset.
@@ -67,14 +67,10 @@ pub(crate) fn push_value(text: &mut String, value: Option<InitialValue>) -> Resu
     let Some(InitialValue { at, other }) = value else {
         return Ok(());
     };
-    say(
-        text,
-        "value     from byte {} ({}) on",
-        &[Number(at), Address(at)],
-    )?;
+    say(text, "value     from {} on", &[Address(at)])?;
     if let Some((offset, opcode)) = other {
-        let words = [Opcode(opcode), Number(offset), Address(offset)];
-        say(text, "; {} at byte {} ({}) is no constant", &words)?;
+        let words = [Opcode(opcode), Address(offset)];
+        say(text, "; {} at {} is no constant", &words)?;
     }
     text.push_str("\n")
 }
@@ -88,18 +84,19 @@ fn push_origin_hint(text: &mut String, origin: Origin) -> Result<(), AllocError>
 }
 
 /// What is not admitted, after what it is, and how to do without it.
-fn push_origin(text: &mut String, origin: Origin) -> Result<(), AllocError> {
+fn push_origin(lines: &mut Lines, origin: Origin) -> Result<(), AllocError> {
     let sentence = ", of {}, which gate does not admit\n";
-    say(text, sentence, &[Text(origin.words())])?;
-    push_origin_hint(text, origin)
+    say(&mut lines.because, sentence, &[Text(origin.words())])?;
+    push_origin_hint(&mut lines.hint, origin)
 }
 
 /// Another byte than 00, where something of later standards may stand.
-fn push_reserved(text: &mut String, found: u8, later: Later) -> Result<(), AllocError> {
+fn push_reserved(lines: &mut Lines, found: u8, later: Later) -> Result<(), AllocError> {
     let (name, origin) = later;
     let words = [Hex(found as u32), Text(origin.words()), Text(name)];
-    say(text, "00 is wanted, not {}; {} have {} there\n", &words)?;
-    push_origin_hint(text, origin)
+    let sentence = "00 is wanted, not {}; {} have {} there\n";
+    say(&mut lines.because, sentence, &words)?;
+    push_origin_hint(&mut lines.hint, origin)
 }
 
 /// The instruction of that opcode where `gate` does not admit it; its name is empty where further bytes name it.
@@ -114,7 +111,7 @@ fn later_instruction(first: u8, number: Option<u32>) -> Option<Later> {
 
 /// What is known of an opcode, after its bytes: of the first, and of the number behind it.
 pub(crate) fn push_opcode(
-    text: &mut String,
+    lines: &mut Lines,
     first: u8,
     number: Option<u32>,
 ) -> Result<(), AllocError> {
@@ -124,8 +121,8 @@ pub(crate) fn push_opcode(
         } else {
             " is {}"
         };
-        say(text, sentence, &[Text(name)])?;
-        return push_origin(text, origin);
+        say(&mut lines.because, sentence, &[Text(name)])?;
+        return push_origin(lines, origin);
     }
     let name = name_of_later(first);
     let sentence = match number {
@@ -133,35 +130,36 @@ pub(crate) fn push_opcode(
         _ if name.is_empty() => " begins no instruction that is known\n",
         _ => " is {}, and what has to follow it cannot be read\n",
     };
-    say(text, sentence, &[Text(name)])
+    say(&mut lines.because, sentence, &[Text(name)])
 }
 
 /// A byte that is not one that is wanted.
-fn push_other_byte(text: &mut String, wanted: Wanted, found: u8) -> Result<(), AllocError> {
+fn push_other_byte(lines: &mut Lines, wanted: Wanted, found: u8) -> Result<(), AllocError> {
     let byte = Hex(found as u32);
     let Some((name, origin)) = later_byte(wanted, found) else {
         let words = [byte, Word::Wanted(wanted), Text(wanted_bytes(wanted))];
-        return say(text, "{} is not {}; {}\n", &words);
+        return say(&mut lines.because, "{} is not {}; {}\n", &words);
     };
     let sentence = match wanted {
         Wanted::TableByte | Wanted::MemoryByte => {
-            return push_reserved(text, found, (name, origin));
+            return push_reserved(lines, found, (name, origin));
         }
         Wanted::MemoryFlags | Wanted::TableFlags => "the flags {} are {}",
         _ => "the byte {} is {}",
     };
-    say(text, sentence, &[byte, Text(name)])?;
-    push_origin(text, origin)
+    say(&mut lines.because, sentence, &[byte, Text(name)])?;
+    push_origin(lines, origin)
 }
 
 /// An id that no section has.
-fn push_id(text: &mut String, id: u8) -> Result<(), AllocError> {
+fn push_id(lines: &mut Lines, id: u8) -> Result<(), AllocError> {
     let words = [Index(id as u32), Text(section_name(id))];
+    let text = &mut lines.because;
     match later_section(id) {
         None => say(text, "{} is the id of no section; 0 to 11 are\n", &words),
         Some(origin) => {
             say(text, "{} is the id of the {} section", &words)?;
-            push_origin(text, origin)
+            push_origin(lines, origin)
         }
     }
 }
@@ -223,27 +221,27 @@ fn wrong_words(wrong: Wrong, whole: &'static str, id: u8) -> [Word<'static>; 3] 
 
 /// What is wrong in what ends by those words: in a section of that id, or in a body.
 pub(crate) fn push_wrong(
-    text: &mut String,
+    lines: &mut Lines,
     wrong: Wrong,
     whole: &'static str,
     id: u8,
 ) -> Result<(), AllocError> {
     say(
-        text,
+        &mut lines.because,
         wrong_sentence(wrong, id),
         &wrong_words(wrong, whole, id),
     )?;
     match wrong {
-        Wrong::Byte { wanted, found } => push_other_byte(text, wanted, found),
-        Wrong::Id => push_id(text, id),
-        Wrong::Opcode { first, number } => push_opcode(text, first, number),
+        Wrong::Byte { wanted, found } => push_other_byte(lines, wanted, found),
+        Wrong::Id => push_id(lines, id),
+        Wrong::Opcode { first, number } => push_opcode(lines, first, number),
         _ => Ok(()),
     }
 }
 
 /// A segment of a later standard, instead of what reading it by Core 1.0 stopped at.
 fn push_segment(
-    text: &mut String,
+    lines: &mut Lines,
     segment: OtherSegment,
     item: &'static str,
     later: Later,
@@ -251,31 +249,32 @@ fn push_segment(
     let (name, origin) = later;
     let item = Text(item);
     let position = Index(segment.position);
-    let place = [item, position, Number(segment.at), Address(segment.at)];
-    say(text, "item      {} {}, byte {} ({})\n", &place)?;
+    let place = [item, position, Address(segment.at)];
+    say(&mut lines.place, "item      {} {}, byte {}\n", &place)?;
     let words = [item, position, Hex(segment.first), Text(name)];
-    say(text, "because   {} {} begins with {}, as {}", &words)?;
-    push_origin(text, origin)
+    let sentence = "because   {} {} begins with {}, as {}";
+    say(&mut lines.because, sentence, &words)?;
+    push_origin(lines, origin)
 }
 
 /// The lines on where and why reading stopped.
-pub(crate) fn push_location(text: &mut String, location: Location) -> Result<(), AllocError> {
+pub(crate) fn push_location(lines: &mut Lines, location: Location) -> Result<(), AllocError> {
     let mut id = 0;
     if let Some(section) = location.section {
         id = section.id;
-        push_section(text, section)?;
+        push_section(&mut lines.place, section)?;
     }
     if let Some(segment) = location.segment
         && let Some(later) = later_segment(id, segment.first)
     {
-        return push_segment(text, segment, item_name(id), later);
+        return push_segment(lines, segment, item_name(id), later);
     }
-    push_part(text, location)?;
-    push_value(text, location.value)?;
-    text.push_str("because   ")?;
+    push_part(&mut lines.place, location)?;
+    push_value(&mut lines.place, location.value)?;
+    lines.because.push_str("because   ")?;
     let whole = match location.part {
         SectionPart::Size => "the module ends",
         _ => "the section ends",
     };
-    push_wrong(text, location.wrong, whole, id)
+    push_wrong(lines, location.wrong, whole, id)
 }

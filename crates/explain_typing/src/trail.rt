@@ -117,10 +117,13 @@ fn mark(opened: &mut Vec<u32>, token: Token, at: u32) -> Result<(), AllocError>
     Ok(())
 }
 
-/// Whether the last of these tokens is that one.
-fn ends_with(givers: &Vec<Giver>, position: u32) -> bool {
-    match givers.as_slice() {
-        [.., last] => last.position == position as usize,
+/// Whether the last of these tokens is that one. It gave one operand more then.
+fn counts_on(givers: &mut Vec<Giver>, position: u32) -> bool {
+    match givers.last_mut() {
+        Some(last) if last.position == position as usize => {
+            last.count = last.count.saturating_add(1);
+            true
+        }
         _ => false,
     }
 }
@@ -304,16 +307,25 @@ impl<'a> Trail<'a> {
         self.opening_at(at)
     }
 
-    /// The token that gave a run of operands.
-    fn giver(&self, alloc: Global, held: GivenRun) -> Result<Option<Giver>, AllocError> {
+    /// The token that gave a run of operands, the lowest of which was found as that one.
+    fn giver(
+        &self,
+        alloc: Global,
+        held: GivenRun,
+        first: usize,
+    ) -> Result<Option<Giver>, AllocError> {
         let position = held.position as usize;
+        let at = self.start.saturating_add(held.at as usize);
         let ends = self.ended_at(held.at);
         if ends.is_some() {
             return Ok(Some(Giver {
                 position,
+                at,
                 opcode: op::END,
                 token: Token::End,
                 ends,
+                first,
+                count: 1,
             }));
         }
         let bytes = self.code.get(held.at as usize..).unwrap_or(&[]);
@@ -324,21 +336,27 @@ impl<'a> Trail<'a> {
         match token_at(&mut targets, bytes) {
             Ok((token, _after)) => Ok(Some(Giver {
                 position,
+                at,
                 opcode: *opcode,
                 token,
                 ends,
+                first,
+                count: 1,
             })),
             Err(Fault::Malformed) => Ok(None),
             Err(Fault::Memory) => Err(AllocError),
         }
     }
 
-    /// The tokens that gave the topmost operands, the lowest first; none of one whose type is not known.
+    /// The tokens that gave the topmost operands, the lowest first, of which `known` are held; none of one whose type is not known.
     pub(crate) fn givers(
         &self,
         alloc: Global,
-        operands: &[Option<ValType>],
+        finds: &[Option<ValType>],
+        known: usize,
     ) -> Result<Vec<Giver>, AllocError> {
+        let least = finds.len().saturating_sub(known);
+        let operands = finds.get(least..).unwrap_or(finds);
         let lowest = self.given.height.saturating_sub(operands.len());
         let mut run = self.given.first_run(lowest);
         let mut givers = Vec::new(alloc);
@@ -347,8 +365,9 @@ impl<'a> Trail<'a> {
             let Some(held) = self.given.held.get(run) else {
                 return Ok(givers);
             };
-            if operand.is_some() && !ends_with(&givers, held.position) {
-                if let Some(giver) = self.giver(alloc, *held)? {
+            if operand.is_some() && !counts_on(&mut givers, held.position) {
+                let first = least.saturating_add(position);
+                if let Some(giver) = self.giver(alloc, *held, first)? {
                     givers.push(giver)?;
                 }
             }

@@ -23,7 +23,7 @@ MOST_PLACE, MOST_LENGTH = 2 ** 64 - 1, 2 ** 63 - 1
 
 class NoInstance(RuntimeError):
     """There is no instance; `end` says why: it was not started, memory was refused, or how the start function ended. Of one that was not
-    started `place` says more, as `gate exports` does: `function 0 "half" token 0 f32.const 0x00000000, byte 29 (0x1d)`."""
+    started `place` says more, as `gate exports` does: `function 0 "half" token 0 f32.const 0x00000000, byte 0x1d`."""
 
     def __init__(self, end: End, place: str = '') -> None:
         super().__init__(f'no instance: {end}: {place}' if place else f'no instance: {end}')

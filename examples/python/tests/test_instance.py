@@ -219,7 +219,7 @@ class FromTheBeginning(unittest.TestCase):
         self.ends(GOES_ON, End(EndKind.NOT_STARTED, reason=NotStarted.MEMORY_LIMIT), gate.Settings(pages=0),
                   'the memory has 1 pages, and 0 are the most')
         self.ends(HALF, End(EndKind.NOT_STARTED, reason=NotStarted.FLOATS),
-                  place='function 0 "half" token 0 f32.const 0x00000000, byte 33 (0x21)')
+                  place='function 0 "half" token 0 f32.const 0x00000000, byte 0x21')
 
     def test_start_function(self) -> None:
         self.ends(START_TRAPS, End(EndKind.TRAP, reason=Trap.UNREACHABLE, fuel=1))
