@@ -44,7 +44,12 @@ fn callee_of<'a>(
     fault: &BodyExplanation<'_>,
 ) -> Option<&'a [u8]> {
     let BodyExplanation::IllTyped {
-        found: Some(FoundToken { token: Token::Call(func), .. }),
+        found: Some(
+            FoundToken {
+                token: Token::Call(func),
+                ..
+            },
+        ),
         ..
     } = fault
     else {

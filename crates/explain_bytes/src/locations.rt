@@ -36,7 +36,12 @@ pub fn offset_of(start: usize, body: &[u8], left: &[u8]) -> Option<usize>
 }
 
 /// The token that the bytes begin with which are left of a body; the body begins at offset `start`. Malformed where there is none.
-pub fn first_token(alloc: Global, body: &[u8], start: usize, left: &[u8]) -> Result<FoundToken, Fault>
+pub fn first_token(
+    alloc: Global,
+    body: &[u8],
+    start: usize,
+    left: &[u8],
+) -> Result<FoundToken, Fault>
     ensures { IfOk result (IsFirstOf body.now start left.now) }
 {
     let [opcode, ..] = left else {
@@ -44,10 +49,7 @@ pub fn first_token(alloc: Global, body: &[u8], start: usize, left: &[u8]) -> Res
     };
     let mut targets = Vec::new(alloc);
     let (token, after) = token_at(&mut targets, left)?;
-    match (
-        offset_of(start, body, left),
-        offset_of(start, body, after),
-    ) {
+    match (offset_of(start, body, left), offset_of(start, body, after)) {
         (Some(from), Some(to)) => Ok(FoundToken {
             span: Span { from, to },
             opcode: *opcode,
@@ -68,5 +70,5 @@ pub fn find_token(
     ensures { IfOk result (IsTokenAt body.now start position) }
 {
     let left = left_of(alloc, body, position)?;
-    first_token(alloc, body, start, left)
+    Ok(first_token(alloc, body, start, left)?)
 }

@@ -1,9 +1,9 @@
 //! Why a token is ill typed, in a sentence.
 
+use crate::refused_token::RefusedToken;
 use crate::sentence::Word::{
     Empty, Index, Name, Number, Opcode, Operand, Place, Power, Signature, Text, Type, Types,
 };
-use crate::refused_token::RefusedToken;
 use crate::sentence::{Word, say};
 use crate::token_text::push_instruction;
 use crate::typing_text::push_operands;

@@ -14,6 +14,7 @@ const IN_FRONT: usize = 4;
 
 /// The columns that the words of instructions have at least; those with more than the most move no others.
 const LEAST: usize = 15;
+
 const MOST: usize = 40;
 
 /// A line on an instruction.
@@ -62,11 +63,7 @@ fn gave(giver: Giver, finds: &[Option<ValType>]) -> &[Option<ValType>] {
 }
 
 /// The line on an instruction further in front, or on a block whose end gave operands.
-fn giver_line(
-    alloc: Global,
-    giver: Giver,
-    finds: &[Option<ValType>],
-) -> Result<Line, AllocError> {
+fn giver_line(alloc: Global, giver: Giver, finds: &[Option<ValType>]) -> Result<Line, AllocError> {
     let mut line = Line::new(alloc, giver.position, giver.at)?;
     match giver.ends {
         Some(opening) => say(
@@ -109,16 +106,20 @@ fn giver_at(givers: &[Giver], position: usize) -> Option<Giver> {
 }
 
 /// What an instruction leaves; of an `end` also which block it ends.
-fn push_left(
-    text: &mut String,
-    passed: &PassedToken,
-    typing: &Typing,
-) -> Result<(), AllocError> {
+fn push_left(text: &mut String, passed: &PassedToken, typing: &Typing) -> Result<(), AllocError> {
     let giver = giver_at(&typing.given_by, passed.position);
     match (passed.found.token, giver) {
         (Token::Select, Some(giver)) => push_operands(text, gave(giver, &typing.finds), "?"),
         _ if passed.leaves.is_empty() => Ok(()),
-        (_, Some(Giver { ends: Some(opening), .. })) => {
+        (
+            _,
+            Some(
+                Giver {
+                    ends: Some(opening),
+                    ..
+                },
+            ),
+        ) => {
             push_operands(text, &passed.leaves, "?")?;
             text.push_str(", of the ")?;
             push_opening(text, opening)

@@ -34,7 +34,8 @@ impl<'a> RefusedToken<'a> {
     pub(crate) fn is_told_by_lists(self) -> bool {
         match (self.cause, self.typing) {
             (Some(Cause::Operand { .. }), Some(typing)) => {
-                typing.takes.len() <= LISTED && typing.finds.len() <= LISTED
+                typing.takes.len() <= LISTED
+                    && typing.finds.len() <= LISTED
                     && typing.finds.iter().all(|operand| operand.is_some())
             }
             _ => false,

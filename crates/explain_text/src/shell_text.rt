@@ -167,18 +167,18 @@ fn push_id(lines: &mut Lines, id: u8) -> Result<(), AllocError> {
 /// What is wrong, where the section has that id.
 fn wrong_sentence(wrong: Wrong, id: u8) -> &'static str {
     match wrong {
-        Wrong::Ends(Wanted::MemoryFlags | Wanted::TableFlags) => "{} there, and {} are wanted\n",
-        Wrong::Ends(_) => "{} there, and {} is wanted\n",
-        Wrong::Cut(_) | Wrong::CutConstant(_) => "{} within the number there, {}\n",
-        Wrong::LongConstant(Wanted::I64) => "the number there, {}, has more than 10 bytes\n",
+        Wrong::Ends(Wanted::MemoryFlags | Wanted::TableFlags) => "{} at {}, and {} are wanted\n",
+        Wrong::Ends(_) => "{} at {}, and {} is wanted\n",
+        Wrong::Cut(_) | Wrong::CutConstant(_) => "{} within the number at {}, {}\n",
+        Wrong::LongConstant(Wanted::I64) => "the number at {}, {}, has more than 10 bytes\n",
         Wrong::LongNumber(_) | Wrong::LongConstant(_) =>
-            "the number there, {}, has more than 5 bytes\n",
-        Wrong::LargeNumber(_) => "the number there, {}, is 2^32 or more\n",
-        Wrong::LargeConstant(_) => "the number there, {}, is outside the range of its type\n",
+            "the number at {}, {}, has more than 5 bytes\n",
+        Wrong::LargeNumber(_) => "the number at {}, {}, is 2^32 or more\n",
+        Wrong::LargeConstant(_) => "the number at {}, {}, is outside the range of its type\n",
         Wrong::Beyond { left: 0, .. } => "{} is {}, and no byte is left\n",
         Wrong::Beyond { left: 1, .. } => "{} is {}, and {} byte is left\n",
         Wrong::Beyond { .. } => "{} is {}, and {} bytes are left\n",
-        Wrong::NoText { .. } => "the name there, of size {}, is not UTF-8\n",
+        Wrong::NoText { .. } => "the name at {}, of size {}, is not UTF-8\n",
         Wrong::Order { last } if last == id => "it is a second section {}\n",
         Wrong::Order { .. } if id == DATA_COUNT =>
             "it follows section {}, and a data count section (Core 2.0) stands before section 10\n",
@@ -193,43 +193,45 @@ fn wrong_sentence(wrong: Wrong, id: u8) -> &'static str {
             number: Some(_),
         } => "{} {}",
         Wrong::Byte { .. } | Wrong::Id | Wrong::Opcode { .. } => "{}",
-        Wrong::Expression => "the expression that begins there cannot be read\n",
+        Wrong::Expression => "the expression at {} cannot be read\n",
         Wrong::Else => "05 is an else that stands in no if\n",
         Wrong::Counts { .. } => "the functions declared are {}, and the bodies {}\n",
     }
 }
 
-/// The words of that sentence, and what it is that ends.
-fn wrong_words(wrong: Wrong, whole: &'static str, id: u8) -> [Word<'static>; 3] {
+/// The words of that sentence, where reading stopped at that offset, and what it is that ends.
+fn wrong_words(wrong: Wrong, whole: &'static str, id: u8, at: usize) -> [Word<'static>; 3] {
     match wrong {
         Wrong::Ends(wanted) | Wrong::Cut(wanted) | Wrong::CutConstant(wanted) => {
-            [Text(whole), Word::Wanted(wanted), Empty]
+            [Text(whole), Address(at), Word::Wanted(wanted)]
         }
         Wrong::LongNumber(wanted)
         | Wrong::LargeNumber(wanted)
         | Wrong::LongConstant(wanted)
-        | Wrong::LargeConstant(wanted) => [Word::Wanted(wanted), Empty, Empty],
+        | Wrong::LargeConstant(wanted) => [Address(at), Word::Wanted(wanted), Empty],
         Wrong::Beyond { wanted, size, left } => [Word::Wanted(wanted), Index(size), Number(left)],
-        Wrong::NoText { size } => [Number(size), Empty, Empty],
+        Wrong::NoText { size } => [Address(at), Number(size), Empty],
+        Wrong::Expression => [Address(at), Empty, Empty],
         Wrong::Order { last } => [Index(last as u32), Empty, Empty],
         Wrong::Size { says, takes } => [Index(id as u32), Number(says), Number(takes)],
         Wrong::Opcode { first, number } => [Hex(first as u32), Hex(number.unwrap_or(0)), Empty],
         Wrong::Counts { functions, bodies } => [Index(functions), Index(bodies), Empty],
-        Wrong::Byte { .. } | Wrong::Id | Wrong::Expression | Wrong::Else => [Empty; 3],
+        Wrong::Byte { .. } | Wrong::Id | Wrong::Else => [Empty; 3],
     }
 }
 
-/// What is wrong in what ends by those words: in a section of that id, or in a body.
+/// What is wrong at that offset, in what ends by those words: in a section of that id, or in a body.
 pub(crate) fn push_wrong(
     lines: &mut Lines,
     wrong: Wrong,
     whole: &'static str,
     id: u8,
+    at: usize,
 ) -> Result<(), AllocError> {
     say(
         &mut lines.because,
         wrong_sentence(wrong, id),
-        &wrong_words(wrong, whole, id),
+        &wrong_words(wrong, whole, id, at),
     )?;
     match wrong {
         Wrong::Byte { wanted, found } => push_other_byte(lines, wanted, found),
@@ -276,5 +278,5 @@ pub(crate) fn push_location(lines: &mut Lines, location: Location) -> Result<(),
         SectionPart::Size => "the module ends",
         _ => "the section ends",
     };
-    push_wrong(lines, location.wrong, whole, id)
+    push_wrong(lines, location.wrong, whole, id, location.at)
 }

@@ -6,7 +6,7 @@ use crate::sentence::say;
 use crate::shell_text::{push_opcode, push_wrong};
 use crate::typing_text::push_opening;
 use explain_bytes::{Misread, misread_locals, misread_token};
-use explanation::{OpenBlocks, StopLocation, Stopped};
+use explanation::{OpenBlocks, StopLocation, Stopped, Wrong};
 use std::alloc::AllocError;
 
 /// The number after that first byte of the bytes, where it is one that a number follows, and the bytes of both.
@@ -22,8 +22,12 @@ fn number_after(first: u8, bytes: &[u8]) -> Option<(u32, &[u8])> {
 /// What is wrong within bytes that begin at that offset.
 fn push_misread(lines: &mut Lines, at: usize, misread: Misread) -> Result<(), AllocError> {
     let offset = at.saturating_add(misread.offset);
-    say(&mut lines.because, "; byte {}: ", &[Address(offset)])?;
-    push_wrong(lines, misread.wrong, "the body ends", 0)
+    let sentence = match misread.wrong {
+        Wrong::Byte { .. } => "; byte {}: ",
+        _ => "; ",
+    };
+    say(&mut lines.because, sentence, &[Address(offset)])?;
+    push_wrong(lines, misread.wrong, "the body ends", 0, offset)
 }
 
 /// Why no token begins with the bytes, which begin at that offset.
@@ -84,13 +88,21 @@ fn push_no_locals(lines: &mut Lines, at: usize, body: &[u8]) -> Result<(), Alloc
     }
 }
 
-/// That a body ends before its last `end`, and the blocks that are open there.
-fn push_short(text: &mut String, unclosed: &Option<OpenBlocks>) -> Result<(), AllocError> {
-    let Some(blocks) = unclosed else {
-        return text.push_str("because   the body ends there, before its last end\n");
+/// That a body ends at that offset, before its last `end`, and the blocks that are open there.
+fn push_short(
+    text: &mut String,
+    at: usize,
+    unclosed: &Option<OpenBlocks>,
+) -> Result<(), AllocError> {
+    let blocks = match unclosed {
+        Some(blocks) if blocks.count > 0 => blocks,
+        _ => return say(
+            text,
+            "because   the body ends at {}, before its last end\n",
+            &[Address(at)],
+        ),
     };
     let sentence = match blocks.count {
-        0 => return text.push_str("because   the body ends there, before its last end\n"),
         1 => "because   {} block is open where the body ends",
         _ => "because   {} blocks are open where the body ends",
     };
@@ -123,7 +135,7 @@ pub(crate) fn push_stop(
         Stopped::Left if stop.rest.len() == 1 =>
             "because   the end at {} closed the body: {} byte is left\n",
         Stopped::Left => "because   the end at {} closed the body: {} bytes are left\n",
-        Stopped::Short => return push_short(&mut lines.because, unclosed),
+        Stopped::Short => return push_short(&mut lines.because, stop.at, unclosed),
     };
     let words = [Address(stop.at.saturating_sub(1)), Number(stop.rest.len())];
     say(&mut lines.because, sentence, &words)
