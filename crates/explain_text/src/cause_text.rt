@@ -134,7 +134,7 @@ fn owner_of(typing: Option<&Typing>) -> &'static str {
 }
 
 /// The sentence on the cause.
-pub(crate) fn push_cause(
+pub fn push_cause(
     text: &mut String,
     found: &FoundToken,
     typing: Option<&Typing>,

@@ -9,7 +9,7 @@ use std::alloc::AllocError;
 use wsyntax::ValType;
 
 /// How many operands of a list are shown, and how many tokens.
-const SHOWN: usize = 32;
+pub const SHOWN: usize = 32;
 
 /// The last of a list, as many as are shown.
 fn last_shown<T>(items: &[T]) -> &[T] {
@@ -69,7 +69,7 @@ fn push_givers(text: &mut String, givers: &[Giver]) -> Result<(), AllocError> {
 }
 
 /// The name of what opens a block.
-fn block_name(kind: BlockKind) -> &'static str {
+pub fn block_name(kind: BlockKind) -> &'static str {
     match kind {
         BlockKind::Block => "block",
         BlockKind::Loop => "loop",
