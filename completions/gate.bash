@@ -10,10 +10,7 @@ _gate() {
     case ${COMP_WORDS[1]} in
         check) ;;
         check-all) options="$options --null --recursive --progress" ;;
-        explain)
-            options=--help
-            options+=' --json'
-            ;;
+        explain) options=--json\ --help ;;
         exports) options=--help ;;
         run | stream)
             options+=' --fuel --frames --pages'

@@ -1,9 +1,6 @@
 -- The tokens that are written for members are those of JSON values, which nest no deeper than four times.
-use Rattle.std.proofs.Common.{◌≡◌, ℕ, ◌≤◌, List, [], ◌∷◌, ◌++◌, Option, Some, None, decimal, flat_map, string_bytes, sym, refl, ap, subst, ◌∙◌, arith, append_assoc, append-nil, option_and_then, codes}
-use Rattle.std.specs.Prelude.{IsSomeAnd}
+use Rattle.std.proofs.Common.{◌≡◌, ℕ, ◌≤◌, List, [], ◌∷◌, ◌++◌, IsSomeAnd, Option, Some, None, decimal, flat_map, string_bytes, String, sym, refl, ap, subst, ◌∙◌, arith, append_assoc, append-nil, option_and_then, codes}
 use Rattle.std.specs.declared.alloc.Global.{Global}
-use Rattle.std.specs.declared.string.String.{String}
-use Rattle.std.specs.declared.vec.Vec.{Vec}
 use Rattle.json.specs.Json.{Json, number, string, array, object, Items, no_items, item, Members, no_members, member, if_last, max_depth, document, value}
 use Rattle.json.specs.Lex.{tokens}
 use Rattle.json.specs.Token.{Token, begin_array, begin_object, end_array, end_object, key}

@@ -1,5 +1,5 @@
 -- The tokens of JSON that are written for members.
-use Rattle.std.specs.Prelude.{ℕ, List, [], ◌∷◌, ◌++◌, decimal, flat_map, string_bytes}
+use Rattle.std.specs.Prelude.{ℕ, List, [], ◌∷◌, ◌++◌, String, decimal, flat_map, string_bytes}
 use Rattle.json.specs.Token.{Token, begin_array, begin_object, end_array, end_object, key, number, string}
 use Rattle.explain_json.specs.declared.values.Plain.{Plain}
 use Rattle.explain_json.specs.declared.values.Plain.TheVariants as plain
@@ -7,9 +7,7 @@ use Rattle.explain_json.specs.declared.values.Field.{Field}
 use Rattle.explain_json.specs.declared.values.Fact.{Fact}
 use Rattle.explain_json.specs.declared.values.Fact.TheVariants as fact
 use Rattle.explain_json.specs.declared.values.Entry.{Entry}
-use Rattle.std.specs.declared.string.String.{String}
 use Rattle.std.specs.declared.alloc.Global.{Global}
-use Rattle.std.specs.declared.vec.Vec.{Vec}
 
 abbrev pub byte_tokens : ℕ → List Token
 byte_tokens b = number (decimal b) ∷ []

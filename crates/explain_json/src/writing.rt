@@ -9,7 +9,7 @@ use std::alloc::AllocError;
 /// Bytes, each a number.
 fn write_bytes(writer: &mut Writer, bytes: &[u8]) -> Result<(), AllocError>
     ensures tokens { OnOk result (writer.new.tokens ≡ writer.old.tokens ++ flat_map byte_tokens bytes.now) }
-    ensures before { writer.new.before ≡ writer.old.before }
+    ensures before { OnOk result (writer.new.before ≡ writer.old.before) }
 {
     for byte in bytes {
         writer.u64(u64::from(*byte))?;
@@ -20,7 +20,7 @@ fn write_bytes(writer: &mut Writer, bytes: &[u8]) -> Result<(), AllocError>
 /// What a member says.
 fn write_plain(writer: &mut Writer, plain: &Plain) -> Result<(), AllocError>
     ensures tokens { OnOk result (writer.new.tokens ≡ writer.old.tokens ++ plain_tokens plain.now) }
-    ensures before { writer.new.before ≡ writer.old.before }
+    ensures before { OnOk result (writer.new.before ≡ writer.old.before) }
 {
     match plain {
         Plain::Text(text) => writer.string(text.as_str()),
@@ -36,7 +36,7 @@ fn write_plain(writer: &mut Writer, plain: &Plain) -> Result<(), AllocError>
 /// Members of an object.
 fn write_fields(writer: &mut Writer, fields: &[Field]) -> Result<(), AllocError>
     ensures tokens { OnOk result (writer.new.tokens ≡ writer.old.tokens ++ flat_map field_tokens fields.now) }
-    ensures before { writer.new.before ≡ writer.old.before }
+    ensures before { OnOk result (writer.new.before ≡ writer.old.before) }
 {
     for field in fields {
         writer.key(field.key)?;
@@ -48,7 +48,7 @@ fn write_fields(writer: &mut Writer, fields: &[Field]) -> Result<(), AllocError>
 /// An object.
 fn write_record(writer: &mut Writer, fields: &[Field]) -> Result<(), AllocError>
     ensures tokens { OnOk result (writer.new.tokens ≡ writer.old.tokens ++ record_tokens fields.now) }
-    ensures before { writer.new.before ≡ writer.old.before }
+    ensures before { OnOk result (writer.new.before ≡ writer.old.before) }
 {
     writer.begin_object()?;
     write_fields(writer, fields)?;
@@ -58,7 +58,7 @@ fn write_record(writer: &mut Writer, fields: &[Field]) -> Result<(), AllocError>
 /// Objects of an array.
 fn write_records(writer: &mut Writer, records: &[Vec<Field>]) -> Result<(), AllocError>
     ensures tokens { OnOk result (writer.new.tokens ≡ writer.old.tokens ++ flat_map (λ r. record_tokens r.items) records.now) }
-    ensures before { writer.new.before ≡ writer.old.before }
+    ensures before { OnOk result (writer.new.before ≡ writer.old.before) }
 {
     for record in records {
         write_record(writer, record.as_slice())?;
@@ -69,7 +69,7 @@ fn write_records(writer: &mut Writer, records: &[Vec<Field>]) -> Result<(), Allo
 /// Texts of an array.
 fn write_texts(writer: &mut Writer, texts: &[String]) -> Result<(), AllocError>
     ensures tokens { OnOk result (writer.new.tokens ≡ writer.old.tokens ++ flat_map text_tokens texts.now) }
-    ensures before { writer.new.before ≡ writer.old.before }
+    ensures before { OnOk result (writer.new.before ≡ writer.old.before) }
 {
     for text in texts {
         writer.string(text.as_str())?;
@@ -80,7 +80,7 @@ fn write_texts(writer: &mut Writer, texts: &[String]) -> Result<(), AllocError>
 /// What a member of the whole object says.
 fn write_fact(writer: &mut Writer, fact: &Fact) -> Result<(), AllocError>
     ensures tokens { OnOk result (writer.new.tokens ≡ writer.old.tokens ++ fact_tokens fact.now) }
-    ensures before { writer.new.before ≡ writer.old.before }
+    ensures before { OnOk result (writer.new.before ≡ writer.old.before) }
 {
     match fact {
         Fact::Plain(plain) => write_plain(writer, plain),
@@ -101,7 +101,7 @@ fn write_fact(writer: &mut Writer, fact: &Fact) -> Result<(), AllocError>
 /// Members of the whole object.
 pub fn write_entries(writer: &mut Writer, entries: &[Entry]) -> Result<(), AllocError>
     ensures tokens { OnOk result (writer.new.tokens ≡ writer.old.tokens ++ flat_map entry_tokens entries.now) }
-    ensures before { writer.new.before ≡ writer.old.before }
+    ensures before { OnOk result (writer.new.before ≡ writer.old.before) }
 {
     for entry in entries {
         writer.key(entry.key)?;
