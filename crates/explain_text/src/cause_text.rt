@@ -153,7 +153,7 @@ fn push_both(text: &mut String, typing: &Typing) -> Result<(), AllocError> {
 }
 
 /// The sentence on why a token is refused, which that is.
-pub(crate) fn push_cause(
+pub fn push_cause(
     text: &mut String,
     token: RefusedToken<'_>,
     cause: &Cause,

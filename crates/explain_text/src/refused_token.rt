@@ -7,7 +7,7 @@ const LISTED: usize = 4;
 
 /// An ill-typed token.
 #[derive(Clone, Copy)]
-pub(crate) struct RefusedToken<'a> {
+pub struct RefusedToken<'a> {
     /// Its position in its body.
     pub(crate) position: usize,
     pub(crate) found: &'a FoundToken,
@@ -19,7 +19,7 @@ pub(crate) struct RefusedToken<'a> {
 
 impl<'a> RefusedToken<'a> {
     /// One that calls no function whose name is known.
-    pub(crate) fn of(token: &'a IllTypedToken) -> Self {
+    pub fn of(token: &'a IllTypedToken) -> Self {
         RefusedToken {
             position: token.position,
             found: &token.found,

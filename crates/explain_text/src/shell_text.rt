@@ -100,7 +100,7 @@ fn push_reserved(lines: &mut Lines, found: u8, later: Later) -> Result<(), Alloc
 }
 
 /// The instruction of that opcode where `gate` does not admit it; its name is empty where further bytes name it.
-fn later_instruction(first: u8, number: Option<u32>) -> Option<Later> {
+pub(crate) fn later_instruction(first: u8, number: Option<u32>) -> Option<Later> {
     let (name, feature) = match number {
         Some(number) if first == FC => named_after_fc(number)?,
         Some(number) if first == FD && number >= FIRST_RELAXED => ("", Feature::RelaxedVectors),

@@ -10,7 +10,7 @@ use explanation::{OpenBlocks, StopLocation, Stopped, Wrong};
 use std::alloc::AllocError;
 
 /// The number after that first byte of the bytes, where it is one that a number follows, and the bytes of both.
-fn number_after(first: u8, bytes: &[u8]) -> Option<(u32, &[u8])> {
+pub(crate) fn number_after(first: u8, bytes: &[u8]) -> Option<(u32, &[u8])> {
     if !matches!(first, 0xFB..=0xFE) {
         return None;
     }

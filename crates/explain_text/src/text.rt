@@ -23,7 +23,7 @@ use std::alloc::{AllocError, Global};
 use wsyntax::{LOCAL_LIMIT, MODULE_LIMIT};
 
 /// The line of the verdict; there is none where memory was refused.
-fn first_line(alloc: Global, explanation: &Explanation<'_>) -> Result<String, AllocError>
+pub fn first_line(alloc: Global, explanation: &Explanation<'_>) -> Result<String, AllocError>
     ensures { IfOk result (λ line. IsSomeAnd (verdict_told explanation.now) (λ v. string_bytes line ≡ verdict_line v)) }
 {
     match explanation {

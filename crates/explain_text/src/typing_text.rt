@@ -7,8 +7,8 @@ use explanation::{BlockKind, OpenBlock, Opening, Typing};
 use std::alloc::AllocError;
 use wsyntax::{Token, ValType};
 
-/// How many operands of a list are shown.
-const SHOWN: usize = 32;
+/// How many operands of a list are shown, and how many tokens.
+pub const SHOWN: usize = 32;
 
 /// The last of a list, as many as are shown.
 fn last_shown<T>(items: &[T]) -> &[T] {
@@ -35,7 +35,7 @@ pub(crate) fn push_operands(
 }
 
 /// The name of what opens a block.
-pub(crate) fn block_name(kind: BlockKind) -> &'static str {
+pub fn block_name(kind: BlockKind) -> &'static str {
     match kind {
         BlockKind::Block => "block",
         BlockKind::Loop => "loop",
