@@ -106,9 +106,9 @@ Example, with a module that uses an instruction of a later standard:
 
     $ gate explain fill.wasm
     refused body 0 malformed
-    function  0, [] -> [], bytes 22 to 26
-    token     0, byte 23 (0x17)
     because   fc 0b is memory.fill, of bulk memory (Core 2.0), which gate does not admit
+    function  0, [] -> [], bytes 0x16 to 0x1a
+    token     0, byte 0x17
     hint      build the module with -mcpu=mvp, in Rust for wasm32v1-none; in text do without it (docs/GUESTS.md)
 
 The first line is that of `gate check`. Where the module is refused, more lines follow, each a key and a text.
