@@ -1,15 +1,12 @@
 -- The tokens that are written for members are those of JSON values, which nest no deeper than four times.
-use Rattle.std.proofs.Common.{◌≡◌, ℕ, ◌≤◌, List, [], ◌∷◌, ◌++◌, IsSomeAnd, Option, Some, None, decimal, flat_map, string_bytes, String, sym, refl, ap, subst, ◌∙◌, arith, append_assoc, append-nil, option_and_then, codes}
+use Rattle.std.proofs.Common.{◌≡◌, ℕ, ◌+◌, ◌≤◌, List, [], ◌∷◌, ◌++◌, IfOk, IsSomeAnd, Option, Some, None, Result, Ok, Err, decimal, flat_map, string_bytes, String, sym, refl, ap, ◌∙◌, arith, append_assoc, append-nil, option_and_then, codes}
 use Rattle.std.specs.declared.alloc.Global.{Global}
 use Rattle.json.specs.Json.{Json, number, string, array, object, Items, no_items, item, Members, no_members, member, if_last, max_depth, document, value}
 use Rattle.json.specs.Lex.{tokens}
 use Rattle.json.specs.Token.{Token, begin_array, begin_object, end_array, end_object, key}
 use Rattle.json.specs.Tree.{json_tokens, items_tokens, members_tokens, depth, items_depth, members_depth}
 use Rattle.json.proofs.Printed.Trees.{value-json_tokens}
-use Rattle.wsyntax.specs.Texts.Lines.{verdict_text}
-use Rattle.wsyntax.specs.Texts.Words.{newline}
 use Rattle.wsyntax.specs.Validation.Verdict.{Verdict}
-use Rattle.explain_json.specs.Objects.{IsVerdictObject}
 use Rattle.explain_json.specs.Written.{byte_tokens, text_tokens, plain_tokens, field_tokens, record_tokens, fact_tokens, entry_tokens}
 use Rattle.explain_json.specs.declared.values.Plain.{Plain}
 use Rattle.explain_json.specs.declared.values.Plain.TheVariants as plain
@@ -111,8 +108,8 @@ object_written verdict text entries are =
     let j = object (member (codes "verdict") (string verdict) others.ms) in
     (others.ms, document_of text j (are ∙ ap (λ x. begin_object ∷ key (codes "verdict") ∷ Token.string verdict ∷ x) (sym others.are)) (omega (arith, others.shallow)))
 
--- with the words of the verdict that is told
-pub verdict_object : (told : Option Verdict) (words bytes text : List ℕ) → IsSomeAnd told (λ v. words ≡ verdict_text v)
-    → (others : Members) × (document bytes ≡ Some (object (member (codes "verdict") (string words) others))) → text ≡ bytes ++ newline → IsSomeAnd told (λ v. IsVerdictObject v text)
-verdict_object None words bytes text is made whole = absurd is
-verdict_object (Some v) words bytes text is (others, made) whole = (bytes, others, whole, subst (λ (x : List ℕ). document bytes ≡ Some (object (member (codes "verdict") (string x) others))) is made)
+-- what follows of each verdict follows of the one that is told
+pub told_too : {X E : Type 0} (told : Option Verdict) (P : Verdict → Type 0) (Q : Verdict → X → Type 0) (r : Result X E) → IsSomeAnd told P → IfOk r (λ x. (v : Verdict) → P v → Q v x) → IfOk r (λ x. IsSomeAnd told (λ v. Q v x))
+told_too None P Q r p follows = absurd p
+told_too (Some v) P Q (Ok x) p follows = follows v p
+told_too (Some v) P Q (Err e) p follows = tt

@@ -1,7 +1,9 @@
 //! The object of an explanation: its verdict, and after it what is told.
-ghost use Rattle.std.specs.Prelude.{◌≡◌, ◌++◌, ◌∷◌, [], IfOk, IsSomeAnd, Some, codes, flat_map, string_bytes};
+ghost use Rattle.std.specs.Prelude.{◌≡◌, ◌++◌, IfOk, IsSomeAnd, Some, codes, string_bytes};
 ghost use Rattle.json.specs.Json.{Members, document, member, object, string};
-ghost use Rattle.wsyntax.specs.Texts.Lines.{verdict_text};
+ghost use Rattle.wsyntax.specs.Texts.Lines.{verdict_line};
+ghost use Rattle.wsyntax.specs.Texts.Words.{newline};
+ghost use Rattle.wsyntax.specs.Validation.Verdict.{Verdict};
 ghost use Rattle.explanation.specs.Told.{verdict_told};
 ghost use Rattle.explain_json.specs.Objects.{IsVerdictObject};
 
@@ -13,11 +15,10 @@ use explanation::Explanation;
 use json::Writer;
 use std::alloc::{AllocError, Global};
 
-/// The line of the verdict without its newline; there is none where memory was refused.
-fn verdict_words(alloc: Global, explanation: &Explanation<'_>) -> Result<String, AllocError>
-    ensures { IfOk result (λ words. IsSomeAnd (verdict_told explanation.now) (λ v. string_bytes words ≡ verdict_text v)) }
+/// A line without its newline.
+fn words_of(alloc: Global, line: &String) -> Result<String, AllocError>
+    ensures { IfOk result (λ words. string_bytes line.now ≡ string_bytes words ++ newline) }
 {
-    let line = first_line(alloc, explanation)?;
     match line.as_str().strip_suffix("\n") {
         Some(words) => String::from_str(alloc, words),
         None => Err(AllocError),
@@ -37,6 +38,16 @@ fn object_of(alloc: Global, verdict: &str, entries: &[Entry]) -> Result<Vec<u8>,
     Ok(writer.into_inner())
 }
 
+/// The same and a newline, by the line of the verdict.
+fn line_object(alloc: Global, line: &String, entries: &[Entry]) -> Result<Vec<u8>, AllocError>
+    ensures { IfOk result (λ bytes. (v : Verdict) → string_bytes line.now ≡ verdict_line v → IsVerdictObject v bytes.items) }
+{
+    let verdict = words_of(alloc, line)?;
+    let mut bytes = object_of(alloc, verdict.as_str(), entries)?;
+    bytes.push(b'\n')?;
+    Ok(bytes)
+}
+
 /// The explanation as one JSON object and a newline. What its text says stands there beside the facts. There is none where memory was
 /// refused.
 pub fn explanation_object(
@@ -46,9 +57,7 @@ pub fn explanation_object(
 ) -> Result<Vec<u8>, AllocError>
     ensures { IfOk result (λ bytes. IsSomeAnd (verdict_told explanation.now) (λ v. IsVerdictObject v bytes.items)) }
 {
-    let verdict = verdict_words(alloc, explanation)?;
+    let line = first_line(alloc, explanation)?;
     let entries = facts_of(alloc, explanation, text)?;
-    let mut bytes = object_of(alloc, verdict.as_str(), entries.as_slice())?;
-    bytes.push(b'\n')?;
-    Ok(bytes)
+    line_object(alloc, &line, entries.as_slice())
 }
