@@ -12,6 +12,7 @@ use crate::instance::{GateInstance, InstanceSlot, InstanceStatus};
 use crate::live::Live;
 use crate::loose::Loose;
 use crate::module::{GateModule, ModuleStatus};
+use crate::sending::sendable;
 use crate::settings::GateSettings;
 use crate::status::{BAD_ARGUMENT, NO_INSTANCE, NO_MEMORY, OK};
 use crate::value::GateValue;
@@ -61,11 +62,11 @@ fn make(
             return NO_INSTANCE;
         }
     };
-    let Some(live) = Live::boxed(alloc, accepted, limits, state) else {
+    let Ok(live) = Box::new(alloc, sendable(Live::of(accepted, limits, Some(state)))) else {
         return NO_MEMORY;
     };
     *ended = GateCall::begun(fuel);
-    *instance = InstanceSlot::of(live);
+    *instance = InstanceSlot::tied(Loose::of(live));
     OK
 }
 

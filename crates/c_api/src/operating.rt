@@ -27,12 +27,12 @@ impl Live {
             state,
         } = self;
         let Some(state) = state else {
-            return (Live::gone(accepted, settings), 0);
+            return (Live::of(accepted, settings, None), 0);
         };
         let instance = attached(&accepted, state);
         let size = instance.memory_size();
         let state = instance.detach();
-        (Live::of(accepted, settings, state), size)
+        (Live::of(accepted, settings, Some(state)), size)
     }
 
     /// Copies bytes of its memory. 0: they are copied; 80: they do not lie in it.
@@ -46,7 +46,7 @@ impl Live {
             state,
         } = self;
         let Some(state) = state else {
-            return (Live::gone(accepted, settings), OUTSIDE);
+            return (Live::of(accepted, settings, None), OUTSIDE);
         };
         let instance = attached(&accepted, state);
         let status = if instance.read_bytes(at, out) {
@@ -55,7 +55,7 @@ impl Live {
             OUTSIDE
         };
         let state = instance.detach();
-        (Live::of(accepted, settings, state), status)
+        (Live::of(accepted, settings, Some(state)), status)
     }
 
     /// Writes bytes to its memory. 0: they are written; 80: there is no room for them there, and nothing is done.
@@ -68,7 +68,7 @@ impl Live {
             state,
         } = self;
         let Some(state) = state else {
-            return (Live::gone(accepted, settings), OUTSIDE);
+            return (Live::of(accepted, settings, None), OUTSIDE);
         };
         let mut instance = attached(&accepted, state);
         let status = if instance.write_bytes(at, bytes) {
@@ -77,7 +77,7 @@ impl Live {
             OUTSIDE
         };
         let state = instance.detach();
-        (Live::of(accepted, settings, state), status)
+        (Live::of(accepted, settings, Some(state)), status)
     }
 
     /// Writes the value of an exported global. 0: it is written; 82: no global has this name.
@@ -91,7 +91,7 @@ impl Live {
             state,
         } = self;
         let Some(state) = state else {
-            return (Live::gone(accepted, settings), NO_GLOBAL);
+            return (Live::of(accepted, settings, None), NO_GLOBAL);
         };
         let instance = attached(&accepted, state);
         let status = match instance.exported_global(name) {
@@ -102,7 +102,7 @@ impl Live {
             None => NO_GLOBAL,
         };
         let state = instance.detach();
-        (Live::of(accepted, settings, state), status)
+        (Live::of(accepted, settings, Some(state)), status)
     }
 
     /// Calls an export on it. As `gate_instance_call`.
@@ -123,21 +123,24 @@ impl Live {
             state,
         } = self;
         let Some(state) = state else {
-            return (Live::gone(accepted, settings), NO_INSTANCE);
+            return (Live::of(accepted, settings, None), NO_INSTANCE);
         };
         let Some(limits) = limits.settings() else {
-            return (Live::of(accepted, settings, state), BAD_ARGUMENT);
+            return (Live::of(accepted, settings, Some(state)), BAD_ARGUMENT);
         };
         let args = match arguments(alloc, numbers) {
             Ok(args) => args,
-            Err(ArgsFault::NoValue) => return (Live::of(accepted, settings, state), BAD_ARGUMENT),
-            Err(ArgsFault::Memory) => return (Live::of(accepted, settings, state), NO_MEMORY),
+            Err(ArgsFault::NoValue) => return (
+                Live::of(accepted, settings, Some(state)),
+                BAD_ARGUMENT,
+            ),
+            Err(ArgsFault::Memory) => return (Live::of(accepted, settings, Some(state)), NO_MEMORY),
         };
         let mut instance = attached(&accepted, state);
         let line = call_export(alloc, &mut instance, name, args.as_slice(), limits);
         tell_end(&line, results, ended);
         let state = instance.detach();
-        (Live::of(accepted, settings, state), OK)
+        (Live::of(accepted, settings, Some(state)), OK)
     }
 
     /// Ends its instance, and makes a new one in its memory. As `gate_instance_reset`.
@@ -156,11 +159,11 @@ impl Live {
         match begin(alloc, &accepted, settings, clean) {
             Ok((state, fuel)) => {
                 *ended = GateCall::begun(fuel);
-                (Live::of(accepted, settings, state), OK)
+                (Live::of(accepted, settings, Some(state)), OK)
             }
             Err(line) => {
                 *ended = GateCall::of(&line);
-                (Live::gone(accepted, settings), NO_INSTANCE)
+                (Live::of(accepted, settings, None), NO_INSTANCE)
             }
         }
     }

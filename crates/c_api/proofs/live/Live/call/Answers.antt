@@ -4,8 +4,8 @@ use Rattle.c_api.proofs.Instances.{is_instance}
 use Rattle.c_api.proofs.InstanceOperations.{called_on}
 use Rattle.c_api.proofs.live.Live.call.Goals as goal
 
-pub of-requires : goal.of-requires
-of-requires c = is_instance c.args.self.accepted.value c.args.self.state c.in-Some.state c.args.self.held c.in-Some.is
+pub of-requires-in_default-settings : goal.of-requires-in_default-settings
+of-requires-in_default-settings c = is_instance c.args.self.accepted.value c.args.self.state c.in-Some.state c.args.self.held c.in-Some.is
 
 pub of-requires-in-Err-NoValue : goal.of-requires-in-Err-NoValue
 of-requires-in-Err-NoValue c = is_instance c.args.self.accepted.value c.args.self.state c.in-Some.state c.args.self.held c.in-Some.is
