@@ -83,7 +83,7 @@ static void explain(const std::vector<std::uint8_t> &bytes) {
     HOLDS(rule.numbers.verdict.rule == 11 && rule.numbers.why / 100 == GATE_RULE && rule.because().find("start function") < 100);
     const gate::Explanation version = gate::explain(std::string_view("\0asm\2\0\0\0", 8));
     HOLDS(version.numbers.why == GATE_WHY_VERSION && version.offset() == 4 && version.numbers.body_from == GATE_NONE);
-    HOLDS(version.sentence() == "refused malformed: byte 4 is 02, and the version is 01 00 00 00");
+    HOLDS(version.sentence() == "refused malformed: byte 0x4 is 02, and the version is 01 00 00 00");
     HOLDS(accepted.numbers.why == GATE_WHY_ACCEPTED && accepted.text == "accepted\n" && accepted.sentence() == "accepted");
     HOLDS(!accepted.offset() && accepted.because().empty() && accepted.numbers.section == GATE_NONE_32);
     try {
