@@ -70,5 +70,6 @@ pub fn find_token(
     ensures { IfOk result (IsTokenAt body.now start position) }
 {
     let left = left_of(alloc, body, position)?;
-    Ok(first_token(alloc, body, start, left)?)
+    let token = first_token(alloc, body, start, left)?;
+    Ok(token)
 }

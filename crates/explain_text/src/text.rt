@@ -202,14 +202,18 @@ fn sign_told(explanation: &Explanation<'_>) -> Option<Sign> {
 }
 
 /// The lines after that of the verdict. The hint of a sign stands in place of one on what stands in the module, which would lead astray.
-fn lines_of(alloc: Global, explanation: &Explanation<'_>) -> Result<Lines, AllocError> {
+fn details(alloc: Global, explanation: &Explanation<'_>) -> Result<String, AllocError> {
     let mut lines = Lines::new(alloc);
     push_details(&mut lines, alloc, explanation)?;
     if let Some(sign) = sign_told(explanation) {
         lines.hint = String::new(alloc);
         push_sign(&mut lines.hint, sign)?;
     }
-    Ok(lines)
+    let mut text = String::new(alloc);
+    text.push_str(lines.because.as_str())?;
+    text.push_str(lines.place.as_str())?;
+    text.push_str(lines.hint.as_str())?;
+    Ok(text)
 }
 
 /// The text of an explanation: the line of the verdict, and then lines of a key and what it says: what is wrong, where, and what to do.
@@ -218,9 +222,7 @@ pub fn explanation_text(alloc: Global, explanation: &Explanation<'_>) -> Result<
     ensures { IfOk result (λ text. IsSomeAnd (verdict_told explanation.now) (λ v. BeginsWith (verdict_line v) (string_bytes text))) }
 {
     let mut text = first_line(alloc, explanation)?;
-    let lines = lines_of(alloc, explanation)?;
-    text.push_str(lines.because.as_str())?;
-    text.push_str(lines.place.as_str())?;
-    text.push_str(lines.hint.as_str())?;
+    let below = details(alloc, explanation)?;
+    text.push_str(below.as_str())?;
     Ok(text)
 }

@@ -245,7 +245,7 @@ fn told_of_name(
     })
 }
 
-/// What is told of a token that takes and finds these operands, `known` of which are known.
+/// What is told of a token that takes and finds these operands, `known` of which are known; the wrong one has that position.
 fn told_of_operands(
     alloc: Global,
     checker: &mut Checker<'_>,
@@ -253,6 +253,7 @@ fn told_of_operands(
     takes: Operands,
     finds: Operands,
     known: usize,
+    wrong: usize,
     passed: Vec<PassedToken>,
 ) -> Result<Typing, AllocError>
     ensures takes { IfOk result (λ t. t.takes ≡ takes) }
@@ -260,7 +261,7 @@ fn told_of_operands(
     ensures within { IfOk result (λ t. map (λ b. type_told b.signature) t.within.items ≡ take 8 (block_types checker.old.frames)) }
     ensures openings { IfOk result (λ t. AreKept trail.now t.within.items) }
 {
-    let given_by = trail.givers(alloc, &finds, known)?;
+    let given_by = trail.givers(alloc, &finds, known, wrong)?;
     let within = blocks_within(alloc, checker, trail)?;
     Ok(Typing {
         takes,
@@ -269,6 +270,15 @@ fn told_of_operands(
         passed,
         within,
     })
+}
+
+/// The position of the operand that is wrong, from 0 on top.
+fn wrong_position(cause: &Option<Cause>) -> usize {
+    match cause {
+        Some(Cause::Operand { position, .. }) => *position,
+        Some(Cause::LeftOver { .. }) => usize::MAX,
+        _ => 0,
+    }
 }
 
 /// What is told of a token before which the checker stands, and why it is refused.
@@ -294,7 +304,10 @@ fn told_of_token(
         }
         Some(takes) => {
             let (finds, cause) = operand_cause(alloc, checker, token, &takes)?;
-            let typing = told_of_operands(alloc, checker, trail, takes, finds, known, passed)?;
+            let wrong = wrong_position(&cause);
+            let typing = told_of_operands(
+                alloc, checker, trail, takes, finds, known, wrong, passed,
+            )?;
             Ok((typing, cause))
         }
     }

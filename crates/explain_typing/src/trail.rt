@@ -16,6 +16,9 @@ use wsyntax::{Token, ValType};
 /// How many open blocks are told of a body that ends in them.
 const BLOCKS: usize = 8;
 
+/// Of how many operands it is told which tokens gave them.
+const GIVEN: usize = 64;
+
 /// Operands side by side that one token gave.
 #[derive(Clone, Copy)]
 struct GivenRun {
@@ -348,19 +351,22 @@ impl<'a> Trail<'a> {
         }
     }
 
-    /// The tokens that gave the topmost operands, the lowest first, of which `known` are held; none of one whose type is not known.
+    /// The tokens that gave the topmost operands found, the lowest first, of which `known` are held; none of one whose type is not known.
+    /// Where the wrong one lies too deep for these, those that gave it and the ones above it.
     pub(crate) fn givers(
         &self,
         alloc: Global,
         finds: &[Option<ValType>],
         known: usize,
+        wrong: usize,
     ) -> Result<Vec<Giver>, AllocError> {
-        let least = finds.len().saturating_sub(known);
+        let depth = known.min(GIVEN.max(wrong.saturating_add(1)));
+        let least = finds.len().saturating_sub(depth);
         let operands = finds.get(least..).unwrap_or(finds);
         let lowest = self.given.height.saturating_sub(operands.len());
         let mut run = self.given.first_run(lowest);
         let mut givers = Vec::new(alloc);
-        for (position, operand) in operands.iter().enumerate() {
+        for (position, operand) in operands.iter().take(GIVEN).enumerate() {
             run = self.given.run_from(run, lowest.saturating_add(position));
             let Some(held) = self.given.held.get(run) else {
                 return Ok(givers);
