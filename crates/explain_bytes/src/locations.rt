@@ -70,6 +70,5 @@ pub fn find_token(
     ensures { IfOk result (IsTokenAt body.now start position) }
 {
     let left = left_of(alloc, body, position)?;
-    let token = first_token(alloc, body, start, left)?;
-    Ok(token)
+    Ok(first_token(alloc, body, start, left)?)
 }

@@ -67,7 +67,7 @@ pub struct Typing {
     /// The topmost operands of the innermost block, as many as it takes, or all where there are fewer; at the end of a block also
     /// those that are left over, no more than 64. `None` is an operand of unreachable code, of which the type is not known.
     pub finds: Vec<Option<ValType>>,
-    /// The tokens that gave these, of no more than 64 operands: the topmost, or the wrong one and those above it.
+    /// The tokens that gave these.
     pub given_by: Vec<Giver>,
     /// The tokens right before it, in their order, no more than four.
     pub passed: Vec<PassedToken>,
