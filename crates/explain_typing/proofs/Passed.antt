@@ -1,8 +1,5 @@
 -- The tokens right before an ill-typed one, token by token.
-use Rattle.std.proofs.Common.{◌≡◌, ℕ, ◌+◌, ◌-◌, ◌<◌, ◌≤◌, List, [], ◌∷◌, ◌++◌, length, Some, refl, sym, ap, ◌∙◌, subst, arith}
-use Rattle.std.specs.Prelude.{slice_get}
-use Rattle.wsyntax.specs.declared.module.LocalRun.{LocalRun}
-use Rattle.wsyntax.specs.Binary.Sections.{locals}
+use Rattle.std.proofs.Common.{◌≡◌, ℕ, ◌+◌, ◌-◌, ◌<◌, ◌≤◌, List, [], ◌∷◌, ◌++◌, length, Some, refl, sym, ◌∙◌, subst, arith}
 use Rattle.explanation.specs.declared.typing.PassedToken.{PassedToken}
 use Rattle.explain_bytes.specs.Locations.{IsFirstOf, IsLeft, IsTokenAt, left_after}
 use Rattle.explain_typing.specs.Typed.{ArePassed}

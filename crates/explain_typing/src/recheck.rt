@@ -233,6 +233,7 @@ fn told_of_name(
     passed: Vec<PassedToken>,
 ) -> Result<Typing, AllocError>
     ensures operands { IfOk result (λ t. (t.takes.items ≡ []) × (t.finds.items ≡ [])) }
+    ensures passed { IfOk result (λ t. t.passed ≡ passed) }
     ensures within { IfOk result (λ t. map (λ b. type_told b.signature) t.within.items ≡ take 8 (block_types checker.old.frames)) }
     ensures openings { IfOk result (λ t. AreKept trail.now t.within.items) }
 {
@@ -258,6 +259,7 @@ fn told_of_operands(
 ) -> Result<Typing, AllocError>
     ensures takes { IfOk result (λ t. t.takes ≡ takes) }
     ensures finds { IfOk result (λ t. t.finds ≡ finds) }
+    ensures passed { IfOk result (λ t. t.passed ≡ passed) }
     ensures within { IfOk result (λ t. map (λ b. type_told b.signature) t.within.items ≡ take 8 (block_types checker.old.frames)) }
     ensures openings { IfOk result (λ t. AreKept trail.now t.within.items) }
 {

@@ -1,4 +1,4 @@
-use Rattle.std.proofs.Common.{◌+◌, ◌-◌, length, subst, List, ℕ, IfSome}
+use Rattle.std.proofs.Common.{◌+◌, ◌-◌, length, subst, sym, List, ℕ, IfSome}
 use Rattle.wsyntax.specs.Modules.{decoded_as}
 use Rattle.explain_typing.specs.Causes.{IsCause, IsCauseOf}
 use Rattle.explain_typing.specs.Typed.{ArePassed, IsTypingIn}
@@ -34,7 +34,7 @@ returns-clause-typing c =
       so = subst (λ (ts : List ℕ). IsTypingIn now.inside (decoded_as ts f.token) now.frames c.in_ok-typing.typing) c.deref-2.ensures.value c.in_ok-typing.ensures.typing;
       openings = kept_told c.new-trail.result c.pass_tokens.new.trail code c.in-Some.begins (c.args.start + (length c.args.body.now - length code)) c.args.position c.in_ok-typing.typing.within.items
           c.new-trail.ensures.code c.new-trail.ensures.start c.in-Some.ensures c.in_ok-rest.ensures.same c.in_ok-rest.ensures.opened c.in_ok-typing.ensures.openings;
-      passed = subst (λ (ps : _). ArePassed c.args.body.now c.args.start c.args.position c.args.position ps.items) c.in_ok-typing.ensures.passed c.in_ok-rest.ensures.last;
+      passed = subst (λ (ps : _). ArePassed c.args.body.now c.args.start c.args.position c.args.position ps.items) (sym c.in_ok-typing.ensures.passed) c.in_ok-rest.ensures.last;
     }
 
 pub returns-clause-cause : goal.returns-clause-cause

@@ -1,4 +1,4 @@
-use Rattle.std.proofs.Common.{refl, reverse, ◌∙◌, ap, rules}
+use Rattle.std.proofs.Common.{refl, reverse, ◌∙◌, ap}
 use Rattle.explain_bytes.proofs.Lefts.{one_after, one_more}
 use Rattle.explain_typing.proofs.Openings.{opened_more}
 use Rattle.explain_typing.proofs.Passed.{left_of_body, none_passed_yet}
