@@ -27,8 +27,12 @@ fn operands(
     unknown: &'static str,
 ) -> Result<Vec<String>, AllocError> {
     let mut words = Vec::new(alloc);
-    for of_type in last_shown(types) {
-        words.push(String::from_str(alloc, of_type.map_or(unknown, type_name))?)?;
+    for operand in last_shown(types) {
+        let word = match operand {
+            Some(of_type) => type_name(*of_type),
+            None => unknown,
+        };
+        words.push(String::from_str(alloc, word)?)?;
     }
     Ok(words)
 }
