@@ -2,9 +2,11 @@
 use Rattle.std.proofs.Common.{◌≡◌, ℕ, Bool, List, Option, Some, None, Result, Ok, Err, IfSome, refl, sym, ap, subst, ◌∙◌}
 use Rattle.std.specs.Prelude.{IsSomeAnd}
 use Rattle.wsyntax.specs.Binary.Shell.{module_limit}
+use Rattle.wsyntax.specs.Texts.Lines.{verdict_line}
 use Rattle.wsyntax.specs.Validation.Verdict.{Verdict, IsVerdict}
 use Rattle.batch.specs.Report.{status_of}
 use Rattle.batch.specs.declared.status.Status.{Status}
+use Rattle.explain_text.specs.Texts.{BeginsWith}
 use Rattle.program.specs.Checks.{Judges}
 use Rattle.wsyntax.specs.Texts.Calls.{CallsText, TooLong, BadLine, Good as GoodCalls, calls_limit}
 use Rattle.wsyntax.specs.Validation.Verdict.{Accepted, TooLarge, Malformed, RuleBroken, BodyRefused}
@@ -52,6 +54,10 @@ by_refused text TooLarge refused s e told = e ∙ ap refused_status told
 by_refused text Malformed refused s e told = e ∙ ap refused_status told
 by_refused text (RuleBroken k) refused s e told = e ∙ ap refused_status told
 by_refused text (BodyRefused f fault) refused s e told = e ∙ ap refused_status told
+
+-- the text begins with the verdict that is told
+pub begins_told : (bytes text out : List ℕ) (refused : Option Refused) (told : Option Verdict) → TellsBoth bytes text refused told out → IsSomeAnd told (λ v. BeginsWith (verdict_line v) out)
+begins_told bytes text out refused told (v, verdict, by, says, begins) = subst (λ (x : Option Verdict). IsSomeAnd x (λ v. BeginsWith (verdict_line v) out)) (sym says) begins
 
 -- what is printed of a verdict that is told
 tells_of : (json : Bool) (told : Option Verdict) (v : Verdict) (out : List ℕ) → told ≡ Some v → IsSomeAnd told (λ v. TellsVerdict json v out) → TellsVerdict json v out
