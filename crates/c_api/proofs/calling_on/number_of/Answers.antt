@@ -21,8 +21,8 @@ loop-position-preserved c =
     let x = c.index.result.now in let isnt = c.if-eq.false in
     let other : IsOther c.args.name.now x = λ e. let is : c.eq.result ≡ true = (slice_eq-Decides Decides-eqb _ _ _ c.eq.ensures).1 e in cc in
     let more =
-        All-more (IsOther c.args.name.now) c.module.result.now.exports.items c.loop-position.position x (omega arith) c.loop-position.invariant.0
-        (subst (IsOther c.args.name.now) c.index.ensures other) in (more, c.loop-position.invariant.1)
+    All-more (IsOther c.args.name.now) c.module.result.now.exports.items c.loop-position.position x (omega arith) c.loop-position.invariant.0
+    (subst (IsOther c.args.name.now) c.index.ensures other) in (more, c.loop-position.invariant.1)
 
 pub returns : goal.returns
 returns c =

@@ -11,8 +11,8 @@ pub returns-clause-answer : goal.returns-clause-answer
 returns-clause-answer c =
     let name = c.args.name.now in let held = c.as_ref.ensures ∙ c.loose-live.ensures.value in
     let found =
-        subst (λ (a : Accepted). MatchOption c.number_of.result (IsMissing (module_shape a.«module») name) (HasNumber a name))
-        (c.deref.ensures ∙ ap (λ (l : Live). l.accepted.value) held) c.number_of.ensures in
+    subst (λ (a : Accepted). MatchOption c.number_of.result (IsMissing (module_shape a.«module») name) (HasNumber a name))
+    (c.deref.ensures ∙ ap (λ (l : Live). l.accepted.value) held) c.number_of.ensures in
     elim c.match-number_of.branch [
       | in-Some w ↦ rw (c.of.ensures.status, w.status-is, w.number-is) (inl (refl, rw w.in-Some.is at found))
       | in-None w ↦ rw (c.of.ensures.status, w.status-is, w.number-is) (inr (refl, rw w.in-None.is at found, refl))
