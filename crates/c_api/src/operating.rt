@@ -6,7 +6,7 @@ ghost use Rattle.c_api.specs.Instances.{memory_in, Stays, AnswersRead, AnswersWr
 
 use crate::beginning::begin;
 use crate::calling::{ArgsFault, arguments, tell_end};
-use crate::calling_on::call_export;
+use crate::calling_on::call_found;
 use crate::ending::GateCall;
 use crate::live::{Live, attached};
 use crate::settings::GateSettings;
@@ -14,6 +14,7 @@ use crate::status::{BAD_ARGUMENT, NO_GLOBAL, NO_INSTANCE, NO_MEMORY, OK, OUTSIDE
 use crate::value::GateValue;
 use memory::CleanMem;
 use std::alloc::Global;
+use wsyntax::ExportKind;
 
 impl Live {
     /// The number of bytes of its memory.
@@ -105,17 +106,17 @@ impl Live {
         (Live::of(accepted, settings, state), status)
     }
 
-    /// Calls an export on it. As `gate_instance_call`.
+    /// Calls what was found among the exports on it. As `gate_instance_call`.
     pub(crate) fn call(
         self,
         alloc: Global,
-        name: &[u8],
+        found: Option<(ExportKind, u32)>,
         numbers: &[GateValue],
         limits: &GateSettings,
         results: &mut [GateValue],
         ended: &mut GateCall,
     ) -> (Live, u32)
-        ensures { AnswersCallOn self name.now numbers.now limits.now results.old results.new ended.old ended.new result.0 result.1 }
+        ensures { AnswersCallOn self found numbers.now limits.now results.old results.new ended.old ended.new result.0 result.1 }
     {
         let Live {
             accepted,
@@ -134,7 +135,7 @@ impl Live {
             Err(ArgsFault::Memory) => return (Live::of(accepted, settings, state), NO_MEMORY),
         };
         let mut instance = attached(&accepted, state);
-        let line = call_export(alloc, &mut instance, name, args.as_slice(), limits);
+        let line = call_found(alloc, &mut instance, found, args.as_slice(), limits);
         tell_end(&line, results, ended);
         let state = instance.detach();
         (Live::of(accepted, settings, state), OK)
