@@ -30,11 +30,11 @@ both_accepted bytes calls (Ok e) verdict refused says begins = (Accepted, verdic
 both_accepted bytes calls (Err f) verdict refused says begins = tt
 
 one_refused : (bytes calls : List ℕ) (refused : Option Refused) (told : Option Verdict) (text : List ℕ) → TellsRefusal bytes refused told text → TellsBoth bytes calls refused told text
-one_refused bytes calls refused told text (Accepted, verdict, is, rest) = absurd cc
-one_refused bytes calls refused told text (TooLarge, verdict, is, rest) = (TooLarge, verdict, rest)
-one_refused bytes calls refused told text (Malformed, verdict, is, rest) = (Malformed, verdict, rest)
-one_refused bytes calls refused told text (RuleBroken k, verdict, is, rest) = (RuleBroken k, verdict, rest)
-one_refused bytes calls refused told text (BodyRefused f why, verdict, is, rest) = (BodyRefused f why, verdict, rest)
+one_refused bytes calls refused told text (Accepted, verdict, is, named, says, begins) = absurd cc
+one_refused bytes calls refused told text (TooLarge, verdict, is, named, says, begins) = (TooLarge, verdict, named, says, begins)
+one_refused bytes calls refused told text (Malformed, verdict, is, named, says, begins) = (Malformed, verdict, named, says, begins)
+one_refused bytes calls refused told text (RuleBroken k, verdict, is, named, says, begins) = (RuleBroken k, verdict, named, says, begins)
+one_refused bytes calls refused told text (BodyRefused f why, verdict, is, named, says, begins) = (BodyRefused f why, verdict, named, says, begins)
 
 pub both_refused : (bytes calls : List ℕ) (r : Result CallsExplanation AllocError) → IfOk r (λ e. TellsRefusal bytes e.refused (verdict_told e.explanation) (string_bytes e.text))
     → IfOk r (λ e. TellsBoth bytes calls e.refused (verdict_told e.explanation) (string_bytes e.text))
