@@ -1,5 +1,5 @@
 -- What `explain_file` and `explain_files` print explains the bytes that they read, as text or as an object, and their status goes by the verdict.
-use Rattle.std.proofs.Common.{◌≡◌, ℕ, Bool, List, Option, Some, None, Result, Ok, Err, IfSome, refl, sym, ap, subst, ◌∙◌}
+use Rattle.std.proofs.Common.{◌≡◌, ℕ, Bool, List, [], ◌∷◌, Option, Some, None, Result, Ok, Err, IfSome, refl, sym, ap, subst, ◌∙◌}
 use Rattle.std.specs.Prelude.{IsSomeAnd}
 use Rattle.wsyntax.specs.Binary.Shell.{module_limit}
 use Rattle.wsyntax.specs.Texts.Lines.{verdict_line}
@@ -15,7 +15,8 @@ use Rattle.explain.specs.CallsTold.{RefusedBy, TellsBoth, refused_calls}
 use Rattle.explain.specs.declared.explaining_calls.Refused.{Refused}
 use Rattle.program.specs.Explains.{Explains, ExplainsCalls, IsCallsExplained, TellsVerdict, refused_status}
 use Rattle.program.specs.Prints.{Shows}
-use Rattle.program.specs.Reads.{IsRead}
+use Rattle.program.specs.Reads.{IsRead, ReadsInOrder}
+use Rattle.program.specs.Sources.{ReadsPaths}
 use Rattle.program.specs.declared.fault.ProgramFault.{ProgramFault}
 use Rattle.program.specs.declared.fault.ProgramFault.TheVariants.{Usage, Unread, SomeUnread, Names, Write, Memory}
 
@@ -95,3 +96,14 @@ explained_calls json held_module held_calls held_later bytes slice text text_sli
     (calls_told json held_module held_calls bytes text out printed refused told s read_module (subst (λ (x : Option (List ℕ)). IsRead calls_limit x text) same read_calls)
     (subst (λ (x : List ℕ). TellsBoth bytes x refused told out) same_text (subst (λ (x : List ℕ). TellsBoth x text_slice refused told out) same_bytes both)) tells e)
     (subst (λ (x : List ℕ). Shows x s old new r) is done)
+
+-- what is shown after both were read
+pub ordered : (text : List ℕ) (s : Status) (out out' : Option (List ℕ)) (r : Result Status ProgramFault) (first second : List ℕ) (asked asked' : Option (List (List ℕ)))
+    → Shows text s out out' r → ReadsPaths asked asked' (first ∷ second ∷ []) → ReadsInOrder first second asked asked' r
+ordered text s out out' (Ok t) first second asked asked' shown reads = reads
+ordered text s out out' (Err Write) first second asked asked' shown reads = reads
+ordered text s out out' (Err (Usage t)) first second asked asked' shown reads = absurd shown
+ordered text s out out' (Err (Unread path reason)) first second asked asked' shown reads = absurd shown
+ordered text s out out' (Err SomeUnread) first second asked asked' shown reads = absurd shown
+ordered text s out out' (Err Names) first second asked asked' shown reads = absurd shown
+ordered text s out out' (Err Memory) first second asked asked' shown reads = absurd shown

@@ -35,16 +35,16 @@ fn explanation_status(explanation: &Explanation<'_>) -> Status
 fn printed(
     alloc: Global,
     explanation: &Explanation<'_>,
-    text: String,
+    text: &String,
     json: bool,
 ) -> Result<Vec<u8>, AllocError>
-    requires { IsSomeAnd (verdict_told explanation.now) (λ v. BeginsWith (verdict_line v) (string_bytes text)) }
+    requires { IsSomeAnd (verdict_told explanation.now) (λ v. BeginsWith (verdict_line v) (string_bytes text.now)) }
     ensures { IfOk result (λ bytes. IsSomeAnd (verdict_told explanation.now) (λ v. TellsVerdict json v bytes.items)) }
 {
     if json {
         explanation_object(alloc, explanation, text.as_str())
     } else {
-        Ok(text.into_bytes())
+        Vec::from_slice(alloc, text.as_bytes())
     }
 }
 
@@ -57,7 +57,7 @@ fn explanation_printed(
     ensures { IfOk result (λ bytes. IsSomeAnd (verdict_told explanation.now) (λ v. TellsVerdict json v bytes.items)) }
 {
     let text = explanation_text(alloc, explanation)?;
-    printed(alloc, explanation, text, json)
+    printed(alloc, explanation, &text, json)
 }
 
 /// Reads a module whole, judges it on the calling thread, and writes its verdict line and why it is refused, or with `json` the same
@@ -112,7 +112,7 @@ pub fn explain_files<'a, S: Source, O: Write>(
         return Err(ProgramFault::Memory);
     };
     let status = status_of_refused(told.refused);
-    match printed(alloc, &told.explanation, told.text, json) {
+    match printed(alloc, &told.explanation, &told.text, json) {
         Ok(text) => show(text.as_slice(), status, out),
         Err(_) => Err(ProgramFault::Memory),
     }
