@@ -9,8 +9,8 @@ ghost use Rattle.accepted_module.specs.Judgement.{shapes_of};
 ghost use Rattle.explain_run.specs.Starting.{IsNamed, first_float, first_in, float_in, refusal_named};
 
 use accepted_module::{Accepted, memory_pages, table_size};
-use checked_body::{CheckedBody, is_float, token_has_floats, type_has_floats};
-use wsyntax::{FuncTypes, Global, Import, LocalRun, Module, StartRefusal, Token};
+use checked_body::{CheckedBody, is_float, type_has_floats};
+use wsyntax::{FuncTypes, Global, Import, LocalRun, Module, StartRefusal};
 
 /// Where f32 or f64 stands first in a module without imports, in which the index of a function is the position of its body.
 #[derive(Clone, Copy)]
@@ -75,10 +75,11 @@ fn float_run(runs: &[LocalRun]) -> Option<usize>
 }
 
 /// The position of the first token that has floats.
-fn float_token(tokens: &[Token]) -> Option<usize>
-    ensures { result ≡ position (λ t. token_has_floats (decoded_as [] t)) tokens.now }
-{
-    tokens.iter().position(|token| token_has_floats(*token))
+fn first_float(body: &CheckedBody) -> usize {
+    match body.first_float() {
+        Some(position) => position as usize,
+        None => 0,
+    }
 }
 
 /// Where floats stand first in the body of that function.
@@ -89,7 +90,7 @@ fn float_in_body(func: usize, body: &CheckedBody) -> FloatLocation
         Some(run) => FloatLocation::Local { func, run },
         None => FloatLocation::Token {
             func,
-            position: float_token(body.tokens()).unwrap_or(0),
+            position: first_float(body),
         },
     }
 }

@@ -1,22 +1,14 @@
-ghost use Rattle.std.specs.Prelude.{◌≡◌, ◌<◌, ◌^◌, length, IfOk, IfErr};
+ghost use Rattle.std.specs.Prelude.{◌≡◌, ◌<◌, ◌^◌, length, IfErr};
 ghost use Rattle.wsyntax.specs.BranchTables.{FollowAll};
-ghost use Rattle.wsyntax.specs.Modules.{body_shape};
-ghost use Rattle.side_table.specs.Written.{AllSuit, IsWritten};
-ghost use Rattle.checked_body.specs.Bodies.{IsTypedAs, FitsAs};
-ghost use Rattle.wcheck.specs.Kept.{KeepsBody};
-ghost use Rattle.wcheck.specs.Outcomes.{HasPassed};
 ghost use Rattle.wcheck.specs.Refusals.{RefusedFor};
 
 use crate::body::{BodyPass, pass_body};
 use crate::checker::Checker;
-use checked_body::{CheckedBody, SideTable};
-use side_table::{
-    TableBuilder, pass_is_algorithm, passed_bounded, passed_fits, passed_is_code, written_fills,
-};
-use soundness::validation::{accepted_is_typed, refused_at_first_fault};
-use std::alloc::{AllocError, Global};
+use checked_body::CheckedBody;
+use side_table::CodeMaker;
+use std::alloc::Global;
 use thiserror::Error;
-use wsyntax::{Body, Expression};
+use wsyntax::Body;
 
 /// Why a body is refused.
 #[derive(Clone, Copy, Debug, PartialEq, Eq, Error)]
@@ -29,101 +21,33 @@ pub enum CheckFault {
     Memory,
 }
 
-/// A body whose tokens hold where its branches go on, and the rest of its side table.
-#[derive(Drop)]
-struct WrittenBody {
-    body: Body,
-    table: SideTable,
-}
-
-/// Writes into the tokens of a body where they go on, as the pass over them wrote it down.
-fn written(alloc: Global, body: Body, builder: TableBuilder) -> Result<WrittenBody, AllocError>
-    requires suit { AllSuit body.code.tokens.items builder.notes.entries }
-    requires few { length body.code.tokens.items < 2 ^ 31 }
-    ensures unresolved { IfOk result (λ w. KeepsBody body w.body) }
-    ensures written { IfOk result (λ w. IsWritten w.body.code.tokens.items builder.notes w.table) }
-{
-    let Body {
-        runs,
-        code: Expression {
-            mut tokens,
-            targets,
-        },
-    } = body;
-    let table = builder.write_into(alloc, &mut tokens)?;
-    let code = Expression { tokens, targets };
-    Ok(WrittenBody {
-        body: Body { runs, code },
-        table,
-    })
-}
-
-/// Keeps the body of the function of that index, imported ones counted, whose tokens the checker took, with its side table as it
-/// was written down.
-pub fn keep_body(
-    alloc: Global,
-    checker: &Checker<'_>,
-    func: u32,
-    body: Body,
-    builder: TableBuilder,
-    has_floats: bool,
-) -> Result<CheckedBody, AllocError>
-    requires func { func < length checker.now.outside.functions }
-    requires passed { HasPassed checker.now.outside func body builder has_floats }
-    ensures kept { IfOk result (λ c. body_shape c.body ≡ body_shape body) }
-    ensures unresolved { IfOk result (λ c. KeepsBody body c.body) }
-    ensures typed { IfOk result (λ c. IsTypedAs checker.now.outside func c.body) }
-    ensures fits { IfOk result (λ c. FitsAs checker.now.outside func c) }
-{
-    accepted_is_typed();
-    pass_is_algorithm();
-    passed_is_code();
-    passed_fits();
-    passed_bounded();
-    written_fills();
-    match written(alloc, body, builder) {
-        Ok(WrittenBody { body, table }) => Ok(CheckedBody::new(body, table, has_floats)),
-        Err(fault) => Err(fault),
-    }
-}
-
 /// Checks the body of the function of that index, imported ones counted: it is taken exactly where it is typed, and
-/// else its first fault is named. Of a body that is taken nothing changes but where its tokens go on. Time and memory are
-/// linear in the tokens and the targets, and in the types of operands that the body itself puts.
+/// else its first fault is named. Time and memory are linear in the tokens and the targets, and in the types of operands that the
+/// body itself puts.
 ///
 /// It asks more of its caller than the index of a function of the module:
 /// - `follow`: each branch table begins in the list of targets where the one before it ends, as `decode_body` promises.
 /// - `few`: the side table has room for the positions of fewer than 2^31 tokens. A token takes a byte at least, so each body
 ///   of a module within its limit has fewer.
 /// - A checker stands for the module's context. It may have checked other bodies of the module before, and may check
-///   more, in the memory that it has.
+///   more, in the memory that it has. The same holds of the maker of code.
 ///
 /// A `Body` that is made by hand may break `follow` and `few`.
 pub fn check_body(
     alloc: Global,
     checker: &mut Checker<'_>,
+    maker: &mut CodeMaker,
     func: u32,
     body: Body,
 ) -> Result<CheckedBody, CheckFault>
     requires func { func < length checker.old.outside.functions }
     requires few { length body.code.tokens.items < 2 ^ 31 }
     requires follow { FollowAll 0 body.code.tokens.items (length body.code.targets.items) }
-    ensures kept { IfOk result (λ c. body_shape c.body ≡ body_shape body) }
-    ensures unresolved { IfOk result (λ c. KeepsBody body c.body) }
-    ensures typed { IfOk result (λ c. IsTypedAs checker.old.outside func c.body) }
-    ensures fits { IfOk result (λ c. FitsAs checker.old.outside func c) }
     ensures refused { IfErr result (λ fault. RefusedFor checker.old.outside func body fault) }
     ensures outside { checker.new.outside ≡ checker.old.outside }
 {
-    refused_at_first_fault();
-    pass_is_algorithm();
-    match pass_body(alloc, checker, func, &body) {
-        Ok(
-            BodyPass::Passes {
-                builder,
-                has_floats,
-            },
-        ) => match keep_body(alloc, checker, func, body, builder, has_floats) {
+    match pass_body(checker, maker, func, &body) {
+        Ok(BodyPass::Passes) => match maker.finish(alloc, body.runs) {
             Ok(checked) => Ok(checked),
             Err(_) => Err(CheckFault::Memory),
         },

@@ -1,5 +1,5 @@
 //! The typing of function bodies (Core 1.0, 3.3 and 3.4.1): the checker, a token at a time (7.3), and the check of a whole body,
-//! which joins it to the maker of the side table (`side_table`).
+//! which hands each token to the maker of code (`side_table`).
 //!
 //! The general way of a token, from `Checker::step` down (`verdict::passing` has the quick one):
 //!
@@ -12,9 +12,7 @@
 //! operand_rules, operand_stack      whether the types on top fit, and what lies there then
 //! ```
 //!
-//! Proved: `check_body` takes exactly the bodies that the declarative typing rules type, else names the first fault. Of a
-//! body that it takes it changes nothing but where tokens go on; side table and height fit the typing. `Checker` is the
-//! algorithm, token by token.
+//! Proved: `Checker` is the algorithm, token by token.
 #![tactic(auto)]
 
 mod apply;
@@ -33,8 +31,8 @@ mod scope;
 mod tuning;
 mod types;
 
-pub use building::{is_plain, record_plain, record_token};
-pub use check::{CheckFault, check_body, keep_body};
+pub use building::{begin_body, record_token};
+pub use check::{CheckFault, check_body};
 pub use checked_body::CheckedBody;
 pub use checker::{Checker, OpenFrame};
 pub use rule::{OperandRule, table_default, table_labels};
