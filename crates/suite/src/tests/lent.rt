@@ -1,13 +1,13 @@
 //! What an accepted module lends: its parts, its context and its checked bodies.
 use batch::{Plan, Quiet};
-use checked_body::Branch;
+use checked_body::{Instruction, Landing};
 use std::alloc::Global;
 use std::process::Abort;
 use std::sync::Wait;
 use std::test::Fail;
 use std::thread::Threads;
 use verdict::{Accepted, judge};
-use wsyntax::{BranchTarget, ExportKind, GlobalType, ImportKind, Label, LocalRun, Token, ValType};
+use wsyntax::{ExportKind, GlobalType, ImportKind, LocalRun, Operator, ValType};
 
 /// (module (import "m" "f" (func)) (import "m" "g" (global i64)) (memory 1) (export "a" (func 1))
 ///   (func (param i32) (result i32) (local i64 i64)
@@ -76,59 +76,74 @@ fn the_context_knows_types<R: Abort>(rt: &R, accepted: &Accepted<'_>) -> Result<
     Ok(())
 }
 
-fn lends_locals_and_tokens<R: Abort>(rt: &R, accepted: &Accepted<'_>) -> Result<(), Fail> {
+fn lends_locals_and_code<R: Abort>(rt: &R, accepted: &Accepted<'_>) -> Result<(), Fail> {
     let body = accepted.body(1).ok_or("no body")?;
     let run = LocalRun {
         count: 2,
         val_type: ValType::I64,
     };
     assert!(rt; body.locals() == [run].as_slice());
-    assert_eq!(rt; (body.tokens().len(), body.long().len()), (10, 0));
+    assert_eq!(rt; (body.token_count(), body.instructions().len()), (10, 6));
     Ok(())
 }
 
-fn lends_the_position_of_a_branch<R: Abort>(rt: &R, accepted: &Accepted<'_>) -> Result<(), Fail> {
+fn lends_the_target_of_a_branch<R: Abort>(rt: &R, accepted: &Accepted<'_>) -> Result<(), Fail> {
     let body = accepted.body(1).ok_or("no body")?;
-    // on after the block's end, with one operand above the 5
-    let destination = BranchTarget::Short {
-        arity: 1,
-        height: 1,
-        target: 8,
+    // on after the block's end, with its operand in place
+    let branch = Instruction::BranchIf {
+        condition: 0,
+        target: 4,
     };
-    let label = Label {
-        index: 0,
-        destination,
-    };
-    assert!(rt; body.tokens().get(4) == Some(&Token::BrIf(label)));
-    assert!(rt; body.targets().is_empty() && body.cases().is_empty());
+    assert!(rt; body.instructions().get(2) == Some(&branch));
+    assert!(rt; body.landings().is_empty());
     assert_eq!(rt; body.height(), 3);
     Ok(())
 }
 
-fn to(target: u32) -> Branch {
-    Branch {
-        target,
-        arity: 0,
-        height: 0,
-    }
+/// The sum takes both operands from their slots behind the three locals.
+fn lends_the_last_instructions<R: Abort>(rt: &R, accepted: &Accepted<'_>) -> Result<(), Fail> {
+    let body = accepted.body(1).ok_or("no body")?;
+    let sum = Instruction::Binary {
+        operator: Operator::I32Add,
+        to: 3,
+        left: 3,
+        right: 4,
+    };
+    assert!(rt; body.instructions().get(4) == Some(&sum));
+    let end = Instruction::Return { from: 3, count: 1 };
+    assert!(rt; body.instructions().get(5) == Some(&end));
+    Ok(())
 }
 
 fn lends_a_branch_table<R: Abort>(rt: &R, accepted: &Accepted<'_>) -> Result<(), Fail> {
     let body = accepted.body(2).ok_or("no body")?;
-    let table = Token::BrTable { count: 2, first: 0 };
-    assert!(rt; body.tokens().get(3) == Some(&table));
-    assert_eq!(rt; body.targets(), [0, 1, 2].as_slice());
+    let branch = Instruction::BranchTable {
+        operand: 0,
+        first: 0,
+        count: 2,
+    };
+    assert!(rt; body.instructions().get(1) == Some(&branch));
     assert_eq!(rt; body.height(), 1);
     Ok(())
 }
 
-fn lends_the_positions_of_a_branch_table<R: Abort>(
+/// A branch that moves nothing, without operands on the stack behind one local.
+fn to(target: u32) -> Landing {
+    Landing {
+        target,
+        from: 1,
+        to: 1,
+        count: 0,
+    }
+}
+
+fn lends_the_cases_of_a_branch_table<R: Abort>(
     rt: &R,
     accepted: &Accepted<'_>,
 ) -> Result<(), Fail> {
     let body = accepted.body(2).ok_or("no body")?;
     // two cases and the default: back to the loop, after the block, and out of the body
-    assert!(rt; body.cases() == [to(1), to(6), to(7)].as_slice());
+    assert!(rt; body.landings() == [to(0), to(2), to(2)].as_slice());
     Ok(())
 }
 
@@ -191,10 +206,11 @@ fn lends_the_module<R: Abort>(rt: &R, accepted: &Accepted<'_>) -> Result<(), Fai
 }
 
 fn lends_the_bodies<R: Abort>(rt: &R, accepted: &Accepted<'_>) -> Result<(), Fail> {
-    lends_locals_and_tokens(rt, accepted)?;
-    lends_the_position_of_a_branch(rt, accepted)?;
+    lends_locals_and_code(rt, accepted)?;
+    lends_the_target_of_a_branch(rt, accepted)?;
+    lends_the_last_instructions(rt, accepted)?;
     lends_a_branch_table(rt, accepted)?;
-    lends_the_positions_of_a_branch_table(rt, accepted)?;
+    lends_the_cases_of_a_branch_table(rt, accepted)?;
     lends_no_other_body(rt, accepted);
     Ok(())
 }
