@@ -46,7 +46,7 @@ pub fn check_body(
     ensures refused { IfErr result (λ fault. RefusedFor checker.old.outside func body fault) }
     ensures outside { checker.new.outside ≡ checker.old.outside }
 {
-    match pass_body(alloc, checker, maker, func, &body) {
+    match pass_body(checker, maker, func, &body) {
         Ok(BodyPass::Passes) => match maker.finish(alloc, body.runs) {
             Ok(checked) => Ok(checked),
             Err(_) => Err(CheckFault::Memory),
