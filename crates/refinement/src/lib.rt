@@ -2,11 +2,11 @@
 //! steps of the definition. Each function does nothing; its `ensures` is a law about definitions in `specs/`.
 //!
 //! Proved, over the definitions alone: the machine ends a call as the reduction ends it, with the same charges and the
-//! same store. It never lacks what its token needs. Its dispatches lie between the work done and the fuel spent times the
-//! longest body (one more only out of fuel).
+//! same store. It never lacks what its token needs, and has as many operands as the side table says. Its dispatches lie
+//! between the work done and the fuel spent times the longest body (one more only out of fuel).
 #![tactic(auto)]
 
-ghost use Rattle.refinement.specs.Laws.{Begins, EndsWell, EntryRefused, GoesOn, IsBounded, IsReady, StopsAnywhere};
+ghost use Rattle.refinement.specs.Laws.{Begins, EndsWell, EntryRefused, GoesOn, HeightsHold, IsBounded, IsReady, StopsAnywhere};
 ghost use Rattle.refinement.specs.Measure.{GetsSmaller};
 ghost use Rattle.refinement.specs.Reduction.{ReductionLaws, SafetyLaws};
 ghost use Rattle.refinement.specs.Trees.{TreeIsFound};
@@ -56,6 +56,14 @@ pub fn begins()
 /// A machine that is reached finds what its token needs.
 pub fn is_ready()
     ensures { IsReady }
+{
+    reduction_laws();
+    safety_laws();
+}
+
+/// The side table says how many operands there are where a machine that is reached takes a token.
+pub fn heights_hold()
+    ensures { HeightsHold }
 {
     reduction_laws();
     safety_laws();

@@ -1,5 +1,6 @@
 -- A machine that is reached is ready for its turn.
-use Rattle.std.proofs.Common.{◌≡◌, ℕ, ◌+◌, ◌≤◌, List, [], ◌∷◌, length, Option, Some, None, refl, sym, ◌∙◌, subst, arith, length-append}
+use Rattle.std.proofs.Common.{◌≡◌, ℕ, ◌+◌, ◌≤◌, List, [], ◌∷◌, length, Option, Some, None, refl, sym, ap, ◌∙◌, subst, arith, length-append}
+use Rattle.std.specs.Prelude.{◌%◌, ◌^◌, slice_get}
 use Rattle.std.proofs.lemmas.Option.{slice_get_within, slice_get_past}
 use Rattle.wsyntax.specs.declared.instructions.BlockType.{BlockType}
 use Rattle.wsyntax.specs.declared.value.Value.{Value}
@@ -8,13 +9,13 @@ use Rattle.wsyntax.specs.Validation.Context.{Stack, leave}
 use Rattle.wsyntax.specs.Execution.Values.{types}
 use Rattle.wsyntax.specs.Execution.Layers.{LabelLayer}
 use Rattle.wsyntax.specs.Execution.ConfigTyped.{ConfigTyped}
-use Rattle.checked_body.specs.SideTable.{Sequence, Closes, ByEnd, ByElse}
+use Rattle.checked_body.specs.SideTable.{Sequence, Closes, ByEnd, ByElse, Low}
 use Rattle.soundness.specs.State.{config_of}
-use Rattle.refinement.specs.Machine.{token_here}
+use Rattle.refinement.specs.Machine.{Machine, token_here}
 use Rattle.refinement.specs.Joint.{Joint, state_of, machine_of}
 use Rattle.refinement.specs.Invariant.{context_of}
 use Rattle.refinement.specs.Ready.{ReadyAt, Ready}
-use Rattle.refinement.specs.Laws.{IsReady}
+use Rattle.refinement.specs.Laws.{IsReady, HeightsHold}
 use Rattle.refinement.specs.Reduction.{SafetyLaws}
 use Rattle.refinement.proofs.Kept.Premises.{Turning}
 use Rattle.refinement.proofs.Kept.Stacks.{types_length}
@@ -25,8 +26,8 @@ use Rattle.refinement.proofs.Kept.Enough.{ops_length, locals_length, moves, read
 use Rattle.refinement.proofs.Kept.Took.{closing, spot, stands}
 use Rattle.refinement.proofs.Kept.Reaching.{world}
 
--- the operands have room
-low_of : (code : Code) (w : World) (sp : Spot) (here : Sequence) (pc : ℕ) (ts : Stack) → Fit w sp code here pc ts → here.base + length ts ≤ ((sp.body).filled).height
+-- the operands have room, and are as many as the side table says
+low_of : (code : Code) (w : World) (sp : Spot) (here : Sequence) (pc : ℕ) (ts : Stack) → Fit w sp code here pc ts → Low (sp.body).filled here pc ts
 low_of Stop w sp here pc ts f = f.2
 low_of (Plain i rest) w sp here pc ts f = f.5
 low_of (Block b body rest) w sp here pc ts f = f.9
@@ -94,7 +95,7 @@ ready_sites w j r t s =
     let n = types_length held (types held) refl in
     record {
       locals = locals_length w sp st levels x.here x.levels ∙ length-append ((((j.running).body).function).func_type).params (((j.running).body).function).locals;
-      room = omega (arith, low, base, n, ops_length w sp st levels x.here x.levels held (j.running).code);
+      room = omega (arith, low.0, base, n, ops_length w sp st levels x.here x.levels held (j.running).code);
       position = position_of (j.running).code w sp levels x.here x.levels held x.fits;
       at_token = ready_code w sp st (j.running).code levels x.here x.levels held r t x.fits;
     }
@@ -102,3 +103,19 @@ ready_sites w j r t s =
 pub is_ready : Turning → SafetyLaws → IsReady
 is_ready turning sound C p L c b sig m n called (j, is, h) =
     subst (Ready C p) (sym is) (ready_sites (world turning sound C p L c b sig called) j (leave sig) h.typed (record { running = h.running; waiting = h.waiting }))
+
+heights_there : (w : World) (j : Joint) → Sites w.C w.p j → (t : Token) → token_here (machine_of j) ≡ Some t → slice_get (((j.running).body).filled).heights (j.running).pc ≡ Some (length (machine_of j).operands % 2 ^ 32)
+heights_there w j s t e =
+    let sp = spot j in
+    let x = s.running in
+    let held = (j.running).held in
+    let levels = (j.running).levels in
+    let low = low_of (j.running).code w sp x.here sp.pc (types held) x.fits in
+    let base = base_is (context_of w.C sp.body) (sp.body).filled (results_at sp) levels x.here x.levels in
+    let n = types_length held (types held) refl in
+    let as_many : (x.here).base + length (types held) ≡ length (machine_of j).operands = omega (arith, base, n, ops_length w sp (stands w j s) levels x.here x.levels held (j.running).code) in
+    low.1 t e ∙ ap (λ k. Some (k % 2 ^ 32)) as_many
+
+pub heights_hold : Turning → SafetyLaws → HeightsHold
+heights_hold turning sound C p L c b sig m n called (j, is, h) =
+    subst (λ (m : Machine). (t : Token) → token_here m ≡ Some t → slice_get ((m.body).filled).heights m.pc ≡ Some (length m.operands % 2 ^ 32)) (sym is) (heights_there (world turning sound C p L c b sig called) j (record { running = h.running; waiting = h.waiting }))
