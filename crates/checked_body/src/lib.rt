@@ -13,6 +13,7 @@ mod branch;
 mod entry;
 mod floats;
 mod frame_layout;
+mod instruction;
 mod table;
 
 pub use body::CheckedBody;
@@ -20,4 +21,5 @@ pub use branch::Branch;
 pub use entry::entry_at;
 pub use floats::{is_float, runs_have_floats, token_has_floats, type_has_floats};
 pub use frame_layout::FrameLayout;
+pub use instruction::{Instruction, Landing};
 pub use table::SideTable;
