@@ -75,7 +75,7 @@ TABLES = {
         'soundness/specs/Pair': 'PairTyped',
         'soundness/specs/Instances': 'OneInstance StartsTyped StartIsPlain CallsTyped CallsAreSafe',
         'soundness/specs/OneAnswer': 'OneCalls OneEndOf OneAnswer',
-        'refinement/specs/Laws': 'IsReady GoesOn EndsWell IsBounded StopsAnywhere'}),
+        'refinement/specs/Laws': 'IsReady HeightsHold GoesOn EndsWell IsBounded StopsAnywhere'}),
     'examples': (SOUNDNESS, 'Spellings Bodies BlockTypes Instructions SeveralValues Samples Growth Counts Operators Floats Starts '
                             'StartFirst CallTexts EndsOfCalls Reports WholeAnswers'),
 }

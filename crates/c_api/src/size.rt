@@ -14,7 +14,7 @@ use wsyntax::{
     ValType,
 };
 
-const _: () = prove!(size_of::<CheckedBody>() == 136);
+const _: () = prove!(size_of::<CheckedBody>() == 160);
 
 const _: () = prove!(size_of::<LocalRun>() == 8);
 
@@ -53,14 +53,15 @@ fn with_body(total: u64, body: &CheckedBody) -> u64
     let total = with_list(total, body.tokens().len(), 16);
     let total = with_list(total, body.targets().len(), 4);
     let total = with_list(total, body.long().len(), 16);
-    with_list(total, body.cases().len(), 16)
+    let total = with_list(total, body.cases().len(), 16);
+    with_list(total, body.heights().len(), 4)
 }
 
 /// These bytes and those of bodies.
 fn with_bodies(total: u64, bodies: &[CheckedBody]) -> u64
     ensures { result ≡ capped (total + bodies_bytes bodies.now) }
 {
-    let mut sum = with_list(total, bodies.len(), 136);
+    let mut sum = with_list(total, bodies.len(), 160);
     for body in bodies {
         sum = with_body(sum, body);
     }
