@@ -233,8 +233,9 @@ typedef struct gate_explanation {
 uint32_t gate_explain(const uint8_t *bytes, size_t bytes_length, gate_explanation *explanation)
     GATE_READS(1, 2) GATE_NOT_NULL((3)) GATE_ANSWERS;
 
-/* Judges a module, and writes what `gate explain` prints: the line of the verdict, and of a refusal lines that say where and why. Each of
- * them has a key, blanks up to column 10, and a text. Without a NUL.
+/* Judges a module, and writes what `gate explain` prints: the line of the verdict; of a refusal lines that say where and why; and of an
+ * accepted module why no instance of it starts, where none does within the default limits. Each of these lines has a key, blanks up to
+ * column 10, and a text. Without a NUL.
  *   GATE_OK, GATE_MODULE_REFUSED  the first *length bytes of out are the text
  *   GATE_SHORT_BUFFER             *length bytes are wanted
  *   GATE_NO_MEMORY */

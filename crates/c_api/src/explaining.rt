@@ -6,7 +6,7 @@ ghost use Rattle.c_api.specs.Verdicts.{Answers};
 use crate::explained::{GateExplanation, status_with};
 use crate::status::NO_MEMORY;
 use crate::text::hand_text;
-use explain::{explain, explanation_text};
+use explain::{explain, explain_calls};
 use std::alloc::Global;
 
 /// Judges a module, and says of a refusal where and why. 0: it is accepted; 2: it is refused; either way the fields are written.
@@ -28,7 +28,10 @@ pub extern "C" fn gate_explain(
     status_with(&found)
 }
 
-/// Judges a module, and writes the text that says where and why it is refused. 0: it is accepted; 2: it is refused; either way the
+/// How many pages a memory may have where the caller says none, as in `gate run`.
+const PAGES: u32 = 256;
+
+/// Judges a module, and writes the text that says where and why it is refused, or why no call of it runs under the default limits. 0: it is accepted; 2: it is refused; either way the
 /// text is written, and its length. 70: nothing is written; 75: the text has `length` bytes, and there is no room for it.
 #[unsafe(no_mangle)]
 pub extern "C" fn gate_explain_text(
@@ -39,9 +42,13 @@ pub extern "C" fn gate_explain_text(
 ) -> u32
     ensures { HandsText bytes.now out.old out.new length.old length.new result }
 {
-    let told = explain(alloc, bytes);
-    let Ok(text) = explanation_text(alloc, &told) else {
+    let Ok(told) = explain_calls(alloc, bytes, &[], PAGES) else {
         return NO_MEMORY;
     };
-    hand_text(text.as_bytes(), status_with(&told), out, length)
+    hand_text(
+        told.text.as_bytes(),
+        status_with(&told.explanation),
+        out,
+        length,
+    )
 }

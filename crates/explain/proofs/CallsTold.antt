@@ -1,5 +1,5 @@
 -- What is told of a module and of a text of calls.
-use Rattle.std.proofs.Common.{◌≡◌, ◌≢◌, ℕ, Bool, true, List, Option, Some, None, Result, Ok, Err, IfOk, IfSome, refl, sym, ◌∙◌}
+use Rattle.std.proofs.Common.{◌≡◌, ◌≢◌, ℕ, Bool, true, List, Option, Some, None, Result, Ok, Err, IfOk, IfSome, refl, sym, ◌∙◌, subst}
 use Rattle.std.specs.Prelude.{IsSomeAnd, string_bytes}
 use Rattle.std.specs.declared.alloc.AllocError.{AllocError}
 use Rattle.wsyntax.specs.Texts.Calls.{TooLong, BadLine}
@@ -8,9 +8,10 @@ use Rattle.wsyntax.specs.Validation.Verdict.{Verdict, Accepted, TooLarge, Malfor
 use Rattle.batch_text.specs.Calls.{ReadsCalls}
 use Rattle.batch_text.specs.declared.fault.CallsFault.{CallsFault}
 use Rattle.batch_text.specs.declared.fault.CallsFault.TheVariants as fault
-use Rattle.explain.specs.CallsTold.{RefusedBy, TellsBoth, TellsRefusal, is_refused}
+use Rattle.explain.specs.CallsTold.{RefusedBy, TellsBoth, is_refused}
 use Rattle.explain_text.specs.Texts.{BeginsWith}
 use Rattle.explanation.specs.Told.{verdict_told}
+use Rattle.verdict.specs.Laws.{OneVerdict}
 use Rattle.explain.specs.declared.explaining_calls.CallsExplanation.{CallsExplanation}
 use Rattle.explain.specs.declared.explaining_calls.Refused.{Refused}
 use Rattle.explain.specs.declared.explaining_calls.Refused.TheVariants.{Module, Calls}
@@ -29,20 +30,19 @@ pub both_accepted : (bytes calls : List ℕ) (r : Result CallsExplanation AllocE
 both_accepted bytes calls (Ok e) verdict refused says begins = (Accepted, verdict, refused, says, begins)
 both_accepted bytes calls (Err f) verdict refused says begins = tt
 
-one_refused : (bytes calls : List ℕ) (refused : Option Refused) (told : Option Verdict) (text : List ℕ) → TellsRefusal bytes refused told text → TellsBoth bytes calls refused told text
-one_refused bytes calls refused told text (Accepted, verdict, is, named, says, begins) = absurd cc
-one_refused bytes calls refused told text (TooLarge, verdict, is, named, says, begins) = (TooLarge, verdict, named, says, begins)
-one_refused bytes calls refused told text (Malformed, verdict, is, named, says, begins) = (Malformed, verdict, named, says, begins)
-one_refused bytes calls refused told text (RuleBroken k, verdict, is, named, says, begins) = (RuleBroken k, verdict, named, says, begins)
-one_refused bytes calls refused told text (BodyRefused f why, verdict, is, named, says, begins) = (BodyRefused f why, verdict, named, says, begins)
-
-pub both_refused : (bytes calls : List ℕ) (r : Result CallsExplanation AllocError) → IfOk r (λ e. TellsRefusal bytes e.refused (verdict_told e.explanation) (string_bytes e.text))
-    → IfOk r (λ e. TellsBoth bytes calls e.refused (verdict_told e.explanation) (string_bytes e.text))
-both_refused bytes calls (Ok e) told = one_refused bytes calls e.refused (verdict_told e.explanation) (string_bytes e.text) told
-both_refused bytes calls (Err f) told = tt
+by_refusal : (calls : List ℕ) (v : Verdict) → is_refused v ≡ true → RefusedBy calls v (Some Module)
+by_refusal calls Accepted is = absurd cc
+by_refusal calls TooLarge is = refl
+by_refusal calls Malformed is = refl
+by_refusal calls (RuleBroken k) is = refl
+by_refusal calls (BodyRefused f why) is = refl
 
 -- the verdict that is told is a refusal
-pub refusal_is_told : (bytes text : List ℕ) (told : Option Verdict) (b : Bool) → IfSome told (IsVerdict bytes) → IsSomeAnd told (λ v. BeginsWith (verdict_line v) text) → ((v : Verdict) → told ≡ Some v → b ≡ is_refused v) → b ≡ true
-    → TellsRefusal bytes (Some Module) told text
-refusal_is_told bytes text None b verdict begins says is = absurd begins
-refusal_is_told bytes text (Some v) b verdict begins says is = (v, verdict, sym (says v refl) ∙ is, refl, refl, begins)
+pub refusal_is_told : (bytes calls text : List ℕ) (told : Option Verdict) (b : Bool) → IfSome told (IsVerdict bytes) → IsSomeAnd told (λ v. BeginsWith (verdict_line v) text) → ((v : Verdict) → told ≡ Some v → b ≡ is_refused v) → b ≡ true
+    → TellsBoth bytes calls (Some Module) told text
+refusal_is_told bytes calls text None b verdict begins says is = absurd begins
+refusal_is_told bytes calls text (Some v) b verdict begins says is = (v, verdict, by_refusal calls v (sym (says v refl) ∙ is), refl, begins)
+
+-- where the verdict is told that accepts the module, there is no other
+pub is_accepted : (bytes : List ℕ) (v : Verdict) (told : Option Verdict) → OneVerdict → IfSome told (IsVerdict bytes) → told ≡ Some Accepted → IsVerdict bytes v → v ≡ Accepted
+is_accepted bytes v told one verdict says is = one bytes v Accepted is (subst (λ (x : Option Verdict). IfSome x (IsVerdict bytes)) says verdict)

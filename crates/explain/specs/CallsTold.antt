@@ -25,7 +25,3 @@ RefusedBy text v refused = refused ≡ Some Module
 -- the verdict is told, the text begins with its line, and what is told to be refused is so
 abbrev pub TellsBoth : List ℕ → List ℕ → Option Refused → Option Verdict → List ℕ → Type 0
 TellsBoth bytes calls refused told text = (v : Verdict) × IsVerdict bytes v × RefusedBy calls v refused × (told ≡ Some v) × BeginsWith (verdict_line v) text
-
--- a verdict that refuses the module is told, the text begins with its line, and that the module is refused is told
-abbrev pub TellsRefusal : List ℕ → Option Refused → Option Verdict → List ℕ → Type 0
-TellsRefusal bytes refused told text = (v : Verdict) × IsVerdict bytes v × (is_refused v ≡ true) × (refused ≡ Some Module) × (told ≡ Some v) × BeginsWith (verdict_line v) text

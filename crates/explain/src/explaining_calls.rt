@@ -1,10 +1,10 @@
 //! The explanation of a module and of a text of calls.
-ghost use Rattle.std.specs.Prelude.{◌≡◌, ◌++◌, IfOk, Some, string_bytes};
+ghost use Rattle.std.specs.Prelude.{◌≡◌, ◌++◌, IfOk, Some, false, string_bytes};
 ghost use Rattle.wsyntax.specs.Validation.Verdict.{Accepted as IsGood, Verdict};
 ghost use Rattle.wsyntax.specs.Texts.Lines.{verdict_line};
 ghost use Rattle.explain_text.specs.Texts.{BeginsWith};
 ghost use Rattle.explanation.specs.Told.{verdict_told};
-ghost use Rattle.explain.specs.CallsTold.{RefusedBy, TellsBoth, TellsRefusal, is_refused};
+ghost use Rattle.explain.specs.CallsTold.{RefusedBy, TellsBoth, is_refused};
 
 use crate::explaining::explain;
 use accepted_module::Accepted;
@@ -13,7 +13,7 @@ use explain_run::{first_misfit, push_calls_fault, push_misfit, push_not_starting
 use explain_text::explanation_text;
 use explanation::Explanation;
 use std::alloc::{AllocError, Global};
-use verdict::judge_alone;
+use verdict::{Refusal, judge_alone, one_verdict};
 
 /// What is refused.
 #[derive(Clone, Copy)]
@@ -104,30 +104,15 @@ fn explain_on<'a>(
 
 /// Whether an explanation tells of a refusal.
 fn tells_refusal(explanation: &Explanation<'_>) -> bool
-    ensures { (v : Verdict) → verdict_told explanation.now ≡ Some v → result ≡ is_refused v }
+    ensures refusal { (v : Verdict) → verdict_told explanation.now ≡ Some v → result ≡ is_refused v }
+    ensures accepted { result ≡ false → verdict_told explanation.now ≡ Some IsGood }
 {
     !matches!(explanation, Explanation::Accepted)
 }
 
-/// What is told of a module that is refused.
-fn explain_refused<'a>(alloc: Global, bytes: &'a [u8]) -> Result<CallsExplanation<'a>, AllocError>
-    ensures { IfOk result (λ e. TellsRefusal bytes.now e.refused (verdict_told e.explanation) (string_bytes e.text)) }
-{
-    let explanation = explain(alloc, bytes);
-    if !tells_refusal(&explanation) {
-        return Err(AllocError);
-    }
-    let text = explanation_text(alloc, &explanation)?;
-    Ok(CallsExplanation {
-        explanation,
-        text,
-        refused: Some(Refused::Module),
-    })
-}
-
 /// Judges a module, on the calling thread, and reads a text of calls of it. Of a refused module it tells what `explain`
 /// tells; of an accepted one what is wrong with the calls, or which of them does not fit the module, and why an instance does
-/// not start whose memory may have `pages` pages.
+/// not start whose memory may have `pages` pages. So of no calls it tells whether any would run.
 pub fn explain_calls<'a>(
     alloc: Global,
     bytes: &'a [u8],
@@ -136,8 +121,19 @@ pub fn explain_calls<'a>(
 ) -> Result<CallsExplanation<'a>, AllocError>
     ensures { IfOk result (λ e. TellsBoth bytes.now calls.now e.refused (verdict_told e.explanation) (string_bytes e.text)) }
 {
+    one_verdict();
+    let explanation = explain(alloc, bytes);
+    if tells_refusal(&explanation) {
+        let text = explanation_text(alloc, &explanation)?;
+        return Ok(CallsExplanation {
+            explanation,
+            text,
+            refused: Some(Refused::Module),
+        });
+    }
     match judge_alone(alloc, bytes) {
         Ok(accepted) => explain_on(alloc, bytes, &accepted, calls, pages),
-        Err(_refusal) => explain_refused(alloc, bytes),
+        Err(Refusal::Memory) => Err(AllocError),
+        Err(_) => unreachable!(),
     }
 }

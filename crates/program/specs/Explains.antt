@@ -42,16 +42,27 @@ refused_status None = Good
 refused_status (Some Module) = ModuleRefused
 refused_status (Some Calls) = CallsRefused
 
--- what is read of the two paths, the status of an answer to both, and a text that tells the verdict
+-- the verdict on these bytes is told, and the status of an answer to them and to a text of calls goes by it
+pub record IsTold (json : Bool) (bytes text : List ℕ) (status : Status) (out : List ℕ) : Type 0 where
+  pub v : Verdict
+  pub verdict : IsVerdict bytes v
+  pub status_is : StatusBy text v status
+  pub begins : TellsVerdict json v out
+
+-- so of what is read of the two paths
 pub record IsCallsExplained (json : Bool) (held_module held_calls : Option (List ℕ)) (status : Status) (out : List ℕ) : Type 0 where
   pub bytes : List ℕ
   pub text : List ℕ
   pub read_module : IsRead module_limit held_module bytes
   pub read_calls : IsRead calls_limit held_calls text
-  pub v : Verdict
-  pub verdict : IsVerdict bytes v
-  pub status_is : StatusBy text v status
-  pub begins : TellsVerdict json v out
+  pub told : IsTold json bytes text status out
+
+-- of bytes and a text of calls that were read such a text is written; where there is no memory, nothing is written
+abbrev pub ShowsExplained : Bool → List ℕ → List ℕ → Option (List ℕ) → Option (List ℕ) → Result Status ProgramFault → Type 0
+ShowsExplained json bytes text old new (Ok status) = (out : List ℕ) × IsTold json bytes text status out × Appends old new out
+ShowsExplained json bytes text old new (Err fault.Write) = (status : Status) × (out : List ℕ) × IsTold json bytes text status out × AppendsFront old new out
+ShowsExplained json bytes text old new (Err fault.Memory) = Keeps old new
+ShowsExplained json bytes text old new (Err _) = ⊥
 
 -- that text is written; where there is none, nothing is written
 abbrev pub ExplainsCalls : Bool → Option (List ℕ) → Option (List ℕ) → Option (List ℕ) → Option (List ℕ) → Result Status ProgramFault → Type 0

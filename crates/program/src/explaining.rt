@@ -6,7 +6,7 @@ ghost use Rattle.batch.specs.Report.{status_of};
 ghost use Rattle.explain_text.specs.Texts.{BeginsWith};
 ghost use Rattle.explanation.specs.Told.{verdict_told};
 ghost use Rattle.program.specs.Sources.{ReadsPaths};
-ghost use Rattle.program.specs.Explains.{Explains, ExplainsCalls, TellsVerdict, refused_status};
+ghost use Rattle.program.specs.Explains.{Explains, ExplainsCalls, ShowsExplained, TellsVerdict, refused_status};
 ghost use Rattle.program.specs.Reads.{ReadsInOrder};
 
 use crate::fault::ProgramFault;
@@ -15,21 +15,11 @@ use crate::listing::PAGES;
 use crate::reading::read_file;
 use crate::source::Source;
 use batch::Status;
-use explain::{Explanation, Refused, explain, explain_calls, explanation_text};
+use explain::{Explanation, Refused, explain_calls};
 use explain_json::explanation_object;
 use std::alloc::{AllocError, Global};
 use std::io::Write;
 use wsyntax::{CALLS_LIMIT, MODULE_LIMIT};
-
-/// The status that goes with an explanation.
-fn explanation_status(explanation: &Explanation<'_>) -> Status
-    ensures { (v : Verdict) → verdict_told explanation.now ≡ Some v → result ≡ status_of v }
-{
-    match explanation {
-        Explanation::Accepted => Status::Good,
-        _ => Status::ModuleRefused,
-    }
-}
 
 /// What is printed of an explanation and its text: the text, or with `json` one object.
 fn printed(
@@ -48,20 +38,39 @@ fn printed(
     }
 }
 
-/// What is printed of an explanation.
-fn explanation_printed(
-    alloc: Global,
-    explanation: &Explanation<'_>,
-    json: bool,
-) -> Result<Vec<u8>, AllocError>
-    ensures { IfOk result (λ bytes. IsSomeAnd (verdict_told explanation.now) (λ v. TellsVerdict json v bytes.items)) }
+/// The status that goes with what is refused.
+fn status_of_refused(refused: Option<Refused>) -> Status
+    ensures { result ≡ refused_status refused }
 {
-    let text = explanation_text(alloc, explanation)?;
-    printed(alloc, explanation, &text, json)
+    match refused {
+        None => Status::Good,
+        Some(Refused::Module) => Status::ModuleRefused,
+        Some(Refused::Calls) => Status::CallsRefused,
+    }
 }
 
-/// Reads a module whole, judges it on the calling thread, and writes its verdict line and why it is refused, or with `json` the same
-/// as one object.
+/// Writes what is told of these bytes and of a text of calls of theirs.
+fn show_explained<'a, O: Write>(
+    alloc: Global,
+    bytes: &[u8],
+    calls: &[u8],
+    json: bool,
+    out: &mut O,
+) -> Result<Status, ProgramFault<'a>>
+    ensures { ShowsExplained json bytes.now calls.now (O.contents out.old) (O.contents out.new) result }
+{
+    let Ok(told) = explain_calls(alloc, bytes, calls, PAGES) else {
+        return Err(ProgramFault::Memory);
+    };
+    let status = status_of_refused(told.refused);
+    match printed(alloc, &told.explanation, &told.text, json) {
+        Ok(text) => show(text.as_slice(), status, out),
+        Err(_) => Err(ProgramFault::Memory),
+    }
+}
+
+/// Reads a module whole, judges it on the calling thread, and writes its verdict line and why it is refused, or why no call of it
+/// runs; or with `json` the same as one object.
 pub fn explain_file<'a, S: Source, O: Write>(
     alloc: Global,
     path: &'a str,
@@ -73,23 +82,7 @@ pub fn explain_file<'a, S: Source, O: Write>(
     ensures only { ReadsPaths (S.asked source.old) (S.asked source.new) (path.entry.now ∷ []) }
 {
     let bytes = read_file(alloc, path, MODULE_LIMIT, source)?;
-    let explanation = explain(alloc, bytes.as_slice());
-    let status = explanation_status(&explanation);
-    match explanation_printed(alloc, &explanation, json) {
-        Ok(text) => show(text.as_slice(), status, out),
-        Err(_) => Err(ProgramFault::Memory),
-    }
-}
-
-/// The status that goes with what is refused.
-fn status_of_refused(refused: Option<Refused>) -> Status
-    ensures { result ≡ refused_status refused }
-{
-    match refused {
-        None => Status::Good,
-        Some(Refused::Module) => Status::ModuleRefused,
-        Some(Refused::Calls) => Status::CallsRefused,
-    }
+    show_explained(alloc, bytes.as_slice(), &[], json, out)
 }
 
 /// Reads a module whole, and then the calls, judges the module on the calling thread, and writes its verdict line and why it, or
@@ -108,12 +101,5 @@ pub fn explain_files<'a, S: Source, O: Write>(
 {
     let bytes = read_file(alloc, path, MODULE_LIMIT, source)?;
     let text = read_file(alloc, calls, CALLS_LIMIT, source)?;
-    let Ok(told) = explain_calls(alloc, bytes.as_slice(), text.as_slice(), PAGES) else {
-        return Err(ProgramFault::Memory);
-    };
-    let status = status_of_refused(told.refused);
-    match printed(alloc, &told.explanation, &told.text, json) {
-        Ok(text) => show(text.as_slice(), status, out),
-        Err(_) => Err(ProgramFault::Memory),
-    }
+    show_explained(alloc, bytes.as_slice(), text.as_slice(), json, out)
 }
