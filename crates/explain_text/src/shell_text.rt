@@ -84,7 +84,7 @@ fn push_origin_hint(text: &mut String, origin: Origin) -> Result<(), AllocError>
 }
 
 /// What is not admitted, after what it is, and how to do without it.
-fn push_origin(lines: &mut Lines, origin: Origin) -> Result<(), AllocError> {
+pub(crate) fn push_origin(lines: &mut Lines, origin: Origin) -> Result<(), AllocError> {
     let sentence = ", of {}, which gate does not admit\n";
     say(&mut lines.because, sentence, &[Text(origin.words())])?;
     push_origin_hint(&mut lines.hint, origin)
