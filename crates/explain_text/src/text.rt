@@ -85,7 +85,7 @@ fn push_refused(
     }
     push_instructions(&mut lines.place, alloc, token)?;
     match token.typing {
-        Some(typing) => push_blocks(&mut lines.place, token.found.token, typing),
+        Some(typing) => push_blocks(&mut lines.place, token, typing),
         None => Ok(()),
     }
 }
