@@ -191,10 +191,11 @@ fn wrong_sentence(wrong: Wrong, id: u8) -> &'static str {
         Wrong::Opcode {
             first: FC,
             number: Some(_),
-        } => "{} {}",
-        Wrong::Byte { .. } | Wrong::Id | Wrong::Opcode { .. } => "{}",
+        } => "0x{} 0x{}",
+        Wrong::Opcode { .. } => "0x{}",
+        Wrong::Byte { .. } | Wrong::Id => "{}",
         Wrong::Expression => "the expression at {} cannot be read\n",
-        Wrong::Else => "05 is an else that stands in no if\n",
+        Wrong::Else => "0x05 is an else that stands in no if\n",
         Wrong::Counts { .. } => "the functions declared are {}, and the bodies {}\n",
     }
 }

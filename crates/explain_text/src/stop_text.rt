@@ -39,7 +39,7 @@ fn push_no_token(lines: &mut Lines, at: usize, bytes: &[u8]) -> Result<(), Alloc
         say(&mut lines.because, "because   {}", &[Bytes(opcode)])?;
         return push_opcode(lines, *first, Some(number));
     }
-    say(&mut lines.because, "because   {}", &[Hex(*first as u32)])?;
+    say(&mut lines.because, "because   0x{}", &[Hex(*first as u32)])?;
     match misread_token(bytes) {
         Some(misread) => {
             say(&mut lines.because, " is {}", &[Opcode(*first)])?;
