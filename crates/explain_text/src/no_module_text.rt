@@ -88,7 +88,7 @@ pub(crate) fn push_no_module(lines: &mut Lines, no_module: NoModule) -> Result<(
             ..
         } => push_location(lines, location),
         NoModule::Sections { location: None, .. } => lines.because.push_str(
-            "because   after its first eight bytes, which are right, it has no sections of a module\n",
+            "because   after its first eight bytes, which are right, the file has no sections of a module\n",
         ),
     }
 }

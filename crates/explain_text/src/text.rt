@@ -111,7 +111,7 @@ fn push_fault(
             let text = &mut lines.because;
             write!(
                 text,
-                "because   it declares {count} locals, and {LOCAL_LIMIT} are the most\n"
+                "because   the body declares {count} locals, and {LOCAL_LIMIT} are the most\n"
             )
         }
         BodyExplanation::IllTyped {
@@ -165,7 +165,7 @@ fn push_details(
             let text = &mut lines.because;
             write!(
                 text,
-                "because   it has {bytes} bytes, and {MODULE_LIMIT} are the most\n"
+                "because   the file has {bytes} bytes, and {MODULE_LIMIT} are the most\n"
             )
         }
         Explanation::Malformed(no_module) => push_no_module(lines, *no_module),
