@@ -206,8 +206,8 @@ fn details(alloc: Global, explanation: &Explanation<'_>) -> Result<String, Alloc
     let mut lines = Lines::new(alloc);
     push_details(&mut lines, alloc, explanation)?;
     if let Some(sign) = sign_told(explanation) {
-        lines.hint = String::new(alloc);
-        push_sign(&mut lines.hint, sign)?;
+        let refused = explanation.span().map(|span| span.from);
+        push_sign(&mut lines, alloc, sign, refused)?;
     }
     let mut text = String::new(alloc);
     text.push_str(lines.because.as_str())?;
