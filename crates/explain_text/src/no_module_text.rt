@@ -14,6 +14,10 @@ const OBJECT: &str =
 /// That a file was read as text.
 const READ_AS_TEXT: &str = "{} stands at {}, {} in all{}: the file was read as text on its way";
 
+/// What to do with a file that may be text.
+const MAYBE_TEXT: &str =
+    "if this is text: wat2wasm makes a module of the text format, and other text is no module";
+
 /// What bytes of another form are, and what to do.
 fn form_hint(form: Form) -> &'static str {
     match form {
@@ -41,12 +45,19 @@ fn form_hint(form: Form) -> &'static str {
     }
 }
 
-/// The line on what bytes of another form are, where that is known.
-fn push_form_hint(text: &mut String, form: Option<Form>) -> Result<(), AllocError> {
-    match form {
-        Some(form) => say(text, "hint      {}\n", &[Text(form_hint(form))]),
-        None => Ok(()),
-    }
+/// The line on what bytes of another form are, where that is known, or may be text by their first byte.
+fn push_form_hint(
+    text: &mut String,
+    form: Option<Form>,
+    at: usize,
+    found: u8,
+) -> Result<(), AllocError> {
+    let hint = match (form, at, found) {
+        (Some(form), _, _) => form_hint(form),
+        (None, 0, b'\t' | b'\n' | b'\r' | b' '..=b'~') => MAYBE_TEXT,
+        _ => return Ok(()),
+    };
+    say(text, "hint      {}\n", &[Text(hint)])
 }
 
 /// What a file is that has the header of a module, or what became of it, and what to do, instead of another hint. That it was read as
@@ -99,7 +110,7 @@ pub(crate) fn push_no_module(lines: &mut Lines, no_module: NoModule) -> Result<(
                 "because   byte {} is {}, and a module begins with 00 61 73 6d\n",
                 &[Address(at), Hex(found as u32)],
             )?;
-            push_form_hint(&mut lines.hint, form)
+            push_form_hint(&mut lines.hint, form, at, found)
         }
         NoModule::Version { at, found, form } => {
             say(
@@ -107,7 +118,7 @@ pub(crate) fn push_no_module(lines: &mut Lines, no_module: NoModule) -> Result<(
                 "because   byte {} is {}, and the version is 01 00 00 00\n",
                 &[Address(at), Hex(found as u32)],
             )?;
-            push_form_hint(&mut lines.hint, form)
+            push_form_hint(&mut lines.hint, form, at, found)
         }
         NoModule::Sections {
             location: Some(location),
