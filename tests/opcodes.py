@@ -105,11 +105,11 @@ def cases():
         tokens, start = refused_by(opcode)
         yield f'{opcode:02x} refused', tokens, f'{start}{name}( .*)?'
         if opcode in IMMEDIATES:
-            yield f'{opcode:02x} cut off', bytes([opcode]), f'because   {opcode:02x} is {name}; .*'
+            yield f'{opcode:02x} cut off', bytes([opcode]), f'because   0x{opcode:02x} is {name}; .*'
     for opcode, name in listed(OTHERS).items():
-        yield f'{opcode:02x} not admitted', bytes([opcode]), f'because   {opcode:02x} is {re.escape(name)}( with types)?, of .*'
+        yield f'{opcode:02x} not admitted', bytes([opcode]), f'because   0x{opcode:02x} is {re.escape(name)}( with types)?, of .*'
     for opcode in UNKNOWN:
-        yield f'{opcode:02x} unknown', bytes([opcode]), f'because   {opcode:02x} begins no instruction .*'
+        yield f'{opcode:02x} unknown', bytes([opcode]), f'because   0x{opcode:02x} begins no instruction .*'
 
 
 def main(gate):

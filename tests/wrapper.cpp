@@ -71,7 +71,7 @@ static bool is_of_fill(const gate::Explanation &it) {
     const gate_explanation &n = it.numbers;
     return n.verdict.kind == GATE_BODY_MALFORMED && n.why == GATE_WHY_TOKEN && n.section == 10 && n.opcode == 0xFC && n.item == GATE_NONE &&
            n.body_from == 22 && n.body_to == 26 && n.from == 23 && n.to == 23 && it.offset() == 23 &&
-           it.because() == "fc 0b is memory.fill, of bulk memory (Core 2.0), which gate does not admit" &&
+           it.because() == "0xfc 0x0b is memory.fill, of bulk memory (Core 2.0), which gate does not admit" &&
            it.line("hint") == "build the module with -mcpu=mvp, in Rust for wasm32v1-none; in text do without it (docs/GUESTS.md)" &&
            it.line("hin").empty() &&
            it.sentence() == "refused body 0 malformed: " + it.because();

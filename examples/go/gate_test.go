@@ -247,7 +247,7 @@ func TestVerdicts(t *testing.T) {
 func TestExplanationOfAMalformedBody(t *testing.T) {
 	fill := bytes.Join([][]byte{[]byte(header), section(1, []byte{1, 0x60, 0, 0}), section(3, []byte{1, 0}),
 		section(10, []byte{1, 4, 0, 0xfc, 0x0b, 0x0b})}, nil)
-	because := "fc 0b is memory.fill, of bulk memory (Core 2.0), which gate does not admit"
+	because := "0xfc 0x0b is memory.fill, of bulk memory (Core 2.0), which gate does not admit"
 	_, err := NewModule(fill)
 	var found Explanation
 	if !errors.As(err, &found) || found.Refusal != (Refusal{Kind: BodyMalformed}) || err.Error() != "refused body 0 malformed: "+because {

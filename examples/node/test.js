@@ -19,7 +19,7 @@ const GOES_ON = Buffer.from(HEADER +
 const START_TRAPS = Buffer.from(HEADER + '010401600000030201000801000a05010300000b', 'hex');
 // The two bytes of memory.fill, which Core 1.0 does not have.
 const FILL = Buffer.from(HEADER + '01040160000003020100' + '0a06010400fc0b0b', 'hex');
-const BECAUSE = 'fc 0b is memory.fill, of bulk memory (Core 2.0), which gate does not admit';
+const BECAUSE = '0xfc 0x0b is memory.fill, of bulk memory (Core 2.0), which gate does not admit';
 // `f` turns for ever: each turn costs one unit, and its entry one.
 const LOOP = Buffer.from(HEADER + '010401600000030201000705010166' + '00000a0901070003400c000b0b', 'hex');
 // both of type [i64 i32] -> [i32 i64] gives its arguments, swapped.

@@ -106,7 +106,7 @@ Example, with a module that uses an instruction of a later standard:
 
     $ gate explain fill.wasm
     refused body 0 malformed
-    because   fc 0b is memory.fill, of bulk memory (Core 2.0), which gate does not admit
+    because   0xfc 0x0b is memory.fill, of bulk memory (Core 2.0), which gate does not admit
     function  0, [] -> [], bytes 0x16 to 0x1a
     token     0, byte 0x17
     hint      build the module with -mcpu=mvp, in Rust for wasm32v1-none; in text do without it (docs/GUESTS.md)

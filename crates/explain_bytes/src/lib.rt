@@ -27,4 +27,4 @@ pub use sections::{
 pub use shell::locations::location_of;
 pub use signs::sign_of;
 pub use stops::stop_of;
-pub use values::value_at;
+pub use values::{is_extended, value_at};

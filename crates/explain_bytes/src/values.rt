@@ -36,7 +36,7 @@ fn after_constants(expression: &[u8]) -> &[u8] {
 }
 
 /// The initial value or the offset of an item with which these bytes end, and what is left of it after its constants; `None`
-/// where the bytes end before it.
+/// where the bytes end before it. An `end` with nothing before it is no constant.
 fn value_in<'a>(bytes: &[u8], id: u8, item: &'a [u8]) -> Option<(InitialValue, &'a [u8])> {
     let expression = expression_in(id, item)?;
     if expression.is_empty() {
@@ -45,11 +45,20 @@ fn value_in<'a>(bytes: &[u8], id: u8, item: &'a [u8]) -> Option<(InitialValue, &
     let rest = after_constants(expression);
     let end = bytes.len();
     let other = match rest {
-        [] | [END, ..] => None,
+        [] => None,
+        [END, ..] if rest.len() < expression.len() => None,
         [opcode, ..] => Some((end.saturating_sub(rest.len()), *opcode)),
     };
     let at = end.saturating_sub(expression.len());
     Some((InitialValue { at, other }, rest))
+}
+
+/// Whether an instruction of it is of extended constants (Core 3.0): `add`, `sub` or `mul` of i32 or i64.
+pub fn is_extended(value: InitialValue) -> bool {
+    matches!(
+        value.other,
+        Some((_, 0x6A..=0x6C | 0x7C..=0x7E))
+    )
 }
 
 /// That of the item that begins at that offset.

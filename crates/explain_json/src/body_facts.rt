@@ -2,7 +2,7 @@
 
 use crate::typing_facts::{push_typing, push_unclosed, type_field};
 use crate::values::{
-    Entry, Fact, Field, add, add_number, add_text, name_field, number_field, text_field,
+    Entry, Fact, Field, add, add_name, add_number, add_text, name_field, number_field, text_field,
 };
 use explain_text::{RefusedToken, push_cause, push_token};
 use explanation::{BodyExplanation, FoundToken, IllTypedToken, RefusedFunction, Stopped};
@@ -54,13 +54,13 @@ fn before_fields(alloc: Global, before: &IllTypedToken) -> Result<Vec<Field>, Al
     Ok(fields)
 }
 
-/// Adds the number of the refused token in its body, and its name and immediates.
+/// Adds the number of the refused token in its body, its name and immediates, and the name of what it calls.
 pub fn push_position(
     alloc: Global,
     entries: &mut Vec<Entry>,
-    fault: &BodyExplanation<'_>,
+    body: &RefusedFunction<'_>,
 ) -> Result<(), AllocError> {
-    match fault {
+    match &body.fault {
         BodyExplanation::Malformed {
             stop: Some(stop),
             ..
@@ -71,11 +71,11 @@ pub fn push_position(
             ..
         } => {
             add_number(entries, "token", *position)?;
-            match found {
-                Some(found) => {
-                    let text = token_text(alloc, found)?;
-                    add_text(entries, "instruction", text)
-                }
+            if let Some(found) = found {
+                add_text(entries, "instruction", token_text(alloc, found)?)?;
+            }
+            match body.callee {
+                Some(callee) => add_name(alloc, entries, "callee", callee),
                 None => Ok(()),
             }
         }

@@ -135,7 +135,7 @@ fn push_place(
     }
     if let Explanation::Body(body) = explanation {
         push_function(alloc, entries, body)?;
-        push_position(alloc, entries, &body.fault)?;
+        push_position(alloc, entries, body)?;
     }
     push_number(entries, "opcode", explanation.opcode().map(usize::from))?;
     if let Explanation::Body(body) = explanation {

@@ -1,5 +1,5 @@
 //! The object of an explanation: its verdict, and after it what is told.
-ghost use Rattle.std.specs.Prelude.{◌≡◌, ◌++◌, IfOk, IsSomeAnd, Some, codes, string_bytes};
+ghost use Rattle.std.specs.Prelude.{◌≡◌, ℕ, List, ◌++◌, IfOk, IsSomeAnd, Some, codes, string_bytes};
 ghost use Rattle.json.specs.Json.{Members, document, member, object, string};
 ghost use Rattle.wsyntax.specs.Texts.Lines.{verdict_line};
 ghost use Rattle.wsyntax.specs.Texts.Words.{newline};
@@ -16,18 +16,16 @@ use json::Writer;
 use std::alloc::{AllocError, Global};
 
 /// A line without its newline.
-fn words_of(alloc: Global, line: &String) -> Result<String, AllocError>
-    ensures { IfOk result (λ words. string_bytes line.now ≡ string_bytes words ++ newline) }
+fn words_of(line: &str) -> &str
+    ensures { (words : List ℕ) → line.now ≡ words ++ newline → result.now ≡ words }
 {
-    match line.as_str().strip_suffix("\n") {
-        Some(words) => String::from_str(alloc, words),
-        None => Err(AllocError),
-    }
+    line.strip_suffix("\n").unwrap_or(line)
 }
 
 /// An object whose first member is the verdict.
 fn object_of(alloc: Global, verdict: &str, entries: &[Entry]) -> Result<Vec<u8>, AllocError>
-    ensures { IfOk result (λ bytes. (others : Members) × (document bytes.items ≡ Some (object (member (codes "verdict") (string verdict.now) others)))) }
+    ensures { IfOk result (λ bytes. (others : Members)
+        × (document bytes.items ≡ Some (object (member (codes "verdict") (string verdict.now) others)))) }
 {
     let mut writer = Writer::new(Vec::new(alloc));
     writer.begin_object()?;
@@ -42,8 +40,7 @@ fn object_of(alloc: Global, verdict: &str, entries: &[Entry]) -> Result<Vec<u8>,
 fn line_object(alloc: Global, line: &String, entries: &[Entry]) -> Result<Vec<u8>, AllocError>
     ensures { IfOk result (λ bytes. (v : Verdict) → string_bytes line.now ≡ verdict_line v → IsVerdictObject v bytes.items) }
 {
-    let verdict = words_of(alloc, line)?;
-    let mut bytes = object_of(alloc, verdict.as_str(), entries)?;
+    let mut bytes = object_of(alloc, words_of(line.as_str()), entries)?;
     bytes.push(b'\n')?;
     Ok(bytes)
 }

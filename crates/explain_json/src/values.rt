@@ -51,12 +51,17 @@ pub fn text_field(key: &'static str, text: String) -> Field {
     }
 }
 
-/// A member that is a name: a text, or where it is no UTF-8 its bytes.
+/// What a name says: a text, or where it is no UTF-8 its bytes.
+fn plain_name(alloc: Global, name: &[u8]) -> Result<Plain, AllocError> {
+    match str::from_utf8(name) {
+        Ok(text) => Ok(Plain::Text(String::from_str(alloc, text)?)),
+        Err(_) => Ok(Plain::Bytes(Vec::from_slice(alloc, name)?)),
+    }
+}
+
+/// A member that is a name.
 pub fn name_field(alloc: Global, key: &'static str, name: &[u8]) -> Result<Field, AllocError> {
-    let plain = match str::from_utf8(name) {
-        Ok(text) => Plain::Text(String::from_str(alloc, text)?),
-        Err(_) => Plain::Bytes(Vec::from_slice(alloc, name)?),
-    };
+    let plain = plain_name(alloc, name)?;
     Ok(Field { key, plain })
 }
 
@@ -82,4 +87,15 @@ pub fn add_text(
     text: String,
 ) -> Result<(), AllocError> {
     add(entries, key, Fact::Plain(Plain::Text(text)))
+}
+
+/// Adds a name.
+pub fn add_name(
+    alloc: Global,
+    entries: &mut Vec<Entry>,
+    key: &'static str,
+    name: &[u8],
+) -> Result<(), AllocError> {
+    let plain = plain_name(alloc, name)?;
+    add(entries, key, Fact::Plain(plain))
 }

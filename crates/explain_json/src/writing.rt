@@ -1,6 +1,7 @@
 //! Members, written as tokens of JSON.
 ghost use Rattle.std.specs.Prelude.{◌≡◌, ◌++◌, OnOk, flat_map};
-ghost use Rattle.explain_json.specs.Written.{byte_tokens, entry_tokens, fact_tokens, field_tokens, plain_tokens, record_tokens, text_tokens};
+ghost use Rattle.explain_json.specs.Written.{byte_tokens, entry_tokens, fact_tokens, field_tokens};
+ghost use Rattle.explain_json.specs.Written.{plain_tokens, record_tokens, text_tokens};
 
 use crate::values::{Entry, Fact, Field, Plain};
 use json::Writer;

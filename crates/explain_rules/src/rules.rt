@@ -11,7 +11,7 @@ mod spaces;
 mod start;
 
 use explain_bytes::{item_offset, value_at};
-use explanation::{BrokenItem, Initial, InitialValue, ItemFault};
+use explanation::{BrokenItem, InitialValue, ItemFault};
 use std::alloc::{AllocError, Global};
 use wcontext::{SpaceSizes, Spaces};
 use wdecode::{DecodeFault, decode_module};
@@ -69,15 +69,12 @@ fn item_in<'a>(
     }
 }
 
-/// The initial value or the offset of an item that begins at that offset, where that is not one constant.
+/// The initial value or the offset of an item that begins at that offset, where that breaks the rule.
 fn value_told(bytes: &[u8], item: &BrokenItem<'_>, at: Option<usize>) -> Option<InitialValue> {
     match item.fault {
-        ItemFault::GlobalValue {
-            initial: Initial::Other,
-            ..
+        ItemFault::GlobalValue { .. } | ItemFault::ElementOffset(_) | ItemFault::DataOffset(_) => {
+            value_at(bytes, item.section, at?)
         }
-        | ItemFault::ElementOffset(Initial::Other)
-        | ItemFault::DataOffset(Initial::Other) => value_at(bytes, item.section, at?),
         _ => None,
     }
 }

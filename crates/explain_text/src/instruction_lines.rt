@@ -22,6 +22,8 @@ const MOST: usize = 40;
 struct Line {
     /// The position of its token.
     position: usize,
+    /// Whether it is on a whole block, and the position is that of its `end`.
+    is_block: bool,
     /// Where it begins.
     at: String,
     /// Its name and its immediates.
@@ -35,6 +37,7 @@ impl Line {
     fn new(alloc: Global, position: usize, at: usize) -> Result<Self, AllocError> {
         Ok(Line {
             position,
+            is_block: false,
             at: format!(in alloc; "0x{at:x}")?,
             words: String::new(alloc),
             operands: String::new(alloc),
@@ -65,6 +68,7 @@ fn gave(giver: Giver, finds: &[Option<ValType>]) -> &[Option<ValType>] {
 /// The line on an instruction further in front, or on a block whose end gave operands.
 fn giver_line(alloc: Global, giver: Giver, finds: &[Option<ValType>]) -> Result<Line, AllocError> {
     let mut line = Line::new(alloc, giver.position, giver.at)?;
+    line.is_block = giver.ends.is_some();
     match giver.ends {
         Some(opening) => say(
             &mut line.words,
@@ -211,11 +215,15 @@ fn push_line(
     text.push_str("\n")
 }
 
-/// These lines, with two dots where instructions between them are left out, and a mark at the last.
+/// These lines, with two dots where instructions before one are left out, and a mark at the last. Of a block at the top it is not known
+/// whether any are.
 fn push_lines(text: &mut String, lines: &[Line]) -> Result<(), AllocError> {
     let words = width_of(lines);
     let offsets = lines.last().map_or(0, |line| line.at.len());
-    let mut next = usize::MAX;
+    let mut next = match lines.first() {
+        Some(line) if line.is_block => line.position,
+        _ => 0,
+    };
     for (number, line) in lines.iter().enumerate() {
         if line.position > next {
             text.push_str("            ..\n")?;

@@ -3,9 +3,9 @@
 use crate::shell_text::later_instruction;
 use crate::shell_words::{Later, Origin, later_byte, later_section, later_segment};
 use crate::stop_text::number_after;
-use explain_bytes::{misread_locals, misread_token};
+use explain_bytes::{is_extended, misread_locals, misread_token};
 use explanation::{
-    BodyExplanation, Explanation, Initial, ItemFault, Location, NoModule, StopLocation, Stopped,
+    BodyExplanation, BrokenItem, Explanation, ItemFault, Location, NoModule, StopLocation, Stopped,
     Wrong,
 };
 
@@ -58,16 +58,11 @@ fn origin_of_stop(stop: &StopLocation<'_>) -> Option<Origin> {
 }
 
 /// The same of an item that breaks a rule, in words.
-fn words_of_fault(fault: &ItemFault<'_>) -> Option<&'static str> {
-    match fault {
-        ItemFault::SecondTable { .. } => Some("reference types (Core 2.0)"),
-        ItemFault::SecondMemory { .. } => Some(Origin::Memories.words()),
-        ItemFault::GlobalValue {
-            initial: Initial::Other,
-            ..
-        }
-        | ItemFault::ElementOffset(Initial::Other)
-        | ItemFault::DataOffset(Initial::Other) => Some("extended constants (Core 3.0)"),
+fn words_of_item(item: &BrokenItem<'_>) -> Option<&'static str> {
+    match (&item.fault, item.value) {
+        (ItemFault::SecondTable { .. }, _) => Some("reference types (Core 2.0)"),
+        (ItemFault::SecondMemory { .. }, _) => Some(Origin::Memories.words()),
+        (_, Some(value)) if is_extended(value) => Some(Origin::ExtendedConstants.words()),
         _ => None,
     }
 }
@@ -84,7 +79,7 @@ pub fn later_words(explanation: &Explanation<'_>) -> Option<&'static str> {
         Explanation::Rule {
             item: Some(item),
             ..
-        } => return words_of_fault(&item.fault),
+        } => return words_of_item(item),
         Explanation::Body(body) => match &body.fault {
             BodyExplanation::Malformed {
                 stop: Some(stop),

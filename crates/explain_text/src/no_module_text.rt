@@ -5,15 +5,18 @@ use crate::sentence::Word::{Address, Hex, Number, Text};
 use crate::sentence::say;
 use crate::shell_text::push_location;
 use explanation::{Form, NoModule, Places, Sign};
-use std::alloc::AllocError;
+use std::alloc::{AllocError, Global};
 
 /// The hint on an object file.
 const OBJECT: &str =
-    "hint      this is an object file, not linked yet; wasm-ld makes a module of it, and so does clang without -c (docs/GUESTS.md)\n";
+    "this is an object file, not linked yet; wasm-ld makes a module of it, and so does clang without -c (docs/GUESTS.md)\n";
 
-/// The hint on a file that was read as text.
-const READ_AS_TEXT: &str =
-    "hint      {} stands at {}, {} in all{}: the file was read as text on its way; copy or download it anew, as binary\n";
+/// That a file was read as text.
+const READ_AS_TEXT: &str = "{} stands at {}, {} in all{}: the file was read as text on its way";
+
+/// What to do with a file that may be text.
+const MAYBE_TEXT: &str =
+    "if this is text: wat2wasm makes a module of the text format, and other text is no module";
 
 /// What bytes of another form are, and what to do.
 fn form_hint(form: Form) -> &'static str {
@@ -42,23 +45,57 @@ fn form_hint(form: Form) -> &'static str {
     }
 }
 
-/// The line on what bytes of another form are, where that is known.
-fn push_form_hint(text: &mut String, form: Option<Form>) -> Result<(), AllocError> {
-    match form {
-        Some(form) => say(text, "hint      {}\n", &[Text(form_hint(form))]),
-        None => Ok(()),
-    }
+/// The line on what bytes of another form are, where that is known, or may be text by their first byte.
+fn push_form_hint(
+    text: &mut String,
+    form: Option<Form>,
+    at: usize,
+    found: u8,
+) -> Result<(), AllocError> {
+    let hint = match (form, at, found) {
+        (Some(form), _, _) => form_hint(form),
+        (None, 0, b'\t' | b'\n' | b'\r' | b' '..=b'~') => MAYBE_TEXT,
+        _ => return Ok(()),
+    };
+    say(text, "hint      {}\n", &[Text(hint)])
 }
 
-/// What a file is that has the header of a module, or what became of it, and what to do.
-pub(crate) fn push_sign(text: &mut String, sign: Sign) -> Result<(), AllocError> {
+/// What a file is that has the header of a module, or what became of it, and what to do, instead of another hint. That it was read as
+/// text is why it is refused, and comes first, where the offset that is refused is not before it.
+pub(crate) fn push_sign(
+    lines: &mut Lines,
+    alloc: Global,
+    sign: Sign,
+    refused: Option<usize>,
+) -> Result<(), AllocError> {
+    lines.hint = String::from_str(alloc, "hint      ")?;
     let (found, Places { at, count }, only) = match sign {
-        Sign::Object => return text.push_str(OBJECT),
+        Sign::Object => return lines.hint.push_str(OBJECT),
         Sign::Replaced(places) => ("ef bf bd", places, ""),
         Sign::LineEnds(places) => ("0d 0a", places, ", and 0a nowhere else"),
     };
     let words = [Text(found), Address(at), Number(count), Text(only)];
-    say(text, READ_AS_TEXT, &words)
+    match refused {
+        Some(refused) if at <= refused => {
+            let mut because = String::from_str(alloc, "because   ")?;
+            say(&mut because, READ_AS_TEXT, &words)?;
+            match lines.because.as_str().strip_prefix("because   ") {
+                Some(sentence) => {
+                    because.push_str("; ")?;
+                    because.push_str(sentence)?;
+                }
+                None => because.push_str("\n")?,
+            }
+            lines.because = because;
+        }
+        _ => {
+            say(&mut lines.hint, READ_AS_TEXT, &words)?;
+            lines.hint.push_str("; ")?;
+        }
+    }
+    lines
+        .hint
+        .push_str("copy or download the file anew, as binary\n")
 }
 
 /// The lines on bytes that spell no module.
@@ -73,7 +110,7 @@ pub(crate) fn push_no_module(lines: &mut Lines, no_module: NoModule) -> Result<(
                 "because   byte {} is {}, and a module begins with 00 61 73 6d\n",
                 &[Address(at), Hex(found as u32)],
             )?;
-            push_form_hint(&mut lines.hint, form)
+            push_form_hint(&mut lines.hint, form, at, found)
         }
         NoModule::Version { at, found, form } => {
             say(
@@ -81,14 +118,14 @@ pub(crate) fn push_no_module(lines: &mut Lines, no_module: NoModule) -> Result<(
                 "because   byte {} is {}, and the version is 01 00 00 00\n",
                 &[Address(at), Hex(found as u32)],
             )?;
-            push_form_hint(&mut lines.hint, form)
+            push_form_hint(&mut lines.hint, form, at, found)
         }
         NoModule::Sections {
             location: Some(location),
             ..
         } => push_location(lines, location),
         NoModule::Sections { location: None, .. } => lines.because.push_str(
-            "because   after its first eight bytes, which are right, it has no sections of a module\n",
+            "because   after its first eight bytes, which are right, the file has no sections of a module\n",
         ),
     }
 }

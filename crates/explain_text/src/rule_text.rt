@@ -1,13 +1,23 @@
 //! An item that breaks a module rule, in words.
 
 use crate::lines::Lines;
-use crate::sentence::Word::{Address, Empty, Index, Name, Number, Signature, Text, There, Type};
+use crate::sentence::Word::{
+    Address, Empty, Index, Name, Number, Opcode, Signature, Text, There, Type,
+};
 use crate::sentence::{Word, say};
-use crate::shell_text::push_value;
-use explain_bytes::{DATA, ELEMENT, EXPORT, IMPORT, START};
-use explanation::{BrokenItem, Initial, ItemFault};
+use crate::shell_text::{push_origin, push_value};
+use crate::shell_words::Origin;
+use explain_bytes::{DATA, ELEMENT, EXPORT, IMPORT, START, is_extended};
+use explanation::{BrokenItem, Initial, InitialValue, ItemFault};
 use std::alloc::AllocError;
 use wsyntax::{ExportKind, Limits, PAGE_RANGE, ValType};
+
+/// The opcode of `end`.
+const END: u8 = 0x0B;
+
+/// What has to stand where an initial value or an offset does.
+const ALLOWED: &str =
+    "one constant or global.get of an imported immutable global has to stand there, and then end (Core 1.0, 3.3.7.2)";
 
 /// An item: by its index where the module defines it, or else by its position in its section.
 fn broken_name(item: &BrokenItem<'_>) -> (&'static str, usize) {
@@ -51,12 +61,27 @@ fn push_limits(text: &mut String, limits: Limits, range: u32) -> Result<(), Allo
     say(text, sentence, &[Index(one), Index(other)])
 }
 
+/// What is wrong with an expression that is neither one constant nor one `global.get`.
+fn other_sentence(value: Option<InitialValue>) -> &'static str {
+    match value {
+        Some(found) if is_extended(found) => "computed by {}",
+        Some(
+            InitialValue {
+                other: Some((_, END)),
+                ..
+            },
+        ) => "missing: {} stands alone; {}",
+        Some(InitialValue { other: Some(_), .. }) => "computed by {}; {}",
+        Some(_) => "more than one constant before {}, so a value is too many; {}",
+        None => "neither one constant nor one global.get before {}; {}",
+    }
+}
+
 /// What is wrong with an expression.
-fn initial_sentence(initial: Initial) -> &'static str {
+fn initial_sentence(initial: Initial, value: Option<InitialValue>) -> &'static str {
     match initial {
         Initial::Constant(_) => "{}.const, {} is wanted",
-        Initial::Other =>
-            "neither one constant nor one global.get; longer ones are extended constants (Core 3.0)",
+        Initial::Other => other_sentence(value),
         Initial::Get {
             gets: Some(found),
             ..
@@ -72,10 +97,24 @@ fn initial_sentence(initial: Initial) -> &'static str {
 }
 
 /// What is wrong with an expression, of which that type is wanted.
-fn push_initial(text: &mut String, initial: Initial, wanted: ValType) -> Result<(), AllocError> {
+fn push_initial(
+    text: &mut String,
+    initial: Initial,
+    value: Option<InitialValue>,
+    wanted: ValType,
+) -> Result<(), AllocError> {
+    let opcode = match value {
+        Some(
+            InitialValue {
+                other: Some((_, opcode)),
+                ..
+            },
+        ) => opcode,
+        _ => END,
+    };
     let words = match initial {
         Initial::Constant(found) => [Type(found), Type(wanted), Empty],
-        Initial::Other => [Empty; 3],
+        Initial::Other => [Opcode(opcode), Text(ALLOWED), Empty],
         Initial::Get {
             global,
             imported,
@@ -85,7 +124,7 @@ fn push_initial(text: &mut String, initial: Initial, wanted: ValType) -> Result<
             None => [Index(global), Number(imported), Empty],
         },
     };
-    say(text, initial_sentence(initial), &words)
+    say(text, initial_sentence(initial, value), &words)
 }
 
 /// What is wrong with an item, but for its limits and its expression; of what its section has by position it says that first.
@@ -175,20 +214,6 @@ fn push_positioned(text: &mut String, item: &BrokenItem<'_>) -> Result<(), Alloc
     }
 }
 
-/// The line on what to do.
-fn item_hint(fault: &ItemFault<'_>) -> &'static str {
-    match fault {
-        ItemFault::GlobalValue {
-            initial: Initial::Other,
-            ..
-        }
-        | ItemFault::ElementOffset(Initial::Other)
-        | ItemFault::DataOffset(Initial::Other) =>
-            "hint      build the module with -mno-extended-const; in text give one constant (docs/GUESTS.md)\n",
-        _ => "",
-    }
-}
-
 /// The line on which item it is.
 fn push_item(text: &mut String, item: &BrokenItem<'_>) -> Result<(), AllocError> {
     let (name, number) = broken_name(item);
@@ -215,12 +240,14 @@ pub(crate) fn push_broken_item(lines: &mut Lines, item: &BrokenItem<'_>) -> Resu
             wanted,
             initial,
             ..
-        } => push_initial(text, *initial, *wanted)?,
+        } => push_initial(text, *initial, item.value, *wanted)?,
         ItemFault::ElementOffset(offset) | ItemFault::DataOffset(offset) => {
-            push_initial(text, *offset, ValType::I32)?;
+            push_initial(text, *offset, item.value, ValType::I32)?;
         }
         _ => {}
     }
-    text.push_str("\n")?;
-    lines.hint.push_str(item_hint(&item.fault))
+    match item.value {
+        Some(value) if is_extended(value) => push_origin(lines, Origin::ExtendedConstants),
+        _ => text.push_str("\n"),
+    }
 }

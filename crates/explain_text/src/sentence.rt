@@ -24,7 +24,7 @@ pub(crate) enum Word<'a> {
     Bits64(u64),
     /// 2 to that.
     Power(u32),
-    /// Each in base 16, with blanks between them.
+    /// Those of an opcode, each in base 16, with blanks between them.
     Bytes(&'a [u8]),
     Name(&'a [u8]),
     /// The instruction that begins with that byte.
@@ -41,11 +41,11 @@ pub(crate) enum Word<'a> {
     There(usize, &'static str),
 }
 
-/// Bytes in base 16, with blanks between them.
+/// The bytes of an opcode in base 16, with blanks between them.
 fn push_pairs(text: &mut String, bytes: &[u8]) -> Result<(), AllocError> {
     for (position, byte) in bytes.iter().enumerate() {
         text.push_str(if position == 0 { "" } else { " " })?;
-        write!(text, "{byte:02x}")?;
+        write!(text, "0x{byte:02x}")?;
     }
     Ok(())
 }

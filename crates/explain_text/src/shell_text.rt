@@ -84,7 +84,7 @@ fn push_origin_hint(text: &mut String, origin: Origin) -> Result<(), AllocError>
 }
 
 /// What is not admitted, after what it is, and how to do without it.
-fn push_origin(lines: &mut Lines, origin: Origin) -> Result<(), AllocError> {
+pub(crate) fn push_origin(lines: &mut Lines, origin: Origin) -> Result<(), AllocError> {
     let sentence = ", of {}, which gate does not admit\n";
     say(&mut lines.because, sentence, &[Text(origin.words())])?;
     push_origin_hint(&mut lines.hint, origin)
@@ -179,22 +179,24 @@ fn wrong_sentence(wrong: Wrong, id: u8) -> &'static str {
         Wrong::Beyond { left: 1, .. } => "{} is {}, and {} byte is left\n",
         Wrong::Beyond { .. } => "{} is {}, and {} bytes are left\n",
         Wrong::NoText { .. } => "the name at {}, of size {}, is not UTF-8\n",
-        Wrong::Order { last } if last == id => "it is a second section {}\n",
+        Wrong::Order { last } if last == id =>
+            "section {} stands twice, and only a custom section may\n",
         Wrong::Order { .. } if id == DATA_COUNT =>
-            "it follows section {}, and a data count section (Core 2.0) stands before section 10\n",
+            "section {} follows section {}, and a data count section (Core 2.0) stands before section 10\n",
         Wrong::Order { .. } if id == TAG =>
-            "it follows section {}, and a tag section (Core 3.0) stands before section 6\n",
+            "section {} follows section {}, and a tag section (Core 3.0) stands before section 6\n",
         Wrong::Order { .. } =>
-            "it follows section {}, and sections stand in the order of their ids\n",
+            "section {} follows section {}, and sections stand in the order of their ids\n",
         Wrong::Size { says: 1, .. } => "section {} says {} byte, and its items take {}\n",
         Wrong::Size { .. } => "section {} says {} bytes, and its items take {}\n",
         Wrong::Opcode {
             first: FC,
             number: Some(_),
-        } => "{} {}",
-        Wrong::Byte { .. } | Wrong::Id | Wrong::Opcode { .. } => "{}",
+        } => "0x{} 0x{}",
+        Wrong::Opcode { .. } => "0x{}",
+        Wrong::Byte { .. } | Wrong::Id => "{}",
         Wrong::Expression => "the expression at {} cannot be read\n",
-        Wrong::Else => "05 is an else that stands in no if\n",
+        Wrong::Else => "0x05 is an else that stands in no if\n",
         Wrong::Counts { .. } => "the functions declared are {}, and the bodies {}\n",
     }
 }
@@ -212,7 +214,7 @@ fn wrong_words(wrong: Wrong, whole: &'static str, id: u8, at: usize) -> [Word<'s
         Wrong::Beyond { wanted, size, left } => [Word::Wanted(wanted), Index(size), Number(left)],
         Wrong::NoText { size } => [Address(at), Number(size), Empty],
         Wrong::Expression => [Address(at), Empty, Empty],
-        Wrong::Order { last } => [Index(last as u32), Empty, Empty],
+        Wrong::Order { last } => [Index(id as u32), Index(last as u32), Empty],
         Wrong::Size { says, takes } => [Index(id as u32), Number(says), Number(takes)],
         Wrong::Opcode { first, number } => [Hex(first as u32), Hex(number.unwrap_or(0)), Empty],
         Wrong::Counts { functions, bodies } => [Index(functions), Index(bodies), Empty],

@@ -19,6 +19,9 @@ const NO_VECTORS: &str =
 const NO_EXCEPTIONS: &str =
     "with -fno-exceptions, in Rust with -C panic=abort; in text do without it (docs/GUESTS.md)";
 
+/// How to build a module whose initial values are not computed.
+const ONE_CONSTANT: &str = "with -mno-extended-const; in text give one constant (docs/GUESTS.md)";
+
 /// The feature or proposal of a later standard that something in a module belongs to.
 #[derive(Clone, Copy, PartialEq, Eq)]
 pub(crate) enum Origin {
@@ -27,6 +30,7 @@ pub(crate) enum Origin {
     Memory64,
     Memories,
     PageSizes,
+    ExtendedConstants,
 }
 
 impl Origin {
@@ -38,6 +42,7 @@ impl Origin {
             Origin::Memory64 => "64-bit addresses (Core 3.0)",
             Origin::Memories => "several memories (Core 3.0)",
             Origin::PageSizes => "custom page sizes (a proposal)",
+            Origin::ExtendedConstants => "extended constants (Core 3.0)",
         }
     }
 
@@ -50,6 +55,7 @@ impl Origin {
             Origin::Of(feature) if feature.is_left_out_by_mvp() => Some(OF_CORE_1),
             Origin::Passive => Some(ACTIVE),
             Origin::Memory64 => Some("with --target=wasm32 (docs/GUESTS.md)"),
+            Origin::ExtendedConstants => Some(ONE_CONSTANT),
             _ => None,
         }
     }

@@ -39,7 +39,7 @@ fn push_no_token(lines: &mut Lines, at: usize, bytes: &[u8]) -> Result<(), Alloc
         say(&mut lines.because, "because   {}", &[Bytes(opcode)])?;
         return push_opcode(lines, *first, Some(number));
     }
-    say(&mut lines.because, "because   {}", &[Hex(*first as u32)])?;
+    say(&mut lines.because, "because   0x{}", &[Hex(*first as u32)])?;
     match misread_token(bytes) {
         Some(misread) => {
             say(&mut lines.because, " is {}", &[Opcode(*first)])?;
@@ -81,7 +81,7 @@ fn push_full_run(text: &mut String, at: usize, body: &[u8]) -> Result<(), AllocE
 fn push_no_locals(lines: &mut Lines, at: usize, body: &[u8]) -> Result<(), AllocError> {
     lines
         .because
-        .push_str("because   its declared locals cannot be read")?;
+        .push_str("because   the declared locals of the body cannot be read")?;
     match misread_locals(body) {
         Some(misread) => push_misread(lines, at, misread),
         None => push_full_run(&mut lines.because, at, body),
@@ -131,7 +131,7 @@ pub(crate) fn push_stop(
     let sentence = match stop.why {
         Stopped::Locals => return push_no_locals(lines, stop.at, stop.rest),
         Stopped::Token => return push_no_token(lines, stop.at, stop.rest),
-        Stopped::Else => "because   it is an else that stands in no if\n",
+        Stopped::Else => "because   0x05 is an else that stands in no if\n",
         Stopped::Left if stop.rest.len() == 1 =>
             "because   the end at {} closed the body: {} byte is left\n",
         Stopped::Left => "because   the end at {} closed the body: {} bytes are left\n",

@@ -85,7 +85,7 @@ fn push_refused(
     }
     push_instructions(&mut lines.place, alloc, token)?;
     match token.typing {
-        Some(typing) => push_blocks(&mut lines.place, token.found.token, typing),
+        Some(typing) => push_blocks(&mut lines.place, token, typing),
         None => Ok(()),
     }
 }
@@ -111,7 +111,7 @@ fn push_fault(
             let text = &mut lines.because;
             write!(
                 text,
-                "because   it declares {count} locals, and {LOCAL_LIMIT} are the most\n"
+                "because   the body declares {count} locals, and {LOCAL_LIMIT} are the most\n"
             )
         }
         BodyExplanation::IllTyped {
@@ -165,7 +165,7 @@ fn push_details(
             let text = &mut lines.because;
             write!(
                 text,
-                "because   it has {bytes} bytes, and {MODULE_LIMIT} are the most\n"
+                "because   the file has {bytes} bytes, and {MODULE_LIMIT} are the most\n"
             )
         }
         Explanation::Malformed(no_module) => push_no_module(lines, *no_module),
@@ -206,8 +206,8 @@ fn details(alloc: Global, explanation: &Explanation<'_>) -> Result<String, Alloc
     let mut lines = Lines::new(alloc);
     push_details(&mut lines, alloc, explanation)?;
     if let Some(sign) = sign_told(explanation) {
-        lines.hint = String::new(alloc);
-        push_sign(&mut lines.hint, sign)?;
+        let refused = explanation.span().map(|span| span.from);
+        push_sign(&mut lines, alloc, sign, refused)?;
     }
     let mut text = String::new(alloc);
     text.push_str(lines.because.as_str())?;

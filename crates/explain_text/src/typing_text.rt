@@ -1,9 +1,10 @@
 //! Operands and blocks in words.
 
+use crate::refused_token::RefusedToken;
 use crate::sentence::Word::{Address, Signature, Text};
 use crate::sentence::say;
 use crate::type_text::type_name;
-use explanation::{BlockKind, OpenBlock, Opening, Typing};
+use explanation::{BlockKind, Cause, OpenBlock, Opening, Space, Typing};
 use std::alloc::AllocError;
 use wsyntax::{Token, ValType};
 
@@ -60,24 +61,41 @@ fn push_within(text: &mut String, block: &OpenBlock) -> Result<(), AllocError> {
     say(text, ", {}\n", &[Signature(&block.signature)])
 }
 
-/// How many of the open blocks matter to a token: to a branch those up to its label, to another the innermost.
-fn count_within(token: Token) -> usize {
-    match token {
-        Token::Br(label) | Token::BrIf(label) => (label.index as usize).saturating_add(1),
-        Token::BrTable { .. } => usize::MAX,
+/// How many labels matter to a token, that of the function counted: to a branch those up to its own, or all where that does not exist, to
+/// another the innermost.
+fn count_within(token: RefusedToken<'_>) -> usize {
+    match (token.found.token, token.cause) {
+        (
+            _,
+            Some(
+                Cause::NoIndex {
+                    space: Space::Labels,
+                    count,
+                    ..
+                },
+            ),
+        ) => *count,
+        (Token::Br(label) | Token::BrIf(label), _) => (label.index as usize).saturating_add(1),
+        (Token::BrTable { .. }, _) => match token.found.targets.iter().max() {
+            Some(label) => (*label as usize).saturating_add(1),
+            None => 1,
+        },
         _ => 1,
     }
 }
 
-/// The lines on the blocks in which a token stands.
+/// The lines on the blocks in which a token stands, with two dots where more matter to it than are told.
 pub(crate) fn push_blocks(
     text: &mut String,
-    token: Token,
+    token: RefusedToken<'_>,
     typing: &Typing,
 ) -> Result<(), AllocError> {
-    let blocks = typing.within.as_slice();
-    for block in blocks.get(..count_within(token)).unwrap_or(blocks) {
+    let (blocks, count) = (typing.within.as_slice(), count_within(token));
+    for block in blocks.get(..count).unwrap_or(blocks) {
         push_within(text, block)?;
+    }
+    if token.cause.is_some() && count.saturating_sub(1) > blocks.len() {
+        text.push_str("within    ..\n")?;
     }
     Ok(())
 }

@@ -112,7 +112,7 @@ pub struct BrokenItem<'a> {
     pub position: usize,
     /// The offset of its first byte in the module.
     pub at: Option<usize>,
-    /// Its initial value or its offset, where that is not one constant.
+    /// Its initial value or its offset, where that breaks the rule.
     pub value: Option<InitialValue>,
     pub fault: ItemFault<'a>,
 }

@@ -6,7 +6,7 @@ import gate
 from gate._library import library
 from tests.modules import FILL, HEADER, ILL_TYPED, NO_START, VERSION_2, judged
 
-BECAUSE = 'fc 0b is memory.fill, of bulk memory (Core 2.0), which gate does not admit'
+BECAUSE = '0xfc 0x0b is memory.fill, of bulk memory (Core 2.0), which gate does not admit'
 TEXT = f"""refused body 0 malformed
 because   {BECAUSE}
 function  0, [] -> [], bytes 0x16 to 0x1a

@@ -18,7 +18,7 @@ const COLUMN: usize = 10;
 /// let module = b"\0asm\x01\0\0\0\x01\x04\x01\x60\0\0\x03\x02\x01\0\x0a\x06\x01\x04\0\xfc\x0b\x0b";
 /// let found = gate::explain(module)?;
 /// assert_eq!(found.offset(), Some(23));
-/// assert_eq!(found.because(), Some("fc 0b is memory.fill, of bulk memory (Core 2.0), which gate does not admit"));
+/// assert_eq!(found.because(), Some("0xfc 0x0b is memory.fill, of bulk memory (Core 2.0), which gate does not admit"));
 /// assert_eq!(found.line("hint"), Some("build the module with -mcpu=mvp, in Rust for wasm32v1-none; in text do without it (docs/GUESTS.md)"));
 /// # Ok::<(), gate::NoMemory>(())
 /// ```

@@ -55,7 +55,7 @@ fn verdicts() {
 /// A body that is malformed: the two bytes of memory.fill, which Core 1.0 does not have.
 #[test]
 fn an_explanation_of_a_malformed_body() {
-    let because = "fc 0b is memory.fill, of bulk memory (Core 2.0), which gate does not admit";
+    let because = "0xfc 0x0b is memory.fill, of bulk memory (Core 2.0), which gate does not admit";
     let bytes = module(&[(1, &[1, 0x60, 0, 0]), (3, &[1, 0]), (10, &[1, 4, 0, 0xfc, 0x0b, 0x0b])]);
     let error = Module::new(&bytes).unwrap_err();
     let found = error.explanation().unwrap();
