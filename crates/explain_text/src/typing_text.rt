@@ -64,19 +64,19 @@ fn push_within(text: &mut String, block: &OpenBlock) -> Result<(), AllocError> {
 /// How many labels matter to a token, that of the function counted: to a branch those up to its own, or all where that does not exist, to
 /// another the innermost.
 fn count_within(token: RefusedToken<'_>) -> usize {
-    match (token.found.token, token.cause) {
-        (
-            _,
-            Some(
-                Cause::NoIndex {
-                    space: Space::Labels,
-                    count,
-                    ..
-                },
-            ),
-        ) => *count,
-        (Token::Br(label) | Token::BrIf(label), _) => (label.index as usize).saturating_add(1),
-        (Token::BrTable { .. }, _) => match token.found.targets.iter().max() {
+    if let Some(
+        Cause::NoIndex {
+            space: Space::Labels,
+            count,
+            ..
+        },
+    ) = token.cause
+    {
+        return *count;
+    }
+    match token.found.token {
+        Token::Br(label) | Token::BrIf(label) => (label.index as usize).saturating_add(1),
+        Token::BrTable { .. } => match token.found.targets.iter().max() {
             Some(label) => (*label as usize).saturating_add(1),
             None => 1,
         },
