@@ -31,8 +31,9 @@ pub extern "C" fn gate_explain(
 /// How many pages a memory may have where the caller says none, as in `gate run`.
 const PAGES: u32 = 256;
 
-/// Judges a module, and writes the text that says where and why it is refused, or why no call of it runs under the default limits. 0: it is accepted; 2: it is refused; either way the
-/// text is written, and its length. 70: nothing is written; 75: the text has `length` bytes, and there is no room for it.
+/// Judges a module, and writes the text that says where and why it is refused, or why no call of it runs under the default limits. 0: it
+/// is accepted; 2: it is refused; either way the text is written, and its length. 70: nothing is written; 75: the text has `length`
+/// bytes, and there is no room for it.
 #[unsafe(no_mangle)]
 pub extern "C" fn gate_explain_text(
     alloc: Global,

@@ -114,7 +114,7 @@ Example, with a module that uses an instruction of a later standard:
 The first line is that of `gate check`. Where the module is refused, more lines follow, each a key and a text.
 Tokens and functions count from 0, and bytes are offsets in the file. New keys may come.
 
-With CALLS you see what is wrong with the calls of an accepted module, or why none of them starts:
+Of an accepted module you see why no call of it runs, where none does, and with CALLS what is wrong with them:
 
     $ printf 'add\\ti32:0x10\\n' > add.calls; gate explain add.wasm add.calls
     accepted
