@@ -1,5 +1,5 @@
 -- What is told of a module and of a text of calls.
-use Rattle.std.proofs.Common.{◌≡◌, ◌≢◌, ℕ, Bool, true, List, Option, Some, None, Result, Ok, Err, IfOk, IfSome, refl, sym, ◌∙◌, subst}
+use Rattle.std.proofs.Common.{◌≡◌, ◌≢◌, ℕ, Bool, true, List, Option, Some, None, Result, Ok, Err, IfOk, IfSome, refl, sym, ◌∙◌}
 use Rattle.std.specs.Prelude.{IsSomeAnd, string_bytes}
 use Rattle.std.specs.declared.alloc.AllocError.{AllocError}
 use Rattle.wsyntax.specs.Texts.Calls.{TooLong, BadLine}
@@ -11,7 +11,6 @@ use Rattle.batch_text.specs.declared.fault.CallsFault.TheVariants as fault
 use Rattle.explain.specs.CallsTold.{RefusedBy, TellsBoth, is_refused}
 use Rattle.explain_text.specs.Texts.{BeginsWith}
 use Rattle.explanation.specs.Told.{verdict_told}
-use Rattle.verdict.specs.Laws.{OneVerdict}
 use Rattle.explain.specs.declared.explaining_calls.CallsExplanation.{CallsExplanation}
 use Rattle.explain.specs.declared.explaining_calls.Refused.{Refused}
 use Rattle.explain.specs.declared.explaining_calls.Refused.TheVariants.{Module, Calls}
@@ -42,7 +41,3 @@ pub refusal_is_told : (bytes calls text : List ℕ) (told : Option Verdict) (b :
     → TellsBoth bytes calls (Some Module) told text
 refusal_is_told bytes calls text None b verdict begins says is = absurd begins
 refusal_is_told bytes calls text (Some v) b verdict begins says is = (v, verdict, by_refusal calls v (sym (says v refl) ∙ is), refl, begins)
-
--- where the verdict is told that accepts the module, there is no other
-pub is_accepted : (bytes : List ℕ) (v : Verdict) (told : Option Verdict) → OneVerdict → IfSome told (IsVerdict bytes) → told ≡ Some Accepted → IsVerdict bytes v → v ≡ Accepted
-is_accepted bytes v told one verdict says is = one bytes v Accepted is (subst (λ (x : Option Verdict). IfSome x (IsVerdict bytes)) says verdict)
