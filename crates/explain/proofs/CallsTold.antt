@@ -12,7 +12,6 @@ use Rattle.explain.specs.CallsTold.{RefusedBy, TellsBoth, is_refused}
 use Rattle.explain_text.specs.Texts.{BeginsWith}
 use Rattle.explanation.specs.Told.{verdict_told}
 use Rattle.explain.specs.declared.explaining_calls.CallsExplanation.{CallsExplanation}
-use Rattle.explain.specs.declared.explaining_calls.Refused.{Refused}
 use Rattle.explain.specs.declared.explaining_calls.Refused.TheVariants.{Module, Calls}
 
 -- the calls of an accepted module
