@@ -1,8 +1,7 @@
-//! A checked body: a typed function body (Core 1.0, 3.4.1) with its side table, and whether it has floats. What it is
-//! stands in its type, so whoever needs only a checked body needs no check. In `specs/` stands what it promises. With
-//! it stand the entries of the side table, by which each branch goes on, and the shape of a function. The check of
-//! bodies proves what the table promises beside the typing of the body (`Fits`, `Bounded`), and the interpreter rests
-//! on it.
+//! A checked body: the register code of a typed function body (Core 1.0, 3.4.1), its declared locals, and whether it has floats. What
+//! it is stands in its type, so whoever needs only a checked body needs no check. In `specs/` stands what it promises. It keeps no
+//! token and no side table: contracts alone name them, as snapshots. The check of bodies proves what the table promises beside the
+//! typing of the body (`Fits`, `Bounded`), and that the code is lowered from the tokens (`IsKept`). The interpreter rests on both.
 //!
 //! Proved: a `CheckedBody` is made only of parts that are proved to fit. `entry_at` is the entry that a token holds.
 //! `is_float`, `token_has_floats`, `runs_have_floats` and `type_has_floats` say what their names say, exactly.
@@ -16,7 +15,7 @@ mod frame_layout;
 mod instruction;
 mod table;
 
-pub use body::CheckedBody;
+pub use body::{CheckedBody, KeptBody};
 pub use branch::Branch;
 pub use entry::entry_at;
 pub use floats::{is_float, runs_have_floats, token_has_floats, type_has_floats};
