@@ -10,7 +10,8 @@ _gate() {
     case ${COMP_WORDS[1]} in
         check) ;;
         check-all) options="$options --null --recursive --progress" ;;
-        explain | exports) options=--help ;;
+        explain) options=--json\ --help ;;
+        exports) options=--help ;;
         run | stream)
             options+=' --fuel --frames --pages'
             [[ ${COMP_WORDS[1]} == run ]] || options="$options --progress"

@@ -20,6 +20,7 @@ complete -c gate -n $judging -l piece -x -d 'How many function bodies or calls a
 complete -c gate -n $running -l fuel -x -d 'How many units of fuel each call has: 0 to 1000000000, by default 1000000'
 complete -c gate -n $running -l frames -x -d 'How many functions of a call may be entered and not yet left: 1 to 4096, by default 1024'
 complete -c gate -n $running -l pages -x -d 'How many pages of 64 KiB the memory of a call may have: 0 to 1024, by default 256'
+complete -c gate -n '__fish_seen_subcommand_from explain; and not __fish_seen_subcommand_from help' -s j -l json -d 'Print one JSON object'
 complete -c gate -n '__fish_seen_subcommand_from check-all' -s 0 -l null -d 'Names on standard input end with a byte 0'
 complete -c gate -n '__fish_seen_subcommand_from check-all' -s r -l recursive -d 'A folder stands for all modules in it and in its folders'
 complete -c gate -n '__fish_seen_subcommand_from check-all stream' -l progress -d 'Print on standard error how many lines are written'

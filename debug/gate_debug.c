@@ -489,6 +489,32 @@ uint32_t gate_debug_instance_call(const char *file, int line, gate_instance inst
     return status;
 }
 
+uint32_t gate_debug_instance_find(const char *file, int line, gate_instance instance, const uint8_t *name, size_t name_length,
+                                  uint64_t *number) {
+    const site here = { file, line, "gate_instance_find" };
+    handle *used = begin(here, instance.at, INSTANCE, false);
+    const area areas[] = { READS_BYTES_OF(used), READS(uint8_t, name, name_length), WRITES(uint64_t, number, 1) };
+    look_at(here, areas, COUNT_OF(areas));
+    const uint32_t status = (gate_instance_find)(instance, name, name_length, number);
+    finish(used);
+    return status;
+}
+
+uint32_t gate_debug_instance_call_at(const char *file, int line, gate_instance instance, uint64_t number, const gate_value *args,
+                                     size_t args_count, const gate_settings *settings, gate_value *results, size_t results_room,
+                                     gate_call *ended) {
+    const site here = { file, line, "gate_instance_call_at" };
+    handle *used = begin(here, instance.at, INSTANCE, false);
+    const area areas[] = {
+        READS_BYTES_OF(used), READS(gate_value, args, args_count), READS(gate_settings, settings, 1),
+        WRITES(gate_value, results, results_room), WRITES(gate_call, ended, 1),
+    };
+    look_at(here, areas, COUNT_OF(areas));
+    const uint32_t status = (gate_instance_call_at)(instance, number, args, args_count, settings, results, results_room, ended);
+    finish(used);
+    return status;
+}
+
 uint32_t gate_debug_instance_memory_size(const char *file, int line, gate_instance instance, uint64_t *size) {
     const site here = { file, line, "gate_instance_memory_size" };
     handle *used = begin(here, instance.at, INSTANCE, false);

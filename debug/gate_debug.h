@@ -68,6 +68,11 @@ uint32_t gate_debug_instance_new(const char *file, int line, gate_module module,
 uint32_t gate_debug_instance_call(const char *file, int line, gate_instance instance, const uint8_t *name, size_t name_length,
                                   const gate_value *args, size_t args_count, const gate_settings *settings, gate_value *results,
                                   size_t results_room, gate_call *ended);
+uint32_t gate_debug_instance_find(const char *file, int line, gate_instance instance, const uint8_t *name, size_t name_length,
+                                  uint64_t *number);
+uint32_t gate_debug_instance_call_at(const char *file, int line, gate_instance instance, uint64_t number, const gate_value *args,
+                                     size_t args_count, const gate_settings *settings, gate_value *results, size_t results_room,
+                                     gate_call *ended);
 uint32_t gate_debug_instance_memory_size(const char *file, int line, gate_instance instance, uint64_t *size);
 uint32_t gate_debug_instance_read(const char *file, int line, gate_instance instance, uint64_t at, uint8_t *out, size_t length);
 uint32_t gate_debug_instance_write(const char *file, int line, gate_instance instance, uint64_t at, const uint8_t *bytes,
@@ -112,6 +117,8 @@ void gate_debug_instance_drop(const char *file, int line, gate_instance instance
 #define gate_module_starts(...) gate_debug_module_starts(__FILE__, __LINE__, __VA_ARGS__)
 #define gate_instance_new(...) gate_debug_instance_new(__FILE__, __LINE__, __VA_ARGS__)
 #define gate_instance_call(...) gate_debug_instance_call(__FILE__, __LINE__, __VA_ARGS__)
+#define gate_instance_find(...) gate_debug_instance_find(__FILE__, __LINE__, __VA_ARGS__)
+#define gate_instance_call_at(...) gate_debug_instance_call_at(__FILE__, __LINE__, __VA_ARGS__)
 #define gate_instance_memory_size(...) gate_debug_instance_memory_size(__FILE__, __LINE__, __VA_ARGS__)
 #define gate_instance_read(...) gate_debug_instance_read(__FILE__, __LINE__, __VA_ARGS__)
 #define gate_instance_write(...) gate_debug_instance_write(__FILE__, __LINE__, __VA_ARGS__)

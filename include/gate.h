@@ -19,8 +19,8 @@
  *          with length 0 only. `verdict` of gate_verdict_line and `settings` are never null.
  * Written  `out` and `results` have room for as many elements as their room says, and are null with room 0 only. A room, too, is below
  *          2^63 bytes. `verdict`, `explanation`, `length`, `kept`, `module`, `other`, `found`, `measures`, `ended`, `instance`,
- *          `size` and `value` are never null. None of them overlaps another one, or anything that the call reads. All pointers are aligned as their
- *          types ask.
+ *          `number`, `size` and `value` are never null. None of them overlaps another one, or anything that the call reads. All
+ *          pointers are aligned as their types ask.
  * Handles  A gate_report, gate_module or gate_instance is one that the library wrote and that is not freed yet: { NULL } is none, and a
  *          call with it reads address 0. gate_report_drop and its like free a handle, and take { NULL } too. Who got it, frees it, once;
  *          a copy of the struct is the same handle. Its `at` is the library's.
@@ -517,6 +517,18 @@ uint32_t gate_instance_call(gate_instance instance, const uint8_t *name, size_t 
                             size_t args_count, const gate_settings *settings, gate_value *results, size_t results_room,
                             gate_call *ended)
     GATE_READS(2, 3) GATE_READS(4, 5) GATE_WRITES(7, 8) GATE_NOT_NULL((6, 9)) GATE_ANSWERS;
+
+/* Finds an export by its name, once for many calls: its number is that of gate_module_export, in all instances of the module. It reads
+ * the names of the exports one after the other. Since revision 2.
+ *   GATE_OK       *number is written
+ *   GATE_NOTHING  no export has the name */
+uint32_t gate_instance_find(gate_instance instance, const uint8_t *name, size_t name_length, uint64_t *number)
+    GATE_READS(2, 3) GATE_NOT_NULL((4)) GATE_ANSWERS;
+
+/* Calls the export of that number: else as gate_instance_call. Without such an export the end is GATE_NO_EXPORT. Since revision 2. */
+uint32_t gate_instance_call_at(gate_instance instance, uint64_t number, const gate_value *args, size_t args_count,
+                               const gate_settings *settings, gate_value *results, size_t results_room, gate_call *ended)
+    GATE_READS(3, 4) GATE_WRITES(6, 7) GATE_NOT_NULL((5, 8)) GATE_ANSWERS;
 
 /* Writes the number of bytes of its memory: 0 where it has none. It answers GATE_OK. */
 uint32_t gate_instance_memory_size(gate_instance instance, uint64_t *size) GATE_NOT_NULL((2));

@@ -330,6 +330,12 @@ private:
     gate_module handle_ = {nullptr};
 };
 
+/// A function of the instances of a module, from Instance::function.
+struct Function {
+    std::uint64_t number;
+    std::uint32_t results;
+};
+
 /// An instance of a module, which may go before it: what one call leaves in memory, globals and table, the next one finds. It goes from
 /// thread to thread. One that was moved from is assigned to or destroyed, and no more. After a reset that threw NoInstance each use but
 /// another reset throws it too.
@@ -364,6 +370,24 @@ public:
     Call call(std::string_view name, std::initializer_list<gate_value> args) { return call(name, args, settings_); }
     Call call(std::string_view name, std::initializer_list<gate_value> args, const gate_settings &settings) {
         return call(name, Values(args.begin(), args.size()), settings);
+    }
+    /// The function that is exported under that name, for who calls it often: instance.call(function, {..}).
+    std::optional<Function> function(std::string_view name) {
+        const Bytes text(name);
+        gate_export item = {};
+        Function found = {};
+        if (!module_.told(name, item) || item.kind != GATE_EXPORT_FUNCTION) return std::nullopt;
+        answered(gate_instance_find(handle_, text.at, text.length, &found.number));
+        return found.results = item.results, found;
+    }
+    Call call(Function function, Values args, const gate_settings &settings) {
+        Call made = {{}, std::vector<gate_value>(function.results)};
+        live(gate_instance_call_at(handle_, function.number, args.at, args.length, &settings, made.results.data(),
+                                   made.results.size(), &made.ended));
+        return made.results.resize(made.ended.results), made;
+    }
+    Call call(Function function, std::initializer_list<gate_value> args) {
+        return call(function, Values(args.begin(), args.size()), settings_);
     }
     /// As call, and after each end but values a reset, which a plug-in of a compiler wants: a trap leaves its stack pointer where it was.
     Call call_or_reset(std::string_view name, Values args, const gate_settings &settings) {

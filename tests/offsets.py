@@ -27,6 +27,10 @@ LIMIT = 120
 # Longer modules are not mutated: a byte of them seldom matters.
 MOST_BYTES = 1 << 16
 ANSWERS = ['same', 'within', 'end', 'before', 'after', 'untold', 'accepts']
+# How many numbers follow the opcode of an instruction; of a branch table the first says how many more. Other bytes that follow.
+NUMBERS = {**dict.fromkeys((0x02, 0x03, 0x04, 0x0C, 0x0D, 0x0E, 0x10, *range(0x20, 0x25), *range(0x3F, 0x43)), 1),
+           **dict.fromkeys((0x11, *range(0x28, 0x3F)), 2)}
+BYTES = {0x43: 4, 0x44: 8}
 # Compiles the modules whose names stand on standard input, a line each, and prints a line for each.
 COMPILES = '''
 const fs = require('fs');
@@ -90,16 +94,36 @@ def plain(words):
     return re.sub(r'\bis (?!N,)[\w.]+, ', 'is INSTRUCTION, ', words)[:90]
 
 
-def place_of(text):
-    """Where an explanation says that the module is refused."""
+def number_at(held, at):
+    """A number in LEB128, and the offset after it."""
+    value = shift = 0
+    while True:
+        value, shift, at = value | (held[at] & 0x7F) << shift, shift + 7, at + 1
+        if held[at - 1] < 0x80:
+            return value, at
+
+
+def end_of(held, at):
+    """The offset after the instruction that begins there."""
+    opcode, at = held[at], at + 1
+    numbers = NUMBERS.get(opcode, 0)
+    while numbers:
+        value, at = number_at(held, at)
+        numbers += value + 1 if opcode == 0x0E else 0
+        opcode, numbers = (None if opcode == 0x0E else opcode), numbers - 1
+    return at + BYTES.get(opcode, 0)
+
+
+def place_of(text, held):
+    """Where an explanation says that the module is refused, which has these bytes."""
     lines = dict((line[:10].rstrip(), line[10:]) for line in reversed(text.splitlines()[1:]))
     kind = plain(text.splitlines()[0] + ': ' + lines.get('because', lines.get('hint', 'nothing')))
-    span = re.search(r', bytes (\d+) to (\d+) \(', lines.get('token', ''))
-    if span:
-        return Place(kind, int(span[1]), int(span[2]))
-    stop = (re.search(r', byte (\d+) \(', lines.get('token') or lines.get('item', ''))
-            or re.match(r'byte (\d+) ', lines.get('because', '')))
-    return Place(kind, int(stop[1]), int(stop[1])) if stop else Place(kind, None, None)
+    refused = re.search(r'^ +> 0x([0-9a-f]+) ', text, re.M)
+    if refused:
+        return Place(kind, int(refused[1], 16), end_of(held, int(refused[1], 16)))
+    stop = (re.search(r', byte 0x([0-9a-f]+)$', lines.get('token') or lines.get('item', ''))
+            or re.match(r'byte 0x([0-9a-f]+) ', lines.get('because', '')))
+    return Place(kind, int(stop[1], 16), int(stop[1], 16)) if stop else Place(kind, None, None)
 
 
 def explained(program, path):
@@ -109,7 +133,7 @@ def explained(program, path):
         raise Fault(f'status {ran.returncode}: {ran.stdout + ran.stderr}')
     if ran.returncode == 2 and len(ran.stdout.splitlines()) < 2:
         raise Fault(f'nothing but the verdict: {ran.stdout!r}')
-    return place_of(ran.stdout) if ran.returncode == 2 else None
+    return place_of(ran.stdout, read(path)) if ran.returncode == 2 else None
 
 
 def validated(tool, path):

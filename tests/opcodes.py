@@ -1,8 +1,8 @@
 """Whether `gate explain` names each instruction as the standard does, by modules of one body that is refused for it.
 
-An admitted instruction is read with the program's line on a token, or on what gave an operand; no line of a refusal shows
-`unreachable` and `nop`, which take nothing and give nothing. One that is not admitted is read with the line on why reading
-stopped, and so is an admitted one that ends within its immediates.
+An admitted instruction is read with the program's line on it; `unreachable` and `nop`, which nothing refuses, with that of an
+instruction before the refused one. One that is not admitted is read with the line on why reading stopped, and so is an admitted one
+that ends within its immediates.
 """
 import os
 import re
@@ -65,7 +65,10 @@ IMMEDIATES = {
     0x0E: TABLE, 0x11: b'\x07\x00', **dict.fromkeys(range(0x28, 0x3F), ACCESS), 0x3F: b'\x00', 0x40: b'\x00',
     0x41: b'\x00', 0x42: b'\x00', 0x43: bytes(4), 0x44: bytes(8),
 }
-BLOCKS, ELSE, CONSTANTS, UNSEEN = (0x02, 0x03, 0x04), 0x05, range(0x41, 0x45), (0x00, 0x01)
+BLOCKS, ELSE, CONSTANTS, HARMLESS = (0x02, 0x03, 0x04), 0x05, range(0x41, 0x45), (0x00, 0x01)
+
+# The starts of the lines on an instruction before the refused one, and on that one.
+BEFORE, REFUSED = ' {12}0x[0-9a-f]+ +', ' {10}> 0x[0-9a-f]+ +'
 
 # The front of a module with one function that takes nothing and gives an i32.
 FRONT = b'\0asm\1\0\0\0' + bytes([0x01, 0x05, 0x01, 0x60, 0x00, 0x01, 0x7F, 0x03, 0x02, 0x01, 0x00])
@@ -82,24 +85,25 @@ def module_of(tokens):
 
 
 def refused_by(opcode):
-    """Tokens of a body that an admitted instruction makes ill typed, and the start of the line that shows it."""
+    """Tokens of a body that is ill typed for an admitted instruction, or right after it, and the start of the line on it."""
     token = bytes([opcode]) + IMMEDIATES.get(opcode, b'')
+    if opcode in HARMLESS:
+        return token + b'\x42\x00\x0B', BEFORE
     if opcode in CONSTANTS:
-        return token + token + b'\x0B', 'given by  token 0 '
+        return token + token + b'\x0B', BEFORE
     if opcode == ELSE:
-        return b'\x41\x00\x04\x7F\x05\x00\x0B\x0B', 'token     2 '
+        return b'\x41\x00\x04\x7F\x05\x00\x0B\x0B', REFUSED
     if opcode in BLOCKS:
-        return token + b'\x0B\x0B', 'token     0 '
-    return token + (b'' if opcode == 0x0B else b'\x0B'), 'token     0 '
+        return token + b'\x0B\x0B', REFUSED
+    return token + (b'' if opcode == 0x0B else b'\x0B'), REFUSED
 
 
 def cases():
     """What each case is, the tokens, and an expression that fits one line of the explanation."""
     for opcode, name in listed(ADMITTED).items():
         name = re.escape(name)
-        if opcode not in UNSEEN:
-            tokens, start = refused_by(opcode)
-            yield f'{opcode:02x} refused', tokens, f'{start}{name}[ ,].*'
+        tokens, start = refused_by(opcode)
+        yield f'{opcode:02x} refused', tokens, f'{start}{name}( .*)?'
         if opcode in IMMEDIATES:
             yield f'{opcode:02x} cut off', bytes([opcode]), f'because   {opcode:02x} is {name}; .*'
     for opcode, name in listed(OTHERS).items():

@@ -142,17 +142,36 @@ static void play_starts(const task *it, answer *got) {
     got->status = gate_module_starts(it->module, &it->settings, &got->as.call.ended);
 }
 
-/* An instance, and a call on it. Where there is no instance, its end counts; else that of the call. */
-static void play_instance(const task *it, answer *got) {
-    gate_instance instance = { NULL };
+/* An instance. Where there is none, its end counts. */
+static bool is_begun(const task *it, answer *got, gate_instance *instance) {
     gate_call begun;
-    got->status = gate_instance_new(it->module, &it->settings, &instance, &begun);
+    got->status = gate_instance_new(it->module, &it->settings, instance, &begun);
     if (got->status == GATE_NO_INSTANCE) got->as.call.ended = begun;
-    if (got->status != GATE_OK) return;
-    got->status = gate_instance_call(instance, it->name.at, it->name.length, it->args, it->args_count, &it->settings, got->as.call.results,
-                                     MOST_VALUES, &got->as.call.ended);
+    return got->status == GATE_OK;
+}
+
+static void end(answer *got, gate_instance instance) {
     for (size_t i = 0; i < MOST_VALUES; i++) clear_gap(&got->as.call.results[i].width);
     gate_instance_free(instance);
+}
+
+static void play_instance(const task *it, answer *got) {
+    gate_instance instance;
+    if (!is_begun(it, got, &instance)) return;
+    got->status = gate_instance_call(instance, it->name.at, it->name.length, it->args, it->args_count, &it->settings, got->as.call.results,
+                                     MOST_VALUES, &got->as.call.ended);
+    end(got, instance);
+}
+
+static void play_number(const task *it, answer *got) {
+    gate_instance instance;
+    uint64_t number = UINT64_MAX;
+    if (!is_begun(it, got, &instance)) return;
+    const uint32_t found = gate_instance_find(instance, it->name.at, it->name.length, &number);
+    got->status = gate_instance_call_at(instance, number, it->args, it->args_count, &it->settings, got->as.call.results, MOST_VALUES,
+                                        &got->as.call.ended);
+    if (found != (number == UINT64_MAX ? GATE_NOTHING : GATE_OK)) got->status = found;
+    end(got, instance);
 }
 
 /* The questions that take no memory. */
@@ -187,6 +206,7 @@ static const game GAMES[] = {
     { "gate_module_call", play_call, true, false },
     { "gate_module_starts", play_starts, true, false },
     { "gate_instance_new, gate_instance_call", play_instance, true, false },
+    { "gate_instance_new, gate_instance_call_at", play_number, true, false },
     { "gate_module_export and the like", play_questions, true, false },
 };
 
@@ -224,8 +244,9 @@ static bool is_same(const answer *one, const answer *other) {
 /* A call that ran out of memory by itself. */
 static bool is_short_call(const game *of, const answer *got) {
     const gate_call *it = &got->as.call.ended;
-    const bool is_call = of->play == play_call || of->play == play_starts || of->play == play_instance;
-    const bool is_told = got->status == GATE_OK || (got->status == GATE_NO_INSTANCE && of->play == play_instance);
+    const bool has_instance = of->play == play_instance || of->play == play_number;
+    const bool is_call = of->play == play_call || of->play == play_starts || has_instance;
+    const bool is_told = got->status == GATE_OK || (got->status == GATE_NO_INSTANCE && has_instance);
     return is_call && is_told && it->end == GATE_CALL_NO_MEMORY && !it->reason && !it->place && !it->results;
 }
 

@@ -18,7 +18,7 @@ from tools.encoding import HEADER, whole
 from tools.files import ROOT, write
 
 REFUSED = ['', 'judge', 'check-all', 'check-all -0', 'check-all x.wasm -', 'check-all x.wasm --workers 0', 'explain',
-           'explain x.wasm x.calls y', 'exports', 'exports x.wasm y.wasm', 'explain x.wasm --workers 1', 'check', 'check x.wasm y.wasm',
+           'explain x.wasm x.calls y', 'explain x.wasm --json=1', 'check x.wasm --json', 'exports', 'exports x.wasm y.wasm', 'explain x.wasm --workers 1', 'check', 'check x.wasm y.wasm',
            'run x.wasm', 'run x.wasm x.calls y', 'run x.wasm x.calls --workers 65', 'run x.wasm x.calls --piece 0',
            'run x.wasm x.calls --fuel 1000000001', 'run x.wasm x.calls --fuel -1', 'run x.wasm x.calls --frames 0',
            'run x.wasm x.calls --frames 4097', 'run x.wasm x.calls --pages 1025', 'stream', 'stream x.wasm x.calls y',

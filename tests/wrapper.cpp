@@ -83,7 +83,7 @@ static void explain(const std::vector<std::uint8_t> &bytes) {
     HOLDS(rule.numbers.verdict.rule == 11 && rule.numbers.why / 100 == GATE_RULE && rule.because().find("start function") < 100);
     const gate::Explanation version = gate::explain(std::string_view("\0asm\2\0\0\0", 8));
     HOLDS(version.numbers.why == GATE_WHY_VERSION && version.offset() == 4 && version.numbers.body_from == GATE_NONE);
-    HOLDS(version.sentence() == "refused malformed: byte 4 is 02, and the version is 01 00 00 00");
+    HOLDS(version.sentence() == "refused malformed: byte 0x4 is 02, and the version is 01 00 00 00");
     HOLDS(accepted.numbers.why == GATE_WHY_ACCEPTED && accepted.text == "accepted\n" && accepted.sentence() == "accepted");
     HOLDS(!accepted.offset() && accepted.because().empty() && accepted.numbers.section == GATE_NONE_32);
     try {
@@ -283,6 +283,17 @@ static void goes_on(gate::Instance &it) {
     HOLDS(is_begun(it) && gives(it.call("handle", {gate_i32(0)}), 1));
 }
 
+// Functions that are looked up once.
+static void by_functions(gate::Instance &it) {
+    it.reset();
+    const gate::Function handle = it.function("handle").value(), trap = it.function("trap").value();
+    HOLDS(gives(it.call(handle, {gate_i32(0)}), 1) && gives(it.call(handle, {gate_i32(0)}), 2));
+    HOLDS(not_one(it.call(trap, {})) == "trap unreachable" && has_count(it, 100));
+    HOLDS(not_one(it.call(handle, {})) == "bad-arguments");
+    HOLDS(not_one(it.call(handle, std::vector<gate_value>{gate_i32(0)}, {0, 1, 0})) == "out-of-fuel");
+    HOLDS(!it.function("count") && !it.function("handles") && !it.function(""));
+}
+
 // After each end but values it is as it was made.
 static void resets_itself(gate::Instance &it) {
     it.reset();
@@ -322,6 +333,7 @@ static void instances(const std::vector<std::uint8_t> &add) {
     HOLDS(is_begun(it));
     memory(it);
     goes_on(it);
+    by_functions(it);
     resets_itself(it);
     fails_to_reset(it);
     HOLDS(without.memory_size() == 0 && lie_outside(without, 0, 1, 0) && lie_outside(without, 0, 0, 0) && !without.global("add"));

@@ -118,6 +118,18 @@ static void instance_called_after_free(void) {
     WRONG("gate_instance_call: the instance was freed before", gate_instance_call(it, bytes, 1, NULL, 0, &USUAL, NULL, 0, &ended));
 }
 
+static void null_number(void) {
+    gate_instance it = { NULL };
+    if (gate_instance_new(module, &USUAL, &it, &ended) != GATE_OK) return;
+    WRONG("gate_instance_find: number is null", gate_instance_find(it, bytes, 1, NULL));
+}
+
+static void null_end_of_a_number(void) {
+    gate_instance it = { NULL };
+    if (gate_instance_new(module, &USUAL, &it, &ended) != GATE_OK) return;
+    WRONG("gate_instance_call_at: ended is null", gate_instance_call_at(it, 0, NULL, 0, &USUAL, NULL, 0, NULL));
+}
+
 static void null_bytes_written(void) {
     gate_instance it = { NULL };
     if (gate_instance_new(module, &USUAL, &it, &ended) != GATE_OK) return;
@@ -223,7 +235,7 @@ static void (*const uses[])(void) = {
     null_verdict, null_explanation, null_text, null_bytes, null_settings, null_line, length_within_out, out_within_module,
     verdict_within_bytes, misaligned, too_long, bytes_unmapped, calls_unmapped, bytes_changed, own_handle, other_handle, two_threads,
     counted_after_free, measured_after_free, null_length_of_a_build, null_found, types_in_one_place, instance_called_after_free,
-    null_bytes_written,
+    null_number, null_end_of_a_number, null_bytes_written,
 #ifdef HAS_SANITIZER
     out_shorter, bytes_freed,
 #endif

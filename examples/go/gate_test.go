@@ -283,7 +283,7 @@ func TestExplanations(t *testing.T) {
 		// `i32.add` stands at 31, after a `nop`.
 		{moduleOfType([]byte{0, 0}, []byte{0, 1, 0x6a, 0x0b}), BodyIllTyped, 31, 32, true, "refused body 0 ill-typed at 1", ""},
 		{[]byte("\x00asm\x02\x00\x00\x00"), Malformed, 4, 4, true, "refused malformed",
-			": byte 4 is 02, and the version is 01 00 00 00"},
+			": byte 0x4 is 02, and the version is 01 00 00 00"},
 		{[]byte(header), 0, 0, 0, false, "accepted", ""},
 	} {
 		found, err := Explain(row.module)

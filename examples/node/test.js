@@ -44,7 +44,7 @@ test('check', () => {
 });
 
 test('open', () => {
-  const other = { code: 'REFUSED', message: 'refused malformed: byte 4 is 02, and the version is 01 00 00 00' };
+  const other = { code: 'REFUSED', message: 'refused malformed: byte 0x4 is 02, and the version is 01 00 00 00' };
   assert.throws(() => gate.open(Buffer.from('\0asm\u0002\0\0\0')), other);
   assert.throws(() => gate.open(FILL), { code: 'REFUSED', message: `refused body 0 malformed: ${BECAUSE}` });
   assert.throws(() => gate.open(START_TRAPS), { code: 'TRAP', message: 'no instance: trap unreachable fuel 1' });
@@ -77,7 +77,7 @@ test('numbers', () => {
 test('explain', () => {
   assert.strictEqual(gate.explain(add), 'accepted\n');
   const lines = gate.explain(FILL).split('\n');
-  assert.deepStrictEqual([lines[0], lines[3]], ['refused body 0 malformed', `because   ${BECAUSE}`]);
+  assert.deepStrictEqual([lines[0], lines[1]], ['refused body 0 malformed', `because   ${BECAUSE}`]);
   assert.throws(() => gate.explain('bytes'), TypeError);
 });
 

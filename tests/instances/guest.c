@@ -257,9 +257,12 @@ static void step_call(play *it, guest *on) {
     gate_call *ended = ended_in(it);
     const uint8_t *name = name_in(it, to.name);
     const gate_settings *limits = settings_in(it, to.limits);
+    uint64_t number = UINT64_MAX;
+    const bool has_number = below(it, 2) && gate_instance_find(on->instance, name, strlen(to.name), &number) == GATE_OK;
     enter();
     const uint32_t status = answered(
-        gate_instance_call(on->instance, name, strlen(to.name), args, to.count, limits, results, room, ended));
+        has_number ? gate_instance_call_at(on->instance, number, args, to.count, limits, results, room, ended)
+                   : gate_instance_call(on->instance, name, strlen(to.name), args, to.count, limits, results, room, ended));
     judge_call(it, on, &to, &wanted, status, ended, results, room);
 }
 

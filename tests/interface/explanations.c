@@ -61,10 +61,10 @@ static void explanation(text bytes, uint32_t status, const char *words) {
 
 static void explanations_as_texts(void) {
     explanation(ADD, GATE_OK, "accepted\n");
-    explanation(VERSION_2, GATE_MODULE_REFUSED, "refused malformed\nbecause   byte 4 is 02, and the version is 01 00 00 00\n");
+    explanation(VERSION_2, GATE_MODULE_REFUSED, "refused malformed\nbecause   byte 0x4 is 02, and the version is 01 00 00 00\n");
     explanation(FILL, GATE_MODULE_REFUSED,
-                "refused body 0 malformed\nfunction  0, [] -> [], bytes 22 to 26\ntoken     0, byte 23 (0x17)\n"
-                "because   fc 0b is memory.fill, of bulk memory (Core 2.0), which gate does not admit\n"
+                "refused body 0 malformed\nbecause   fc 0b is memory.fill, of bulk memory (Core 2.0), which gate does not admit\n"
+                "function  0, [] -> [], bytes 0x16 to 0x1a\ntoken     0, byte 0x17\n"
                 "hint      build the module with -mcpu=mvp, in Rust for wasm32v1-none; in text do without it (docs/GUESTS.md)\n");
 }
 

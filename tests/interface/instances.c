@@ -122,6 +122,60 @@ static void refused_calls(gate_instance it) {
     has_count(it, 101);
 }
 
+/* The number of an export, which has one. */
+static void has_number(gate_instance it, const char *name, uint64_t wanted) {
+    uint64_t number = 77;
+    HOLDS(gate_instance_find(it, said(name).at, strlen(name), &number) == GATE_OK && number == wanted);
+}
+
+static void has_no_number(gate_instance it, const char *name) {
+    uint64_t number = 77;
+    HOLDS(gate_instance_find(it, said(name).at, strlen(name), &number) == GATE_NOTHING && number == 77);
+}
+
+/* The call of a number that runs nothing ends so, and writes no result. */
+static void ends_at(gate_instance it, uint64_t number, size_t args_count, uint32_t end) {
+    gate_value arg = { 32, 2 }, result = { 1, 1 };
+    gate_call ended = { 99, 99, 99, 99, 99 };
+    HOLDS(gate_instance_call_at(it, number, &arg, args_count, &USUAL, &result, 1, &ended) == GATE_OK);
+    HOLDS(is_end(&ended, (gate_call){ end, 0, 0, 0, 0 }) && result.width == 1 && result.bits == 1);
+}
+
+/* Calls by numbers, of a fresh instance, have the ends of calls by names. */
+static void by_numbers(gate_instance it) {
+    const gate_settings none = { 1000000, 0, 256 };
+    gate_value arg = { 32, 2 }, result = { 1, 1 };
+    gate_call ended = { 99, 99, 99, 99, 99 };
+    has_number(it, "handle", 0);
+    has_number(it, "trap", 1);
+    has_number(it, "grow", 2);
+    has_number(it, "count", 3);
+    has_no_number(it, "");
+    has_no_number(it, "handl");
+    has_no_number(it, "handles");
+    HOLDS(gate_instance_call_at(it, 0, &arg, 1, &none, &result, 1, &ended) == GATE_BAD_ARGUMENT);
+    arg.width = 16;
+    HOLDS(gate_instance_call_at(it, 0, &arg, 1, &USUAL, &result, 1, &ended) == GATE_BAD_ARGUMENT);
+    HOLDS(is_end(&ended, (gate_call){ 99, 99, 99, 99, 99 }) && result.width == 1 && result.bits == 1);
+    ends_at(it, 0, 0, GATE_BAD_ARGUMENTS);
+    ends_at(it, 1, 1, GATE_BAD_ARGUMENTS);
+    ends_at(it, 3, 0, GATE_NOT_A_FUNCTION);
+    ends_at(it, 4, 0, GATE_NO_EXPORT);
+    ends_at(it, UINT64_MAX, 0, GATE_NO_EXPORT);
+    is_begun(it);
+    arg.width = 32;
+    HOLDS(gate_instance_call_at(it, 0, &arg, 1, &USUAL, &result, 1, &ended) == GATE_OK);
+    HOLDS(is_end(&ended, (gate_call){ GATE_VALUES, 0, 0, 1, 1 }) && result.width == 32 && result.bits == 1);
+    has_byte(it, 32, 2);
+    HOLDS(gate_instance_call_at(it, 0, &arg, 1, &USUAL, NULL, 0, &ended) == GATE_OK && ended.results == 1);
+    has_count(it, 2);
+    HOLDS(gate_instance_call_at(it, 1, NULL, 0, &USUAL, NULL, 0, &ended) == GATE_OK);
+    HOLDS(is_end(&ended, (gate_call){ GATE_TRAP, GATE_UNREACHABLE, 0, 1, 0 }));
+    has_count(it, 100);
+    HOLDS(gate_instance_call_at(it, 0, &arg, 1, &(gate_settings){ 0, 1, 0 }, &result, 1, &ended) == GATE_OK);
+    HOLDS(is_end(&ended, (gate_call){ GATE_OUT_OF_FUEL, 0, 0, 0, 0 }));
+}
+
 static void no_instance(text bytes, gate_settings settings, uint32_t status, gate_call wanted) {
     gate_module module = module_of(bytes);
     gate_instance it = { &module };
@@ -140,6 +194,8 @@ void instances(void) {
     HOLDS(gate_instance_reset(it, &ended) == GATE_OK && is_end(&ended, (gate_call){ GATE_VALUES, 0, 0, 1, 0 }));
     is_begun(it);
     bytes_in_and_out(it);
+    HOLDS(gate_instance_reset(it, &ended) == GATE_OK);
+    by_numbers(it);
     gate_instance_free(it);
     is_begun(other);
     gives(other, "grow", 1, 0xFFFFFFFF);

@@ -48,7 +48,7 @@ is_typed a name Memory index judged e = tt
 is_typed a name Global index judged e = tt
 
 -- the export at a position
-shaped_at : (xs : List Export) (k : ℕ) (x : Export) → slice_get xs k ≡ Some x → slice_get (map export_shape xs) k ≡ Some (export_shape x)
+pub shaped_at : (xs : List Export) (k : ℕ) (x : Export) → slice_get xs k ≡ Some x → slice_get (map export_shape xs) k ≡ Some (export_shape x)
 shaped_at xs k x h = slice_get-map export_shape xs k ∙ ap (option_map export_shape) h
 
 contained_at : (xs : List ExportShape) (k : ℕ) (x : ExportShape) → slice_get xs k ≡ Some x → Contains xs x

@@ -7,6 +7,7 @@ use Rattle.wsyntax.specs.Validation.Context.{Context}
 use Rattle.wsyntax.specs.Execution.Values.{AreWords}
 use Rattle.wsyntax.specs.Execution.Store.{Memory, Store}
 use Rattle.wsyntax.specs.Texts.Answer.{Limits}
+use Rattle.wsyntax.specs.declared.module.ExportKind.{ExportKind}
 use Rattle.wsyntax.specs.declared.types.GlobalType.{GlobalType}
 use Rattle.wsyntax.specs.declared.value.Value.{Value}
 use Rattle.soundness.specs.Slots.{SlotStore, all_tagged}
@@ -24,7 +25,7 @@ use Rattle.wstore.specs.declared.detached.Detached.{Detached}
 use Rattle.wstore.specs.declared.instance.Instance.{Instance}
 use Rattle.wstore.specs.declared.settings.Settings.{Settings}
 use Rattle.c_api.specs.Beginnings.{Begins, begun_fields}
-use Rattle.c_api.specs.CallsOn.{EndsExport}
+use Rattle.c_api.specs.CallsOn.{EndsFound}
 use Rattle.c_api.specs.Ends.{end_fields, values_of}
 use Rattle.c_api.specs.Instances.{KeepsModule, AnswersWrite, AnswersGlobal, AnswersCallOn, store_in, memory_in, failed_in, module_of}
 use Rattle.c_api.specs.Made.{IsMade, MakesInstance}
@@ -118,14 +119,14 @@ pub lacks : (l : Live) (i : Instance) (d : Detached) (name : List ℕ) (old : Ga
 lacks l i d name old of parts h = inr (refl, refl, λ (s : Store) (is : store_in l ≡ Some s). global_in l i d name None of parts h)
 
 -- a call that is made
-pub called_on : (old new : Live) (name : List ℕ) (numbers : List GateValue) (s : GateSettings) (before after : List GateValue) (was ended : GateCall) (line : Line) (args : List Value)
+pub called_on : (old new : Live) (found : Option (ExportKind × ℕ)) (numbers : List GateValue) (s : GateSettings) (before after : List GateValue) (was ended : GateCall) (line : Line) (args : List Value)
     (i j : Instance) (d e : Detached) (l : Limits) → in_range s ≡ true → l ≡ limits_of s → AreWords args → map value_fields args ≡ numbers
     → old.state ≡ Some d → new.state ≡ Some e → KeepsModule old new → i.accepted.now ≡ old.accepted.value → IsDetached i d → j.accepted.now ≡ i.accepted.now → IsDetached j e
-    → EndsExport i.accepted.now l name args (views.store_in i) i.failed line (views.store_in j) j.failed
-    → ended ≡ end_fields line → after ≡ overlay (values_of line) before → AnswersCallOn old name numbers s before after was ended new 0
-called_on old new name numbers s before after was ended line args i j d e l range within words same there here keeps of from still to ends told written =
+    → EndsFound i.accepted.now l found args (views.store_in i) i.failed line (views.store_in j) j.failed
+    → ended ≡ end_fields line → after ≡ overlay (values_of line) before → AnswersCallOn old found numbers s before after was ended new 0
+called_on old new found numbers s before after was ended line args i j d e l range within words same there here keeps of from still to ends told written =
     let a = old.accepted.value in
-    let E : Accepted → Limits → Store → Bool → Store → Bool → Type 0 = λ x y t b t' b'. EndsExport x y name args t b line t' b' in
+    let E : Accepted → Limits → Store → Bool → Store → Bool → Type 0 = λ x y t b t' b'. EndsFound x y found args t b line t' b' in
     let h₁ : E a l (views.store_in i) i.failed (views.store_in j) j.failed = subst (λ (x : Accepted). E x l (views.store_in i) i.failed (views.store_in j) j.failed) of ends in
     let h₂ : E a (limits_of s) (views.store_in i) i.failed (views.store_in j) j.failed = subst (λ (y : Limits). E a y (views.store_in i) i.failed (views.store_in j) j.failed) within h₁ in
     let h₃ : E a (limits_of s) (store_as a d) i.failed (views.store_in j) j.failed = subst (λ (t : Store). E a (limits_of s) t i.failed (views.store_in j) j.failed) (store_same a i d of from.0) h₂ in

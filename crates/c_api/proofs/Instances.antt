@@ -18,7 +18,8 @@ use Rattle.wstore.specs.Views.{module_in, bodies_in, store_in}
 use Rattle.wstore.specs.declared.detached.Detached.{Detached}
 use Rattle.wstore.specs.declared.instance.Instance.{Instance}
 use Rattle.batch_text.specs.declared.line.Line.TheVariants.{Ran}
-use Rattle.c_api.specs.Beginnings.{Begins, FailsToBegin, refusal_in}
+use Rattle.c_api.specs.Beginnings.{Begins, FailsToBegin}
+use Rattle.c_api.specs.Starts.{refusal_in}
 
 -- what is held where there is an instance
 pub is_instance : (a : Accepted) (state : Option Detached) (d : Detached) → ∥ IfSome state (IsInstanceOf a) ∥₁ → state ≡ Some d → IsInstanceOf a d
@@ -35,13 +36,13 @@ store_same a i d same parts =
     ∙ ap (λ p. store_of (module_context (module_shape a.«module»)) (seen p)) (sym parts)
 
 -- a start function that does not end in values
-pub ends_otherwise : (a : Accepted) (old new : Instance) (l : Limits) (o : Outcome) (k : ℕ) → old.accepted.now ≡ a → refusal_in a l ≡ None
+pub ends_otherwise : (a : Accepted) (old new : Instance) (l : Limits) (o : Outcome) (k : ℕ) → old.accepted.now ≡ a → refusal_in l.pages a ≡ None
     → StartsOnEach (module_in old) (bodies_in old) l (store_in new) k (Some o) → FailsToBegin a l (Ran o k)
 ends_otherwise a old new l o k is allowed ends =
     (allowed, store_in new, subst (λ (x : Accepted). StartsOnEach (module_shape x.«module») (shapes_of x.bodies.items) l (store_in new) k (Some o)) is ends)
 
 -- an instance whose start function ends in values, or that has none
-pub begins : (a : Accepted) (old new : Instance) (d : Detached) (l : Limits) (k : ℕ) → old.accepted.now ≡ a → refusal_in a l ≡ None
+pub begins : (a : Accepted) (old new : Instance) (d : Detached) (l : Limits) (k : ℕ) → old.accepted.now ≡ a → refusal_in l.pages a ≡ None
     → StartsOnEach (module_in old) (bodies_in old) l (store_in new) k None → new.accepted.now ≡ old.accepted.now → old.failed ≡ false
     → new.failed ≡ old.failed → IsDetached new d → IsInstanceOf new.accepted.now d → Begins a l d k
 begins a old new d l k is allowed ends of fresh kept same held =

@@ -5,6 +5,6 @@ pub mod Spelled
 pub mod ExportedTypes
 pub mod Instances
 pub mod InstanceOperations
-pub mod CallsThatGoOn
+pub mod ExportNumbers
 pub mod PutBack
 pub mod Sums

@@ -1,6 +1,6 @@
--- 4.5.5 How the call of an export ends on an instance that goes on.
-use Rattle.std.specs.Prelude.{◌≡◌, ◌≢◌, ◌⊎◌, ℕ, ◌+◌, ◌<◌, Bool, true, false, List}
-use Rattle.wsyntax.specs.Modules.{module_shape}
+-- 4.5.5 How the call of an export, by its name or its number, ends on an instance that goes on.
+use Rattle.std.specs.Prelude.{◌≡◌, ◌≢◌, ◌⊎◌, ℕ, ◌+◌, ◌<◌, Bool, true, false, List, Option, Some, None, option_map, slice_get, IsSomeAnd}
+use Rattle.wsyntax.specs.Modules.{ExportShape, module_shape}
 use Rattle.wsyntax.specs.Validation.ModuleContext.{module_context}
 use Rattle.wsyntax.specs.Execution.Store.{Store}
 use Rattle.wsyntax.specs.Outcomes.{outcome_of}
@@ -15,10 +15,29 @@ use Rattle.batch_text.specs.declared.line.Line.{Line}
 use Rattle.batch_text.specs.declared.line.Line.TheVariants.{Ran, NoExport, NotAFunction, BadArguments, NotStarted, NoMemory}
 use Rattle.wmachine.specs.Calls.{HasParams}
 use Rattle.wstore.specs.Runs.{Runs, StopsShort}
+use Rattle.c_api.specs.Exported.{exports_of}
 
--- an exported function of that name takes these arguments
-abbrev pub Takes : AcceptedModule → List ℕ → List Value → ℕ → Type 0
-Takes a name args f = IsExported (module_shape a.«module») name Function f × HasParams (module_context (module_shape a.«module»)) f args
+-- 2.5.10 what is exported under that name: an item of that kind, by its index
+abbrev pub IsNamed : AcceptedModule → List ℕ → Option (ExportKind × ℕ) → Type 0
+IsNamed a name None = IsMissing (module_shape a.«module») name
+IsNamed a name (Some e) = IsExported (module_shape a.«module») name e.0 e.1
+
+-- 2.5.10 what is exported at that number, from 0, in the order of the module
+abbrev pub export_at : AcceptedModule → ℕ → Option (ExportKind × ℕ)
+export_at a number = option_map (λ (e : ExportShape). (e.kind, e.index)) (slice_get (exports_of a) number)
+
+-- the export at that number has that name
+abbrev pub HasNumber : AcceptedModule → List ℕ → ℕ → Type 0
+HasNumber a name number = IsSomeAnd (slice_get (exports_of a) number) (λ (e : ExportShape). e.item_name ≡ name)
+
+-- the number of the export of that name is written; or there is none
+abbrev pub FindsNumber : AcceptedModule → List ℕ → ℕ → ℕ → ℕ → Type 0
+FindsNumber a name old new answered =
+    ((answered ≡ 0) × HasNumber a name new) ⊎ ((answered ≡ 4) × IsMissing (module_shape a.«module») name × (new ≡ old))
+
+-- what was found is a function that takes these arguments
+abbrev pub Takes : AcceptedModule → Option (ExportKind × ℕ) → List Value → ℕ → Type 0
+Takes a found args f = (found ≡ Some (Function, f)) × HasParams (module_context (module_shape a.«module»)) f args
 
 -- the line says how the call of function f ends on store s, which leaves store s'; or that it ran out of memory, where it had come to store s', or that a call
 -- before it had. By then the instance has failed
@@ -34,14 +53,13 @@ RunsAs a l f args s failed NotAFunction s' failed' = ⊥
 RunsAs a l f args s failed BadArguments s' failed' = ⊥
 RunsAs a l f args s failed (NotStarted r) s' failed' = ⊥
 
--- the line says why the call of that name is not made, and all stays; or how it ends
-abbrev pub EndsExport : AcceptedModule → Limits → List ℕ → List Value → Store → Bool → Line → Store → Bool → Type 0
-EndsExport a l name args s failed NoExport s' failed' = IsMissing (module_shape a.«module») name × (s' ≡ s) × (failed' ≡ failed)
-EndsExport a l name args s failed NotAFunction s' failed' =
-    (kind : ExportKind) × (x : ℕ) × IsExported (module_shape a.«module») name kind x × (kind ≢ Function) × (s' ≡ s) × (failed' ≡ failed)
-EndsExport a l name args s failed BadArguments s' failed' =
-    (f : ℕ) × IsExported (module_shape a.«module») name Function f
-    × (HasParams (module_context (module_shape a.«module»)) f args → ⊥) × (s' ≡ s) × (failed' ≡ failed)
-EndsExport a l name args s failed (Ran o k) s' failed' = (f : ℕ) × Takes a name args f × RunsAs a l f args s failed (Ran o k) s' failed'
-EndsExport a l name args s failed NoMemory s' failed' = (f : ℕ) × Takes a name args f × RunsAs a l f args s failed NoMemory s' failed'
-EndsExport a l name args s failed (NotStarted r) s' failed' = ⊥
+-- the line says why what was found is not called, and all stays; or how its call ends
+abbrev pub EndsFound : AcceptedModule → Limits → Option (ExportKind × ℕ) → List Value → Store → Bool → Line → Store → Bool → Type 0
+EndsFound a l found args s failed NoExport s' failed' = (found ≡ None) × (s' ≡ s) × (failed' ≡ failed)
+EndsFound a l found args s failed NotAFunction s' failed' =
+    (kind : ExportKind) × (x : ℕ) × (found ≡ Some (kind, x)) × (kind ≢ Function) × (s' ≡ s) × (failed' ≡ failed)
+EndsFound a l found args s failed BadArguments s' failed' =
+    (f : ℕ) × (found ≡ Some (Function, f)) × (HasParams (module_context (module_shape a.«module»)) f args → ⊥) × (s' ≡ s) × (failed' ≡ failed)
+EndsFound a l found args s failed (Ran o k) s' failed' = (f : ℕ) × Takes a found args f × RunsAs a l f args s failed (Ran o k) s' failed'
+EndsFound a l found args s failed NoMemory s' failed' = (f : ℕ) × Takes a found args f × RunsAs a l f args s failed NoMemory s' failed'
+EndsFound a l found args s failed (NotStarted r) s' failed' = ⊥

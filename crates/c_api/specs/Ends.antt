@@ -39,7 +39,7 @@ segment_of r = 0
 abbrev pub plain : ℕ → GateCall
 plain end = record { end = end; reason = 0; place = 0; fuel = 0; results = 0 }
 
--- how a call that ran came to its end, at the cost of so much fuel
+-- how a call that ran came to its end, at that cost of fuel
 abbrev pub outcome_fields : Outcome → ℕ → GateCall
 outcome_fields (Values vs) fuel = record { end = 0; reason = 0; place = 0; fuel = fuel; results = length vs.items }
 outcome_fields (Trapped trap) fuel = record { end = 1; reason = trap_code trap; place = 0; fuel = fuel; results = 0 }

@@ -3,6 +3,7 @@ use Rattle.std.specs.Prelude.{◌≡◌, ◌≢◌, ◌⊎◌, ℕ, Bool, true, 
 use Rattle.wsyntax.specs.Modules.{ModuleShape, module_shape}
 use Rattle.wsyntax.specs.Execution.Values.{AreWords}
 use Rattle.wsyntax.specs.Execution.Store.{Memory, Store}
+use Rattle.wsyntax.specs.declared.module.ExportKind.{ExportKind}
 use Rattle.wsyntax.specs.declared.value.Value.{Value}
 use Rattle.wstore.specs.Bytes.{ReadsBytes, put_at}
 use Rattle.wstore.specs.CallLimits.{limits_of}
@@ -12,7 +13,7 @@ use Rattle.wstore.specs.declared.detached.Detached.{Detached}
 use Rattle.batch_text.specs.declared.line.Line.{Line}
 use Rattle.c_api.specs.Beginnings.{Begins, FailsToBegin, begun_fields}
 use Rattle.c_api.specs.Calls.{RefusesCall, TellsCall}
-use Rattle.c_api.specs.CallsOn.{EndsExport}
+use Rattle.c_api.specs.CallsOn.{EndsFound}
 use Rattle.c_api.specs.Ends.{end_fields}
 use Rattle.c_api.specs.Runs as runs
 use Rattle.c_api.specs.Values.{value_fields}
@@ -72,19 +73,19 @@ AnswersGlobal l name old new status =
     ((status ≡ 0) × ((s : Store) × (v : Value) × (store_in l ≡ Some s) × IsGlobalOf (module_of l) s name (Some v) × (new ≡ value_fields v)))
     ⊎ ((status ≡ 82) × (new ≡ old) × ((s : Store) → store_in l ≡ Some s → IsGlobalOf (module_of l) s name None))
 
--- 4.5.5 the line says how the call of this name with the arguments of these numbers ends, which are words, on the instance as it was
-abbrev pub EndsOnLive : Live → List ℕ → List GateValue → GateSettings → Live → Line → Type 0
-EndsOnLive old name numbers s new line =
+-- 4.5.5 the line says how the call of what was found with the arguments of these numbers ends, which are words, on the instance as it was
+abbrev pub EndsOnLive : Live → Option (ExportKind × ℕ) → List GateValue → GateSettings → Live → Line → Type 0
+EndsOnLive old found numbers s new line =
     (args : List Value) × (d : Detached) × (d' : Detached) × AreWords args × (map value_fields args ≡ numbers)
     × (old.state ≡ Some d) × (new.state ≡ Some d')
-    × EndsExport old.accepted.value (runs.limits_of s) name args (store_as old.accepted.value d) d.failed line (store_as old.accepted.value d') d'.failed
+    × EndsFound old.accepted.value (runs.limits_of s) found args (store_as old.accepted.value d) d.failed line (store_as old.accepted.value d') d'.failed
 
 -- the call is refused, or there is no instance, and nothing is written; or its end is told
-abbrev pub AnswersCallOn : Live → List ℕ → List GateValue → GateSettings → List GateValue → List GateValue → GateCall → GateCall → Live → ℕ → Type 0
-AnswersCallOn old name numbers s before after was ended new answered =
+abbrev pub AnswersCallOn : Live → Option (ExportKind × ℕ) → List GateValue → GateSettings → List GateValue → List GateValue → GateCall → GateCall → Live → ℕ → Type 0
+AnswersCallOn old found numbers s before after was ended new answered =
     (RefusesCall s numbers answered × (after ≡ before) × (ended ≡ was) × Stays old new)
     ⊎ (((answered ≡ 81) × (old.state ≡ None) × (after ≡ before) × (ended ≡ was) × Stays old new)
-    ⊎ ((answered ≡ 0) × (runs.in_range s ≡ true) × TellsCall (EndsOnLive old name numbers s new) before after ended × KeepsModule old new))
+    ⊎ ((answered ≡ 0) × (runs.in_range s ≡ true) × TellsCall (EndsOnLive old found numbers s new) before after ended × KeepsModule old new))
 
 -- 4.5.4 there is a new instance of the module, which these limits allow, and what the start function cost is told; or there is none, and it is told why
 abbrev pub AnswersReset : Live → GateCall → Live → ℕ → Type 0

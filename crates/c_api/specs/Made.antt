@@ -12,7 +12,7 @@ use Rattle.c_api.specs.declared.instance.InstanceSlot.{InstanceSlot}
 use Rattle.c_api.specs.declared.live.Live.{Live}
 use Rattle.c_api.specs.declared.settings.GateSettings.{GateSettings}
 
--- it is an instance of the module that begins within these limits, and its start function cost so much fuel
+-- it is an instance of the module that begins within these limits, and its start function cost k units of fuel
 abbrev pub IsMade : AcceptedModule → GateSettings → ℕ → Live → Type 0
 IsMade a s k l =
     (l.accepted.value ≡ a) × (limits.limits_of l.settings ≡ limits_of s) × (d : Detached) × (l.state ≡ Some d) × Begins a (limits_of s) d k

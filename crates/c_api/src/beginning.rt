@@ -36,7 +36,7 @@ pub(crate) fn begin(
 }
 
 /// The line that says why no instance was made.
-fn refused_line(fault: StartFault) -> Line
+pub(crate) fn refused_line(fault: StartFault) -> Line
     ensures { IsLineOf fault result }
 {
     match fault {

@@ -1,7 +1,6 @@
 //! How a call ended, as the fields of `gate_call` of gate.h.
 
 ghost use Rattle.std.specs.Prelude.{◌≡◌};
-ghost use Rattle.batch_text.specs.declared.line.Line.TheVariants.{NotStarted};
 ghost use Rattle.c_api.specs.Ends.{trap_code, refusal_code, segment_of, outcome_fields, end_fields};
 
 use batch_text::{Line, Outcome, StartRefusal};
@@ -78,35 +77,18 @@ fn fields_of_refusal(refusal: StartRefusal) -> (u32, u32)
 impl GateCall {
     ghost use Rattle.c_api.specs.Beginnings.{begun_fields};
 
-    /// An end of which only the code is told.
-    fn plain(end: u32) -> GateCall
-        ensures end { result.end ≡ end }
-        ensures reason { result.reason ≡ 0 }
-        ensures place { result.place ≡ 0 }
-        ensures fuel { result.fuel ≡ 0 }
-        ensures results { result.results ≡ 0 }
-    {
-        GateCall {
-            end,
-            reason: 0,
-            place: 0,
-            fuel: 0,
-            results: 0,
-        }
-    }
-
-    /// The end of a call that ran.
-    fn ran(end: u32, reason: u32, fuel: u32, results: u64) -> GateCall
+    /// An end with these fields, in their order.
+    fn new(end: u32, reason: u32, place: u32, fuel: u32, results: u64) -> GateCall
         ensures end { result.end ≡ end }
         ensures reason { result.reason ≡ reason }
-        ensures place { result.place ≡ 0 }
+        ensures place { result.place ≡ place }
         ensures fuel { result.fuel ≡ fuel }
         ensures results { result.results ≡ results }
     {
         GateCall {
             end,
             reason,
-            place: 0,
+            place,
             fuel,
             results,
         }
@@ -116,7 +98,7 @@ impl GateCall {
     pub(crate) fn begun(fuel: u32) -> GateCall
         ensures { result ≡ begun_fields fuel }
     {
-        GateCall::ran(END_VALUES, 0, fuel, 0)
+        GateCall::new(END_VALUES, 0, 0, fuel, 0)
     }
 
     /// The end of a call that ran and came to this.
@@ -124,24 +106,10 @@ impl GateCall {
         ensures { result ≡ outcome_fields outcome.now fuel }
     {
         match outcome {
-            Outcome::Values(values) => GateCall::ran(END_VALUES, 0, fuel, values.len() as u64),
-            Outcome::Trapped(trap) => GateCall::ran(END_TRAP, code_of_trap(*trap), fuel, 0),
-            Outcome::OutOfFuel => GateCall::ran(END_OUT_OF_FUEL, 0, fuel, 0),
-            Outcome::OutOfFrames => GateCall::ran(END_OUT_OF_FRAMES, 0, fuel, 0),
-        }
-    }
-
-    /// The end of a call for which no instance was made.
-    fn not_started(refusal: StartRefusal) -> GateCall
-        ensures { result ≡ end_fields (NotStarted refusal) }
-    {
-        let (reason, place) = fields_of_refusal(refusal);
-        GateCall {
-            end: END_NOT_STARTED,
-            reason,
-            place,
-            fuel: 0,
-            results: 0,
+            Outcome::Values(values) => GateCall::new(END_VALUES, 0, 0, fuel, values.len() as u64),
+            Outcome::Trapped(trap) => GateCall::new(END_TRAP, code_of_trap(*trap), 0, fuel, 0),
+            Outcome::OutOfFuel => GateCall::new(END_OUT_OF_FUEL, 0, 0, fuel, 0),
+            Outcome::OutOfFrames => GateCall::new(END_OUT_OF_FRAMES, 0, 0, fuel, 0),
         }
     }
 
@@ -151,11 +119,14 @@ impl GateCall {
     {
         match line {
             Line::Ran { outcome, fuel } => GateCall::of_outcome(outcome, *fuel),
-            Line::NoExport => GateCall::plain(END_NO_EXPORT),
-            Line::NotAFunction => GateCall::plain(END_NOT_A_FUNCTION),
-            Line::BadArguments => GateCall::plain(END_BAD_ARGUMENTS),
-            Line::NotStarted(refusal) => GateCall::not_started(*refusal),
-            Line::NoMemory => GateCall::plain(END_NO_MEMORY),
+            Line::NoExport => GateCall::new(END_NO_EXPORT, 0, 0, 0, 0),
+            Line::NotAFunction => GateCall::new(END_NOT_A_FUNCTION, 0, 0, 0, 0),
+            Line::BadArguments => GateCall::new(END_BAD_ARGUMENTS, 0, 0, 0, 0),
+            Line::NotStarted(refusal) => {
+                let (reason, place) = fields_of_refusal(*refusal);
+                GateCall::new(END_NOT_STARTED, reason, place, 0, 0)
+            }
+            Line::NoMemory => GateCall::new(END_NO_MEMORY, 0, 0, 0, 0),
         }
     }
 }

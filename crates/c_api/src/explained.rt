@@ -120,34 +120,6 @@ pub(crate) fn status_with(found: &Explanation<'_>) -> u32
     }
 }
 
-/// The code of what is said.
-fn why(found: &Explanation<'_>) -> u32
-    ensures { result ≡ kind_code (kind_told found.now) }
-{
-    explanation_kind_code(found.kind())
-}
-
-/// The id of the section.
-fn section(found: &Explanation<'_>) -> u32
-    ensures { result ≡ short (section_told found.now) }
-{
-    short_number(found.section())
-}
-
-/// The first byte of the token.
-fn opcode(found: &Explanation<'_>) -> u32
-    ensures { result ≡ short (opcode_told found.now) }
-{
-    short_number(found.opcode())
-}
-
-/// The position of the item.
-fn item(found: &Explanation<'_>) -> u64
-    ensures { result ≡ wide (item_told found.now) }
-{
-    wide_number(found.item())
-}
-
 /// The offset of the first byte of a span.
 fn first_of(span: Option<Span>) -> u64
     ensures { result ≡ wide (option_map (λ s. s.from) span) }
@@ -168,49 +140,22 @@ fn last_of(span: Option<Span>) -> u64
     }
 }
 
-/// The first byte of the body.
-fn body_from(found: &Explanation<'_>) -> u64
-    ensures { result ≡ wide (option_map (λ s. s.from) (body_told found.now)) }
-{
-    first_of(found.body())
-}
-
-/// The end of the body.
-fn body_to(found: &Explanation<'_>) -> u64
-    ensures { result ≡ wide (option_map (λ s. s.to) (body_told found.now)) }
-{
-    last_of(found.body())
-}
-
-/// The first byte of what is refused.
-fn from(found: &Explanation<'_>) -> u64
-    ensures { result ≡ wide (option_map (λ s. s.from) (span_told found.now)) }
-{
-    first_of(found.span())
-}
-
-/// The end of what is refused.
-fn to(found: &Explanation<'_>) -> u64
-    ensures { result ≡ wide (option_map (λ s. s.to) (span_told found.now)) }
-{
-    last_of(found.span())
-}
-
 impl GateExplanation {
     /// The fields of an explanation; `None` where memory was refused.
     pub(crate) fn of(found: &Explanation<'_>) -> Option<GateExplanation>
         ensures { result ≡ option_map (fields_with found.now) (verdict_told found.now) }
     {
+        let (body, span) = (found.body(), found.span());
         Some(GateExplanation {
             verdict: verdict_of(found)?,
-            why: why(found),
-            section: section(found),
-            opcode: opcode(found),
-            item: item(found),
-            body_from: body_from(found),
-            body_to: body_to(found),
-            from: from(found),
-            to: to(found),
+            why: explanation_kind_code(found.kind()),
+            section: short_number(found.section()),
+            opcode: short_number(found.opcode()),
+            item: wide_number(found.item()),
+            body_from: first_of(body),
+            body_to: last_of(body),
+            from: first_of(span),
+            to: last_of(span),
         })
     }
 }

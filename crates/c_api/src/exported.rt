@@ -3,7 +3,7 @@
 ghost use Rattle.std.specs.Prelude.{◌≡◌, ◌≤◌, Some, length, map, slice_get};
 ghost use Rattle.wsyntax.specs.Binary.Types.{val_type_of};
 ghost use Rattle.c_api.specs.Texts.{IsWritten};
-ghost use Rattle.c_api.specs.Exported.{kind_code, params_of, results_of, export_fields, type_byte};
+ghost use Rattle.c_api.specs.Exported.{params_of, results_of, export_fields, type_byte};
 ghost use Rattle.c_api.specs.Exported.{TellsExport, FindsExport, TellsName, TellsTypes};
 
 use crate::status::{NOTHING, OK, SHORT_BUFFER};
@@ -28,18 +28,6 @@ pub struct GateExport {
 
 const _: () = prove!(size_of::<GateExport>() == 16 && align_of::<GateExport>() == 4);
 
-/// The code of a kind, as `gate_export_kind` of gate.h has it.
-fn export_kind_code(kind: ExportKind) -> u32
-    ensures { result ≡ kind_code kind }
-{
-    match kind {
-        ExportKind::Function => 0,
-        ExportKind::Table => 1,
-        ExportKind::Memory => 2,
-        ExportKind::Global => 3,
-    }
-}
-
 /// How many parameters and results the function of that index has; 0 and 0 where there is none.
 fn counts_of(context: &Context, function: u32) -> (u32, u32)
     ensures params { result.0 ≡ params_of (slice_get context.now.context.functions function) }
@@ -59,12 +47,14 @@ impl GateExport {
     fn of(context: &Context, kind: ExportKind, index: u32) -> GateExport
         ensures { result ≡ export_fields context.now.context.functions kind index }
     {
-        let (params, results) = match kind {
-            ExportKind::Function => counts_of(context, index),
-            ExportKind::Table | ExportKind::Memory | ExportKind::Global => (0, 0),
+        let (kind, (params, results)) = match kind {
+            ExportKind::Function => (0, counts_of(context, index)),
+            ExportKind::Table => (1, (0, 0)),
+            ExportKind::Memory => (2, (0, 0)),
+            ExportKind::Global => (3, (0, 0)),
         };
         GateExport {
-            kind: export_kind_code(kind),
+            kind,
             index,
             params,
             results,

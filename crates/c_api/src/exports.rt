@@ -17,6 +17,7 @@ use crate::ending::GateCall;
 use crate::handing::hand_out;
 use crate::held::Held;
 use crate::judged::GateVerdict;
+use crate::loose::Loose;
 use crate::module::{GateModule, ModuleSlot, ModuleStatus};
 use crate::report::{GateReport, ReportSlot, ReportStatus};
 use crate::settings::GateSettings;
@@ -151,7 +152,7 @@ pub extern "C" fn gate_module_new(
         return NO_MEMORY;
     };
     *verdict = GateVerdict::accepted();
-    *module = ModuleSlot::of(held);
+    *module = ModuleSlot::tied(Loose::of(held));
     OK
 }
 
@@ -241,7 +242,7 @@ pub extern "C" fn gate_module_share(
     let held = module.loose();
     let status = match held.as_ref().another(alloc) {
         Some(shared) => {
-            *other = ModuleSlot::of(shared);
+            *other = ModuleSlot::tied(Loose::of(shared));
             OK
         }
         None => NO_MEMORY,

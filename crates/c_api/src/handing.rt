@@ -6,6 +6,7 @@ ghost use Rattle.c_api.specs.Handles.{IsAnswered};
 ghost use Rattle.c_api.specs.Runs.{LeavesAll};
 
 use crate::kept::Kept;
+use crate::loose::Loose;
 use crate::report::ReportSlot;
 use crate::sending::sendable;
 use crate::status::NO_MEMORY;
@@ -24,14 +25,14 @@ pub(crate) fn hand_out(
     ensures { ((result ≡ 70) × LeavesAll out.old out.new length.old length.new kept.old kept.new)
         ⊎ HandsOrKeeps (string_bytes answer.text) answer.status out.old out.new length.new kept.old kept.new result }
 {
-    let answer = Kept { answer };
-    if answer.fits(out) {
-        return answer.hand(out, length);
+    let answered = Kept { answer };
+    if answered.answer.text.len() <= out.len() {
+        return answered.hand(out, length);
     }
-    let Ok(report) = Box::new(alloc, sendable(answer)) else {
+    let Ok(report) = Box::new(alloc, sendable(answered)) else {
         return NO_MEMORY;
     };
     let status = report.hand(out, length);
-    *kept = ReportSlot::of(report);
+    *kept = ReportSlot::tied(Loose::of(report));
     status
 }

@@ -4,7 +4,7 @@ ghost use Rattle.std.specs.Prelude.{◌≡◌, length};
 ghost use Rattle.c_api.specs.Imported.{imports_of, TellsImport, TellsItemName, TellsModuleName};
 
 use crate::counted::ModuleCount;
-use crate::imported::{GateImport, tell_import, tell_item_name, tell_module_name};
+use crate::imported::{GateImport, tell_import, tell_import_name};
 use crate::module::{GateModule, ModuleStatus};
 
 /// How many imports a module has.
@@ -49,7 +49,7 @@ pub extern "C" fn gate_module_import_module(
     ensures alive { result.value ≡ «module».value }
 {
     let held = module.loose();
-    let status = tell_module_name(&held.as_ref().accepted, position, out, length);
+    let status = tell_import_name(&held.as_ref().accepted, position, true, out, length);
     ModuleStatus::of(status, held)
 }
 
@@ -66,6 +66,6 @@ pub extern "C" fn gate_module_import_name(
     ensures alive { result.value ≡ «module».value }
 {
     let held = module.loose();
-    let status = tell_item_name(&held.as_ref().accepted, position, out, length);
+    let status = tell_import_name(&held.as_ref().accepted, position, false, out, length);
     ModuleStatus::of(status, held)
 }

@@ -1,8 +1,8 @@
 //! What a module imports, as fields and texts: `gate_import` of gate.h.
 
-ghost use Rattle.std.specs.Prelude.{◌≡◌, slice_get};
+ghost use Rattle.std.specs.Prelude.{◌≡◌, MatchBool, slice_get};
 ghost use Rattle.c_api.specs.Exported.{params_of, results_of};
-ghost use Rattle.c_api.specs.Imported.{import_fields, plain, TellsImport, TellsItemName, TellsModuleName};
+ghost use Rattle.c_api.specs.Imported.{import_fields, TellsImport, TellsItemName, TellsModuleName};
 
 use crate::status::{NOTHING, OK};
 use crate::text::hand_text;
@@ -35,33 +35,20 @@ fn counts_in(types: &FuncTypes, index: u32) -> (u32, u32)
 }
 
 impl GateImport {
-    /// The fields of what is no function.
-    fn other(kind: u32) -> GateImport
-        ensures { result ≡ plain kind }
-    {
-        GateImport {
-            kind,
-            params: 0,
-            results: 0,
-        }
-    }
-
     /// The fields of an import of a module with these types.
     fn of(types: &FuncTypes, kind: ImportKind) -> GateImport
         ensures { result ≡ import_fields types.now kind }
     {
-        match kind {
-            ImportKind::Function(index) => {
-                let (params, results) = counts_in(types, index);
-                GateImport {
-                    kind: 0,
-                    params,
-                    results,
-                }
-            }
-            ImportKind::Table(_) => GateImport::other(1),
-            ImportKind::Memory(_) => GateImport::other(2),
-            ImportKind::Global(_) => GateImport::other(3),
+        let (kind, (params, results)) = match kind {
+            ImportKind::Function(index) => (0, counts_in(types, index)),
+            ImportKind::Table(_) => (1, (0, 0)),
+            ImportKind::Memory(_) => (2, (0, 0)),
+            ImportKind::Global(_) => (3, (0, 0)),
+        };
+        GateImport {
+            kind,
+            params,
+            results,
         }
     }
 }
@@ -77,33 +64,24 @@ pub(crate) fn tell_import(accepted: &Accepted<'_>, position: u64, import: &mut G
     OK
 }
 
-/// Writes the name of the module of the import at that position, where there is room for it, and its length. 0: it is written; 4: there
-/// is no such import; 75: there is no room.
-pub(crate) fn tell_module_name(
+/// Writes a name of the import at that position, that of its module or its own, where there is room for it, and its length. 0: it is
+/// written; 4: there is no such import; 75: there is no room.
+pub(crate) fn tell_import_name(
     accepted: &Accepted<'_>,
     position: u64,
+    of_module: bool,
     out: &mut [u8],
     length: &mut usize,
 ) -> u32
-    ensures { TellsModuleName accepted.now position out.old out.new length.old length.new result }
+    ensures { MatchBool of_module (TellsModuleName accepted.now position out.old out.new length.old length.new result)
+        (TellsItemName accepted.now position out.old out.new length.old length.new result) }
 {
     let Some(found) = accepted.module().imports.get(position as usize) else {
         return NOTHING;
     };
-    hand_text(found.module, OK, out, length)
-}
-
-/// The same of its own name.
-pub(crate) fn tell_item_name(
-    accepted: &Accepted<'_>,
-    position: u64,
-    out: &mut [u8],
-    length: &mut usize,
-) -> u32
-    ensures { TellsItemName accepted.now position out.old out.new length.old length.new result }
-{
-    let Some(found) = accepted.module().imports.get(position as usize) else {
-        return NOTHING;
-    };
-    hand_text(found.name, OK, out, length)
+    if of_module {
+        hand_text(found.module, OK, out, length)
+    } else {
+        hand_text(found.name, OK, out, length)
+    }
 }

@@ -58,15 +58,8 @@ impl Model for InstanceSlot {
 }
 
 impl InstanceSlot {
-    /// A handle of this box.
-    pub(crate) fn of(live: Box<Live>) -> InstanceSlot
-        ensures { result.value ≡ Some live.value }
-    {
-        InstanceSlot::tied(Loose::of(live))
-    }
-
     /// A handle of the box at this pointer.
-    fn tied(loose: Loose<Live, Global>) -> InstanceSlot
+    pub(crate) fn tied(loose: Loose<Live, Global>) -> InstanceSlot
         ensures { result.value ≡ Some loose.value }
     {
         let Loose { at, alloc } = loose;

@@ -1,19 +1,23 @@
 //! What C calls on instances.
 
-ghost use Rattle.std.specs.Prelude.{◌≡◌};
+ghost use Rattle.std.specs.Prelude.{◌≡◌, ℕ, Option};
+ghost use Rattle.wsyntax.specs.declared.module.ExportKind.{ExportKind};
 ghost use Rattle.wstore.specs.Bytes.{size_in};
+ghost use Rattle.c_api.specs.CallsOn.{IsNamed, FindsNumber, export_at};
 ghost use Rattle.c_api.specs.Instances.{memory_in, Stays, AnswersRead, AnswersWrite, AnswersGlobal, AnswersCallOn, AnswersReset};
 ghost use Rattle.c_api.specs.Made.{MakesInstance};
 
 use crate::beginning::begin;
+use crate::calling_on::number_of;
 use crate::ending::GateCall;
 use crate::held::Held;
 use crate::instance::{GateInstance, InstanceSlot, InstanceStatus};
 use crate::live::Live;
 use crate::loose::Loose;
 use crate::module::{GateModule, ModuleStatus};
+use crate::sending::sendable;
 use crate::settings::GateSettings;
-use crate::status::{BAD_ARGUMENT, NO_INSTANCE, NO_MEMORY, OK};
+use crate::status::{BAD_ARGUMENT, NO_INSTANCE, NO_MEMORY, NOTHING, OK};
 use crate::value::GateValue;
 use memory::CleanMem;
 use std::alloc::Global;
@@ -61,11 +65,11 @@ fn make(
             return NO_INSTANCE;
         }
     };
-    let Some(live) = Live::boxed(alloc, accepted, limits, state) else {
+    let Ok(live) = Box::new(alloc, sendable(Live::of(accepted, limits, Some(state)))) else {
         return NO_MEMORY;
     };
     *ended = GateCall::begun(fuel);
-    *instance = InstanceSlot::of(live);
+    *instance = InstanceSlot::tied(Loose::of(live));
     OK
 }
 
@@ -81,12 +85,59 @@ pub extern "C" fn gate_instance_call(
     results: &mut [GateValue],
     ended: &mut GateCall,
 ) -> InstanceStatus
-    ensures answer { AnswersCallOn instance.value name.now args.now settings.now results.old results.new ended.old ended.new
-        result.value result.status }
+    ensures answer { (found : Option (ExportKind × ℕ)) × IsNamed instance.value.accepted.value name.now found
+        × AnswersCallOn instance.value found args.now settings.now results.old results.new ended.old ended.new result.value result.status }
     ensures handle { result.at ≡ instance.at }
 {
     let (live, room) = instance.loose().take();
-    let (live, status) = live.call(alloc, name, args, settings, results, ended);
+    let found = live.accepted.export(name);
+    let (live, status) = live.call(alloc, found, args, settings, results, ended);
+    InstanceStatus::of(status, Loose::fill(room, live))
+}
+
+/// Writes the number of the export of a name. 0: it is written; 4: nothing is exported under it.
+#[unsafe(no_mangle)]
+pub extern "C" fn gate_instance_find(
+    instance: GateInstance,
+    name: &[u8],
+    number: &mut u64,
+) -> InstanceStatus
+    ensures answer { FindsNumber instance.value.accepted.value name.now number.old number.new result.status }
+    ensures handle { result.at ≡ instance.at }
+    ensures stays { result.value ≡ instance.value }
+{
+    let live = instance.loose();
+    let status = match number_of(&live.as_ref().accepted, name) {
+        Some(found) => {
+            *number = found;
+            OK
+        }
+        None => NOTHING,
+    };
+    InstanceStatus::of(status, live)
+}
+
+/// Calls the export of that number on an instance. Else as `gate_instance_call`.
+#[unsafe(no_mangle)]
+pub extern "C" fn gate_instance_call_at(
+    alloc: Global,
+    instance: GateInstance,
+    number: u64,
+    args: &[GateValue],
+    settings: &GateSettings,
+    results: &mut [GateValue],
+    ended: &mut GateCall,
+) -> InstanceStatus
+    ensures answer { AnswersCallOn instance.value (export_at instance.value.accepted.value number) args.now settings.now
+        results.old results.new ended.old ended.new result.value result.status }
+    ensures handle { result.at ≡ instance.at }
+{
+    let (live, room) = instance.loose().take();
+    let found = match live.accepted.module().exports.get(number as usize) {
+        Some(export) => Some((export.kind, export.index)),
+        None => None,
+    };
+    let (live, status) = live.call(alloc, found, args, settings, results, ended);
     InstanceStatus::of(status, Loose::fill(room, live))
 }
 

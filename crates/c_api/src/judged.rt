@@ -26,31 +26,16 @@ pub struct GateVerdict {
 const _: () = prove!(size_of::<GateVerdict>() == 24 && align_of::<GateVerdict>() == 8);
 
 impl GateVerdict {
-    /// A verdict of that kind alone.
-    fn of_kind(kind: u32) -> GateVerdict
+    /// A verdict with these fields, in their order.
+    fn new(kind: u32, rule: u32, function: u32, token: u64) -> GateVerdict
         ensures kind { result.kind ≡ kind }
-        ensures rule { result.rule ≡ 0 }
-        ensures function { result.function ≡ 0 }
-        ensures token { result.token ≡ 0 }
-    {
-        GateVerdict {
-            kind,
-            rule: 0,
-            function: 0,
-            token: 0,
-        }
-    }
-
-    /// What is refused in the body of a function.
-    fn on_body(kind: u32, function: u32, token: u64) -> GateVerdict
-        ensures kind { result.kind ≡ kind }
-        ensures rule { result.rule ≡ 0 }
+        ensures rule { result.rule ≡ rule }
         ensures function { result.function ≡ function }
         ensures token { result.token ≡ token }
     {
         GateVerdict {
             kind,
-            rule: 0,
+            rule,
             function,
             token,
         }
@@ -61,9 +46,9 @@ impl GateVerdict {
         ensures { result ≡ fields_of (BodyRefused function (fault_of refusal)) }
     {
         match refusal {
-            BodyRefusal::Malformed => GateVerdict::on_body(4, function, 0),
-            BodyRefusal::TooManyLocals => GateVerdict::on_body(5, function, 0),
-            BodyRefusal::IllTyped { at } => GateVerdict::on_body(6, function, at as u64),
+            BodyRefusal::Malformed => GateVerdict::new(4, 0, function, 0),
+            BodyRefusal::TooManyLocals => GateVerdict::new(5, 0, function, 0),
+            BodyRefusal::IllTyped { at } => GateVerdict::new(6, 0, function, at as u64),
         }
     }
 
@@ -71,7 +56,7 @@ impl GateVerdict {
     pub(crate) fn accepted() -> GateVerdict
         ensures { result ≡ fields_of Accepted }
     {
-        GateVerdict::of_kind(0)
+        GateVerdict::new(0, 0, 0, 0)
     }
 
     /// The verdict of a refusal; `None` where memory was refused.
@@ -79,14 +64,9 @@ impl GateVerdict {
         ensures { result ≡ option_map fields_of (verdict_of refusal) }
     {
         match refusal {
-            Refusal::TooLarge => Some(GateVerdict::of_kind(1)),
-            Refusal::Malformed => Some(GateVerdict::of_kind(2)),
-            Refusal::Rule(rule) => Some(GateVerdict {
-                kind: 3,
-                rule,
-                function: 0,
-                token: 0,
-            }),
+            Refusal::TooLarge => Some(GateVerdict::new(1, 0, 0, 0)),
+            Refusal::Malformed => Some(GateVerdict::new(2, 0, 0, 0)),
+            Refusal::Rule(rule) => Some(GateVerdict::new(3, rule, 0, 0)),
             Refusal::Body { func, refusal } => Some(GateVerdict::of_body(func, refusal)),
             Refusal::Memory => None,
         }

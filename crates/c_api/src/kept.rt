@@ -15,16 +15,8 @@ pub struct Kept {
 }
 
 impl Kept {
-    ghost use Rattle.std.specs.Prelude.{◌≡◌, nat_le, length};
     ghost use Rattle.c_api.specs.Statuses.{code_of};
     ghost use Rattle.c_api.specs.Texts.{Hands};
-
-    /// Whether a buffer has room for the text.
-    pub(crate) fn fits(&self, out: &[u8]) -> bool
-        ensures { result ≡ nat_le (length (string_bytes self.now.answer.text)) (length out.now) }
-    {
-        self.answer.text.len() <= out.len()
-    }
 
     /// Writes the text, where there is room for it, and its length; the status of the answer, or that the buffer is short.
     pub(crate) fn hand(&self, out: &mut [u8], length: &mut usize) -> u32

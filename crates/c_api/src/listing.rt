@@ -18,7 +18,7 @@ struct Listed {
     status: u32,
 }
 
-/// The list of these bytes, where a memory may have so many pages.
+/// The list of these bytes, where a memory may have at most `pages` pages.
 fn list_of(alloc: Global, bytes: &[u8], pages: u32) -> Result<Listed, AllocError>
     ensures { IfOk result (λ listed. IsList bytes.now pages (string_bytes listed.text) listed.status) }
 {

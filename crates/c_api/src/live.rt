@@ -1,9 +1,8 @@
 //! What stands behind a `gate_instance`.
 
-ghost use Rattle.std.specs.Prelude.{◌≡◌, None, Some, IfSome};
+ghost use Rattle.std.specs.Prelude.{◌≡◌, IfSome};
 ghost use Rattle.wstore.specs.Detached.{IsDetached, IsInstanceOf};
 
-use crate::sending::sendable;
 use std::alloc::Global;
 use std::sync::Arc;
 use verdict::Accepted;
@@ -21,50 +20,21 @@ pub struct Live {
 }
 
 impl Live {
-    /// An instance of a module, in a box; `None` where memory was refused.
-    pub(crate) fn boxed(
-        alloc: Global,
-        accepted: Arc<Accepted<'static>, Global>,
-        settings: Settings,
-        state: Detached,
-    ) -> Option<Box<Live>>
-        requires { IsInstanceOf accepted.value state }
-        ensures accepted { IfSome result (λ b. b.value.accepted.value ≡ accepted.entry.value) }
-        ensures settings { IfSome result (λ b. b.value.settings ≡ settings) }
-        ensures state { IfSome result (λ b. b.value.state ≡ Some state) }
-    {
-        let live = Live::of(accepted, settings, state);
-        Box::new(alloc, sendable(live)).ok()
-    }
-
-    /// The module with this instance of it.
+    /// The module with an instance of it, or without one.
     pub(crate) fn of(
         accepted: Arc<Accepted<'static>, Global>,
         settings: Settings,
-        state: Detached,
+        state: Option<Detached>,
     ) -> Live
-        requires { IsInstanceOf accepted.value state }
+        requires { IfSome state (IsInstanceOf accepted.value) }
         ensures accepted { result.accepted.value ≡ accepted.entry.value }
         ensures settings { result.settings ≡ settings }
-        ensures state { result.state ≡ Some state }
+        ensures state { result.state ≡ state }
     {
         Live {
             accepted,
             settings,
-            state: Some(state),
-        }
-    }
-
-    /// The module without an instance.
-    pub(crate) fn gone(accepted: Arc<Accepted<'static>, Global>, settings: Settings) -> Live
-        ensures accepted { result.accepted.value ≡ accepted.entry.value }
-        ensures settings { result.settings ≡ settings }
-        ensures state { result.state ≡ None }
-    {
-        Live {
-            accepted,
-            settings,
-            state: None,
+            state,
         }
     }
 }

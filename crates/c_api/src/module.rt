@@ -58,15 +58,8 @@ impl Model for ModuleSlot {
 }
 
 impl ModuleSlot {
-    /// A handle of this box.
-    pub(crate) fn of(held: Box<Held>) -> ModuleSlot
-        ensures { result.value ≡ Some held.value }
-    {
-        ModuleSlot::tied(Loose::of(held))
-    }
-
     /// A handle of the box at this pointer.
-    fn tied(loose: Loose<Held, Global>) -> ModuleSlot
+    pub(crate) fn tied(loose: Loose<Held, Global>) -> ModuleSlot
         ensures { result.value ≡ Some loose.value }
     {
         let Loose { at, alloc } = loose;

@@ -6,7 +6,7 @@ ghost use Rattle.c_api.specs.Instances.{memory_in, Stays, AnswersRead, AnswersWr
 
 use crate::beginning::begin;
 use crate::calling::{ArgsFault, arguments, tell_end};
-use crate::calling_on::call_export;
+use crate::calling_on::call_found;
 use crate::ending::GateCall;
 use crate::live::{Live, attached};
 use crate::settings::GateSettings;
@@ -14,6 +14,7 @@ use crate::status::{BAD_ARGUMENT, NO_GLOBAL, NO_INSTANCE, NO_MEMORY, OK, OUTSIDE
 use crate::value::GateValue;
 use memory::CleanMem;
 use std::alloc::Global;
+use wsyntax::ExportKind;
 
 impl Live {
     /// The number of bytes of its memory.
@@ -27,12 +28,12 @@ impl Live {
             state,
         } = self;
         let Some(state) = state else {
-            return (Live::gone(accepted, settings), 0);
+            return (Live::of(accepted, settings, None), 0);
         };
         let instance = attached(&accepted, state);
         let size = instance.memory_size();
         let state = instance.detach();
-        (Live::of(accepted, settings, state), size)
+        (Live::of(accepted, settings, Some(state)), size)
     }
 
     /// Copies bytes of its memory. 0: they are copied; 80: they do not lie in it.
@@ -46,7 +47,7 @@ impl Live {
             state,
         } = self;
         let Some(state) = state else {
-            return (Live::gone(accepted, settings), OUTSIDE);
+            return (Live::of(accepted, settings, None), OUTSIDE);
         };
         let instance = attached(&accepted, state);
         let status = if instance.read_bytes(at, out) {
@@ -55,7 +56,7 @@ impl Live {
             OUTSIDE
         };
         let state = instance.detach();
-        (Live::of(accepted, settings, state), status)
+        (Live::of(accepted, settings, Some(state)), status)
     }
 
     /// Writes bytes to its memory. 0: they are written; 80: there is no room for them there, and nothing is done.
@@ -68,7 +69,7 @@ impl Live {
             state,
         } = self;
         let Some(state) = state else {
-            return (Live::gone(accepted, settings), OUTSIDE);
+            return (Live::of(accepted, settings, None), OUTSIDE);
         };
         let mut instance = attached(&accepted, state);
         let status = if instance.write_bytes(at, bytes) {
@@ -77,7 +78,7 @@ impl Live {
             OUTSIDE
         };
         let state = instance.detach();
-        (Live::of(accepted, settings, state), status)
+        (Live::of(accepted, settings, Some(state)), status)
     }
 
     /// Writes the value of an exported global. 0: it is written; 82: no global has this name.
@@ -91,7 +92,7 @@ impl Live {
             state,
         } = self;
         let Some(state) = state else {
-            return (Live::gone(accepted, settings), NO_GLOBAL);
+            return (Live::of(accepted, settings, None), NO_GLOBAL);
         };
         let instance = attached(&accepted, state);
         let status = match instance.exported_global(name) {
@@ -102,20 +103,20 @@ impl Live {
             None => NO_GLOBAL,
         };
         let state = instance.detach();
-        (Live::of(accepted, settings, state), status)
+        (Live::of(accepted, settings, Some(state)), status)
     }
 
-    /// Calls an export on it. As `gate_instance_call`.
+    /// Calls what was found among the exports on it. As `gate_instance_call`.
     pub(crate) fn call(
         self,
         alloc: Global,
-        name: &[u8],
+        found: Option<(ExportKind, u32)>,
         numbers: &[GateValue],
         limits: &GateSettings,
         results: &mut [GateValue],
         ended: &mut GateCall,
     ) -> (Live, u32)
-        ensures { AnswersCallOn self name.now numbers.now limits.now results.old results.new ended.old ended.new result.0 result.1 }
+        ensures { AnswersCallOn self found numbers.now limits.now results.old results.new ended.old ended.new result.0 result.1 }
     {
         let Live {
             accepted,
@@ -123,21 +124,24 @@ impl Live {
             state,
         } = self;
         let Some(state) = state else {
-            return (Live::gone(accepted, settings), NO_INSTANCE);
+            return (Live::of(accepted, settings, None), NO_INSTANCE);
         };
         let Some(limits) = limits.settings() else {
-            return (Live::of(accepted, settings, state), BAD_ARGUMENT);
+            return (Live::of(accepted, settings, Some(state)), BAD_ARGUMENT);
         };
         let args = match arguments(alloc, numbers) {
             Ok(args) => args,
-            Err(ArgsFault::NoValue) => return (Live::of(accepted, settings, state), BAD_ARGUMENT),
-            Err(ArgsFault::Memory) => return (Live::of(accepted, settings, state), NO_MEMORY),
+            Err(ArgsFault::NoValue) => return (
+                Live::of(accepted, settings, Some(state)),
+                BAD_ARGUMENT,
+            ),
+            Err(ArgsFault::Memory) => return (Live::of(accepted, settings, Some(state)), NO_MEMORY),
         };
         let mut instance = attached(&accepted, state);
-        let line = call_export(alloc, &mut instance, name, args.as_slice(), limits);
+        let line = call_found(alloc, &mut instance, found, args.as_slice(), limits);
         tell_end(&line, results, ended);
         let state = instance.detach();
-        (Live::of(accepted, settings, state), OK)
+        (Live::of(accepted, settings, Some(state)), OK)
     }
 
     /// Ends its instance, and makes a new one in its memory. As `gate_instance_reset`.
@@ -156,11 +160,11 @@ impl Live {
         match begin(alloc, &accepted, settings, clean) {
             Ok((state, fuel)) => {
                 *ended = GateCall::begun(fuel);
-                (Live::of(accepted, settings, state), OK)
+                (Live::of(accepted, settings, Some(state)), OK)
             }
             Err(line) => {
                 *ended = GateCall::of(&line);
-                (Live::gone(accepted, settings), NO_INSTANCE)
+                (Live::of(accepted, settings, None), NO_INSTANCE)
             }
         }
     }

@@ -13,8 +13,8 @@ use crate::measures::GateMeasures;
 use crate::module::{GateModule, ModuleStatus};
 use crate::settings::GateSettings;
 use crate::size::module_size;
-use crate::starting::tell_start;
-use crate::status::OK;
+use crate::starting::start_line;
+use crate::status::{BAD_ARGUMENT, OK};
 use std::alloc::Global;
 
 /// The number of what this interface has beside its first functions.
@@ -148,6 +148,12 @@ pub extern "C" fn gate_module_starts(
     ensures alive { result.value ≡ «module».value }
 {
     let held = module.loose();
-    let status = tell_start(alloc, &held.as_ref().accepted, settings, ended);
+    let status = match settings.settings() {
+        Some(limits) => {
+            *ended = GateCall::of(&start_line(alloc, &held.as_ref().accepted, limits));
+            OK
+        }
+        None => BAD_ARGUMENT,
+    };
     ModuleStatus::of(status, held)
 }

@@ -58,15 +58,8 @@ impl Model for ReportSlot {
 }
 
 impl ReportSlot {
-    /// A handle of this box.
-    pub(crate) fn of(kept: Box<Kept>) -> ReportSlot
-        ensures { result.value ≡ Some kept.value }
-    {
-        ReportSlot::tied(Loose::of(kept))
-    }
-
     /// A handle of the box at this pointer.
-    fn tied(loose: Loose<Kept, Global>) -> ReportSlot
+    pub(crate) fn tied(loose: Loose<Kept, Global>) -> ReportSlot
         ensures { result.value ≡ Some loose.value }
     {
         let Loose { at, alloc } = loose;

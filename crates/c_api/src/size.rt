@@ -14,29 +14,20 @@ use wsyntax::{
     ValType,
 };
 
-const _: () = prove!(size_of::<CheckedBody>() == 160);
-
-const _: () = prove!(size_of::<LocalRun>() == 8);
-
-const _: () = prove!(size_of::<Token>() == 16);
-
-const _: () = prove!(size_of::<Branch>() == 16);
-
-const _: () = prove!(size_of::<FrameLayout>() == 16);
-
-const _: () = prove!(size_of::<ValType>() == 1);
-
-const _: () = prove!(size_of::<Import<'static>>() == 48);
-
-const _: () = prove!(size_of::<Table>() == 12);
-
-const _: () = prove!(size_of::<Limits>() == 12);
-
-const _: () = prove!(size_of::<Global<'static>>() == 32);
-
-const _: () = prove!(size_of::<Export<'static>>() == 24);
-
-const _: () = prove!(size_of::<Data<'static>>() == 48);
+const _: () = prove!(
+    size_of::<CheckedBody>() == 160
+        && size_of::<LocalRun>() == 8
+        && size_of::<Token>() == 16
+        && size_of::<Branch>() == 16
+        && size_of::<FrameLayout>() == 16
+        && size_of::<ValType>() == 1
+        && size_of::<Import<'static>>() == 48
+        && size_of::<Table>() == 12
+        && size_of::<Limits>() == 12
+        && size_of::<Global<'static>>() == 32
+        && size_of::<Export<'static>>() == 24
+        && size_of::<Data<'static>>() == 48
+);
 
 /// These bytes and those of a list of `count` elements, as far as 64 bits can say it.
 fn with_list(total: u64, count: usize, each: u64) -> u64

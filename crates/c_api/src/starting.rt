@@ -1,18 +1,16 @@
 //! Whether a module would start.
 
-ghost use Rattle.c_api.specs.Starts.{SaysStart, AnswersStart};
+ghost use Rattle.c_api.specs.Starts.{SaysStart};
 
-use crate::ending::GateCall;
-use crate::settings::GateSettings;
-use crate::status::{BAD_ARGUMENT, OK};
+use crate::beginning::refused_line;
 use batch_text::{Line, Outcome};
 use memory::CleanMem;
 use std::alloc::Global;
 use verdict::Accepted;
-use wstore::{Settings, StartFault, instantiate};
+use wstore::{Settings, instantiate};
 
 /// The line of a call that would run nothing: no values where there is an instance. The instance is made, and given back.
-fn start_line(alloc: Global, accepted: &Accepted<'_>, settings: Settings) -> Line
+pub(crate) fn start_line(alloc: Global, accepted: &Accepted<'_>, settings: Settings) -> Line
     ensures { SaysStart settings.pages accepted.now result }
 {
     match instantiate(alloc, accepted, settings, CleanMem::empty(alloc)) {
@@ -20,25 +18,6 @@ fn start_line(alloc: Global, accepted: &Accepted<'_>, settings: Settings) -> Lin
             outcome: Outcome::Values(Vec::new(alloc)),
             fuel: 0,
         },
-        Err(refused) => match refused.fault {
-            StartFault::Refused(refusal) => Line::NotStarted(refusal),
-            StartFault::Memory => Line::NoMemory,
-        },
+        Err(refused) => refused_line(refused.fault),
     }
-}
-
-/// Writes whether the module has an instance within these limits, and if not, why. 0: it is written; 64: a limit is out of its range.
-pub(crate) fn tell_start(
-    alloc: Global,
-    accepted: &Accepted<'_>,
-    settings: &GateSettings,
-    ended: &mut GateCall,
-) -> u32
-    ensures { AnswersStart settings.now accepted.now ended.old ended.new result }
-{
-    let Some(settings) = settings.settings() else {
-        return BAD_ARGUMENT;
-    };
-    *ended = GateCall::of(&start_line(alloc, accepted, settings));
-    OK
 }

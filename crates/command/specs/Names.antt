@@ -1,4 +1,4 @@
--- The names of files among the words of `gate check-all`, and its options without a number.
+-- The names of files among the words of `gate check-all`, and the options without a number.
 use Rattle.std.specs.Prelude.{ℕ, Bool, true, false, ◌&&◌, ◌||◌, not, ◌==◌, List, [], ◌∷◌, ◌++◌, codes, drop, nat_lt, length, if◌then◌else◌}
 use Rattle.std.specs.List.{list_any}
 use Rattle.std.specs.Str.{bytes_eq}
@@ -56,6 +56,10 @@ says_null words = list_any (is_flag (codes "--null") 0x30) (option_words words)
 -- a word says that a folder stands for the modules below it
 abbrev pub says_folders : List (List ℕ) → Bool
 says_folders words = list_any (is_flag (codes "--recursive") 0x72) (option_words words)
+
+-- a word says that an explanation is told as JSON
+abbrev pub says_json : List (List ℕ) → Bool
+says_json words = list_any (is_flag (codes "--json") 0x6A) (option_words words)
 
 -- the file that a module is read from whose name is this: `-` is standard input
 abbrev pub input_path : List ℕ → List ℕ

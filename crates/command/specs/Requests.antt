@@ -1,6 +1,6 @@
 -- What the words of the command line ask for.
 use Rattle.std.specs.Prelude.{◌≡◌, ◌⊎◌, ℕ, ◌<◌, List, [], ◌∷◌, ◌++◌, Contains, codes, map, length, slice_index_or}
-use Rattle.command.specs.Names.{file_names, input_path, says_folders, says_null}
+use Rattle.command.specs.Names.{file_names, input_path, says_folders, says_json, says_null}
 use Rattle.command.specs.Options.{SaysLimits, SaysPlan, option_words}
 use Rattle.command.specs.declared.request.Request.{Request}
 use Rattle.command.specs.declared.request.Request.TheVariants.{Check, CheckAll, CheckListed, Explain, ExplainCalls, Exports, Run, Stream, Text}
@@ -57,8 +57,8 @@ IsRequestOf words (CheckAll names folders plan) =
     (first_word words ≡ codes "check-all") × (map (λ n. n.now) names.items ≡ file_names words) × (folders ≡ says_folders words) × SaysPlan words plan.workers plan.piece
 IsRequestOf words (CheckListed is_null folders plan) =
     (first_word words ≡ codes "check-all") × (file_names words ≡ codes "-" ∷ []) × (is_null ≡ says_null words) × (folders ≡ says_folders words) × SaysPlan words plan.workers plan.piece
-IsRequestOf words (Explain path) = (first_word words ≡ codes "explain") × IsInput words path.now
-IsRequestOf words (ExplainCalls path calls) = (first_word words ≡ codes "explain") × AreInputs words path.now calls.now
+IsRequestOf words (Explain path json) = (first_word words ≡ codes "explain") × IsInput words path.now × (json ≡ says_json words)
+IsRequestOf words (ExplainCalls path calls json) = (first_word words ≡ codes "explain") × AreInputs words path.now calls.now × (json ≡ says_json words)
 IsRequestOf words (Exports path) = (first_word words ≡ codes "exports") × IsInput words path.now
 IsRequestOf words (Run path calls settings plan) =
     (first_word words ≡ codes "run") × AreOperands words path.now calls.now × (SaysLimits words settings.fuel settings.frames settings.pages × SaysPlan words plan.workers plan.piece)

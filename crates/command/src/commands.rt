@@ -106,9 +106,9 @@ Example, with a module that uses an instruction of a later standard:
 
     $ gate explain fill.wasm
     refused body 0 malformed
-    function  0, [] -> [], bytes 22 to 26
-    token     0, byte 23 (0x17)
     because   fc 0b is memory.fill, of bulk memory (Core 2.0), which gate does not admit
+    function  0, [] -> [], bytes 0x16 to 0x1a
+    token     0, byte 0x17
     hint      build the module with -mcpu=mvp, in Rust for wasm32v1-none; in text do without it (docs/GUESTS.md)
 
 The first line is that of `gate check`. Where the module is refused, more lines follow, each a key and a text.
@@ -119,6 +119,11 @@ With CALLS you see what is wrong with the calls of an accepted module, or why no
     $ printf 'add\\ti32:0x10\\n' > add.calls; gate explain add.wasm add.calls
     accepted
     calls     line 1 argument 1 \"i32:0x10\" is no decimal number; write i32:16
+
+With --json the same is one JSON object, for editors and scripts (docs/FORMATS.md):
+
+    $ gate explain --json add.wasm
+    {\"verdict\":\"accepted\",\"kind\":\"accepted\"}
 
 The exit status is that of `gate check`, and with CALLS that of `gate run`.";
 
@@ -244,7 +249,11 @@ fn check_all_command<'a>(alloc: Global) -> Result<Command<'a>, AllocError> {
 /// `gate explain`.
 #[inline(never)]
 fn explain_command<'a>(alloc: Global) -> Result<Command<'a>, AllocError> {
-    let words = vec![in alloc; input_word(alloc), calls_word(alloc).required(false)]?;
+    let words = vec![in alloc;
+        input_word(alloc),
+        calls_word(alloc).required(false),
+        json_option(alloc),
+    ]?;
     Command::new(alloc, "explain")
         .about("Says where and why a module is refused, and what you can do")
         .after_long_help(EXPLAIN_EXAMPLE)
@@ -350,6 +359,14 @@ fn folders_option<'a>(alloc: Global) -> Arg<'a> {
         .help(
             "A folder stands for all files in it, and in its folders, whose names end with `.wasm`",
         )
+        .action(ArgAction::SetTrue)
+}
+
+fn json_option<'a>(alloc: Global) -> Arg<'a> {
+    Arg::new(alloc, "json")
+        .short('j')
+        .long("json")
+        .help("Prints one JSON object, with the keys of docs/FORMATS.md")
         .action(ArgAction::SetTrue)
 }
 

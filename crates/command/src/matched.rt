@@ -104,15 +104,18 @@ pub fn explain_of<'a>(words: &'a [&'a str], matches: &ArgMatches<'a>) -> Option<
 {
     let matches = command_matches(words, matches, "explain")?;
     let module = find_word(words, 1, matches.get_str("module")?)?;
+    let json = says_flag(words, "--json", b'j');
     let Some(text) = matches.get_str("calls") else {
         return Some(Request::Explain {
             path: input_path(words[module]),
+            json,
         });
     };
     let second = find_word(words, module + 1, text)?;
     Some(Request::ExplainCalls {
         path: input_path(words[module]),
         calls: words[second],
+        json,
     })
 }
 

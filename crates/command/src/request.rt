@@ -29,14 +29,17 @@ pub enum Request<'a> {
         settings: Settings,
         plan: Plan,
     },
-    /// `gate explain`: the verdict on the module at `path`, and why it is refused.
+    /// `gate explain`: the verdict on the module at `path`, and why it is refused; with `json` as a JSON object.
     Explain {
         path: &'a str,
+        json: bool,
     },
-    /// `gate explain` with calls: the verdict on the module at `path`, and why it, or the text of calls at `calls`, is refused.
+    /// `gate explain` with calls: the verdict on the module at `path`, and why it, or the text of calls at `calls`, is refused; with
+    /// `json` as a JSON object.
     ExplainCalls {
         path: &'a str,
         calls: &'a str,
+        json: bool,
     },
     /// `gate exports`: what the module at `path` exports.
     Exports {

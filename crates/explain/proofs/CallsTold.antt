@@ -10,6 +10,7 @@ use Rattle.batch_text.specs.declared.fault.CallsFault.{CallsFault}
 use Rattle.batch_text.specs.declared.fault.CallsFault.TheVariants as fault
 use Rattle.explain.specs.CallsTold.{RefusedBy, TellsBoth, TellsRefusal, is_refused}
 use Rattle.explain_text.specs.Texts.{BeginsWith}
+use Rattle.explanation.specs.Told.{verdict_told}
 use Rattle.explain.specs.declared.explaining_calls.CallsExplanation.{CallsExplanation}
 use Rattle.explain.specs.declared.explaining_calls.Refused.{Refused}
 use Rattle.explain.specs.declared.explaining_calls.Refused.TheVariants.{Module, Calls}
@@ -23,24 +24,25 @@ bad_calls text fault.Memory some h = absurd (some refl)
 
 -- both
 
-pub both_accepted : (bytes calls : List ℕ) (r : Result CallsExplanation AllocError) → IsVerdict bytes Accepted → IfOk r (λ e. RefusedBy calls Accepted e.refused) → IfOk r (λ e. BeginsWith (verdict_line Accepted) (string_bytes e.text))
-    → IfOk r (λ e. TellsBoth bytes calls e.refused (string_bytes e.text))
-both_accepted bytes calls (Ok e) verdict refused begins = (Accepted, verdict, refused, begins)
-both_accepted bytes calls (Err f) verdict refused begins = tt
+pub both_accepted : (bytes calls : List ℕ) (r : Result CallsExplanation AllocError) → IsVerdict bytes Accepted → IfOk r (λ e. RefusedBy calls Accepted e.refused) → IfOk r (λ e. verdict_told e.explanation ≡ Some Accepted) → IfOk r (λ e. BeginsWith (verdict_line Accepted) (string_bytes e.text))
+    → IfOk r (λ e. TellsBoth bytes calls e.refused (verdict_told e.explanation) (string_bytes e.text))
+both_accepted bytes calls (Ok e) verdict refused says begins = (Accepted, verdict, refused, says, begins)
+both_accepted bytes calls (Err f) verdict refused says begins = tt
 
-one_refused : (bytes calls : List ℕ) (refused : Option Refused) (text : List ℕ) → TellsRefusal bytes refused text → TellsBoth bytes calls refused text
-one_refused bytes calls refused text (Accepted, verdict, is, told, begins) = absurd cc
-one_refused bytes calls refused text (TooLarge, verdict, is, told, begins) = (TooLarge, verdict, told, begins)
-one_refused bytes calls refused text (Malformed, verdict, is, told, begins) = (Malformed, verdict, told, begins)
-one_refused bytes calls refused text (RuleBroken k, verdict, is, told, begins) = (RuleBroken k, verdict, told, begins)
-one_refused bytes calls refused text (BodyRefused f why, verdict, is, told, begins) = (BodyRefused f why, verdict, told, begins)
+one_refused : (bytes calls : List ℕ) (refused : Option Refused) (told : Option Verdict) (text : List ℕ) → TellsRefusal bytes refused told text → TellsBoth bytes calls refused told text
+one_refused bytes calls refused told text (Accepted, verdict, is, named, says, begins) = absurd cc
+one_refused bytes calls refused told text (TooLarge, verdict, is, named, says, begins) = (TooLarge, verdict, named, says, begins)
+one_refused bytes calls refused told text (Malformed, verdict, is, named, says, begins) = (Malformed, verdict, named, says, begins)
+one_refused bytes calls refused told text (RuleBroken k, verdict, is, named, says, begins) = (RuleBroken k, verdict, named, says, begins)
+one_refused bytes calls refused told text (BodyRefused f why, verdict, is, named, says, begins) = (BodyRefused f why, verdict, named, says, begins)
 
-pub both_refused : (bytes calls : List ℕ) (r : Result CallsExplanation AllocError) → IfOk r (λ e. TellsRefusal bytes e.refused (string_bytes e.text)) → IfOk r (λ e. TellsBoth bytes calls e.refused (string_bytes e.text))
-both_refused bytes calls (Ok e) told = one_refused bytes calls e.refused (string_bytes e.text) told
+pub both_refused : (bytes calls : List ℕ) (r : Result CallsExplanation AllocError) → IfOk r (λ e. TellsRefusal bytes e.refused (verdict_told e.explanation) (string_bytes e.text))
+    → IfOk r (λ e. TellsBoth bytes calls e.refused (verdict_told e.explanation) (string_bytes e.text))
+both_refused bytes calls (Ok e) told = one_refused bytes calls e.refused (verdict_told e.explanation) (string_bytes e.text) told
 both_refused bytes calls (Err f) told = tt
 
 -- the verdict that is told is a refusal
 pub refusal_is_told : (bytes text : List ℕ) (told : Option Verdict) (b : Bool) → IfSome told (IsVerdict bytes) → IsSomeAnd told (λ v. BeginsWith (verdict_line v) text) → ((v : Verdict) → told ≡ Some v → b ≡ is_refused v) → b ≡ true
-    → TellsRefusal bytes (Some Module) text
+    → TellsRefusal bytes (Some Module) told text
 refusal_is_told bytes text None b verdict begins says is = absurd begins
-refusal_is_told bytes text (Some v) b verdict begins says is = (v, verdict, sym (says v refl) ∙ is, refl, begins)
+refusal_is_told bytes text (Some v) b verdict begins says is = (v, verdict, sym (says v refl) ∙ is, refl, refl, begins)

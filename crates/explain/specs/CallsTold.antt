@@ -22,10 +22,10 @@ abbrev pub RefusedBy : List ℕ → Verdict → Option Refused → Type 0
 RefusedBy text Accepted refused = (c : CallsText) × IsCalls text c × (refused ≡ refused_calls c)
 RefusedBy text v refused = refused ≡ Some Module
 
--- the text begins with the line of the verdict, and what is told to be refused is so
-abbrev pub TellsBoth : List ℕ → List ℕ → Option Refused → List ℕ → Type 0
-TellsBoth bytes calls refused text = (v : Verdict) × IsVerdict bytes v × RefusedBy calls v refused × BeginsWith (verdict_line v) text
+-- the verdict is told, the text begins with its line, and what is told to be refused is so
+abbrev pub TellsBoth : List ℕ → List ℕ → Option Refused → Option Verdict → List ℕ → Type 0
+TellsBoth bytes calls refused told text = (v : Verdict) × IsVerdict bytes v × RefusedBy calls v refused × (told ≡ Some v) × BeginsWith (verdict_line v) text
 
--- the text begins with the line of a verdict that refuses the module, and that is told
-abbrev pub TellsRefusal : List ℕ → Option Refused → List ℕ → Type 0
-TellsRefusal bytes refused text = (v : Verdict) × IsVerdict bytes v × (is_refused v ≡ true) × (refused ≡ Some Module) × BeginsWith (verdict_line v) text
+-- a verdict that refuses the module is told, the text begins with its line, and that the module is refused is told
+abbrev pub TellsRefusal : List ℕ → Option Refused → Option Verdict → List ℕ → Type 0
+TellsRefusal bytes refused told text = (v : Verdict) × IsVerdict bytes v × (is_refused v ≡ true) × (refused ≡ Some Module) × (told ≡ Some v) × BeginsWith (verdict_line v) text

@@ -1,5 +1,5 @@
 -- What an explanation says of a refused body, or of an item that breaks a rule, is so of the module that the bytes spell.
-use Rattle.std.specs.Prelude.{◌≡◌, ◌+◌, ℕ, List, [], ◌∷◌, Option, Some, None, IfSome, slice_get, ◌&&◌, ◌==◌, length, if◌then◌else◌}
+use Rattle.std.specs.Prelude.{◌≡◌, ◌+◌, ℕ, List, Option, Some, None, IfSome, slice_get, length}
 use Rattle.std.specs.List.{between}
 use Rattle.wsyntax.specs.declared.module.LocalRun.{LocalRun}
 use Rattle.wsyntax.specs.Modules.{ModuleShape}

@@ -10,11 +10,14 @@ use crate::faults::{Located, locate, not_located};
 use crate::headers::no_module;
 use explain_bytes::{location_of, name_of, sign_of};
 use explain_rules::broken_item;
-use explanation::{Explanation, NoModule, RefusedFunction, first_export, signature_of};
+use explanation::{
+    BodyExplanation, Explanation, FoundToken, NoModule, RefusedFunction, first_export, signature_of,
+};
 use std::alloc::{AllocError, Global};
 use verdict::{BodyRefusal, Refusal, examine_alone};
 use wcontext::{ModuleFault, check_rules_before_code};
 use wdecode::{DecodeFault, ModuleHead, decode_front};
+use wsyntax::{Module, Token};
 
 /// A refused body of which no more is known than its verdict.
 fn bare_body<'a>(func: u32, refusal: BodyRefusal) -> RefusedFunction<'a>
@@ -28,9 +31,31 @@ fn bare_body<'a>(func: u32, refusal: BodyRefusal) -> RefusedFunction<'a>
         name: None,
         export: None,
         signature: None,
+        callee: None,
         fault,
         sign: None,
     }
+}
+
+/// The name of the function that an ill-typed token calls, in the module of those bytes.
+fn callee_of<'a>(
+    bytes: &'a [u8],
+    module: &Module<'a>,
+    fault: &BodyExplanation<'_>,
+) -> Option<&'a [u8]> {
+    let BodyExplanation::IllTyped {
+        found: Some(
+            FoundToken {
+                token: Token::Call(func),
+                ..
+            },
+        ),
+        ..
+    } = fault
+    else {
+        return None;
+    };
+    name_of(bytes, *func).or(first_export(&module.exports, *func))
 }
 
 /// The refused body of the function of that index, in a module of that front.
@@ -66,6 +91,7 @@ fn body_of<'a>(
         name: name_of(bytes, func),
         export: first_export(&front.module.exports, func),
         signature,
+        callee: callee_of(bytes, &front.module, &fault),
         fault,
         sign: sign_of(bytes),
     })

@@ -24,7 +24,8 @@ pub enum Refused {
 
 /// What is told of a module and of a text of calls.
 #[derive(Drop)]
-pub struct CallsExplanation {
+pub struct CallsExplanation<'a> {
+    pub explanation: Explanation<'a>,
     pub text: String,
     /// What is refused; `None` where the calls are reported.
     pub refused: Option<Refused>,
@@ -80,20 +81,25 @@ fn push_calls(
 }
 
 /// What is told of an accepted module and of a text of calls.
-fn explain_on(
+fn explain_on<'a>(
     alloc: Global,
-    bytes: &[u8],
+    bytes: &'a [u8],
     accepted: &Accepted<'_>,
     calls: &[u8],
     pages: u32,
-) -> Result<CallsExplanation, AllocError>
+) -> Result<CallsExplanation<'a>, AllocError>
     ensures refused { IfOk result (λ e. RefusedBy calls.now IsGood e.refused) }
+    ensures explanation { IfOk result (λ e. verdict_told e.explanation ≡ Some IsGood) }
     ensures text { IfOk result (λ e. BeginsWith (verdict_line IsGood) (string_bytes e.text)) }
 {
     let mut details = String::new(alloc);
     let refused = push_calls(&mut details, alloc, bytes, accepted, calls, pages)?;
     let text = accepted_text(alloc, &details)?;
-    Ok(CallsExplanation { text, refused })
+    Ok(CallsExplanation {
+        explanation: Explanation::Accepted,
+        text,
+        refused,
+    })
 }
 
 /// Whether an explanation tells of a refusal.
@@ -104,8 +110,8 @@ fn tells_refusal(explanation: &Explanation<'_>) -> bool
 }
 
 /// What is told of a module that is refused.
-fn explain_refused(alloc: Global, bytes: &[u8]) -> Result<CallsExplanation, AllocError>
-    ensures { IfOk result (λ e. TellsRefusal bytes.now e.refused (string_bytes e.text)) }
+fn explain_refused<'a>(alloc: Global, bytes: &'a [u8]) -> Result<CallsExplanation<'a>, AllocError>
+    ensures { IfOk result (λ e. TellsRefusal bytes.now e.refused (verdict_told e.explanation) (string_bytes e.text)) }
 {
     let explanation = explain(alloc, bytes);
     if !tells_refusal(&explanation) {
@@ -113,6 +119,7 @@ fn explain_refused(alloc: Global, bytes: &[u8]) -> Result<CallsExplanation, Allo
     }
     let text = explanation_text(alloc, &explanation)?;
     Ok(CallsExplanation {
+        explanation,
         text,
         refused: Some(Refused::Module),
     })
@@ -121,13 +128,13 @@ fn explain_refused(alloc: Global, bytes: &[u8]) -> Result<CallsExplanation, Allo
 /// Judges a module, on the calling thread, and reads a text of calls of it. Of a refused module it tells what `explain`
 /// tells; of an accepted one what is wrong with the calls, or which of them does not fit the module, and why an instance does
 /// not start whose memory may have `pages` pages.
-pub fn explain_calls(
+pub fn explain_calls<'a>(
     alloc: Global,
-    bytes: &[u8],
+    bytes: &'a [u8],
     calls: &[u8],
     pages: u32,
-) -> Result<CallsExplanation, AllocError>
-    ensures { IfOk result (λ e. TellsBoth bytes.now calls.now e.refused (string_bytes e.text)) }
+) -> Result<CallsExplanation<'a>, AllocError>
+    ensures { IfOk result (λ e. TellsBoth bytes.now calls.now e.refused (verdict_told e.explanation) (string_bytes e.text)) }
 {
     match judge_alone(alloc, bytes) {
         Ok(accepted) => explain_on(alloc, bytes, &accepted, calls, pages),

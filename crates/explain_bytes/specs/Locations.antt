@@ -29,15 +29,17 @@ left_after (suc n) bytes = after_one (left_after n bytes)
 abbrev pub IsLeft : List ℕ → ℕ → List ℕ → Type 0
 IsLeft body position left = (runs : List LocalRun) × (code : List ℕ) × (locals.read body ≡ Some (runs, code)) × (left_after position code ≡ Some left)
 
--- the body begins at offset `start`, and after its locals and `position` tokens comes this one, up to the byte after its last
-pub record IsTokenAt (body : List ℕ) (start position : ℕ) (f : FoundToken) : Type 0 where
-  pub before : List ℕ
+-- the body begins at offset `start`, and the bytes `before`, which are left of it, begin with this token, up to the byte after its last
+pub record IsFirstOf (body : List ℕ) (start : ℕ) (before : List ℕ) (f : FoundToken) : Type 0 where
   pub after : List ℕ
-  pub left : IsLeft body position before
   pub opcode : (tail : List ℕ) × (before ≡ f.opcode ∷ tail)
   pub token : token_at before ≡ Some (decoded_as f.targets.items f.token, after)
   pub from : f.span.from ≡ start + (length body - length before)
   pub to : f.span.to ≡ start + (length body - length after)
+
+-- after its locals and `position` tokens comes this one
+abbrev pub IsTokenAt : List ℕ → ℕ → ℕ → FoundToken → Type 0
+IsTokenAt body start position f = (before : List ℕ) × IsLeft body position before × IsFirstOf body start before f
 
 -- 5.4.1 what is open after one token more: None where it cannot stand there, Some None where it closes the expression
 abbrev pub nested_next : Option (Token × List ℕ) → Option (List Bool) → Option (Option (List Bool))

@@ -18,7 +18,7 @@ mod values;
 
 pub use bodies::body_span;
 pub use item_offsets::item_offset;
-pub use locations::{find_token, offset_of};
+pub use locations::{find_token, first_token, offset_of};
 pub use misreads::{Misread, misread_locals, misread_token};
 pub use names::name_of;
 pub use sections::{

@@ -1,6 +1,6 @@
 //! Where a token of a body stands among its bytes.
 ghost use Rattle.std.specs.Prelude.{◌≡◌, ◌+◌, ◌-◌, IfOk, IfSome, Some, length};
-ghost use Rattle.explain_bytes.specs.Locations.{IsLeft, IsTokenAt, left_after};
+ghost use Rattle.explain_bytes.specs.Locations.{IsFirstOf, IsLeft, IsTokenAt, left_after};
 
 use explanation::{FoundToken, Span};
 use std::alloc::Global;
@@ -35,6 +35,31 @@ pub fn offset_of(start: usize, body: &[u8], left: &[u8]) -> Option<usize>
     start.checked_add(body.len().saturating_sub(left.len()))
 }
 
+/// The token that the bytes begin with which are left of a body; the body begins at offset `start`. Malformed where there is none.
+pub fn first_token(
+    alloc: Global,
+    body: &[u8],
+    start: usize,
+    left: &[u8],
+) -> Result<FoundToken, Fault>
+    ensures { IfOk result (IsFirstOf body.now start left.now) }
+{
+    let [opcode, ..] = left else {
+        return Err(Fault::Malformed);
+    };
+    let mut targets = Vec::new(alloc);
+    let (token, after) = token_at(&mut targets, left)?;
+    match (offset_of(start, body, left), offset_of(start, body, after)) {
+        (Some(from), Some(to)) => Ok(FoundToken {
+            span: Span { from, to },
+            opcode: *opcode,
+            token,
+            targets,
+        }),
+        _ => Err(Fault::Malformed),
+    }
+}
+
 /// The token at that position of a body that begins at offset `start`; Malformed where there is none.
 pub fn find_token(
     alloc: Global,
@@ -44,22 +69,6 @@ pub fn find_token(
 ) -> Result<FoundToken, Fault>
     ensures { IfOk result (IsTokenAt body.now start position) }
 {
-    let before = left_of(alloc, body, position)?;
-    let [opcode, ..] = before else {
-        return Err(Fault::Malformed);
-    };
-    let mut targets = Vec::new(alloc);
-    let (token, after) = token_at(&mut targets, before)?;
-    match (
-        offset_of(start, body, before),
-        offset_of(start, body, after),
-    ) {
-        (Some(from), Some(to)) => Ok(FoundToken {
-            span: Span { from, to },
-            opcode: *opcode,
-            token,
-            targets,
-        }),
-        _ => Err(Fault::Malformed),
-    }
+    let left = left_of(alloc, body, position)?;
+    Ok(first_token(alloc, body, start, left)?)
 }

@@ -1,6 +1,7 @@
 //! The text of the exports of an accepted module: a line for each import, each export and each custom section, and whether an instance
 //! starts.
-ghost use Rattle.std.specs.Prelude.{◌≡◌, ◌++◌, IfOk, OnOk, flat_map, map, slice_get, string_bytes};
+ghost use Rattle.std.specs.Prelude.{◌≡◌, ◌++◌, IfOk, OnOk, flat_map, map, option_map, string_bytes};
+ghost use Rattle.wsyntax.specs.FuncTypes.{func_type_of};
 ghost use Rattle.wsyntax.specs.Modules.{export_shape, import_shape, module_shape};
 ghost use Rattle.wsyntax.specs.Execution.Start.{start_refusal};
 ghost use Rattle.accepted_module.specs.Judgement.{shapes_of};
@@ -14,7 +15,7 @@ use accepted_module::Accepted;
 use explain_text::{push_lists, push_name, type_name};
 use std::alloc::{AllocError, Global};
 use wcontext::Context;
-use wsyntax::{Export, ExportKind, FuncTypes, GlobalType, Import, ImportKind};
+use wsyntax::{Export, ExportKind, FuncType, FuncTypes, GlobalType, Import, ImportKind};
 
 /// The word of what an export names (2.5.10).
 fn kind_name(kind: ExportKind) -> &'static str
@@ -28,11 +29,11 @@ fn kind_name(kind: ExportKind) -> &'static str
     }
 }
 
-/// The type of the function of that index, with a blank before it.
-fn push_function_type(text: &mut String, context: &Context, index: u32) -> Result<(), AllocError>
-    ensures { OnOk result (string_bytes text.new ≡ string_bytes text.old ++ function_text (slice_get context.now.context.functions index)) }
+/// A function type with a blank before it, where there is one.
+fn push_function_type(text: &mut String, found: Option<FuncType<'_>>) -> Result<(), AllocError>
+    ensures { OnOk result (string_bytes text.new ≡ string_bytes text.old ++ function_text (option_map func_type_of found.entry)) }
 {
-    match context.function(index) {
+    match found {
         None => Ok(()),
         Some(found) => {
             text.push_str(" ")?;
@@ -63,7 +64,7 @@ fn push_item(
     ensures { OnOk result (string_bytes text.new ≡ string_bytes text.old ++ item_text context.now.context kind index) }
 {
     match kind {
-        ExportKind::Function => push_function_type(text, context, index),
+        ExportKind::Function => push_function_type(text, context.function(index)),
         ExportKind::Table | ExportKind::Memory => Ok(()),
         ExportKind::Global => match context.global(index) {
             None => Ok(()),
@@ -110,25 +111,12 @@ fn import_kind_name(kind: ImportKind) -> &'static str
     }
 }
 
-/// The function type of that index, with a blank before it.
-fn push_type(text: &mut String, types: &FuncTypes, index: u32) -> Result<(), AllocError>
-    ensures { OnOk result (string_bytes text.new ≡ string_bytes text.old ++ function_text (slice_get types.now index)) }
-{
-    match types.get(index as usize) {
-        None => Ok(()),
-        Some(found) => {
-            text.push_str(" ")?;
-            push_lists(text, found.params, found.results)
-        }
-    }
-}
-
 /// The type of what is imported, with a blank before it: of a function and of a global.
 fn push_imported(text: &mut String, types: &FuncTypes, kind: ImportKind) -> Result<(), AllocError>
     ensures { OnOk result (string_bytes text.new ≡ string_bytes text.old ++ imported_text types.now kind) }
 {
     match kind {
-        ImportKind::Function(index) => push_type(text, types, index),
+        ImportKind::Function(index) => push_function_type(text, types.get(index as usize)),
         ImportKind::Table(_) | ImportKind::Memory(_) => Ok(()),
         ImportKind::Global(of_type) => push_global_type(text, of_type),
     }

@@ -1,7 +1,7 @@
 //! What is said of an accepted module and its calls: its exports, why no instance starts, and calls that cannot be read or do not fit.
 //!
-//! Proved: each import and each export has its line (`specs/Exports`). The reason of a refused start is that of the definition, and its text begins with
-//! the report's words (`specs/Starting`).
+//! Proved: each import and each export has its line (`specs/Exports`). The reason of a refused start is that of the definition, and its
+//! text begins with the report's words (`specs/Starting`).
 #![tactic(auto)]
 
 mod calls_misfit;

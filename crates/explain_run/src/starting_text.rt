@@ -110,7 +110,7 @@ fn push_float_token(
         text.push_str(" ")?;
         push_token(text, &found)?;
         let at = found.span.from;
-        write!(text, ", byte {at} (0x{at:x})")?;
+        write!(text, ", byte 0x{at:x}")?;
     }
     Ok(())
 }

@@ -1,10 +1,12 @@
 //! Why a token is ill typed, in a sentence.
 
+use crate::refused_token::RefusedToken;
 use crate::sentence::Word::{
-    Empty, Index, Number, Opcode, Operand, Place, Power, Signature, Text, Type, Types,
+    Empty, Index, Name, Number, Opcode, Operand, Place, Power, Signature, Text, Type, Types,
 };
 use crate::sentence::{Word, say};
 use crate::token_text::push_instruction;
+use crate::typing_text::push_operands;
 use explanation::{Cause, FoundToken, Space, Typing};
 use std::alloc::AllocError;
 use wsyntax::Token;
@@ -34,10 +36,19 @@ fn push_label(text: &mut String, found: &FoundToken, label: u32) -> Result<(), A
 }
 
 /// What the sentence begins with: the token where its operands are wrong, or what it names.
-fn push_subject(text: &mut String, found: &FoundToken, cause: &Cause) -> Result<(), AllocError> {
+fn push_subject(
+    text: &mut String,
+    token: RefusedToken<'_>,
+    cause: &Cause,
+) -> Result<(), AllocError> {
+    let found = token.found;
     match (cause, found.token) {
-        (Cause::Operand { .. } | Cause::Missing { .. }, token) => {
-            push_instruction(text, found.opcode, token, &[])
+        (Cause::Operand { .. } | Cause::Missing { .. }, instruction) => {
+            push_instruction(text, found.opcode, instruction, &[])?;
+            match token.callee {
+                Some(name) => say(text, " {}", &[Name(name)]),
+                None => Ok(()),
+            }
         }
         (Cause::NoIndex { index: label, .. }, Token::BrTable { .. })
         | (Cause::Labels { label, .. }, _) => push_label(text, found, *label),
@@ -133,17 +144,27 @@ fn owner_of(typing: Option<&Typing>) -> &'static str {
     }
 }
 
-/// The sentence on the cause.
-pub(crate) fn push_cause(
+/// What a token takes, and what it finds.
+fn push_both(text: &mut String, typing: &Typing) -> Result<(), AllocError> {
+    text.push_str(" takes ")?;
+    push_operands(text, &typing.takes, "any")?;
+    text.push_str(", and finds ")?;
+    push_operands(text, &typing.finds, "?")
+}
+
+/// The sentence on why a token is refused, which that is.
+pub fn push_cause(
     text: &mut String,
-    found: &FoundToken,
-    typing: Option<&Typing>,
+    token: RefusedToken<'_>,
     cause: &Cause,
 ) -> Result<(), AllocError> {
-    push_subject(text, found, cause)?;
-    say(
-        text,
-        cause_sentence(cause),
-        &cause_words(found.opcode, cause, owner_of(typing)),
-    )
+    push_subject(text, token, cause)?;
+    match token.typing {
+        Some(typing) if token.is_told_by_lists() => push_both(text, typing),
+        typing => say(
+            text,
+            cause_sentence(cause),
+            &cause_words(token.found.opcode, cause, owner_of(typing)),
+        ),
+    }
 }

@@ -1,5 +1,6 @@
 //! What bytes are that spell no module, in words: the byte that refuses them, and what to do with a file of another form.
 
+use crate::lines::Lines;
 use crate::sentence::Word::{Address, Hex, Number, Text};
 use crate::sentence::say;
 use crate::shell_text::push_location;
@@ -12,7 +13,7 @@ const OBJECT: &str =
 
 /// The hint on a file that was read as text.
 const READ_AS_TEXT: &str =
-    "hint      {} stands at byte {} ({}), {} in all{}: the file was read as text on its way; copy or download it anew, as binary\n";
+    "hint      {} stands at {}, {} in all{}: the file was read as text on its way; copy or download it anew, as binary\n";
 
 /// What bytes of another form are, and what to do.
 fn form_hint(form: Form) -> &'static str {
@@ -56,43 +57,37 @@ pub(crate) fn push_sign(text: &mut String, sign: Sign) -> Result<(), AllocError>
         Sign::Replaced(places) => ("ef bf bd", places, ""),
         Sign::LineEnds(places) => ("0d 0a", places, ", and 0a nowhere else"),
     };
-    let words = [
-        Text(found),
-        Number(at),
-        Address(at),
-        Number(count),
-        Text(only),
-    ];
+    let words = [Text(found), Address(at), Number(count), Text(only)];
     say(text, READ_AS_TEXT, &words)
 }
 
 /// The lines on bytes that spell no module.
-pub(crate) fn push_no_module(text: &mut String, no_module: NoModule) -> Result<(), AllocError> {
+pub(crate) fn push_no_module(lines: &mut Lines, no_module: NoModule) -> Result<(), AllocError> {
     match no_module {
-        NoModule::Short => text.push_str(
+        NoModule::Short => lines.because.push_str(
             "because   a module begins with 00 61 73 6d 01 00 00 00, and the bytes end before\n",
         ),
         NoModule::Magic { at, found, form } => {
             say(
-                text,
+                &mut lines.because,
                 "because   byte {} is {}, and a module begins with 00 61 73 6d\n",
-                &[Number(at), Hex(found as u32)],
+                &[Address(at), Hex(found as u32)],
             )?;
-            push_form_hint(text, form)
+            push_form_hint(&mut lines.hint, form)
         }
         NoModule::Version { at, found, form } => {
             say(
-                text,
+                &mut lines.because,
                 "because   byte {} is {}, and the version is 01 00 00 00\n",
-                &[Number(at), Hex(found as u32)],
+                &[Address(at), Hex(found as u32)],
             )?;
-            push_form_hint(text, form)
+            push_form_hint(&mut lines.hint, form)
         }
         NoModule::Sections {
             location: Some(location),
             ..
-        } => push_location(text, location),
-        NoModule::Sections { location: None, .. } => text.push_str(
+        } => push_location(lines, location),
+        NoModule::Sections { location: None, .. } => lines.because.push_str(
             "because   after its first eight bytes, which are right, it has no sections of a module\n",
         ),
     }

@@ -125,7 +125,7 @@ fn word_at(words: &'static str, position: usize) -> Option<&'static str> {
 }
 
 /// The name of the instructions whose opcode begins with that byte; empty where there is none.
-pub(crate) fn name_of_byte(byte: u8) -> &'static str {
+pub fn name_of_byte(byte: u8) -> &'static str {
     word_at(NAMES, byte as usize).unwrap_or("")
 }
 

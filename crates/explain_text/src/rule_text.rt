@@ -1,5 +1,6 @@
 //! An item that breaks a module rule, in words.
 
+use crate::lines::Lines;
 use crate::sentence::Word::{Address, Empty, Index, Name, Number, Signature, Text, There, Type};
 use crate::sentence::{Word, say};
 use crate::shell_text::push_value;
@@ -188,16 +189,22 @@ fn item_hint(fault: &ItemFault<'_>) -> &'static str {
     }
 }
 
-/// The lines on an item that breaks a rule.
-pub(crate) fn push_broken_item(text: &mut String, item: &BrokenItem<'_>) -> Result<(), AllocError> {
+/// The line on which item it is.
+fn push_item(text: &mut String, item: &BrokenItem<'_>) -> Result<(), AllocError> {
     let (name, number) = broken_name(item);
     text.push_str("item      ")?;
     say(text, name, &[Number(number), Index(item.section as u32)])?;
     if let Some(at) = item.at {
-        say(text, ", byte {} ({})", &[Number(at), Address(at)])?;
+        say(text, ", byte {}", &[Address(at)])?;
     }
-    text.push_str("\n")?;
-    push_value(text, item.value)?;
+    text.push_str("\n")
+}
+
+/// The lines on an item that breaks a rule.
+pub(crate) fn push_broken_item(lines: &mut Lines, item: &BrokenItem<'_>) -> Result<(), AllocError> {
+    push_item(&mut lines.place, item)?;
+    push_value(&mut lines.place, item.value)?;
+    let text = &mut lines.because;
     text.push_str("because   ")?;
     push_positioned(text, item)?;
     say(text, fault_sentence(&item.fault), &fault_words(&item.fault))?;
@@ -215,5 +222,5 @@ pub(crate) fn push_broken_item(text: &mut String, item: &BrokenItem<'_>) -> Resu
         _ => {}
     }
     text.push_str("\n")?;
-    text.push_str(item_hint(&item.fault))
+    lines.hint.push_str(item_hint(&item.fault))
 }

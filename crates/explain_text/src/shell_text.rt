@@ -1,5 +1,6 @@
 //! Where reading a module stopped that is malformed outside its bodies, and why, in words.
 
+use crate::lines::Lines;
 use crate::opcode_names::{Feature, feature_of_byte, name_of_later, named_after_fc};
 use crate::sentence::Word::{Address, Empty, Hex, Index, Number, Opcode, Text};
 use crate::sentence::{Word, say};
@@ -31,7 +32,7 @@ fn push_section(text: &mut String, section: FoundSection) -> Result<(), AllocErr
         "section   {} ({}), bytes {} to {}\n"
     };
     let Span { from, to } = span;
-    let words = [Index(id as u32), Text(name), Number(from), Number(to)];
+    let words = [Index(id as u32), Text(name), Address(from), Address(to)];
     say(text, sentence, &words)
 }
 
@@ -49,7 +50,6 @@ fn part_name(part: SectionPart) -> &'static str {
 
 /// The line on what could not be read.
 fn push_part(text: &mut String, location: Location) -> Result<(), AllocError> {
-    let at = [Number(location.at), Address(location.at)];
     text.push_str("item      ")?;
     match (location.section, location.part) {
         (None, _) => text.push_str("after the sections")?,
@@ -59,7 +59,7 @@ fn push_part(text: &mut String, location: Location) -> Result<(), AllocError> {
         }
         (Some(_), part) => text.push_str(part_name(part))?,
     }
-    say(text, ", byte {} ({})\n", &at)
+    say(text, ", byte {}\n", &[Address(location.at)])
 }
 
 /// The line on an initial value or an offset.
@@ -67,14 +67,10 @@ pub(crate) fn push_value(text: &mut String, value: Option<InitialValue>) -> Resu
     let Some(InitialValue { at, other }) = value else {
         return Ok(());
     };
-    say(
-        text,
-        "value     from byte {} ({}) on",
-        &[Number(at), Address(at)],
-    )?;
+    say(text, "value     from {} on", &[Address(at)])?;
     if let Some((offset, opcode)) = other {
-        let words = [Opcode(opcode), Number(offset), Address(offset)];
-        say(text, "; {} at byte {} ({}) is no constant", &words)?;
+        let words = [Opcode(opcode), Address(offset)];
+        say(text, "; {} at {} is no constant", &words)?;
     }
     text.push_str("\n")
 }
@@ -88,22 +84,23 @@ fn push_origin_hint(text: &mut String, origin: Origin) -> Result<(), AllocError>
 }
 
 /// What is not admitted, after what it is, and how to do without it.
-fn push_origin(text: &mut String, origin: Origin) -> Result<(), AllocError> {
+fn push_origin(lines: &mut Lines, origin: Origin) -> Result<(), AllocError> {
     let sentence = ", of {}, which gate does not admit\n";
-    say(text, sentence, &[Text(origin.words())])?;
-    push_origin_hint(text, origin)
+    say(&mut lines.because, sentence, &[Text(origin.words())])?;
+    push_origin_hint(&mut lines.hint, origin)
 }
 
 /// Another byte than 00, where something of later standards may stand.
-fn push_reserved(text: &mut String, found: u8, later: Later) -> Result<(), AllocError> {
+fn push_reserved(lines: &mut Lines, found: u8, later: Later) -> Result<(), AllocError> {
     let (name, origin) = later;
     let words = [Hex(found as u32), Text(origin.words()), Text(name)];
-    say(text, "00 is wanted, not {}; {} have {} there\n", &words)?;
-    push_origin_hint(text, origin)
+    let sentence = "00 is wanted, not {}; {} have {} there\n";
+    say(&mut lines.because, sentence, &words)?;
+    push_origin_hint(&mut lines.hint, origin)
 }
 
 /// The instruction of that opcode where `gate` does not admit it; its name is empty where further bytes name it.
-fn later_instruction(first: u8, number: Option<u32>) -> Option<Later> {
+pub(crate) fn later_instruction(first: u8, number: Option<u32>) -> Option<Later> {
     let (name, feature) = match number {
         Some(number) if first == FC => named_after_fc(number)?,
         Some(number) if first == FD && number >= FIRST_RELAXED => ("", Feature::RelaxedVectors),
@@ -114,7 +111,7 @@ fn later_instruction(first: u8, number: Option<u32>) -> Option<Later> {
 
 /// What is known of an opcode, after its bytes: of the first, and of the number behind it.
 pub(crate) fn push_opcode(
-    text: &mut String,
+    lines: &mut Lines,
     first: u8,
     number: Option<u32>,
 ) -> Result<(), AllocError> {
@@ -124,8 +121,8 @@ pub(crate) fn push_opcode(
         } else {
             " is {}"
         };
-        say(text, sentence, &[Text(name)])?;
-        return push_origin(text, origin);
+        say(&mut lines.because, sentence, &[Text(name)])?;
+        return push_origin(lines, origin);
     }
     let name = name_of_later(first);
     let sentence = match number {
@@ -133,35 +130,36 @@ pub(crate) fn push_opcode(
         _ if name.is_empty() => " begins no instruction that is known\n",
         _ => " is {}, and what has to follow it cannot be read\n",
     };
-    say(text, sentence, &[Text(name)])
+    say(&mut lines.because, sentence, &[Text(name)])
 }
 
 /// A byte that is not one that is wanted.
-fn push_other_byte(text: &mut String, wanted: Wanted, found: u8) -> Result<(), AllocError> {
+fn push_other_byte(lines: &mut Lines, wanted: Wanted, found: u8) -> Result<(), AllocError> {
     let byte = Hex(found as u32);
     let Some((name, origin)) = later_byte(wanted, found) else {
         let words = [byte, Word::Wanted(wanted), Text(wanted_bytes(wanted))];
-        return say(text, "{} is not {}; {}\n", &words);
+        return say(&mut lines.because, "{} is not {}; {}\n", &words);
     };
     let sentence = match wanted {
         Wanted::TableByte | Wanted::MemoryByte => {
-            return push_reserved(text, found, (name, origin));
+            return push_reserved(lines, found, (name, origin));
         }
         Wanted::MemoryFlags | Wanted::TableFlags => "the flags {} are {}",
         _ => "the byte {} is {}",
     };
-    say(text, sentence, &[byte, Text(name)])?;
-    push_origin(text, origin)
+    say(&mut lines.because, sentence, &[byte, Text(name)])?;
+    push_origin(lines, origin)
 }
 
 /// An id that no section has.
-fn push_id(text: &mut String, id: u8) -> Result<(), AllocError> {
+fn push_id(lines: &mut Lines, id: u8) -> Result<(), AllocError> {
     let words = [Index(id as u32), Text(section_name(id))];
+    let text = &mut lines.because;
     match later_section(id) {
         None => say(text, "{} is the id of no section; 0 to 11 are\n", &words),
         Some(origin) => {
             say(text, "{} is the id of the {} section", &words)?;
-            push_origin(text, origin)
+            push_origin(lines, origin)
         }
     }
 }
@@ -169,18 +167,18 @@ fn push_id(text: &mut String, id: u8) -> Result<(), AllocError> {
 /// What is wrong, where the section has that id.
 fn wrong_sentence(wrong: Wrong, id: u8) -> &'static str {
     match wrong {
-        Wrong::Ends(Wanted::MemoryFlags | Wanted::TableFlags) => "{} there, and {} are wanted\n",
-        Wrong::Ends(_) => "{} there, and {} is wanted\n",
-        Wrong::Cut(_) | Wrong::CutConstant(_) => "{} within the number there, {}\n",
-        Wrong::LongConstant(Wanted::I64) => "the number there, {}, has more than 10 bytes\n",
+        Wrong::Ends(Wanted::MemoryFlags | Wanted::TableFlags) => "{} at {}, and {} are wanted\n",
+        Wrong::Ends(_) => "{} at {}, and {} is wanted\n",
+        Wrong::Cut(_) | Wrong::CutConstant(_) => "{} within the number at {}, {}\n",
+        Wrong::LongConstant(Wanted::I64) => "the number at {}, {}, has more than 10 bytes\n",
         Wrong::LongNumber(_) | Wrong::LongConstant(_) =>
-            "the number there, {}, has more than 5 bytes\n",
-        Wrong::LargeNumber(_) => "the number there, {}, is 2^32 or more\n",
-        Wrong::LargeConstant(_) => "the number there, {}, is outside the range of its type\n",
+            "the number at {}, {}, has more than 5 bytes\n",
+        Wrong::LargeNumber(_) => "the number at {}, {}, is 2^32 or more\n",
+        Wrong::LargeConstant(_) => "the number at {}, {}, is outside the range of its type\n",
         Wrong::Beyond { left: 0, .. } => "{} is {}, and no byte is left\n",
         Wrong::Beyond { left: 1, .. } => "{} is {}, and {} byte is left\n",
         Wrong::Beyond { .. } => "{} is {}, and {} bytes are left\n",
-        Wrong::NoText { .. } => "the name there, of size {}, is not UTF-8\n",
+        Wrong::NoText { .. } => "the name at {}, of size {}, is not UTF-8\n",
         Wrong::Order { last } if last == id => "it is a second section {}\n",
         Wrong::Order { .. } if id == DATA_COUNT =>
             "it follows section {}, and a data count section (Core 2.0) stands before section 10\n",
@@ -195,55 +193,57 @@ fn wrong_sentence(wrong: Wrong, id: u8) -> &'static str {
             number: Some(_),
         } => "{} {}",
         Wrong::Byte { .. } | Wrong::Id | Wrong::Opcode { .. } => "{}",
-        Wrong::Expression => "the expression that begins there cannot be read\n",
+        Wrong::Expression => "the expression at {} cannot be read\n",
         Wrong::Else => "05 is an else that stands in no if\n",
         Wrong::Counts { .. } => "the functions declared are {}, and the bodies {}\n",
     }
 }
 
-/// The words of that sentence, and what it is that ends.
-fn wrong_words(wrong: Wrong, whole: &'static str, id: u8) -> [Word<'static>; 3] {
+/// The words of that sentence, where reading stopped at that offset, and what it is that ends.
+fn wrong_words(wrong: Wrong, whole: &'static str, id: u8, at: usize) -> [Word<'static>; 3] {
     match wrong {
         Wrong::Ends(wanted) | Wrong::Cut(wanted) | Wrong::CutConstant(wanted) => {
-            [Text(whole), Word::Wanted(wanted), Empty]
+            [Text(whole), Address(at), Word::Wanted(wanted)]
         }
         Wrong::LongNumber(wanted)
         | Wrong::LargeNumber(wanted)
         | Wrong::LongConstant(wanted)
-        | Wrong::LargeConstant(wanted) => [Word::Wanted(wanted), Empty, Empty],
+        | Wrong::LargeConstant(wanted) => [Address(at), Word::Wanted(wanted), Empty],
         Wrong::Beyond { wanted, size, left } => [Word::Wanted(wanted), Index(size), Number(left)],
-        Wrong::NoText { size } => [Number(size), Empty, Empty],
+        Wrong::NoText { size } => [Address(at), Number(size), Empty],
+        Wrong::Expression => [Address(at), Empty, Empty],
         Wrong::Order { last } => [Index(last as u32), Empty, Empty],
         Wrong::Size { says, takes } => [Index(id as u32), Number(says), Number(takes)],
         Wrong::Opcode { first, number } => [Hex(first as u32), Hex(number.unwrap_or(0)), Empty],
         Wrong::Counts { functions, bodies } => [Index(functions), Index(bodies), Empty],
-        Wrong::Byte { .. } | Wrong::Id | Wrong::Expression | Wrong::Else => [Empty; 3],
+        Wrong::Byte { .. } | Wrong::Id | Wrong::Else => [Empty; 3],
     }
 }
 
-/// What is wrong in what ends by those words: in a section of that id, or in a body.
+/// What is wrong at that offset, in what ends by those words: in a section of that id, or in a body.
 pub(crate) fn push_wrong(
-    text: &mut String,
+    lines: &mut Lines,
     wrong: Wrong,
     whole: &'static str,
     id: u8,
+    at: usize,
 ) -> Result<(), AllocError> {
     say(
-        text,
+        &mut lines.because,
         wrong_sentence(wrong, id),
-        &wrong_words(wrong, whole, id),
+        &wrong_words(wrong, whole, id, at),
     )?;
     match wrong {
-        Wrong::Byte { wanted, found } => push_other_byte(text, wanted, found),
-        Wrong::Id => push_id(text, id),
-        Wrong::Opcode { first, number } => push_opcode(text, first, number),
+        Wrong::Byte { wanted, found } => push_other_byte(lines, wanted, found),
+        Wrong::Id => push_id(lines, id),
+        Wrong::Opcode { first, number } => push_opcode(lines, first, number),
         _ => Ok(()),
     }
 }
 
 /// A segment of a later standard, instead of what reading it by Core 1.0 stopped at.
 fn push_segment(
-    text: &mut String,
+    lines: &mut Lines,
     segment: OtherSegment,
     item: &'static str,
     later: Later,
@@ -251,31 +251,32 @@ fn push_segment(
     let (name, origin) = later;
     let item = Text(item);
     let position = Index(segment.position);
-    let place = [item, position, Number(segment.at), Address(segment.at)];
-    say(text, "item      {} {}, byte {} ({})\n", &place)?;
+    let place = [item, position, Address(segment.at)];
+    say(&mut lines.place, "item      {} {}, byte {}\n", &place)?;
     let words = [item, position, Hex(segment.first), Text(name)];
-    say(text, "because   {} {} begins with {}, as {}", &words)?;
-    push_origin(text, origin)
+    let sentence = "because   {} {} begins with {}, as {}";
+    say(&mut lines.because, sentence, &words)?;
+    push_origin(lines, origin)
 }
 
 /// The lines on where and why reading stopped.
-pub(crate) fn push_location(text: &mut String, location: Location) -> Result<(), AllocError> {
+pub(crate) fn push_location(lines: &mut Lines, location: Location) -> Result<(), AllocError> {
     let mut id = 0;
     if let Some(section) = location.section {
         id = section.id;
-        push_section(text, section)?;
+        push_section(&mut lines.place, section)?;
     }
     if let Some(segment) = location.segment
         && let Some(later) = later_segment(id, segment.first)
     {
-        return push_segment(text, segment, item_name(id), later);
+        return push_segment(lines, segment, item_name(id), later);
     }
-    push_part(text, location)?;
-    push_value(text, location.value)?;
-    text.push_str("because   ")?;
+    push_part(&mut lines.place, location)?;
+    push_value(&mut lines.place, location.value)?;
+    lines.because.push_str("because   ")?;
     let whole = match location.part {
         SectionPart::Size => "the module ends",
         _ => "the section ends",
     };
-    push_wrong(text, location.wrong, whole, id)
+    push_wrong(lines, location.wrong, whole, id, location.at)
 }

@@ -1,15 +1,16 @@
 //! Why reading a malformed body stopped, in words.
 
-use crate::sentence::Word::{Address, Bytes, Index, Number, Opcode};
+use crate::lines::Lines;
+use crate::sentence::Word::{Address, Bytes, Hex, Index, Number, Opcode};
 use crate::sentence::say;
 use crate::shell_text::{push_opcode, push_wrong};
 use crate::typing_text::push_opening;
 use explain_bytes::{Misread, misread_locals, misread_token};
-use explanation::{OpenBlocks, StopLocation, Stopped};
+use explanation::{OpenBlocks, StopLocation, Stopped, Wrong};
 use std::alloc::AllocError;
 
 /// The number after that first byte of the bytes, where it is one that a number follows, and the bytes of both.
-fn number_after(first: u8, bytes: &[u8]) -> Option<(u32, &[u8])> {
+pub(crate) fn number_after(first: u8, bytes: &[u8]) -> Option<(u32, &[u8])> {
     if !matches!(first, 0xFB..=0xFE) {
         return None;
     }
@@ -19,28 +20,32 @@ fn number_after(first: u8, bytes: &[u8]) -> Option<(u32, &[u8])> {
 }
 
 /// What is wrong within bytes that begin at that offset.
-fn push_misread(text: &mut String, at: usize, misread: Misread) -> Result<(), AllocError> {
+fn push_misread(lines: &mut Lines, at: usize, misread: Misread) -> Result<(), AllocError> {
     let offset = at.saturating_add(misread.offset);
-    say(text, "; byte {} ({}): ", &[Number(offset), Address(offset)])?;
-    push_wrong(text, misread.wrong, "the body ends", 0)
+    let sentence = match misread.wrong {
+        Wrong::Byte { .. } => "; byte {}: ",
+        _ => "; ",
+    };
+    say(&mut lines.because, sentence, &[Address(offset)])?;
+    push_wrong(lines, misread.wrong, "the body ends", 0, offset)
 }
 
 /// Why no token begins with the bytes, which begin at that offset.
-fn push_no_token(text: &mut String, at: usize, bytes: &[u8]) -> Result<(), AllocError> {
+fn push_no_token(lines: &mut Lines, at: usize, bytes: &[u8]) -> Result<(), AllocError> {
     let [first, ..] = bytes else {
         return Ok(());
     };
     if let Some((number, opcode)) = number_after(*first, bytes) {
-        say(text, "because   {}", &[Bytes(opcode)])?;
-        return push_opcode(text, *first, Some(number));
+        say(&mut lines.because, "because   {}", &[Bytes(opcode)])?;
+        return push_opcode(lines, *first, Some(number));
     }
-    write!(text, "because   {first:02x}")?;
+    say(&mut lines.because, "because   {}", &[Hex(*first as u32)])?;
     match misread_token(bytes) {
         Some(misread) => {
-            say(text, " is {}", &[Opcode(*first)])?;
-            push_misread(text, at, misread)
+            say(&mut lines.because, " is {}", &[Opcode(*first)])?;
+            push_misread(lines, at, misread)
         }
-        None => push_opcode(text, *first, None),
+        None => push_opcode(lines, *first, None),
     }
 }
 
@@ -65,30 +70,39 @@ fn push_full_run(text: &mut String, at: usize, body: &[u8]) -> Result<(), AllocE
         return text.push_str("\n");
     };
     let offset = at.saturating_add(from);
-    let words = [Number(offset), Address(offset), Index(position)];
     say(
         text,
-        "; byte {} ({}): with run {} they are 2^32 or more\n",
-        &words,
+        "; byte {}: with run {} they are 2^32 or more\n",
+        &[Address(offset), Index(position)],
     )
 }
 
 /// Why the locals cannot be read of a body that begins at that offset.
-fn push_no_locals(text: &mut String, at: usize, body: &[u8]) -> Result<(), AllocError> {
-    text.push_str("because   its declared locals cannot be read")?;
+fn push_no_locals(lines: &mut Lines, at: usize, body: &[u8]) -> Result<(), AllocError> {
+    lines
+        .because
+        .push_str("because   its declared locals cannot be read")?;
     match misread_locals(body) {
-        Some(misread) => push_misread(text, at, misread),
-        None => push_full_run(text, at, body),
+        Some(misread) => push_misread(lines, at, misread),
+        None => push_full_run(&mut lines.because, at, body),
     }
 }
 
-/// That a body ends before its last `end`, and the blocks that are open there.
-fn push_short(text: &mut String, unclosed: &Option<OpenBlocks>) -> Result<(), AllocError> {
-    let Some(blocks) = unclosed else {
-        return text.push_str("because   the body ends there, before its last end\n");
+/// That a body ends at that offset, before its last `end`, and the blocks that are open there.
+fn push_short(
+    text: &mut String,
+    at: usize,
+    unclosed: &Option<OpenBlocks>,
+) -> Result<(), AllocError> {
+    let blocks = match unclosed {
+        Some(blocks) if blocks.count > 0 => blocks,
+        _ => return say(
+            text,
+            "because   the body ends at {}, before its last end\n",
+            &[Address(at)],
+        ),
     };
     let sentence = match blocks.count {
-        0 => return text.push_str("because   the body ends there, before its last end\n"),
         1 => "because   {} block is open where the body ends",
         _ => "because   {} blocks are open where the body ends",
     };
@@ -106,23 +120,23 @@ fn push_short(text: &mut String, unclosed: &Option<OpenBlocks>) -> Result<(), Al
 
 /// Why reading a malformed body stopped.
 pub(crate) fn push_stop(
-    text: &mut String,
+    lines: &mut Lines,
     stop: StopLocation<'_>,
     unclosed: &Option<OpenBlocks>,
 ) -> Result<(), AllocError> {
     if stop.why != Stopped::Locals {
-        let words = [Number(stop.tokens), Number(stop.at), Address(stop.at)];
-        say(text, "token     {}, byte {} ({})\n", &words)?;
+        let words = [Number(stop.tokens), Address(stop.at)];
+        say(&mut lines.place, "token     {}, byte {}\n", &words)?;
     }
     let sentence = match stop.why {
-        Stopped::Locals => return push_no_locals(text, stop.at, stop.rest),
-        Stopped::Token => return push_no_token(text, stop.at, stop.rest),
+        Stopped::Locals => return push_no_locals(lines, stop.at, stop.rest),
+        Stopped::Token => return push_no_token(lines, stop.at, stop.rest),
         Stopped::Else => "because   it is an else that stands in no if\n",
         Stopped::Left if stop.rest.len() == 1 =>
-            "because   the end at byte {} closed the body: {} byte is left\n",
-        Stopped::Left => "because   the end at byte {} closed the body: {} bytes are left\n",
-        Stopped::Short => return push_short(text, unclosed),
+            "because   the end at {} closed the body: {} byte is left\n",
+        Stopped::Left => "because   the end at {} closed the body: {} bytes are left\n",
+        Stopped::Short => return push_short(&mut lines.because, stop.at, unclosed),
     };
-    let words = [Number(stop.at.saturating_sub(1)), Number(stop.rest.len())];
-    say(text, sentence, &words)
+    let words = [Address(stop.at.saturating_sub(1)), Number(stop.rest.len())];
+    say(&mut lines.because, sentence, &words)
 }

@@ -5,22 +5,25 @@ ghost use Rattle.explain_text.specs.Texts.{BeginsWith};
 ghost use Rattle.explanation.specs.Told.{verdict_told};
 
 use crate::cause_text::push_cause;
+use crate::instruction_lines::push_instructions;
+use crate::lines::Lines;
 use crate::no_module_text::{push_no_module, push_sign};
+use crate::refused_token::RefusedToken;
 use crate::rule_text::push_broken_item;
-use crate::sentence::Word::{Address, Name, Number, Signature, Text};
+use crate::sentence::Word::{Address, Name, Signature, Text};
 use crate::sentence::say;
 use crate::stop_text::push_stop;
 use crate::token_text::push_token;
-use crate::typing_text::push_typing;
+use crate::typing_text::push_blocks;
 use explanation::{
-    BodyExplanation, Explanation, FoundToken, IllTypedToken, NoModule, RefusedFunction, Sign, Span,
+    BodyExplanation, Explanation, IllTypedToken, NoModule, RefusedFunction, Sign, Span,
 };
 use refusal::body_line;
 use std::alloc::{AllocError, Global};
 use wsyntax::{LOCAL_LIMIT, MODULE_LIMIT};
 
 /// The line of the verdict; there is none where memory was refused.
-fn first_line(alloc: Global, explanation: &Explanation<'_>) -> Result<String, AllocError>
+pub fn first_line(alloc: Global, explanation: &Explanation<'_>) -> Result<String, AllocError>
     ensures { IfOk result (λ line. IsSomeAnd (verdict_told explanation.now) (λ v. string_bytes line ≡ verdict_line v)) }
 {
     match explanation {
@@ -49,47 +52,63 @@ fn push_function(text: &mut String, body: &RefusedFunction<'_>) -> Result<(), Al
         say(
             text,
             ", bytes {} to {}",
-            &[Number(span.from), Number(span.to)],
+            &[Address(span.from), Address(span.to)],
         )?;
     }
     text.push_str("\n")
 }
 
-/// A token that is refused: its position, and its bytes.
-fn push_found(text: &mut String, position: usize, found: &FoundToken) -> Result<(), AllocError> {
-    let Span { from, to } = found.span;
-    write!(text, "{position} ")?;
-    push_token(text, found)?;
-    let words = [Number(from), Number(to), Address(from)];
-    say(text, ", bytes {} to {} ({})", &words)
-}
-
 /// The line on a token that is ill typed, in a body that reading stops in after it.
 fn push_before(text: &mut String, before: &IllTypedToken) -> Result<(), AllocError> {
-    text.push_str("before    token ")?;
-    push_found(text, before.position, &before.found)?;
-    text.push_str(", is ill typed")?;
+    write!(text, "before    token {} ", before.position)?;
+    push_token(text, &before.found)?;
+    let Span { from, to } = before.found.span;
+    let words = [Address(from), Address(to)];
+    say(text, ", bytes {} to {}, is ill typed", &words)?;
     if let Some(cause) = &before.cause {
         text.push_str(": ")?;
-        push_cause(text, &before.found, Some(&before.typing), cause)?;
+        push_cause(text, RefusedToken::of(before), cause)?;
     }
     text.push_str("\n")
 }
 
+/// The lines on a token that is ill typed.
+fn push_refused(
+    lines: &mut Lines,
+    alloc: Global,
+    token: RefusedToken<'_>,
+) -> Result<(), AllocError> {
+    if let Some(cause) = token.cause {
+        lines.because.push_str("because   ")?;
+        push_cause(&mut lines.because, token, cause)?;
+        lines.because.push_str("\n")?;
+    }
+    push_instructions(&mut lines.place, alloc, token)?;
+    match token.typing {
+        Some(typing) => push_blocks(&mut lines.place, token.found.token, typing),
+        None => Ok(()),
+    }
+}
+
 /// The lines on why a body is refused.
-fn push_fault(text: &mut String, fault: &BodyExplanation<'_>) -> Result<(), AllocError> {
-    match fault {
+fn push_fault(
+    lines: &mut Lines,
+    alloc: Global,
+    body: &RefusedFunction<'_>,
+) -> Result<(), AllocError> {
+    match &body.fault {
         BodyExplanation::Malformed {
             stop: Some(stop),
             unclosed,
             before,
         } => {
             if let Some(before) = before {
-                push_before(text, before)?;
+                push_before(&mut lines.place, before)?;
             }
-            push_stop(text, *stop, unclosed)
+            push_stop(lines, *stop, unclosed)
         }
         BodyExplanation::TooManyLocals { count: Some(count) } => {
+            let text = &mut lines.because;
             write!(
                 text,
                 "because   it declares {count} locals, and {LOCAL_LIMIT} are the most\n"
@@ -101,18 +120,14 @@ fn push_fault(text: &mut String, fault: &BodyExplanation<'_>) -> Result<(), Allo
             typing,
             cause,
         } => {
-            text.push_str("token     ")?;
-            push_found(text, *position, found)?;
-            text.push_str("\n")?;
-            if let Some(typing) = typing {
-                push_typing(text, typing)?;
-            }
-            if let Some(cause) = cause {
-                text.push_str("because   ")?;
-                push_cause(text, found, typing.as_ref(), cause)?;
-                text.push_str("\n")?;
-            }
-            Ok(())
+            let token = RefusedToken {
+                position: *position,
+                found,
+                typing: typing.as_ref(),
+                cause: cause.as_ref(),
+                callee: body.callee,
+            };
+            push_refused(lines, alloc, token)
         }
         _ => Ok(()),
     }
@@ -139,34 +154,39 @@ fn rule_words(rule: u32) -> &'static str {
 }
 
 /// The lines after that of the verdict.
-fn push_details(text: &mut String, explanation: &Explanation<'_>) -> Result<(), AllocError> {
+fn push_details(
+    lines: &mut Lines,
+    alloc: Global,
+    explanation: &Explanation<'_>,
+) -> Result<(), AllocError> {
     match explanation {
         Explanation::Accepted | Explanation::Memory => Ok(()),
         Explanation::TooLarge { bytes } => {
+            let text = &mut lines.because;
             write!(
                 text,
                 "because   it has {bytes} bytes, and {MODULE_LIMIT} are the most\n"
             )
         }
-        Explanation::Malformed(no_module) => push_no_module(text, *no_module),
+        Explanation::Malformed(no_module) => push_no_module(lines, *no_module),
         Explanation::Rule {
             item: Some(item),
             ..
-        } => push_broken_item(text, item),
+        } => push_broken_item(lines, item),
         Explanation::Rule {
             rule,
             item: None,
             ..
         } => {
             say(
-                text,
+                &mut lines.because,
                 "because   this has to hold: {}\n",
                 &[Text(rule_words(*rule))],
             )
         }
         Explanation::Body(body) => {
-            push_function(text, body)?;
-            push_fault(text, &body.fault)
+            push_function(&mut lines.place, body)?;
+            push_fault(lines, alloc, body)
         }
     }
 }
@@ -181,29 +201,28 @@ fn sign_told(explanation: &Explanation<'_>) -> Option<Sign> {
     }
 }
 
-/// These lines with the hint of a sign, in place of one on what stands in the module, which would lead astray.
-fn with_sign(alloc: Global, details: &String, sign: Sign) -> Result<String, AllocError> {
-    let mut text = String::new(alloc);
-    let mut pieces = details.as_str().split("\nhint ");
-    text.push_str(pieces.next().unwrap_or(""))?;
-    if pieces.next().is_some() {
-        text.push_str("\n")?;
+/// The lines after that of the verdict. The hint of a sign stands in place of one on what stands in the module, which would lead astray.
+fn details(alloc: Global, explanation: &Explanation<'_>) -> Result<String, AllocError> {
+    let mut lines = Lines::new(alloc);
+    push_details(&mut lines, alloc, explanation)?;
+    if let Some(sign) = sign_told(explanation) {
+        lines.hint = String::new(alloc);
+        push_sign(&mut lines.hint, sign)?;
     }
-    push_sign(&mut text, sign)?;
+    let mut text = String::new(alloc);
+    text.push_str(lines.because.as_str())?;
+    text.push_str(lines.place.as_str())?;
+    text.push_str(lines.hint.as_str())?;
     Ok(text)
 }
 
-/// The text of an explanation: the line of the verdict, and then lines of a key and what it says. There is none where memory
-/// was refused.
+/// The text of an explanation: the line of the verdict, and then lines of a key and what it says: what is wrong, where, and what to do.
+/// There is none where memory was refused.
 pub fn explanation_text(alloc: Global, explanation: &Explanation<'_>) -> Result<String, AllocError>
     ensures { IfOk result (λ text. IsSomeAnd (verdict_told explanation.now) (λ v. BeginsWith (verdict_line v) (string_bytes text))) }
 {
     let mut text = first_line(alloc, explanation)?;
-    let mut details = String::new(alloc);
-    push_details(&mut details, explanation)?;
-    if let Some(sign) = sign_told(explanation) {
-        details = with_sign(alloc, &details, sign)?;
-    }
-    text.push_str(details.as_str())?;
+    let below = details(alloc, explanation)?;
+    text.push_str(below.as_str())?;
     Ok(text)
 }

@@ -50,7 +50,7 @@ fn immediates(token: Token) -> (&'static str, [Word<'static>; 2]) {
 }
 
 /// An instruction, by the first of its bytes, and what stands after its name.
-pub(crate) fn push_instruction(
+pub fn push_instruction(
     text: &mut String,
     opcode: u8,
     token: Token,

@@ -1,15 +1,14 @@
-//! The lines on the typing of a token.
+//! Operands and blocks in words.
 
-use crate::sentence::Word::{Number, Signature, Text};
+use crate::sentence::Word::{Address, Signature, Text};
 use crate::sentence::say;
-use crate::token_text::push_instruction;
 use crate::type_text::type_name;
-use explanation::{BlockKind, Giver, OpenBlock, Opening, Typing};
+use explanation::{BlockKind, OpenBlock, Opening, Typing};
 use std::alloc::AllocError;
-use wsyntax::ValType;
+use wsyntax::{Token, ValType};
 
 /// How many operands of a list are shown, and how many tokens.
-const SHOWN: usize = 32;
+pub const SHOWN: usize = 32;
 
 /// The last of a list, as many as are shown.
 fn last_shown<T>(items: &[T]) -> &[T] {
@@ -18,58 +17,25 @@ fn last_shown<T>(items: &[T]) -> &[T] {
         .unwrap_or(items)
 }
 
-/// What stands for those of a list that are not shown, or for none.
-fn front_words(count: usize) -> &'static str {
-    match count {
-        0 => " nothing",
-        ..=SHOWN => "",
-        _ => " ..",
-    }
-}
-
-/// A list of operands, the topmost last.
-fn push_operands(
+/// A list of operands, the topmost last, with a word for each whose type is not known.
+pub(crate) fn push_operands(
     text: &mut String,
-    key: &'static str,
     operands: &[Option<ValType>],
     unknown: &'static str,
 ) -> Result<(), AllocError> {
-    say(
-        text,
-        "{}{}",
-        &[Text(key), Text(front_words(operands.len()))],
-    )?;
-    for operand in last_shown(operands) {
-        text.push_str(" ")?;
+    if operands.is_empty() {
+        return text.push_str("nothing");
+    }
+    text.push_str(if operands.len() > SHOWN { ".. " } else { "" })?;
+    for (position, operand) in last_shown(operands).iter().enumerate() {
+        text.push_str(if position == 0 { "" } else { " " })?;
         text.push_str(operand.map_or(unknown, type_name))?;
     }
-    text.push_str("\n")
-}
-
-/// The line on the tokens that gave operands.
-fn push_givers(text: &mut String, givers: &[Giver]) -> Result<(), AllocError> {
-    if givers.is_empty() {
-        return Ok(());
-    }
-    text.push_str(if givers.len() > SHOWN {
-        "given by  ..,"
-    } else {
-        "given by "
-    })?;
-    for (position, giver) in last_shown(givers).iter().enumerate() {
-        text.push_str(if position == 0 { "" } else { "," })?;
-        write!(text, " token {} ", giver.position)?;
-        push_instruction(text, giver.opcode, giver.token, &[])?;
-        if let Some(opening) = giver.ends {
-            text.push_str(" of the ")?;
-            push_opening(text, opening)?;
-        }
-    }
-    text.push_str("\n")
+    Ok(())
 }
 
 /// The name of what opens a block.
-fn block_name(kind: BlockKind) -> &'static str {
+pub fn block_name(kind: BlockKind) -> &'static str {
     match kind {
         BlockKind::Block => "block",
         BlockKind::Loop => "loop",
@@ -80,8 +46,8 @@ fn block_name(kind: BlockKind) -> &'static str {
 
 /// A block, and the byte where it begins.
 pub(crate) fn push_opening(text: &mut String, opening: Opening) -> Result<(), AllocError> {
-    let words = [Text(block_name(opening.kind)), Number(opening.at)];
-    say(text, "{} at byte {}", &words)
+    let words = [Text(block_name(opening.kind)), Address(opening.at)];
+    say(text, "{} at {}", &words)
 }
 
 /// The line on an open block.
@@ -94,14 +60,23 @@ fn push_within(text: &mut String, block: &OpenBlock) -> Result<(), AllocError> {
     say(text, ", {}\n", &[Signature(&block.signature)])
 }
 
-/// The lines on the typing of a token.
-pub(crate) fn push_typing(text: &mut String, typing: &Typing) -> Result<(), AllocError> {
-    if !typing.takes.is_empty() || !typing.finds.is_empty() {
-        push_operands(text, "takes    ", &typing.takes, "any")?;
-        push_operands(text, "finds    ", &typing.finds, "?")?;
+/// How many of the open blocks matter to a token: to a branch those up to its label, to another the innermost.
+fn count_within(token: Token) -> usize {
+    match token {
+        Token::Br(label) | Token::BrIf(label) => (label.index as usize).saturating_add(1),
+        Token::BrTable { .. } => usize::MAX,
+        _ => 1,
     }
-    push_givers(text, &typing.given_by)?;
-    for block in &typing.within {
+}
+
+/// The lines on the blocks in which a token stands.
+pub(crate) fn push_blocks(
+    text: &mut String,
+    token: Token,
+    typing: &Typing,
+) -> Result<(), AllocError> {
+    let blocks = typing.within.as_slice();
+    for block in blocks.get(..count_within(token)).unwrap_or(blocks) {
         push_within(text, block)?;
     }
     Ok(())

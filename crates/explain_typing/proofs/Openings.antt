@@ -1,5 +1,5 @@
 -- What opened the open blocks, token by token.
-use Rattle.std.proofs.Common.{◌≡◌, ℕ, zero, suc, ◌+◌, ◌-◌, List, [], ◌∷◌, ◌++◌, length, reverse, Option, Some, None, refl, sym, ap, ◌∙◌, subst, add-one, arith}
+use Rattle.std.proofs.Common.{◌≡◌, ℕ, zero, suc, ◌+◌, ◌-◌, List, [], ◌∷◌, ◌++◌, length, reverse, Option, Some, refl, sym, ap, ◌∙◌, subst, add-one, arith}
 use Rattle.std.specs.Prelude.{Result, Ok, Err, IfOk, IfSome, slice_get}
 use Rattle.std.proofs.lemmas.List.{length-append, length-reverse, reverse-reverse}
 use Rattle.wsyntax.specs.declared.module.LocalRun.{LocalRun}
@@ -26,7 +26,7 @@ opened_more n code same bytes opened new l s o h =
     let one : opened_after (n + 1) code ≡ opened_next (token_at bytes) (length code - length bytes) (opened_after n code) = rw (add-one, l) refl in
     h ∙ ap (λ z. opened_next (token_at bytes) (length z - length bytes) opened) s ∙ ap (opened_next (token_at bytes) (length code - length bytes)) o ∙ sym one
 
-each_more : {X : Type 0} (P : ℕ → X → Type 0) (xs : List X) (x : X) → ((k : ℕ) (y : X) → slice_get xs k ≡ Some y → P k y) → P (length xs) x
+pub each_more : {X : Type 0} (P : ℕ → X → Type 0) (xs : List X) (x : X) → ((k : ℕ) (y : X) → slice_get xs k ≡ Some y → P k y) → P (length xs) x
     → (k : ℕ) (y : X) → slice_get (xs ++ x ∷ []) k ≡ Some y → P k y
 each_more P [] x h p zero y e = let same : x ≡ y = cc in subst (P 0) same p
 each_more P [] x h p (suc k) y e = absurd (let no : ⊥ = cc in no)

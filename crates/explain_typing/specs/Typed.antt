@@ -17,9 +17,10 @@ use Rattle.explanation.specs.declared.typing.BlockKind.TheVariants.{Block, Loop,
 use Rattle.explanation.specs.declared.typing.OpenBlock.{OpenBlock as OpenedBlock}
 use Rattle.explanation.specs.declared.typing.OpenBlocks.{OpenBlocks}
 use Rattle.explanation.specs.declared.typing.Opening.{Opening}
+use Rattle.explanation.specs.declared.typing.PassedToken.{PassedToken}
 use Rattle.explanation.specs.declared.typing.Typing.{Typing}
 use Rattle.explanation.specs.Functions.{type_told}
-use Rattle.explain_bytes.specs.Locations.{left_after}
+use Rattle.explain_bytes.specs.Locations.{IsTokenAt, left_after}
 
 -- ---- the tokens before
 
@@ -168,6 +169,11 @@ AreKept t blocks = AreOpenings t.code.now t.start (reverse t.opened.items) block
 
 -- ---- what is told
 
+-- of the body that begins at offset `start` these are the first `n` tokens, but only those from the fourth before position `count` on
+pub record ArePassed (body : List ℕ) (start count n : ℕ) (passed : List PassedToken) : Type 0 where
+  pub number : length passed ≡ n - (count - 4)
+  pub tokens : (k : ℕ) (p : PassedToken) → slice_get passed k ≡ Some p → (p.position ≡ (count - 4) + k) × IsTokenAt body start p.position p.found
+
 -- of a token in these frames
 pub record IsTypingIn (C : Context) (t : Token) (fs : List Frame) (told : Typing) : Type 0 where
   pub operands : TellsOperands C t fs told
@@ -201,3 +207,4 @@ pub record IsTypingOf (C : Context) (f : ℕ) (body : List ℕ) (start position 
   pub next : ◌≡◌ {A = Option (Token × List ℕ)} (token_at left) (Some (token, after))
   pub so : IsTypingIn now.inside token now.frames told
   pub openings : AreOpenings code (start + (length body - length code)) (opened_after position code) told.within.items
+  pub passed : ArePassed body start position position told.passed.items

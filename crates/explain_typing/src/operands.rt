@@ -13,6 +13,9 @@ use wsyntax::{BlockType, Token, ValType};
 /// How many operands are told that are left over at the end of a block.
 const LEFT_OVER: usize = 64;
 
+/// How many operands are told that a token before the ill-typed one puts.
+const PUT: usize = 64;
+
 /// A list of operands, the lowest first.
 pub(crate) type Operands = Vec<Option<ValType>>;
 
@@ -101,6 +104,53 @@ pub(crate) fn takes_of(
                 let operands = asked_by(alloc, checker.context(), rule)?;
                 Ok(Some(operands))
             }
+        },
+    }
+}
+
+/// The last of these types, no more than are told.
+fn last_of(alloc: Global, types: &[ValType]) -> Result<Operands, AllocError> {
+    let least = types.len().saturating_sub(PUT);
+    listed(alloc, types.get(least..).unwrap_or(types), false)
+}
+
+/// What a rule puts, the topmost last.
+fn put_by(alloc: Global, context: &Context, rule: OperandRule) -> Result<Operands, AllocError> {
+    match rule {
+        OperandRule::Push(one) | OperandRule::Unary(_, one) | OperandRule::Binary(_, one) => {
+            listed(alloc, &[one], false)
+        }
+        OperandRule::Signature { gives, .. } => last_of(alloc, context.list(gives)),
+        OperandRule::Select => Vec::from_slice(alloc, &[None]),
+        _ => Ok(Vec::new(alloc)),
+    }
+}
+
+/// What a token puts, the topmost last, and what a block begins with that it opens. Those that a `br_if` takes and puts again stay
+/// those of others.
+pub(crate) fn leaves_of(
+    alloc: Global,
+    checker: &Checker<'_>,
+    token: Token,
+    targets: &[u32],
+) -> Result<Operands, AllocError> {
+    let Some(frame) = checker.innermost() else {
+        return Ok(Vec::new(alloc));
+    };
+    let context = checker.context();
+    match token {
+        Token::Block(block) | Token::Loop(block) | Token::If { block, target: _ } => {
+            match checker.block_lists(block) {
+                Some(pair) => last_of(alloc, context.list(pair.params)),
+                None => Ok(Vec::new(alloc)),
+            }
+        }
+        Token::Else { .. } => last_of(alloc, frame.starts),
+        Token::End => last_of(alloc, frame.gives),
+        Token::BrIf(_) => Ok(Vec::new(alloc)),
+        _ => match checker.rule(token, targets) {
+            Some(rule) => put_by(alloc, context, rule),
+            None => Ok(Vec::new(alloc)),
         },
     }
 }

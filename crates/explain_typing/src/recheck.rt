@@ -1,21 +1,21 @@
 //! The body of an ill-typed token, checked anew up to it, once: where the token stands, what it takes and finds, in which blocks it
 //! stands, and why it is refused.
-ghost use Rattle.std.specs.Prelude.{◌≡◌, ◌-◌, ℕ, List, [], true, false, IfOk, IfSome, Some, length, map, reverse, take};
+ghost use Rattle.std.specs.Prelude.{◌≡◌, ◌+◌, ◌-◌, ℕ, List, [], true, false, IfOk, IfSome, Some, length, map, reverse, take};
 ghost use Rattle.wsyntax.specs.Modules.{decoded_as};
 ghost use Rattle.wsyntax.specs.Binary.Nesting.{token_at as token_of};
 ghost use Rattle.wsyntax.specs.Validation.Algorithm.{step, when};
 ghost use Rattle.wcheck.specs.Checking.{with_frames};
-ghost use Rattle.explain_bytes.specs.Locations.{IsTokenAt, left_after};
+ghost use Rattle.explain_bytes.specs.Locations.{IsLeft, IsTokenAt, left_after};
 ghost use Rattle.explain_typing.specs.Causes.{IsCause, IsCauseOf};
-ghost use Rattle.explain_typing.specs.Typed.{AreKept, IsTypingIn, IsTypingOf, KeepsCode, PassesTo, StepsTo};
+ghost use Rattle.explain_typing.specs.Typed.{AreKept, ArePassed, IsTypingIn, IsTypingOf, KeepsCode, PassesTo, StepsTo};
 ghost use Rattle.explain_typing.specs.Typed.{block_types, opened_after, opened_next};
 ghost use Rattle.explanation.specs.Functions.{type_told};
 
 use crate::causes::{name_cause, operand_cause};
-use crate::operands::{Operands, takes_of};
+use crate::operands::{Operands, leaves_of, takes_of};
 use crate::trail::{Trail, puts};
-use explain_bytes::offset_of;
-use explanation::{Cause, FoundToken, FunctionSignature, OpenBlock, Span, Typing};
+use explain_bytes::{first_token, offset_of};
+use explanation::{Cause, FoundToken, FunctionSignature, OpenBlock, PassedToken, Typing};
 use std::alloc::{AllocError, Global};
 use wcheck::{Checker, OpenFrame};
 use wcontext::Context;
@@ -24,6 +24,9 @@ use wsyntax::Token;
 
 /// How many of the open blocks are told.
 const BLOCKS: usize = 8;
+
+/// How many of the tokens before the ill-typed one are told.
+const PASSED: usize = 4;
 
 /// What is told of an ill-typed token.
 #[derive(Drop)]
@@ -127,16 +130,51 @@ pub fn first_ill_typed(
     Ok(None)
 }
 
-/// Goes on by some tokens of the bytes after the locals of a body.
+/// Keeps the token at that position of a body, which begins at offset `start`, if it is one of the last before position `count`. The
+/// rest of the body begins with the token, and the checker stands before it.
+fn keep_last(
+    alloc: Global,
+    checker: &Checker<'_>,
+    passed: &mut Vec<PassedToken>,
+    body: &[u8],
+    start: usize,
+    rest: &[u8],
+    position: usize,
+    count: usize,
+) -> Result<(), Fault>
+    requires { IsLeft body.now position rest.now }
+    ensures { IfOk result (λ _. ArePassed body.now start count position passed.old.items
+        → ArePassed body.now start count (position + 1) passed.new.items) }
+{
+    if position < count.saturating_sub(PASSED) {
+        return Ok(());
+    }
+    let found = first_token(alloc, body, start, rest)?;
+    let leaves = leaves_of(alloc, checker, found.token, &found.targets)?;
+    passed.push(PassedToken {
+        position,
+        found,
+        leaves,
+    })?;
+    Ok(())
+}
+
+/// Goes on by some tokens of the bytes after the locals of a body, which begins at offset `start`, and keeps the last of them.
 fn pass_tokens<'a>(
     alloc: Global,
     checker: &mut Checker<'_>,
     trail: &mut Trail<'_>,
+    passed: &mut Vec<PassedToken>,
+    body: &[u8],
+    start: usize,
     code: &'a [u8],
     count: usize,
 ) -> Result<&'a [u8], Fault>
+    requires left { IsLeft body.now 0 code.now }
+    requires none { passed.old.items ≡ [] }
     requires code { trail.old.code.now ≡ code.now }
     requires opened { trail.old.opened.items ≡ [] }
+    ensures last { IfOk result (λ _. ArePassed body.now start count count passed.new.items) }
     ensures left { IfOk result (λ rest. left_after count code.now ≡ Some rest.now) }
     ensures passed { IfOk result (λ _. PassesTo checker.old code.now count checker.new) }
     ensures same { IfOk result (λ _. KeepsCode trail.old trail.new) }
@@ -145,6 +183,7 @@ fn pass_tokens<'a>(
     let mut targets = Vec::new(alloc);
     let mut rest = code;
     for position in 0..count {
+        keep_last(alloc, checker, passed, body, start, rest, position, count)?;
         rest = pass_token(checker, trail, &mut targets, rest)?;
     }
     Ok(rest)
@@ -186,13 +225,15 @@ fn blocks_within(
     Ok(blocks)
 }
 
-/// What is told of a token that names what is not there.
+/// What is told of a token that names what is not there, behind those that are passed.
 fn told_of_name(
     alloc: Global,
     checker: &mut Checker<'_>,
     trail: &Trail<'_>,
+    passed: Vec<PassedToken>,
 ) -> Result<Typing, AllocError>
     ensures operands { IfOk result (λ t. (t.takes.items ≡ []) × (t.finds.items ≡ [])) }
+    ensures passed { IfOk result (λ t. t.passed ≡ passed) }
     ensures within { IfOk result (λ t. map (λ b. type_told b.signature) t.within.items ≡ take 8 (block_types checker.old.frames)) }
     ensures openings { IfOk result (λ t. AreKept trail.now t.within.items) }
 {
@@ -200,11 +241,12 @@ fn told_of_name(
         takes: Vec::new(alloc),
         finds: Vec::new(alloc),
         given_by: Vec::new(alloc),
+        passed,
         within: blocks_within(alloc, checker, trail)?,
     })
 }
 
-/// What is told of a token that takes and finds these operands, `known` of which are known.
+/// What is told of a token that takes and finds these operands, `known` of which are known; the wrong one has that position.
 fn told_of_operands(
     alloc: Global,
     checker: &mut Checker<'_>,
@@ -212,22 +254,33 @@ fn told_of_operands(
     takes: Operands,
     finds: Operands,
     known: usize,
+    wrong: usize,
+    passed: Vec<PassedToken>,
 ) -> Result<Typing, AllocError>
     ensures takes { IfOk result (λ t. t.takes ≡ takes) }
     ensures finds { IfOk result (λ t. t.finds ≡ finds) }
+    ensures passed { IfOk result (λ t. t.passed ≡ passed) }
     ensures within { IfOk result (λ t. map (λ b. type_told b.signature) t.within.items ≡ take 8 (block_types checker.old.frames)) }
     ensures openings { IfOk result (λ t. AreKept trail.now t.within.items) }
 {
-    let least = finds.len().saturating_sub(known);
-    let given = finds.get(least..).unwrap_or(finds.as_slice());
-    let given_by = trail.givers(alloc, given)?;
+    let given_by = trail.givers(alloc, &finds, known, wrong)?;
     let within = blocks_within(alloc, checker, trail)?;
     Ok(Typing {
         takes,
         finds,
         given_by,
+        passed,
         within,
     })
+}
+
+/// The position of the operand that is wrong, from 0 on top.
+fn wrong_position(cause: &Option<Cause>) -> usize {
+    match cause {
+        Some(Cause::Operand { position, .. }) => *position,
+        Some(Cause::LeftOver { .. }) => usize::MAX,
+        _ => 0,
+    }
 }
 
 /// What is told of a token before which the checker stands, and why it is refused.
@@ -237,21 +290,26 @@ fn told_of_token(
     trail: &Trail<'_>,
     token: Token,
     targets: &[u32],
+    passed: Vec<PassedToken>,
 ) -> Result<(Typing, Option<Cause>), AllocError>
     ensures typing { IfOk result (λ r. IsTypingIn checker.old.inside (decoded_as targets.now token) checker.old.frames r.0) }
     ensures openings { IfOk result (λ r. AreKept trail.now r.0.within.items) }
     ensures cause { IfOk result (λ r. IfSome r.1 (IsCause checker.old.inside (decoded_as targets.now token) checker.old.frames)) }
+    ensures passed { IfOk result (λ r. r.0.passed ≡ passed) }
 {
     let known = known_in(checker);
     match takes_of(alloc, checker, token, targets)? {
         None => {
             let cause = name_cause(alloc, checker, token, targets)?;
-            let typing = told_of_name(alloc, checker, trail)?;
+            let typing = told_of_name(alloc, checker, trail, passed)?;
             Ok((typing, cause))
         }
         Some(takes) => {
             let (finds, cause) = operand_cause(alloc, checker, token, &takes)?;
-            let typing = told_of_operands(alloc, checker, trail, takes, finds, known)?;
+            let wrong = wrong_position(&cause);
+            let typing = told_of_operands(
+                alloc, checker, trail, takes, finds, known, wrong, passed,
+            )?;
             Ok((typing, cause))
         }
     }
@@ -280,24 +338,26 @@ pub fn find_told(
         return Err(Fault::Malformed);
     };
     let mut trail = Trail::new(alloc, code, begins);
-    let rest = pass_tokens(alloc, &mut checker, &mut trail, code, position)?;
-    let [opcode, ..] = rest else {
-        return Err(Fault::Malformed);
-    };
-    let mut targets = Vec::new(alloc);
-    let (token, after) = token_at(&mut targets, rest)?;
-    let (Some(from), Some(to)) = (offset_of(start, body, rest), offset_of(start, body, after))
-    else {
-        return Err(Fault::Malformed);
-    };
-    let (typing, cause) = told_of_token(alloc, &mut checker, &trail, token, &targets)?;
-    let span = Span { from, to };
-    let found = FoundToken {
-        span,
-        opcode: *opcode,
-        token,
-        targets,
-    };
+    let mut passed = Vec::new(alloc);
+    let rest = pass_tokens(
+        alloc,
+        &mut checker,
+        &mut trail,
+        &mut passed,
+        body,
+        start,
+        code,
+        position,
+    )?;
+    let found = first_token(alloc, body, start, rest)?;
+    let (typing, cause) = told_of_token(
+        alloc,
+        &mut checker,
+        &trail,
+        found.token,
+        &found.targets,
+        passed,
+    )?;
     Ok(Told {
         found,
         typing,

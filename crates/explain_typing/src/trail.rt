@@ -16,6 +16,9 @@ use wsyntax::{Token, ValType};
 /// How many open blocks are told of a body that ends in them.
 const BLOCKS: usize = 8;
 
+/// Of how many operands it is told which tokens gave them.
+const GIVEN: usize = 64;
+
 /// Operands side by side that one token gave.
 #[derive(Clone, Copy)]
 struct GivenRun {
@@ -117,10 +120,13 @@ fn mark(opened: &mut Vec<u32>, token: Token, at: u32) -> Result<(), AllocError>
     Ok(())
 }
 
-/// Whether the last of these tokens is that one.
-fn ends_with(givers: &Vec<Giver>, position: u32) -> bool {
-    match givers.as_slice() {
-        [.., last] => last.position == position as usize,
+/// Whether the last of these tokens is that one. It gave one operand more then.
+fn counts_on(givers: &mut Vec<Giver>, position: u32) -> bool {
+    match givers.last_mut() {
+        Some(last) if last.position == position as usize => {
+            last.count = last.count.saturating_add(1);
+            true
+        }
         _ => false,
     }
 }
@@ -304,16 +310,25 @@ impl<'a> Trail<'a> {
         self.opening_at(at)
     }
 
-    /// The token that gave a run of operands.
-    fn giver(&self, alloc: Global, held: GivenRun) -> Result<Option<Giver>, AllocError> {
+    /// The token that gave a run of operands, the lowest of which was found as that one.
+    fn giver(
+        &self,
+        alloc: Global,
+        held: GivenRun,
+        first: usize,
+    ) -> Result<Option<Giver>, AllocError> {
         let position = held.position as usize;
+        let at = self.start.saturating_add(held.at as usize);
         let ends = self.ended_at(held.at);
         if ends.is_some() {
             return Ok(Some(Giver {
                 position,
+                at,
                 opcode: op::END,
                 token: Token::End,
                 ends,
+                first,
+                count: 1,
             }));
         }
         let bytes = self.code.get(held.at as usize..).unwrap_or(&[]);
@@ -324,31 +339,41 @@ impl<'a> Trail<'a> {
         match token_at(&mut targets, bytes) {
             Ok((token, _after)) => Ok(Some(Giver {
                 position,
+                at,
                 opcode: *opcode,
                 token,
                 ends,
+                first,
+                count: 1,
             })),
             Err(Fault::Malformed) => Ok(None),
             Err(Fault::Memory) => Err(AllocError),
         }
     }
 
-    /// The tokens that gave the topmost operands, the lowest first; none of one whose type is not known.
+    /// The tokens that gave the topmost operands found, the lowest first, of which `known` are held; none of one whose type is not known.
+    /// Where the wrong one lies too deep for these, those that gave it and the ones above it.
     pub(crate) fn givers(
         &self,
         alloc: Global,
-        operands: &[Option<ValType>],
+        finds: &[Option<ValType>],
+        known: usize,
+        wrong: usize,
     ) -> Result<Vec<Giver>, AllocError> {
+        let depth = known.min(GIVEN.max(wrong.saturating_add(1)));
+        let least = finds.len().saturating_sub(depth);
+        let operands = finds.get(least..).unwrap_or(finds);
         let lowest = self.given.height.saturating_sub(operands.len());
         let mut run = self.given.first_run(lowest);
         let mut givers = Vec::new(alloc);
-        for (position, operand) in operands.iter().enumerate() {
+        for (position, operand) in operands.iter().take(GIVEN).enumerate() {
             run = self.given.run_from(run, lowest.saturating_add(position));
             let Some(held) = self.given.held.get(run) else {
                 return Ok(givers);
             };
-            if operand.is_some() && !ends_with(&givers, held.position) {
-                if let Some(giver) = self.giver(alloc, *held)? {
+            if operand.is_some() && !counts_on(&mut givers, held.position) {
+                let first = least.saturating_add(position);
+                if let Some(giver) = self.giver(alloc, *held, first)? {
                     givers.push(giver)?;
                 }
             }

@@ -182,6 +182,8 @@ pub struct RefusedFunction<'a> {
     /// The name of the first export of the function.
     pub export: Option<&'a [u8]>,
     pub signature: Option<FunctionSignature>,
+    /// The name of the function that the refused token calls: that in the custom section `name`, or of its first export.
+    pub callee: Option<&'a [u8]>,
     pub fault: BodyExplanation<'a>,
     pub sign: Option<Sign>,
 }

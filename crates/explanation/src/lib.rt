@@ -23,4 +23,4 @@ pub use functions::{first_export, signature_of};
 pub use shell_location::{
     FoundSection, InitialValue, Location, OtherSegment, SectionPart, Wanted, Wrong,
 };
-pub use typing::{BlockKind, Giver, OpenBlock, OpenBlocks, Opening, Typing};
+pub use typing::{BlockKind, Giver, OpenBlock, OpenBlocks, Opening, PassedToken, Typing};

@@ -1,6 +1,7 @@
-//! What is told of an ill-typed token: what it takes, what it finds, which tokens gave it, and in which blocks it stands.
+//! What is told of an ill-typed token: what it takes, what it finds, which tokens gave it, which stand before it, and in which blocks it
+//! stands.
 
-use crate::explanation::FunctionSignature;
+use crate::explanation::{FoundToken, FunctionSignature};
 use wsyntax::{Token, ValType};
 
 /// What opened a block.
@@ -33,13 +34,29 @@ pub struct OpenBlocks {
     pub outermost: Vec<Opening>,
 }
 
-/// A token that gave an operand: its position, and the first of its bytes; of an `end` the token that opened its block.
+/// A token that gave operands: its position, and the first of its bytes; of an `end` the token that opened its block.
 #[derive(Clone, Copy)]
 pub struct Giver {
     pub position: usize,
+    /// The offset of its first byte in the module; of an `end` that of the token that opened its block.
+    pub at: usize,
     pub opcode: u8,
     pub token: Token,
     pub ends: Option<Opening>,
+    /// The lowest operand that it gave of those found, the lowest of which is 0.
+    pub first: usize,
+    /// And how many of them, one above another.
+    pub count: usize,
+}
+
+/// A token before an ill-typed one.
+#[derive(Drop)]
+pub struct PassedToken {
+    pub position: usize,
+    pub found: FoundToken,
+    /// The topmost operands that it puts, no more than 64; of one that opens a block those that the block begins with. `None` is one of
+    /// which its rule does not say the type.
+    pub leaves: Vec<Option<ValType>>,
 }
 
 /// What is told of an ill-typed token. Of operands the lowest comes first, so the last is on top.
@@ -52,6 +69,8 @@ pub struct Typing {
     pub finds: Vec<Option<ValType>>,
     /// The tokens that gave these.
     pub given_by: Vec<Giver>,
+    /// The tokens right before it, in their order, no more than four.
+    pub passed: Vec<PassedToken>,
     /// The open blocks, the innermost first, no more than eight. The function is none.
     pub within: Vec<OpenBlock>,
 }

@@ -79,7 +79,7 @@ pub(crate) fn begin(
         base: SPARE,
         operand_base,
         sp: operand_base,
-        fuel: fuel - 1,
+        fuel: (fuel - 1) as u64,
     };
     Ok(FirstFrame { first, slots })
 }

@@ -1,5 +1,5 @@
 -- What a command has printed, by the status that `run` of src/obeying.rt ends with: three lemmas, each by cases of the request.
-use Rattle.std.proofs.Common.{◌≡◌, ℕ, List, [], ◌∷◌, Option, Ok, Bor, codes, inl, inr, map, refl, sym, subst, ◌∙◌}
+use Rattle.std.proofs.Common.{◌≡◌, ℕ, Bool, List, [], ◌∷◌, Option, Ok, Bor, codes, inl, inr, map, refl, sym, subst, ◌∙◌}
 use Rattle.std.specs.Io.KnownBytes.{Appends}
 use Rattle.wsyntax.specs.Validation.Verdict.{Verdict, Accepted, TooLarge, Malformed, RuleBroken, BodyRefused}
 use Rattle.wsyntax.specs.Texts.Lines.{verdict_line}
@@ -8,6 +8,7 @@ use Rattle.wstore.specs.declared.settings.Settings.{Settings}
 use Rattle.batch.specs.Report.{status_of}
 use Rattle.batch.specs.declared.status.Status.{Status}
 use Rattle.batch.specs.declared.status.Status.TheVariants.{Good, ModuleRefused, CallsRefused}
+use Rattle.command.specs.Names.{says_json}
 use Rattle.command.specs.Options.{SaysLimits}
 use Rattle.command.specs.Requests.{AreInputs, AreOperands, AreStreamed, IsRequestOf, first_word}
 use Rattle.command.specs.declared.request.Request.{Request}
@@ -96,16 +97,16 @@ stream words path calls settings holds asked asked' old new s t command named sa
 }
 
 -- an explanation of calls
-calls_explained : (words : List (List ℕ)) (path calls : Bor (List ℕ)) (holds : List ℕ → Option (List ℕ)) (asked asked' : Option (List (List ℕ))) (old new : Option (List ℕ)) (s t : Status) (text : List ℕ)
-    → first_word words ≡ codes "explain" → AreInputs words path.now calls.now → IsCallsExplained (holds path.now) (holds calls.now) s text → Appends old new text → ReadsPaths asked asked' (path.now ∷ calls.now ∷ []) → s ≡ t → PrintsCallsExplained words holds asked asked' old new t
-calls_explained words path calls holds asked asked' old new s t text command named explained written order e = record {
+calls_explained : (words : List (List ℕ)) (path calls : Bor (List ℕ)) (json : Bool) (holds : List ℕ → Option (List ℕ)) (asked asked' : Option (List (List ℕ))) (old new : Option (List ℕ)) (s t : Status) (text : List ℕ)
+    → first_word words ≡ codes "explain" → AreInputs words path.now calls.now → json ≡ says_json words → IsCallsExplained json (holds path.now) (holds calls.now) s text → Appends old new text → ReadsPaths asked asked' (path.now ∷ calls.now ∷ []) → s ≡ t → PrintsCallsExplained words holds asked asked' old new t
+calls_explained words path calls json holds asked asked' old new s t text command named says explained written order e = record {
   command = command;
   path = path.now;
   calls = calls.now;
   named = named;
   in_order = order;
   text = text;
-  explained = subst (λ (x : Status). IsCallsExplained (holds path.now) (holds calls.now) x text) e explained;
+  explained = subst (λ (b : Bool). IsCallsExplained b (holds path.now) (holds calls.now) t text) says (subst (λ (x : Status). IsCallsExplained json (holds path.now) (holds calls.now) x text) e explained);
   written = written;
 }
 
@@ -124,7 +125,7 @@ good words (CheckAll names folders plan) holds lists asked asked' old new s (com
     inr (inr (inr (inr (inr (inr (inl (named_all words (map (λ n. n.now) names.items) folders holds lists asked asked' old new file_outcome.Accepted s command are says done (good_outcome s (only_good s e)))))))))
 good words (CheckListed is_null folders plan) holds lists asked asked' old new s (command, list, says_n, says_f, said) done order e =
     inr (inr (inr (inr (inr (inr (inl (listed_all words is_null folders holds lists asked asked' old new file_outcome.Accepted s command list says_n says_f done (good_outcome s (only_good s e)))))))))
-good words (Explain path) holds lists asked asked' old new s (command, named) (v, text, explained, is, written) order e =
+good words (Explain path json) holds lists asked asked' old new s (command, named, says) (v, text, explained, is, written) order e =
     let same : v ≡ Accepted = only_accepted v (sym is ∙ only_good s e) in
     inr (inr (inl record {
       command = command;
@@ -132,11 +133,11 @@ good words (Explain path) holds lists asked asked' old new s (command, named) (v
       named = named;
       only = order;
       text = text;
-      explained = subst (λ (x : Verdict). IsExplained (Judges (holds path.now)) x text) same explained;
+      explained = subst (λ (b : Bool). IsExplained b (Judges (holds path.now)) Accepted text) says (subst (λ (x : Verdict). IsExplained json (Judges (holds path.now)) x text) same explained);
       written = written;
     }))
-good words (ExplainCalls path calls) holds lists asked asked' old new s (command, named) (text, explained, written) order e =
-    inr (inr (inr (inr (inr (inl (calls_explained words path calls holds asked asked' old new s Good text command named explained written order (only_good s e)))))))
+good words (ExplainCalls path calls json) holds lists asked asked' old new s (command, named, says) (text, explained, written) order e =
+    inr (inr (inr (inr (inr (inl (calls_explained words path calls json holds asked asked' old new s Good text command named says explained written order (only_good s e)))))))
 good words (Exports path) holds lists asked asked' old new s (command, named) (v, text, list, is, written) order e =
     let same : v ≡ Accepted = only_accepted v (sym is ∙ only_good s e) in
     inr (inr (inr (inr (inl record {
@@ -161,10 +162,22 @@ refusal words (CheckAll names folders plan) holds lists asked asked' old new s (
     inr (inr (inr (inl (named_all words (map (λ n. n.now) names.items) folders holds lists asked asked' old new file_outcome.Refused s command are says done (refused_outcome s (only_refused s e))))))
 refusal words (CheckListed is_null folders plan) holds lists asked asked' old new s (command, list, says_n, says_f, said) done order e =
     inr (inr (inr (inl (listed_all words is_null folders holds lists asked asked' old new file_outcome.Refused s command list says_n says_f done (refused_outcome s (only_refused s e))))))
-refusal words (Explain path) holds lists asked asked' old new s (command, named) (v, text, explained, is, written) order e =
-    inl (v, sym is ∙ only_refused s e, inr (inl record { command = command; path = path.now; named = named; only = order; text = text; explained = explained; written = written }))
-refusal words (ExplainCalls path calls) holds lists asked asked' old new s (command, named) (text, explained, written) order e =
-    inr (inr (inl (calls_explained words path calls holds asked asked' old new s ModuleRefused text command named explained written order (only_refused s e))))
+refusal words (Explain path json) holds lists asked asked' old new s (command, named, says) (v, text, explained, is, written) order e =
+    inl (
+      v,
+      sym is ∙ only_refused s e,
+      inr (inl record {
+        command = command;
+        path = path.now;
+        named = named;
+        only = order;
+        text = text;
+        explained = subst (λ (b : Bool). IsExplained b (Judges (holds path.now)) v text) says explained;
+        written = written;
+      }),
+    )
+refusal words (ExplainCalls path calls json) holds lists asked asked' old new s (command, named, says) (text, explained, written) order e =
+    inr (inr (inl (calls_explained words path calls json holds asked asked' old new s ModuleRefused text command named says explained written order (only_refused s e))))
 refusal words (Exports path) holds lists asked asked' old new s (command, named) (v, text, list, is, written) order e =
     inl (v, sym is ∙ only_refused s e, inr (inr record { command = command; path = path.now; named = named; only = order; text = text; list = list; written = written }))
 refusal words (Run path calls settings plan) holds lists asked asked' old new s (command, named, said) done order e =
@@ -180,10 +193,10 @@ calls_refusal words (CheckAll names folders plan) holds lists asked asked' old n
     absurd (no_named_calls (IsSpread folders lists (map (λ n. n.now) names.items)) holds asked asked' old new s done (only_calls_refused s e))
 calls_refusal words (CheckListed is_null folders plan) holds lists asked asked' old new s named done order e =
     absurd (no_listed_calls is_null folders holds lists asked asked' old new s done (only_calls_refused s e))
-calls_refusal words (Explain path) holds lists asked asked' old new s named (v, text, explained, is, written) order e =
+calls_refusal words (Explain path json) holds lists asked asked' old new s named (v, text, explained, is, written) order e =
     absurd (no_verdict v (sym is ∙ only_calls_refused s e))
-calls_refusal words (ExplainCalls path calls) holds lists asked asked' old new s (command, named) (text, explained, written) order e =
-    inr (inl (calls_explained words path calls holds asked asked' old new s CallsRefused text command named explained written order (only_calls_refused s e)))
+calls_refusal words (ExplainCalls path calls json) holds lists asked asked' old new s (command, named, says) (text, explained, written) order e =
+    inr (inl (calls_explained words path calls json holds asked asked' old new s CallsRefused text command named says explained written order (only_calls_refused s e)))
 calls_refusal words (Exports path) holds lists asked asked' old new s named (v, text, list, is, written) order e =
     absurd (no_verdict v (sym is ∙ only_calls_refused s e))
 calls_refusal words (Run path calls settings plan) holds lists asked asked' old new s (command, named, said) done order e =

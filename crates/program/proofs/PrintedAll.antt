@@ -151,8 +151,8 @@ usage_keeps : (request : Request) (holds : List ℕ → Option (List ℕ)) (list
 usage_keeps (Check path plan) holds lists asked asked' old new f done e = by_words (λ (g : ProgramFault). Checks (holds path.now) old new (Err g)) (Keeps old new) (λ t k. k) (λ k. k) f done e
 usage_keeps (CheckAll names folders plan) holds lists asked asked' old new f done e = names_keep (IsSpread folders lists (map (λ n. n.now) names.items)) holds asked asked' old new f done e
 usage_keeps (CheckListed is_null folders plan) holds lists asked asked' old new f done e = listed_keep is_null folders holds lists asked asked' old new f done e
-usage_keeps (Explain path) holds lists asked asked' old new f done e = by_words (λ (g : ProgramFault). Explains (holds path.now) old new (Err g)) (Keeps old new) (λ t k. k) (λ k. k) f done e
-usage_keeps (ExplainCalls path calls) holds lists asked asked' old new f done e = by_words (λ (g : ProgramFault). ExplainsCalls (holds path.now) (holds calls.now) old new (Err g)) (Keeps old new) (λ t k. k) (λ k. k) f done e
+usage_keeps (Explain path json) holds lists asked asked' old new f done e = by_words (λ (g : ProgramFault). Explains json (holds path.now) old new (Err g)) (Keeps old new) (λ t k. k) (λ k. k) f done e
+usage_keeps (ExplainCalls path calls json) holds lists asked asked' old new f done e = by_words (λ (g : ProgramFault). ExplainsCalls json (holds path.now) (holds calls.now) old new (Err g)) (Keeps old new) (λ t k. k) (λ k. k) f done e
 usage_keeps (Exports path) holds lists asked asked' old new f done e = by_words (λ (g : ProgramFault). Lists (holds path.now) old new (Err g)) (Keeps old new) (λ t k. k) (λ k. k) f done e
 usage_keeps (Run path calls s plan) holds lists asked asked' old new f done e = by_words (λ (g : ProgramFault). RunsOn (holds path.now) (holds calls.now) (limits_of s) old new (Err g)) (Keeps old new) (λ t k. k) (λ k. k) f done e
 usage_keeps (Stream path calls s plan) holds lists asked asked' old new f (done, order) e = by_words (λ (g : ProgramFault). StreamsOn (holds path.now) (holds calls.now) (limits_of s) old new (Err g)) (Keeps old new) (λ t k. k) (λ k. k) f done e
@@ -236,8 +236,8 @@ short words (Check path plan) holds lists asked asked' old new f named done e = 
 short words (CheckAll names folders plan) holds lists asked asked' old new f (command, are, says, said) done e =
     of_files words holds lists asked asked' old new (named_first words (map (λ n. n.now) names.items) folders holds lists asked asked' old new command are says (names_begin (IsSpread folders lists (map (λ n. n.now) names.items)) holds asked asked' old new f done e))
 short words (CheckListed is_null folders plan) holds lists asked asked' old new f (command, list, says_n, says_f, said) done e = of_files words holds lists asked asked' old new (listed_short words is_null folders holds lists asked asked' old new f command list says_n says_f done e)
-short words (Explain path) holds lists asked asked' old new f named done e = inl (by_memory (λ (g : ProgramFault). Explains (holds path.now) old new (Err g)) (Keeps old new) (λ k. k) f done e)
-short words (ExplainCalls path calls) holds lists asked asked' old new f named done e = inl (by_memory (λ (g : ProgramFault). ExplainsCalls (holds path.now) (holds calls.now) old new (Err g)) (Keeps old new) (λ k. k) f done e)
+short words (Explain path json) holds lists asked asked' old new f named done e = inl (by_memory (λ (g : ProgramFault). Explains json (holds path.now) old new (Err g)) (Keeps old new) (λ k. k) f done e)
+short words (ExplainCalls path calls json) holds lists asked asked' old new f named done e = inl (by_memory (λ (g : ProgramFault). ExplainsCalls json (holds path.now) (holds calls.now) old new (Err g)) (Keeps old new) (λ k. k) f done e)
 short words (Exports path) holds lists asked asked' old new f named done e = inl (by_memory (λ (g : ProgramFault). Lists (holds path.now) old new (Err g)) (Keeps old new) (λ k. k) f done e)
 short words (Run path calls s plan) holds lists asked asked' old new f named done e = inl (by_memory (λ (g : ProgramFault). RunsOn (holds path.now) (holds calls.now) (limits_of s) old new (Err g)) (Keeps old new) (λ k. k) f done e)
 short words (Stream path calls s plan) holds lists asked asked' old new f (command, named, said) (done, order) e =

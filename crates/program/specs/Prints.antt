@@ -10,7 +10,7 @@ use Rattle.batch.specs.Report.{status_of}
 use Rattle.batch.specs.declared.status.Status.{Status}
 use Rattle.batch.specs.declared.status.Status.TheVariants.{Good, ModuleRefused, CallsRefused}
 use Rattle.batch.specs.declared.stream_fault.StreamFault.TheVariants as stream
-use Rattle.command.specs.Names.{file_names, says_folders, says_null}
+use Rattle.command.specs.Names.{file_names, says_folders, says_json, says_null}
 use Rattle.command.specs.Options.{SaysLimits}
 use Rattle.command.specs.Requests.{AreInputs, AreOperands, AreStreamed, AsksHelp, AsksVersion, IsInput, IsOperand, IsRequestOf, first_word}
 use Rattle.command.specs.declared.request.Request.{Request}
@@ -43,8 +43,8 @@ abbrev pub AnswersRequest : Request → (List ℕ → Option (List ℕ)) → (Li
 AnswersRequest (Check path plan) holds lists asked asked' old new r = Checks (holds path.now) old new r
 AnswersRequest (CheckAll names folders plan) holds lists asked asked' old new r = ChecksNames (IsSpread folders lists (map (λ n. n.now) names.items)) holds asked asked' old new r
 AnswersRequest (CheckListed is_null folders plan) holds lists asked asked' old new r = ChecksListed is_null folders holds lists asked asked' old new r
-AnswersRequest (Explain path) holds lists asked asked' old new r = Explains (holds path.now) old new r
-AnswersRequest (ExplainCalls path calls) holds lists asked asked' old new r = ExplainsCalls (holds path.now) (holds calls.now) old new r
+AnswersRequest (Explain path json) holds lists asked asked' old new r = Explains json (holds path.now) old new r
+AnswersRequest (ExplainCalls path calls json) holds lists asked asked' old new r = ExplainsCalls json (holds path.now) (holds calls.now) old new r
 AnswersRequest (Exports path) holds lists asked asked' old new r = Lists (holds path.now) old new r
 AnswersRequest (Run path calls s plan) holds lists asked asked' old new r = RunsOn (holds path.now) (holds calls.now) (limits_of s) old new r
 AnswersRequest (Stream path calls s plan) holds lists asked asked' old new r =
@@ -56,8 +56,8 @@ abbrev pub AsksFor : Request → Option (List (List ℕ)) → Option (List (List
 AsksFor (Check path plan) old new r = ReadsPaths old new (path.now ∷ [])
 AsksFor (CheckAll names folders plan) old new r = Unit {0}
 AsksFor (CheckListed is_null folders plan) old new r = Unit {0}
-AsksFor (Explain path) old new r = ReadsPaths old new (path.now ∷ [])
-AsksFor (ExplainCalls path calls) old new r = ReadsInOrder path.now calls.now old new r
+AsksFor (Explain path json) old new r = ReadsPaths old new (path.now ∷ [])
+AsksFor (ExplainCalls path calls json) old new r = ReadsInOrder path.now calls.now old new r
 AsksFor (Exports path) old new r = ReadsPaths old new (path.now ∷ [])
 AsksFor (Run path calls s plan) old new r = ReadsInOrder path.now calls.now old new r
 AsksFor (Stream path calls s plan) old new r = Unit {0}
@@ -80,14 +80,14 @@ pub record PrintsVerdict (words : List (List ℕ)) (holds : List ℕ → Option 
   pub judged : Judges (holds path) v
   pub written : Appends old new (verdict_line v)
 
--- of `explain`: the same line of an input is written, and why the verdict is so
+-- of `explain`: the verdict on an input is told, and why it is so, as an object where the words say it
 pub record PrintsExplained (words : List (List ℕ)) (holds : List ℕ → Option (List ℕ)) (asked asked' : Option (List (List ℕ))) (old new : Option (List ℕ)) (v : Verdict) : Type 0 where
   pub command : first_word words ≡ codes "explain"
   pub path : List ℕ
   pub named : IsInput words path
   pub only : ReadsPaths asked asked' (path ∷ [])
   pub text : List ℕ
-  pub explained : IsExplained (Judges (holds path)) v text
+  pub explained : IsExplained (says_json words) (Judges (holds path)) v text
   pub written : Appends old new text
 
 -- of `exports`: the list of exports of that module is written, or where it is refused its verdict line
@@ -108,7 +108,7 @@ pub record PrintsCallsExplained (words : List (List ℕ)) (holds : List ℕ → 
   pub named : AreInputs words path calls
   pub in_order : ReadsPaths asked asked' (path ∷ calls ∷ [])
   pub text : List ℕ
-  pub explained : IsCallsExplained (holds path) (holds calls) status text
+  pub explained : IsCallsExplained (says_json words) (holds path) (holds calls) status text
   pub written : Appends old new text
 
 -- of `run`: the answer with this status is written to the module whose path is a word after the command's name, and to the calls whose path is a word after that, within the limits that the words say; the module was asked for first, and then the calls

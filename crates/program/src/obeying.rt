@@ -92,8 +92,10 @@ fn obey<'a, R: Threads + Wait + Sync, S: Source, O: Write>(
             folders,
             plan,
         } => check_listed(rt, alloc, is_null, folders, plan, source, out),
-        Request::Explain { path } => explain_file(alloc, path, source, out),
-        Request::ExplainCalls { path, calls } => explain_files(alloc, path, calls, source, out),
+        Request::Explain { path, json } => explain_file(alloc, path, json, source, out),
+        Request::ExplainCalls { path, calls, json } => explain_files(
+            alloc, path, calls, json, source, out,
+        ),
         Request::Exports { path } => list_file(alloc, path, source, out),
         Request::Stream {
             path,

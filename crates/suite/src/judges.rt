@@ -1,10 +1,26 @@
 //! All ways to judge a module.
-use anyhow::{Result, ensure};
-use batch::{Plan, Quiet, Status, report_verdict};
+use anyhow::ensure;
+use batch::{Plan, Quiet, Status, Watch, report_verdict};
 use std::alloc::Global;
 use std::sync::Wait;
 use std::thread::Threads;
-use verdict::{examine, judge};
+use verdict::{Refusal, examine, judge};
+
+/// What the judge finds that keeps the bodies, or the one that keeps nothing.
+pub fn found<R: Threads + Wait + Sync, W: Watch + Sync>(
+    rt: &R,
+    alloc: Global,
+    bytes: &[u8],
+    plan: Plan,
+    watch: &W,
+    keeps: bool,
+) -> Result<(), Refusal> {
+    if keeps {
+        let _accepted = judge(rt, alloc, bytes, plan, watch)?;
+        return Ok(());
+    }
+    examine(rt, alloc, bytes, plan, watch)
+}
 
 /// The verdict line and the status, where the judge that keeps the bodies and the one that keeps nothing agree.
 pub fn verdict_line<R: Threads + Wait + Sync>(
@@ -12,13 +28,10 @@ pub fn verdict_line<R: Threads + Wait + Sync>(
     alloc: Global,
     bytes: &[u8],
     plan: Plan,
-) -> Result<(Vec<u8>, Status)> {
-    let kept = match judge(rt, alloc, bytes, plan, &Quiet) {
-        Ok(_accepted) => Ok(()),
-        Err(refusal) => Err(refusal),
-    };
+) -> anyhow::Result<(Vec<u8>, Status)> {
+    let kept = found(rt, alloc, bytes, plan, &Quiet, true);
     ensure!(
-        kept == examine(rt, alloc, bytes, plan, &Quiet),
+        kept == found(rt, alloc, bytes, plan, &Quiet, false),
         "the judges differ"
     );
     let mut line = Vec::new(alloc);

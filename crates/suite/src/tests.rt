@@ -1,6 +1,3 @@
-mod called;
-mod exports;
-mod lent;
+mod heights;
 mod meeting;
-mod plans;
 mod told;

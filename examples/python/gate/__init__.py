@@ -15,7 +15,7 @@ from gate.exports import Export, ExportKind, FunctionType, Import, Measures, Val
 from gate.explanation import Explanation, ModuleRefused, explain
 from gate.function import BadArguments
 from gate.handle import Closed
-from gate.instance import Instance, NoGlobal, NoInstance, OutsideMemory
+from gate.instance import Instance, InstanceFunction, NoFunction, NoGlobal, NoInstance, OutsideMemory
 from gate.module import Module
 from gate.report import Report, Status, run
 from gate.settings import Settings
@@ -24,6 +24,6 @@ from gate.verdict import Refusal, Verdict, build, check
 
 __version__ = '0.2.0'
 __all__ = ['BadArguments', 'CallError', 'Closed', 'End', 'EndKind', 'Explanation', 'Export', 'ExportKind', 'FunctionType', 'I32', 'I64',
-           'Import', 'Instance', 'Measures', 'Module', 'ModuleRefused', 'NoGlobal', 'NoInstance', 'NotStarted', 'OutsideMemory', 'Refusal', 'Report', 'Settings',
-           'Status', 'Trap', 'Value', 'ValueType', 'Verdict', '__version__', 'build', 'call_line', 'check', 'explain', 'exports_text', 'run',
-           'value_of']
+           'Import', 'Instance', 'InstanceFunction', 'Measures', 'Module', 'ModuleRefused', 'NoFunction', 'NoGlobal', 'NoInstance',
+           'NotStarted', 'OutsideMemory', 'Refusal', 'Report', 'Settings', 'Status', 'Trap', 'Value', 'ValueType', 'Verdict',
+           '__version__', 'build', 'call_line', 'check', 'explain', 'exports_text', 'run', 'value_of']

@@ -80,7 +80,7 @@ class CMeasures(Structure):
 TEXT = [c_char_p, c_size_t]
 WRITTEN = [c_char_p, c_size_t, POINTER(c_size_t)]
 
-# The result and the parameters of each function, in the order of gate.h. PERF: of the two without parameters each argument is made of its
+# The result and the parameters of each function, in the order of gate.h. PERF: of the three without parameters each argument is made of its
 # type once (function.py), which takes half the time.
 FUNCTIONS: dict[str, tuple[Any, list[Any] | None]] = {
     'gate_version': (c_uint32, []),
@@ -113,6 +113,8 @@ FUNCTIONS: dict[str, tuple[Any, list[Any] | None]] = {
     'gate_module_starts': (c_uint32, [CModule, POINTER(CSettings), POINTER(CCall)]),
     'gate_instance_new': (c_uint32, [CModule, POINTER(CSettings), POINTER(CInstance), POINTER(CCall)]),
     'gate_instance_call': (c_uint32, None),
+    'gate_instance_find': (c_uint32, [CInstance] + TEXT + [POINTER(c_uint64)]),
+    'gate_instance_call_at': (c_uint32, None),
     'gate_instance_memory_size': (c_uint32, [CInstance, POINTER(c_uint64)]),
     'gate_instance_read': (c_uint32, [CInstance, c_uint64, c_char_p, c_size_t]),
     'gate_instance_write': (c_uint32, [CInstance, c_uint64, c_char_p, c_size_t]),

@@ -2,7 +2,7 @@
 from __future__ import annotations
 
 import enum
-from ctypes import Array
+from collections.abc import Sequence
 from typing import NamedTuple, TypeVar
 
 from gate._library import CCall, CValue
@@ -112,11 +112,12 @@ class CallError(RuntimeError):
         self.end = end
 
 
-def end_of(ended: CCall, results: Array[CValue] | tuple[()] = ()) -> End:
+def end_of(ended: CCall, results: Sequence[CValue] = ()) -> End:
     """The end of the numbers that the library wrote."""
     kind = ENDS[ended.end]
     if kind is EndKind.VALUES:
-        return End(kind, tuple([value_of_bits(it.width, it.bits) for it in results[:ended.results]]), None, None, ended.fuel)
+        values = tuple([value_of_bits(it.width, it.bits) for it in results[:ended.results]]) if results else ()
+        return End(kind, values, None, None, ended.fuel)
     reason: Trap | NotStarted | None = None
     if kind is EndKind.TRAP:
         reason = Trap(ended.reason)

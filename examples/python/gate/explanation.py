@@ -46,7 +46,7 @@ class Explanation:
     """The bytes of the refused body."""
     place: range | None = None
     lines: dict[str, str] = field(default_factory=dict)
-    """The texts of the lines by their keys."""
+    """The texts of the lines by their keys; lines on instructions have none."""
 
     @property
     def offset(self) -> int | None:
@@ -64,10 +64,11 @@ class Explanation:
 
 
 def lines_of(text: str) -> dict[str, str]:
-    """The lines after that of the verdict by their keys; of two with one key the first."""
+    """The lines after that of the verdict by their keys; of two with one key the first, and none without a key."""
     found: dict[str, str] = {}
     for line in text.splitlines()[1:]:
-        found.setdefault(line[:COLUMN].rstrip(), line[COLUMN:])
+        if not line.startswith(' '):
+            found.setdefault(line[:COLUMN].rstrip(), line[COLUMN:])
     return found
 
 

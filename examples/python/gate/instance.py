@@ -5,9 +5,11 @@ import ctypes
 from collections.abc import Sequence
 from typing import TYPE_CHECKING
 
-from gate._library import NO_GLOBAL, NO_INSTANCE, OK, OUTSIDE, Bytes, CCall, CInstance, CValue, expect, library, whole, whole_number
+from gate._library import (
+    NO_GLOBAL, NO_INSTANCE, NOTHING, OK, OUTSIDE, Bytes, CCall, CInstance, CValue, expect, library, whole, whole_number,
+)
 from gate.ends import End, EndKind, end_of
-from gate.function import Functions
+from gate.function import Function, Functions
 from gate.handle import Handle
 from gate.settings import Settings
 from gate.values import Value, name_bytes, value_of_bits
@@ -23,7 +25,7 @@ MOST_PLACE, MOST_LENGTH = 2 ** 64 - 1, 2 ** 63 - 1
 
 class NoInstance(RuntimeError):
     """There is no instance; `end` says why: it was not started, memory was refused, or how the start function ended. Of one that was not
-    started `place` says more, as `gate exports` does: `function 0 "half" token 0 f32.const 0x00000000, byte 29 (0x1d)`."""
+    started `place` says more, as `gate exports` does: `function 0 "half" token 0 f32.const 0x00000000, byte 0x1d`."""
 
     def __init__(self, end: End, place: str = '') -> None:
         super().__init__(f'no instance: {end}: {place}' if place else f'no instance: {end}')
@@ -44,6 +46,27 @@ class NoGlobal(LookupError):
     def __init__(self, name: str | bytes) -> None:
         super().__init__(f'no global is exported as {name!r}')
         self.name = name
+
+
+class NoFunction(LookupError):
+    """No function is exported as `name`."""
+
+    def __init__(self, name: str | bytes) -> None:
+        super().__init__(f'no function is exported as {name!r}')
+        self.name = name
+
+
+class InstanceFunction:
+    """A function that an instance exports, from `Instance.function`: `f(40, 2)` is `instance.call('add', 40, 2)`, and looks up nothing."""
+
+    def __init__(self, instance: Instance, function: Function) -> None:
+        self._instance, self._function = instance, function
+
+    def __call__(self, *values: Value | int, settings: Settings | None = None) -> End:
+        """As `Instance.call`."""
+        instance = self._instance
+        with instance._lock:
+            return self._function.call(library.gate_instance_call_at, instance._live(), values, settings or instance._settings)
 
 
 class Instance(Handle[CInstance]):
@@ -109,6 +132,16 @@ class Instance(Handle[CInstance]):
     def _call(self, name: str | bytes, values: Sequence[Value | int], settings: Settings | None) -> End:
         handle, function = self._live(), self._functions.of(self._module._open(), name)
         return function.call(library.gate_instance_call, handle, values, settings or self._settings)
+
+    def function(self, name: str | bytes) -> InstanceFunction:
+        """The function that is exported under that name, for who calls it often. `NoFunction` where there is none."""
+        data, number = name_bytes(name), ctypes.c_uint64()
+        with self._lock:
+            status = expect(library.gate_instance_find(self._open(), data, len(data), number), OK, NOTHING)
+            function = Function(self._module._open(), name, number.value)
+        if status == NOTHING or not function.is_function:
+            raise NoFunction(name)
+        return InstanceFunction(self, function)
 
     def call_or_reset(self, name: str | bytes, *values: Value | int, settings: Settings | None = None) -> End:
         """As `call`, and after each end but values a `reset`: what a trap leaves of a plug-in in C or Rust is its stack half way up."""

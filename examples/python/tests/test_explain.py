@@ -8,9 +8,9 @@ from tests.modules import FILL, HEADER, ILL_TYPED, NO_START, VERSION_2, judged
 
 BECAUSE = 'fc 0b is memory.fill, of bulk memory (Core 2.0), which gate does not admit'
 TEXT = f"""refused body 0 malformed
-function  0, [] -> [], bytes 22 to 26
-token     0, byte 23 (0x17)
 because   {BECAUSE}
+function  0, [] -> [], bytes 0x16 to 0x1a
+token     0, byte 0x17
 hint      build the module with -mcpu=mvp, in Rust for wasm32v1-none; in text do without it (docs/GUESTS.md)
 """
 
@@ -22,8 +22,8 @@ class Explain(unittest.TestCase):
         self.assertEqual((found.text, found.because, found.why), (TEXT, BECAUSE, 402))
         self.assertEqual((found.section, found.item, found.opcode), (10, None, 0xFC))
         self.assertEqual((found.body, found.place, found.offset), (range(22, 26), range(23, 23), 23))
-        self.assertEqual(list(found.lines), ['function', 'token', 'because', 'hint'])
-        self.assertEqual(found.lines['token'], '0, byte 23 (0x17)')
+        self.assertEqual(list(found.lines), ['because', 'function', 'token', 'hint'])
+        self.assertEqual(found.lines['token'], '0, byte 0x17')
         self.assertEqual(str(found), f'refused body 0 malformed: {BECAUSE}')
 
     def test_ill_typed_body(self) -> None:
@@ -41,14 +41,14 @@ class Explain(unittest.TestCase):
         found = gate.explain(VERSION_2)
         self.assertEqual((found.verdict, found.why), (gate.Verdict(gate.Refusal.MALFORMED), 205))
         self.assertEqual((found.place, found.body), (range(4, 4), None))
-        self.assertEqual(str(found), 'refused malformed: byte 4 is 02, and the version is 01 00 00 00')
+        self.assertEqual(str(found), 'refused malformed: byte 0x4 is 02, and the version is 01 00 00 00')
 
     def test_another_form(self) -> None:
         for module, why, byte in ((b'(module)', 201, '28'), (b'\x1f\x8b', 202, '1f'), (b'<html>', 213, '3c'), (b'{"a": 1}', 214, '7b')):
             with self.subTest(module):
                 found = gate.explain(module)
                 self.assertEqual((found.verdict, found.why), (gate.Verdict(gate.Refusal.MALFORMED), why))
-                self.assertEqual((found.place, found.because), (range(0, 0), f'byte 0 is {byte}, and a module begins with 00 61 73 6d'))
+                self.assertEqual((found.place, found.because), (range(0, 0), f'byte 0x0 is {byte}, and a module begins with 00 61 73 6d'))
                 self.assertEqual(list(found.lines), ['because', 'hint'])
 
     def test_accepted(self) -> None:

@@ -83,6 +83,28 @@ class Calls(Goes):
             self.instance.call('handle', 2 ** 32)
         self.assertEqual(self.instance.global_value('count'), I32(0))
 
+    def test_a_function(self) -> None:
+        handle, trap = self.instance.function('handle'), self.instance.function(b'trap')
+        self.instance.write(16, bytes([40]))
+        self.assertEqual(handle(2), End(EndKind.VALUES, (I32(1),), fuel=1))
+        self.assertEqual(self.byte(32), 42)
+        self.assertEqual(trap(), End(EndKind.TRAP, reason=Trap.UNREACHABLE, fuel=1))
+        self.assertEqual(handle(I32(3)).value(), I32(101))
+        self.assertEqual(handle(0, settings=gate.Settings(fuel=0)), End(EndKind.OUT_OF_FUEL, fuel=0))
+        with self.assertRaisesRegex(gate.BadArguments, 'handle is .*: it takes 1 number, and not 0'):
+            handle()
+        self.instance.reset()
+        self.assertEqual(handle(0).value(), I32(1))
+        self.instance.close()
+        with self.assertRaises(gate.Closed):
+            handle(0)
+
+    def test_no_function(self) -> None:
+        for name in 'count', 'sub', b'':
+            with self.assertRaises(gate.NoFunction) as caught:
+                self.instance.function(name)
+            self.assertEqual(caught.exception.name, name)
+
     def test_each_is_its_own(self) -> None:
         with gate.Module(GOES_ON) as module, module.instance() as other:
             self.instance.call('handle', 0)
@@ -219,7 +241,7 @@ class FromTheBeginning(unittest.TestCase):
         self.ends(GOES_ON, End(EndKind.NOT_STARTED, reason=NotStarted.MEMORY_LIMIT), gate.Settings(pages=0),
                   'the memory has 1 pages, and 0 are the most')
         self.ends(HALF, End(EndKind.NOT_STARTED, reason=NotStarted.FLOATS),
-                  place='function 0 "half" token 0 f32.const 0x00000000, byte 33 (0x21)')
+                  place='function 0 "half" token 0 f32.const 0x00000000, byte 0x21')
 
     def test_start_function(self) -> None:
         self.ends(START_TRAPS, End(EndKind.TRAP, reason=Trap.UNREACHABLE, fuel=1))

@@ -171,7 +171,7 @@ pub(crate) fn text_by(write: impl Fn(*mut u8, usize, &mut usize) -> u32) -> Resu
 /// ```
 /// assert_eq!(gate::explain(b"\0asm\x01\0\0\0")?.to_string(), "accepted");
 /// let found = gate::explain(b"\0asm\x02\0\0\0")?;
-/// assert_eq!(found.to_string(), "refused malformed: byte 4 is 02, and the version is 01 00 00 00");
+/// assert_eq!(found.to_string(), "refused malformed: byte 0x4 is 02, and the version is 01 00 00 00");
 /// # Ok::<(), gate::NoMemory>(())
 /// ```
 ///

@@ -84,6 +84,13 @@ impl<'a> Module<'a> {
     }
 }
 
+/// A function of the instances of a module, from [`Instance::function`].
+#[derive(Clone, Copy, Debug)]
+pub struct Function {
+    number: u64,
+    results: usize,
+}
+
 /// What the start function cost where there is an instance.
 fn start_fuel(status: u32, ended: &ffi::gate_call) -> Result<u32, InstanceError> {
     match status {
@@ -127,6 +134,60 @@ impl<'a> Instance<'a> {
                 &mut operands.ended,
             )
         };
+        self.ended(status, operands)
+    }
+
+    /// The function that is exported under that name, for who calls it often; `None` where there is none.
+    ///
+    /// ```
+    /// # use gate::{Module, Settings};
+    /// # let bytes = std::fs::read("../add.wasm")?;
+    /// # let limits = Settings::default();
+    /// let mut instance = Module::new(&bytes)?.instance(limits)?;
+    /// let add = instance.function("add").ok_or("no function add")?;
+    /// assert_eq!(instance.call_at(add, &[40.into(), 2.into()], limits)?.value::<i32>()?, 42);
+    /// # Ok::<(), Box<dyn std::error::Error>>(())
+    /// ```
+    #[must_use]
+    pub fn function(&self, name: &str) -> Option<Function> {
+        let told = self.module.told(name).filter(|told| told.kind == 0)?; // a function
+        let mut number = 0;
+        // SAFETY: the handle is not freed, and no other call has it; the name is borrowed for the call; `number` is reached by nobody
+        // else.
+        match unsafe { ffi::gate_instance_find(self.handle, name.as_ptr(), name.len(), &mut number) } {
+            ffi::GATE_OK => Some(Function {
+                number,
+                results: told.results as usize,
+            }),
+            status => beyond_interface("status", status),
+        }
+    }
+
+    /// As [`Instance::call`], of a function that was looked up before, in an instance of the same module.
+    ///
+    /// # Errors
+    ///
+    /// As of [`Instance::call`].
+    pub fn call_at(&mut self, function: Function, args: &[Value], settings: Settings) -> Result<Call, InstanceError> {
+        let mut operands = Operands::new(args, function.results)?;
+        // SAFETY: as in `call`.
+        let status = unsafe {
+            ffi::gate_instance_call_at(
+                self.handle,
+                function.number,
+                operands.args.as_ptr(),
+                operands.args.len(),
+                &settings.to_c(),
+                operands.results.as_mut_ptr(),
+                operands.results.len(),
+                &mut operands.ended,
+            )
+        };
+        self.ended(status, operands)
+    }
+
+    /// What a call gave that answered with this status.
+    fn ended(&self, status: u32, operands: Operands) -> Result<Call, InstanceError> {
         match (status, &self.begun) {
             (ffi::GATE_OK, _) => Ok(operands.call()?),
             (ffi::GATE_NO_MEMORY, _) => Err(InstanceError::NoMemory),

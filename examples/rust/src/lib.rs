@@ -36,7 +36,7 @@ pub use call::{Call, CallError, End, NotStarted, Trap};
 pub use error::{CheckError, InstanceError, NoMemory};
 pub use explanation::{explain, Explanation};
 pub use export::{exports_text, Export, FunctionType, Import, Item, Measures, ValueType};
-pub use instance::Instance;
+pub use instance::{Function, Instance};
 pub use module::{Module, SharedModule};
 pub use report::{run, Report, Status};
 pub use settings::{Settings, SettingsError};

@@ -68,6 +68,24 @@ fn it_goes_on_after_a_trap_and_without_fuel() {
 }
 
 #[test]
+fn a_function_is_looked_up_once() {
+    let mut instance = instance_of(goes_on());
+    let (add, stop) = (instance.function("add").unwrap(), instance.function("stop").unwrap());
+    let mut line = |function, args: &[Value], fuel| {
+        let settings = Settings::new(fuel, 1, 1).unwrap();
+        instance.call_at(function, args, settings).unwrap().to_string()
+    };
+    assert_eq!(line(add, &[2.into()], 1), "values i32:2 fuel 1");
+    assert_eq!(line(add, &[], 1), "bad-arguments");
+    assert_eq!(line(add, &[1.into()], 0), "out-of-fuel fuel 0");
+    assert_eq!(line(stop, &[], 1), "trap unreachable fuel 1");
+    assert_eq!(line(add, &[1.into()], 1), "values i32:101 fuel 1");
+    for name in ["count", "ad", ""] {
+        assert!(instance.function(name).is_none());
+    }
+}
+
+#[test]
 fn it_resets_itself_after_each_end_but_values() {
     let mut instance = instance_of(goes_on());
     let mut ends = |name: &str, args: &[Value], fuel| {

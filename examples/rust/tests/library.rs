@@ -127,7 +127,7 @@ fn errors_are_errors() {
     let errors: [(Box<dyn Error>, &str); 7] = [
         (
             check(b"\0asm\x02\0\0\0").unwrap_err().into(),
-            "refused malformed: byte 4 is 02, and the version is 01 00 00 00",
+            "refused malformed: byte 0x4 is 02, and the version is 01 00 00 00",
         ),
         (Refusal::Rule(3).into(), "rule 3"),
         (NoMemory.into(), "no memory"),

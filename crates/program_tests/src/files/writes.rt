@@ -91,9 +91,9 @@ const FILL: [u8; 26] = [
 ];
 
 const FILL_EXPLAINED: &[u8] = b"refused body 0 malformed\n\
-    function  0, [] -> [], bytes 22 to 26\n\
-    token     0, byte 23 (0x17)\n\
     because   fc 0b is memory.fill, of bulk memory (Core 2.0), which gate does not admit\n\
+    function  0, [] -> [], bytes 0x16 to 0x1a\n\
+    token     0, byte 0x17\n\
     hint      build the module with -mcpu=mvp, in Rust for wasm32v1-none; in text do without it (docs/GUESTS.md)\n";
 
 /// An answer of each kind is written whole before its flush fails.

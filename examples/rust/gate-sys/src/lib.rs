@@ -330,6 +330,21 @@ extern "C" {
         ended: *mut gate_call,
     ) -> u32;
 
+    /// Finds an export by its name, and writes its number.
+    pub fn gate_instance_find(instance: gate_instance, name: *const u8, name_length: usize, number: *mut u64) -> u32;
+
+    /// Calls the export of that number on an instance as it is.
+    pub fn gate_instance_call_at(
+        instance: gate_instance,
+        number: u64,
+        args: *const gate_value,
+        args_count: usize,
+        settings: *const gate_settings,
+        results: *mut gate_value,
+        results_room: usize,
+        ended: *mut gate_call,
+    ) -> u32;
+
     /// Writes the number of bytes of the memory.
     pub fn gate_instance_memory_size(instance: gate_instance, size: *mut u64) -> u32;
 

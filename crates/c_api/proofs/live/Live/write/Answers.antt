@@ -9,11 +9,11 @@ attached-instance-requires c = is_instance c.args.self.accepted.value c.args.sel
 pub returns : goal.returns
 returns c = elim c.if-write_bytes.branch [
   | then-write_bytes w ↦
-      rw w.status-is (puts c.args.self c.of.result c.attached-instance.result c.write_bytes.new.self c.in-Some.state c.detach-state.result c.args.at c.args.bytes.now
-      c.in-Some.is c.of.ensures.state (c.of.ensures.accepted, c.of.ensures.settings) c.attached-instance.ensures.same c.detach-state.ensures.same c.write_bytes.ensures.marks.1
+      rw w.status-is (puts c.args.self c.of-2.result c.attached-instance.result c.write_bytes.new.self c.in-Some.state c.detach-state.result c.args.at c.args.bytes.now
+      c.in-Some.is c.of-2.ensures.state (c.of-2.ensures.accepted, c.of-2.ensures.settings) c.attached-instance.ensures.same c.detach-state.ensures.same c.write_bytes.ensures.marks.1
       (rw w.if-write_bytes.true at c.write_bytes.ensures.memory))
   | else-write_bytes w ↦
-      rw w.status-is (misses c.args.self c.of.result c.attached-instance.result c.write_bytes.new.self c.in-Some.state c.detach-state.result c.args.at c.args.bytes.now
-      c.in-Some.is c.of.ensures.state (c.of.ensures.accepted, c.of.ensures.settings) c.attached-instance.ensures.same c.detach-state.ensures.same c.write_bytes.ensures.marks.1
+      rw w.status-is (misses c.args.self c.of-2.result c.attached-instance.result c.write_bytes.new.self c.in-Some.state c.detach-state.result c.args.at c.args.bytes.now
+      c.in-Some.is c.of-2.ensures.state (c.of-2.ensures.accepted, c.of-2.ensures.settings) c.attached-instance.ensures.same c.detach-state.ensures.same c.write_bytes.ensures.marks.1
       (rw w.if-write_bytes.false at c.write_bytes.ensures.memory))
 ]
