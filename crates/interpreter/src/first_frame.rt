@@ -1,6 +1,6 @@
-//! Where a call begins (4.5.5): the slots of its first frame, and the position of its first token.
+//! Where a call begins (4.5.5): the slots of its first frame, and the position of its first instruction.
 
-ghost use Rattle.std.specs.Prelude.{◌≡◌, ◌<◌, ◌∷◌, IfOk};
+ghost use Rattle.std.specs.Prelude.{◌≡◌, ◌<◌, IfOk};
 ghost use Rattle.soundness.specs.Slots.{bits, slots};
 ghost use Rattle.interpreter.specs.Code.{IsCode};
 ghost use Rattle.interpreter.specs.Execution.{CanBegin, BeginsAt};
@@ -12,10 +12,6 @@ use crate::tuning::FEWEST_SLOTS;
 use std::alloc::{AllocError, Global};
 use wsyntax::Value;
 
-/// The number of slots below the first frame.
-// PERF: the three topmost slots are read without a test of how many operands there are.
-const SPARE: usize = 3;
-
 /// The word of a value, whatever its type.
 fn bits(value: Value) -> u64
     ensures { result ≡ bits value }
@@ -26,12 +22,11 @@ fn bits(value: Value) -> u64
     }
 }
 
-/// The slots of a call's first frame: the spare ones, and the arguments `args`. Memory for `room` slots is asked for at once.
+/// The slots of a call's first frame: the arguments `args`. Memory for `room` slots is asked for at once.
 fn first_slots(alloc: Global, args: &[Value], room: usize) -> Result<Vec<u64>, AllocError>
-    ensures { IfOk result (λ v. v.items ≡ 0 ∷ 0 ∷ 0 ∷ slots args.now) }
+    ensures { IfOk result (λ v. v.items ≡ slots args.now) }
 {
     let mut slots = Vec::with_capacity(alloc, room)?;
-    slots.resize(SPARE, 0)?;
     for arg in args {
         slots.push(bits(*arg))?;
     }
@@ -43,7 +38,7 @@ fn first_slots(alloc: Global, args: &[Value], room: usize) -> Result<Vec<u64>, A
 fn first_room(args: usize, declared: usize, height: usize) -> usize {
     args.saturating_add(declared)
         .saturating_add(height)
-        .saturating_add(SPARE + 1)
+        .saturating_add(1)
         .max(FEWEST_SLOTS)
 }
 
@@ -67,19 +62,16 @@ pub(crate) fn begin(
     requires here { CanBegin code.now function args.now fuel }
     ensures { IfOk result (BeginsAt code.now function args.now fuel) }
 {
-    refinement::begins();
     let declared = code.shapes[function as usize].declared as usize;
     let height = code.bodies[function as usize].height();
     let mut slots = first_slots(alloc, args, first_room(args.len(), declared, height))?;
-    let operand_base = slots.len() + declared;
-    reserve(&mut slots, operand_base, height)?;
+    let operands = slots.len() + declared;
+    reserve(&mut slots, operands, height)?;
     let first = FrameState {
         function,
+        fuel: fuel - 1,
         pc: 0,
-        base: SPARE,
-        operand_base,
-        sp: operand_base,
-        fuel: (fuel - 1) as u64,
+        base: 0,
     };
     Ok(FirstFrame { first, slots })
 }
