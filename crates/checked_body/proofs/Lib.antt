@@ -1,1 +1,1 @@
-pub mod Mentions
+pub mod FirstFloats

@@ -24,3 +24,4 @@ pub mod Written
 pub mod SuitedTokens
 pub mod Unresolved
 pub mod Labels
+pub mod Landings
