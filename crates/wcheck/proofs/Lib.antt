@@ -25,3 +25,4 @@ pub mod SuitedTokens
 pub mod Unresolved
 pub mod Labels
 pub mod Landings
+pub mod KeptBodies

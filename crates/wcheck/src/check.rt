@@ -83,10 +83,12 @@ pub fn keep_body(
     passed_fits();
     passed_bounded();
     written_fills();
-    let WrittenBody { body, table } = written(alloc, body, builder)?;
-    let whole = Snapshot::of(&body);
+    let filled = written(alloc, body, builder)?;
+    let WrittenBody { body, table } = filled;
+    let whole_body = Snapshot::of(&body);
     let kept = kept_of(alloc, checker, func, body, &table, has_floats)?;
-    Ok(CheckedBody::new(kept, whole, Snapshot::of(&table)))
+    let whole_table = Snapshot::of(&table);
+    Ok(CheckedBody::new(kept, whole_body, whole_table))
 }
 
 /// Checks the body of the function of that index, imported ones counted: it is taken exactly where it is typed, and
