@@ -1,5 +1,5 @@
 //! Loads, stores and growths (4.4.4), and what a table leads to (4.4.5).
-ghost use Rattle.std.specs.Prelude.{◌≡◌, ◌+◌, ◌<◌, ◌%◌, ◌^◌, Some, IfOk, OnErr};
+ghost use Rattle.std.specs.Prelude.{◌≡◌, ◌+◌, ◌<◌, ◌%◌, ◌^◌, false, Some, IfOk, OnErr};
 ghost use Rattle.wsyntax.specs.Table.{load_access, store_access};
 ghost use Rattle.wsyntax.specs.Execution.ConfigTyped.{IsInteger};
 ghost use Rattle.wsyntax.specs.Execution.Store.{Memory};
@@ -68,6 +68,7 @@ pub(crate) fn load_from(parts: &InstanceState, load: Load, at: u64) -> Option<u6
 pub(crate) fn written(parts: &mut InstanceState, store: Store, at: u64, bits: u64) -> bool
     requires { at < 2 ^ 33 }
     ensures stores { Stores (seen parts.old) at (store_access store 0 0).width bits result (seen parts.new) }
+    ensures stays { result ≡ false → seen parts.new ≡ seen parts.old }
     ensures room { KeepsRoom parts.old parts.new }
 {
     let Some(memory) = &mut parts.memory else {
@@ -100,6 +101,7 @@ pub(crate) fn grown(parts: &mut InstanceState, more: u32) -> Result<u32, AllocEr
     ensures grows { IfOk result (λ size. GrowsBy (seen parts.old) more size (seen parts.new)) }
     ensures refused { OnErr result (seen parts.new ≡ seen parts.old) }
     ensures needed { OnErr result (LacksRoom parts.old.memory more) }
+    ensures lacking { OnErr result (LacksRoom parts.new.memory more) }
     ensures room { KeepsRoom parts.old parts.new }
 {
     let Some(memory) = &mut parts.memory else {
