@@ -1,12 +1,14 @@
 //! Loads, stores and growths (4.4.4), and what a table leads to (4.4.5).
-ghost use Rattle.std.specs.Prelude.{◌≡◌, ◌+◌, ◌<◌, ◌%◌, ◌^◌, IfOk, OnErr};
+ghost use Rattle.std.specs.Prelude.{◌≡◌, ◌+◌, ◌<◌, ◌%◌, ◌^◌, false, Some, IfOk, OnErr};
 ghost use Rattle.wsyntax.specs.Table.{load_access, store_access};
 ghost use Rattle.wsyntax.specs.Execution.ConfigTyped.{IsInteger};
-ghost use Rattle.interpreter.specs.Loads.{load_slot};
+ghost use Rattle.wsyntax.specs.Execution.Store.{Memory};
+ghost use Rattle.simulation.specs.Accesses.{load_slot, Stores, GrowsBy, HasPages};
+ghost use Rattle.interpreter.specs.Code.{IsCode};
 ghost use Rattle.interpreter.specs.Seen.{seen};
 ghost use Rattle.interpreter.specs.Buffers.{KeepsRoom};
 ghost use Rattle.interpreter.specs.Growths.{LacksRoom};
-ghost use Rattle.interpreter.specs.Stored.{Stores, GrowsBy};
+ghost use Rattle.interpreter.specs.Tables.{CanLook, Looks};
 
 use crate::code::Code;
 use crate::store::{InstanceState, TableEntry};
@@ -52,6 +54,8 @@ fn loaded(memory: &LinearMemory, load: Load, at: u64) -> Option<u64>
 #[inline(always)]
 pub(crate) fn load_from(parts: &InstanceState, load: Load, at: u64) -> Option<u64>
     requires { at < 2 ^ 33 }
+    ensures { (m : Memory) → (seen parts.now).memory ≡ Some m → IsInteger (load_access load 0 0).of_type
+        → result ≡ load_slot (load_access load 0 0) m.bytes at }
 {
     match &parts.memory {
         Some(memory) => loaded(memory, load, at),
@@ -64,6 +68,7 @@ pub(crate) fn load_from(parts: &InstanceState, load: Load, at: u64) -> Option<u6
 pub(crate) fn written(parts: &mut InstanceState, store: Store, at: u64, bits: u64) -> bool
     requires { at < 2 ^ 33 }
     ensures stores { Stores (seen parts.old) at (store_access store 0 0).width bits result (seen parts.new) }
+    ensures stays { result ≡ false → seen parts.new ≡ seen parts.old }
     ensures room { KeepsRoom parts.old parts.new }
 {
     let Some(memory) = &mut parts.memory else {
@@ -79,7 +84,9 @@ pub(crate) fn written(parts: &mut InstanceState, store: Store, at: u64, bits: u6
 
 /// The size of the memory in pages (4.4.4).
 #[inline(always)]
-pub(crate) fn pages(parts: &InstanceState) -> u32 {
+pub(crate) fn pages(parts: &InstanceState) -> u32
+    ensures { HasPages (seen parts.now) result }
+{
     match &parts.memory {
         Some(memory) => memory.pages(),
         None => 0,
@@ -94,6 +101,7 @@ pub(crate) fn grown(parts: &mut InstanceState, more: u32) -> Result<u32, AllocEr
     ensures grows { IfOk result (λ size. GrowsBy (seen parts.old) more size (seen parts.new)) }
     ensures refused { OnErr result (seen parts.new ≡ seen parts.old) }
     ensures needed { OnErr result (LacksRoom parts.old.memory more) }
+    ensures lacking { OnErr result (LacksRoom parts.new.memory more) }
     ensures room { KeepsRoom parts.old parts.new }
 {
     let Some(memory) = &mut parts.memory else {
@@ -109,7 +117,11 @@ pub(crate) fn function_in(
     parts: &InstanceState,
     type_index: u32,
     entry: u32,
-) -> Result<u32, Trap> {
+) -> Result<u32, Trap>
+    requires code { IsCode code.now }
+    requires can { CanLook code.now (seen parts.now) type_index entry }
+    ensures { Looks code.now (seen parts.now) type_index entry result }
+{
     let Some(table) = &parts.table else {
         return Err(Trap::UndefinedElement);
     };
