@@ -62,6 +62,7 @@ pub(crate) fn begin(
     requires here { CanBegin code.now function args.now fuel }
     ensures { IfOk result (BeginsAt code.now function args.now fuel) }
 {
+    simulation::first_stands();
     let declared = code.shapes[function as usize].declared as usize;
     let height = code.bodies[function as usize].height();
     let mut slots = first_slots(alloc, args, first_room(args.len(), declared, height))?;
