@@ -1,4 +1,4 @@
-use Rattle.std.proofs.Common.{◌≡◌, ap, subst, sym, arith}
+use Rattle.std.proofs.Common.{◌≡◌, ap, arith}
 use Rattle.std.proofs.Math.Logic.{∥∥₁_elim}
 use Rattle.std.proofs.Props.{props}
 use Rattle.wsyntax.specs.Binary.Sections.{locals_of}
