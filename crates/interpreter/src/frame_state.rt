@@ -29,3 +29,10 @@ pub(crate) enum BodyExit {
     OutOfFuel,
     OutOfMemory,
 }
+
+/// What an instruction comes to: the body goes on at another one, with this fuel, or it is left.
+#[derive(Clone, Copy)]
+pub(crate) enum Turn {
+    On { pc: usize, fuel: u32 },
+    Out(BodyExit),
+}
