@@ -1,7 +1,7 @@
 -- The program of a module without imports: it is the run-time module, and each of its bodies holds.
 use Rattle.std.proofs.Common.{◌≡◌, ℕ, zero, suc, ◌+◌, ◌≤◌, List, [], ◌∷◌, ◌++◌, length, map, refl, sym, ap, ◌∙◌, subst, arith}
 use Rattle.std.specs.Prelude.{Some, slice_get, option_map, unwrap_or, filter_map}
-use Rattle.std.proofs.Math.Nat.{zero-add, le-max_left, le-max_right, max-le}
+use Rattle.std.proofs.Math.Nat.{zero-add, le-max_left, le-max_right}
 use Rattle.std.proofs.lemmas.Option.{slice_get-map}
 use Rattle.wsyntax.specs.Types.{FuncType}
 use Rattle.wsyntax.specs.Instructions.{Code, Token, flat_body}
@@ -78,13 +78,18 @@ none_imported m e = ap (λ is. filter_map (λ i. imported_function i.kind) is) e
 pub functions_defined : (m : ModuleShape) → m.imports ≡ [] → functions_of m ≡ m.functions
 functions_defined m e = ap (λ is. is ++ m.functions) (none_imported m e)
 
-pub index_defined : (m : ModuleShape) (f : ℕ) → m.imports ≡ [] → length (imported_functions m) + f ≡ f
+index_defined : (m : ModuleShape) (f : ℕ) → m.imports ≡ [] → length (imported_functions m) + f ≡ f
 index_defined m f e = ap (λ is. length is + f) (none_imported m e) ∙ zero-add f
 
-pub type_defined : (m : ModuleShape) (f y : ℕ) → m.imports ≡ [] → slice_get m.functions f ≡ Some y → type_at (module_context m).functions f ≡ type_at m.types y
+type_defined : (m : ModuleShape) (f y : ℕ) → m.imports ≡ [] → slice_get m.functions f ≡ Some y → type_at (module_context m).functions f ≡ type_at m.types y
 type_defined m f y e is =
     ap (λ fs. type_at (map (type_at m.types) fs) f) (functions_defined m e)
     ∙ ap (λ o. unwrap_or o empty_type) (slice_get-map (type_at m.types) m.functions f ∙ ap (option_map (type_at m.types)) is)
+
+-- the type of a function of the module, in its context
+pub type_of_function : (m : ModuleShape) (f y : ℕ) → m.imports ≡ [] → slice_get m.functions f ≡ Some y
+    → type_at (module_context m).functions (length (imported_functions m) + f) ≡ type_at m.types y
+type_of_function m f y none there = ap (type_at (module_context m).functions) (index_defined m f none) ∙ type_defined m f y none there
 
 pub defined_at : (m : ModuleShape) (f : ℕ) (sig : FuncType) → m.imports ≡ [] → slice_get (module_context m).functions f ≡ Some sig → (y : ℕ) × (slice_get m.functions f ≡ Some y)
 defined_at m f sig e is = mapped_at (type_at m.types) m.functions f sig (ap (λ fs. slice_get (map (type_at m.types) fs) f) (sym (functions_defined m e)) ∙ is)
@@ -101,10 +106,6 @@ longest_at (x ∷ xs) (suc f) c e =
     let k = le-max_right (length (tokens_of x.body.value.code)) (longest (shapes_of xs)) in
     omega (arith, h, k)
 
-pub longest_within : (n : ℕ) (all : List CheckedBody) → ((f : ℕ) (c : CheckedBody) → slice_get all f ≡ Some c → length (tokens_of c.body.value.code) ≤ n) → longest (shapes_of all) ≤ n
-longest_within n [] h = omega arith
-longest_within n (x ∷ xs) h = max-le (h 0 x refl) (longest_within n xs (λ f c is. h (suc f) c is))
-
 -- Each body holds.
 
 pub body_holds : (m : ModuleShape) (x : IndexedContext) (all : List CheckedBody) (f y : ℕ) (c : CheckedBody) → TreeIsFound → IsJudged m x all → m.imports ≡ []
@@ -114,6 +115,4 @@ body_holds m x all f y c found j none is there =
     let tree = has_tree m x all f c found j there in
     let fits = h.fits (code_of (tokens_of c.body.value.code)) tree in
     let Fits : FuncType → Type 0 = λ t. BodyFits (record (module_context m) { locals = t.params ++ declared c.body.value.runs.items }) (leave t) (filled_of c) (code_of (tokens_of c.body.value.code)) in
-    let same : type_at (module_context m).functions (length (imported_functions m) + f) ≡ type_at m.types y =
-    ap (type_at (module_context m).functions) (index_defined m f none) ∙ type_defined m f y none is in
-    record { tokens = sym tree; fits = subst Fits same fits.0; bounded = fits.1; short = longest_at all f c there }
+    record { tokens = sym tree; fits = subst Fits (type_of_function m f y none is) fits.0; bounded = fits.1; short = longest_at all f c there }
