@@ -43,9 +43,9 @@ shape_at : (types : List FuncType) (ids fs : List ℕ) (all : List CheckedBody) 
 shape_at types ids [] all f y c s e is there = absurd cc
 shape_at types ids (z ∷ zs) [] f y c s e is there = absurd cc
 shape_at types ids (z ∷ zs) (b ∷ bs) zero y c s e is there =
-    let at : z ≡ y = cc in
-    let of : b ≡ c = cc in
-    let first : frame_layout (type_at types z) (slice_index ids z) b ≡ s = cc in
+    let at : z ≡ y = same_Some z y is in
+    let of : b ≡ c = same_Some b c there in
+    let first : frame_layout (type_at types z) (slice_index ids z) b ≡ s = same_Some (frame_layout (type_at types z) (slice_index ids z) b) s e in
     ap (λ k. frame_layout (type_at types k) (slice_index ids k) c) (sym at) ∙ ap (λ k. frame_layout (type_at types z) (slice_index ids z) k) (sym of) ∙ first
 shape_at types ids (z ∷ zs) (b ∷ bs) (suc f) y c s e is there = shape_at types ids zs bs f y c s e is there
 

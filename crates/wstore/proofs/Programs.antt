@@ -2,10 +2,10 @@
 use Rattle.std.proofs.Common.{◌≡◌, ℕ, zero, suc, ◌+◌, ◌≤◌, List, [], ◌∷◌, ◌++◌, length, map, refl, sym, ap, ◌∙◌, subst, arith}
 use Rattle.std.specs.Prelude.{Some, slice_get, option_map, unwrap_or, filter_map}
 use Rattle.std.proofs.Math.Nat.{zero-add, le-max_left, le-max_right}
-use Rattle.std.proofs.lemmas.Option.{slice_get-map}
+use Rattle.std.proofs.lemmas.Option.{same_Some, slice_get-map}
 use Rattle.wsyntax.specs.Types.{FuncType}
 use Rattle.wsyntax.specs.Instructions.{Code, Token, flat_body}
-use Rattle.wsyntax.specs.Modules.{ModuleShape, tokens_of}
+use Rattle.wsyntax.specs.Modules.{ModuleShape, BodyShape, body_shape, tokens_of}
 use Rattle.wsyntax.specs.Validation.Context.{leave}
 use Rattle.wsyntax.specs.Validation.ModuleContext.{IndexedContext, module_context, imported_function, imported_functions, functions_of, type_at, empty_type, declared}
 use Rattle.wsyntax.specs.Execution.Start.{FunctionsOf}
@@ -96,15 +96,18 @@ defined_at m f sig e is = mapped_at (type_at m.types) m.functions f sig (ap (λ 
 
 -- The longest body.
 
-pub longest_at : (all : List CheckedBody) (f : ℕ) (c : CheckedBody) → slice_get all f ≡ Some c → length (tokens_of c.body.value.code) ≤ longest (shapes_of all)
-longest_at [] f c e = absurd cc
-longest_at (x ∷ xs) zero c e =
-    let same : x ≡ c = cc in
-    subst (λ (y : CheckedBody). length (tokens_of y.body.value.code) ≤ longest (shapes_of (x ∷ xs))) same (le-max_left (length (tokens_of x.body.value.code)) (longest (shapes_of xs)))
-longest_at (x ∷ xs) (suc f) c e =
-    let h = longest_at xs f c e in
-    let k = le-max_right (length (tokens_of x.body.value.code)) (longest (shapes_of xs)) in
+longest_shape : (bodies : List BodyShape) (f : ℕ) (b : BodyShape) → slice_get bodies f ≡ Some b → length b.code ≤ longest bodies
+longest_shape [] f b e = absurd cc
+longest_shape (x ∷ xs) zero b e = subst (λ (y : BodyShape). length y.code ≤ longest (x ∷ xs)) (same_Some x b e) (le-max_left (length x.code) (longest xs))
+longest_shape (x ∷ xs) (suc f) b e =
+    let h = longest_shape xs f b e in
+    let k = le-max_right (length x.code) (longest xs) in
     omega (arith, h, k)
+
+longest_at : (all : List CheckedBody) (f : ℕ) (c : CheckedBody) → slice_get all f ≡ Some c → length (tokens_of c.body.value.code) ≤ longest (shapes_of all)
+longest_at all f c e =
+    let shape : CheckedBody → BodyShape = λ x. body_shape x.body.value in
+    longest_shape (shapes_of all) f (shape c) (slice_get-map shape all f ∙ ap (option_map shape) e)
 
 -- Each body holds.
 
