@@ -9,11 +9,11 @@ use Rattle.wsyntax.specs.Validation.ModuleContext.{module_context, imported_func
 use Rattle.wsyntax.specs.Validation.Rules.{NoneBroken}
 use Rattle.checked_body.specs.declared.body.CheckedBody.{CheckedBody}
 use Rattle.checked_body.specs.Bodies.{IsTypedAs, FitsAs}
-use Rattle.checked_body.specs.Promise.{IsCodeOf}
+use Rattle.checked_body.specs.Promise.{IsCodeOf, IsKeptOf}
 
 -- One body.
 
--- 3.4.1 the checked body is that of function f: the bytes spell it, it declares few locals, its tokens are those of a tree, it is typed as the body of f, and its side table fits
+-- 3.4.1 the checked body is that of function f: the bytes spell it, it declares few locals, its tokens are those of a tree, it is typed as the body of f, its side table fits, and what is kept of it is its locals and its register code
 pub record IsCheckedFrom (C : Context) (f : ℕ) (bytes : List ℕ) (checked : CheckedBody) : Type 0 where
   pub spelled : SpellsBody bytes (body_shape checked.body.value)
   pub few : FewLocals (body_shape checked.body.value)
@@ -21,6 +21,7 @@ pub record IsCheckedFrom (C : Context) (f : ℕ) (bytes : List ℕ) (checked : C
   pub tree : IsCodeOf code checked.body.value
   pub typed : IsTypedAs C f checked.body.value
   pub fits : FitsAs C f checked
+  pub whole : IsKeptOf C f checked.body.value checked.table.value checked.kept
 
 -- it is that of the bytes at that position, after `imported` imported functions
 abbrev pub IsCheckedAt : Context → ℕ → List (List ℕ) → ℕ → CheckedBody → Type 0

@@ -47,7 +47,7 @@ pub begins : (a : Accepted) (old new : Instance) (d : Detached) (l : Limits) (k 
     → new.failed ≡ old.failed → IsDetached new d → IsInstanceOf new.accepted.now d → Begins a l d k
 begins a old new d l k is allowed ends of fresh kept same held =
     let there : new.accepted.now ≡ a = of ∙ is in
-    let (parts, lent, failed, dispatches) = same in
+    let (parts, lent, failed) = same in
     let each : StartsOnEach (module_shape a.«module») (shapes_of a.bodies.items) l (store_in new) k None
     = subst (λ (x : Accepted). StartsOnEach (module_shape x.«module») (shapes_of x.bodies.items) l (store_in new) k None) is ends in (
       subst (λ (x : Accepted). IsInstanceOf x d) there held,

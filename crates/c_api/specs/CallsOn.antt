@@ -43,11 +43,11 @@ Takes a found args f = (found ≡ Some (Function, f)) × HasParams (module_conte
 -- before it had. By then the instance has failed
 abbrev pub RunsAs : AcceptedModule → Limits → ℕ → List Value → Store → Bool → Line → Store → Bool → Type 0
 RunsAs a l f args s failed (Ran o k) s' failed' =
-    (left : ℕ) × (dispatches : ℕ) × (k + left ≡ l.fuel) × (failed ≡ false) × (failed' ≡ false)
-    × Runs (module_shape a.«module») (shapes_of a.bodies.items) s f args l.fuel l.frames (outcome_of o) s' left dispatches
+    (left : ℕ) × (k + left ≡ l.fuel) × (failed ≡ false) × (failed' ≡ false)
+    × Runs (module_shape a.«module») (shapes_of a.bodies.items) s f args l.fuel l.frames (outcome_of o) s' left
 RunsAs a l f args s failed NoMemory s' failed' =
-    (left : ℕ) × (dispatches : ℕ) × (failed' ≡ true) × ((failed ≡ true) ⊎ ((0 < l.fuel) × (0 < l.frames))) × (failed ≡ true → s' ≡ s)
-    × StopsShort (module_shape a.«module») (shapes_of a.bodies.items) s f args l.fuel l.frames s' left dispatches
+    (left : ℕ) × (failed' ≡ true) × ((failed ≡ true) ⊎ ((0 < l.fuel) × (0 < l.frames))) × (failed ≡ true → s' ≡ s)
+    × StopsShort (module_shape a.«module») (shapes_of a.bodies.items) s f args l.fuel l.frames s' left
 RunsAs a l f args s failed NoExport s' failed' = ⊥
 RunsAs a l f args s failed NotAFunction s' failed' = ⊥
 RunsAs a l f args s failed BadArguments s' failed' = ⊥

@@ -12,6 +12,7 @@ use Rattle.wsyntax.specs.Validation.ModuleContext.{function_context}
 use Rattle.wsyntax.specs.Validation.Verdict.{result_of}
 use Rattle.checked_body.specs.declared.body.CheckedBody.{CheckedBody}
 use Rattle.checked_body.specs.Bodies.{IsTypedAs, FitsAs}
+use Rattle.checked_body.specs.Promise.{IsKeptOf}
 use Rattle.wcheck.specs.Refusals.{IsFaultyAt}
 use Rattle.refusal.specs.declared.refusal.BodyRefusal.TheVariants.{IllTyped}
 use Rattle.verdict.specs.Judged.{body_refusal_of}
@@ -33,7 +34,8 @@ faulty_refusal agrees law C f bytes b at s few fault =
     refusal_typing agrees C f bytes (body_shape b) (Refused at) s few (ap (alg D r) (sym t.1) ∙ (law D r t.0 at).1 (fault t.0 t.1))
 
 -- what is decoded and checked has a tree, too
-pub checked_from : (C : Context) (f : ℕ) (bytes : List ℕ) (c : CheckedBody) → SpellsBody bytes (body_shape c.body.value) → FewLocals (body_shape c.body.value) → IsTypedAs C f c.body.value → FitsAs C f c → IsCheckedFrom C f bytes c
-checked_from C f bytes c s few typed fits =
+pub checked_from : (C : Context) (f : ℕ) (bytes : List ℕ) (c : CheckedBody) → SpellsBody bytes (body_shape c.body.value) → FewLocals (body_shape c.body.value) → IsTypedAs C f c.body.value → FitsAs C f c
+    → IsKeptOf C f c.body.value c.table.value c.kept → IsCheckedFrom C f bytes c
+checked_from C f bytes c s few typed fits whole =
     let t = tree_of bytes (body_shape c.body.value) s in
-    record { spelled = s; few = few; code = t.0; tree = t.1; typed = typed; fits = fits }
+    record { spelled = s; few = few; code = t.0; tree = t.1; typed = typed; fits = fits; whole = whole }

@@ -3,6 +3,7 @@ ghost use Rattle.wsyntax.specs.BranchTables.{FollowAll};
 ghost use Rattle.wsyntax.specs.Modules.{body_shape};
 ghost use Rattle.side_table.specs.Written.{AllSuit, IsWritten};
 ghost use Rattle.checked_body.specs.Bodies.{IsTypedAs, FitsAs};
+ghost use Rattle.checked_body.specs.Promise.{IsKeptOf};
 ghost use Rattle.wcheck.specs.Kept.{KeepsBody};
 ghost use Rattle.wcheck.specs.Outcomes.{HasPassed};
 ghost use Rattle.wcheck.specs.Refusals.{RefusedFor};
@@ -76,6 +77,7 @@ pub fn keep_body(
     ensures unresolved { IfOk result (λ c. KeepsBody body c.body.value) }
     ensures typed { IfOk result (λ c. IsTypedAs checker.now.outside func c.body.value) }
     ensures fits { IfOk result (λ c. FitsAs checker.now.outside func c) }
+    ensures whole { IfOk result (λ c. IsKeptOf checker.now.outside func c.body.value c.table.value c.kept) }
 {
     accepted_is_typed();
     pass_is_algorithm();
@@ -116,6 +118,7 @@ pub fn check_body(
     ensures unresolved { IfOk result (λ c. KeepsBody body c.body.value) }
     ensures typed { IfOk result (λ c. IsTypedAs checker.old.outside func c.body.value) }
     ensures fits { IfOk result (λ c. FitsAs checker.old.outside func c) }
+    ensures whole { IfOk result (λ c. IsKeptOf checker.old.outside func c.body.value c.table.value c.kept) }
     ensures refused { IfErr result (λ fault. RefusedFor checker.old.outside func body fault) }
     ensures outside { checker.new.outside ≡ checker.old.outside }
 {

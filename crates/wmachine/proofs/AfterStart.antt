@@ -38,10 +38,10 @@ pub gives_no_values : (C : Context) (g : ℕ) (vs : List Value) → slice_get C.
 gives_no_values C g vs h t = none_typed vs (t.2.typed ∙ results_of t.0 (sym t.1 ∙ h))
 
 -- the run of the start function, under the limits
-ran : (m : ModuleShape) (bodies : List BodyShape) (i : Module) (f : ℕ) (args : List Value) (old s : Store) (fuel frames left d fuel' frames' : ℕ) (o : meant.Outcome) (old' : Store)
-    → InstanceOf m bodies i → old ≡ old' → fuel ≡ fuel' → frames ≡ frames' → Runs m bodies old f args fuel frames o s left d
+ran : (m : ModuleShape) (bodies : List BodyShape) (i : Module) (f : ℕ) (args : List Value) (old s : Store) (fuel frames left fuel' frames' : ℕ) (o : meant.Outcome) (old' : Store)
+    → InstanceOf m bodies i → old ≡ old' → fuel ≡ fuel' → frames ≡ frames' → Runs m bodies old f args fuel frames o s left
     → (k : ℕ) × Ends i old' f args fuel' frames' o k s × (k + left ≡ fuel')
-ran m bodies i f args old s fuel frames left d fuel' frames' o old' inst stores fuels framings r =
+ran m bodies i f args old s fuel frames left fuel' frames' o old' inst stores fuels framings r =
     let e : Ends i old f args fuel frames o r.spent s = (r.ends i inst).0 in
     let e1 : Ends i old' f args fuel frames o r.spent s = subst (λ (x : Store). Ends i x f args fuel frames o r.spent s) stores e in
     let e2 : Ends i old' f args fuel' frames o r.spent s = subst (λ (x : ℕ). Ends i old' f args x frames o r.spent s) fuels e1 in
@@ -52,11 +52,11 @@ pub not_there : (m : ModuleShape) (i : Module) (l : Limits) (s : Store) (left : 
 not_there m i l s left e fresh whole = (0, subst (λ (x : Store). Started m i l x 0) (sym fresh) (plainly e), omega (arith, whole))
 
 -- it ends in no values
-pub ended_well : (m : ModuleShape) (bodies : List BodyShape) (i : Module) (l : Limits) (g : ℕ) (vs : List Value) (old s : Store) (fuel frames left d : ℕ)
-    → InstanceOf m bodies i → m.start ≡ Some g → old ≡ fresh_store l.pages m → fuel ≡ l.fuel → frames ≡ l.frames → vs ≡ [] → Runs m bodies old g [] fuel frames (Values vs) s left d
+pub ended_well : (m : ModuleShape) (bodies : List BodyShape) (i : Module) (l : Limits) (g : ℕ) (vs : List Value) (old s : Store) (fuel frames left : ℕ)
+    → InstanceOf m bodies i → m.start ≡ Some g → old ≡ fresh_store l.pages m → fuel ≡ l.fuel → frames ≡ l.frames → vs ≡ [] → Runs m bodies old g [] fuel frames (Values vs) s left
     → StartEnds m i l s left None
-ended_well m bodies i l g vs old s fuel frames left d inst e fresh whole same none r =
-    let (k, ends, paid) = ran m bodies i g [] old s fuel frames left d l.fuel l.frames (Values vs) (fresh_store l.pages m) inst fresh whole same r in
+ended_well m bodies i l g vs old s fuel frames left inst e fresh whole same none r =
+    let (k, ends, paid) = ran m bodies i g [] old s fuel frames left l.fuel l.frames (Values vs) (fresh_store l.pages m) inst fresh whole same r in
     (k, by_start e (subst (λ (x : List Value). Ends i (fresh_store l.pages m) g [] l.fuel l.frames (Values x) k s) none ends), sym paid)
 
 -- ---- the call
@@ -68,10 +68,10 @@ ends_in_start m i l s left f n args o (g, k, e, ends, other, paid) spent =
     subst (λ (x : ℕ). EndsOn m i l f args (outcome_of o) x) same (in_start e ends other)
 
 -- after it the function is called with the fuel that is left
-pub ends_in_call : (m : ModuleShape) (bodies : List BodyShape) (i : Module) (l : Limits) (s after : Store) (left f n : ℕ) (args : List Value) (o : meant.Outcome) (frames left' d : ℕ)
-    → InstanceOf m bodies i → StartEnds m i l s left None → frames ≡ l.frames → Runs m bodies s f args left frames o after left' d → n ≡ l.fuel - left' → EndsOn m i l f args o n
-ends_in_call m bodies i l s after left f n args o frames left' d inst (k, started, paid) same r spent =
-    let (j, ends, paid') = ran m bodies i f args s after left frames left' d left l.frames o s inst refl refl same r in
+pub ends_in_call : (m : ModuleShape) (bodies : List BodyShape) (i : Module) (l : Limits) (s after : Store) (left f n : ℕ) (args : List Value) (o : meant.Outcome) (frames left' : ℕ)
+    → InstanceOf m bodies i → StartEnds m i l s left None → frames ≡ l.frames → Runs m bodies s f args left frames o after left' → n ≡ l.fuel - left' → EndsOn m i l f args o n
+ends_in_call m bodies i l s after left f n args o frames left' inst (k, started, paid) same r spent =
+    let (j, ends, paid') = ran m bodies i f args s after left frames left' left l.frames o s inst refl refl same r in
     let all : k + j ≡ n = omega (arith, paid, paid', spent) in
     subst (λ (x : ℕ). EndsOn m i l f args o x) all (in_call started paid ends)
 

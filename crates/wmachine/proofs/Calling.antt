@@ -42,23 +42,23 @@ call_never_stuck m bodies slots f args held runnable h words i kinds c instance 
     (λ r. (never_stuck (module_context m) i (store_of (module_context m) slots) f args h.sig (call_typed m bodies slots f args i s r h words instance) kinds c chain).1 stuck))
 
 -- the values of a call that ends so are typed
-values_typed : (m : ModuleShape) (bodies : List BodyShape) (slots : SlotStore) (f : ℕ) (args vs : List Value) (fuel frames left dispatches : ℕ) (s : Store) → IsHeld (module_context m) slots → Runnable m bodies → (h : HasParams (module_context m) f args) → AreWords args
-    → Runs m bodies (store_of (module_context m) slots) f args fuel frames (Values vs) s left dispatches → ValuesTyped vs h.sig.results
-values_typed m bodies slots f args vs fuel frames left dispatches s held runnable h words runs =
+values_typed : (m : ModuleShape) (bodies : List BodyShape) (slots : SlotStore) (f : ℕ) (args vs : List Value) (fuel frames left : ℕ) (s : Store) → IsHeld (module_context m) slots → Runnable m bodies → (h : HasParams (module_context m) f args) → AreWords args
+    → Runs m bodies (store_of (module_context m) slots) f args fuel frames (Values vs) s left → ValuesTyped vs h.sig.results
+values_typed m bodies slots f args vs fuel frames left s held runnable h words runs =
     let (i, instance) = one_instance.exists m bodies runnable.judged in
     results_typed (module_context m) i (store_of (module_context m) slots) f args h.sig (call_typed m bodies slots f args i held runnable h words instance) fuel frames runs.spent vs s (runs.ends i instance).0
 
 typed_prop : (vs : List Value) (f : FuncType) → IsProp (ValuesTyped vs f.results)
 typed_prop vs f = hlevel (types_set, words_prop)
 
-pub gives_typed : (m : ModuleShape) (bodies : List BodyShape) (slots : SlotStore) (f : ℕ) (args : List Value) (fuel frames left dispatches : ℕ) (s : Store) → ∥ IsHeld (module_context m) slots ∥₁ → ∥ Runnable m bodies ∥₁ → HasParams (module_context m) f args → AreWords args
-    → (o : Outcome) → Runs m bodies (store_of (module_context m) slots) f args fuel frames o s left dispatches → GivesTyped (module_context m) f o
-gives_typed m bodies slots f args fuel frames left dispatches s held runnable h words (Values vs) runs = (
+pub gives_typed : (m : ModuleShape) (bodies : List BodyShape) (slots : SlotStore) (f : ℕ) (args : List Value) (fuel frames left : ℕ) (s : Store) → ∥ IsHeld (module_context m) slots ∥₁ → ∥ Runnable m bodies ∥₁ → HasParams (module_context m) f args → AreWords args
+    → (o : Outcome) → Runs m bodies (store_of (module_context m) slots) f args fuel frames o s left → GivesTyped (module_context m) f o
+gives_typed m bodies slots f args fuel frames left s held runnable h words (Values vs) runs = (
   h.sig,
   h.function,
   ∥∥₁_elim held (typed_prop vs h.sig) (λ a. ∥∥₁_elim runnable (typed_prop vs h.sig)
-      (λ r. values_typed m bodies slots f args vs fuel frames left dispatches s a r h words runs)),
+      (λ r. values_typed m bodies slots f args vs fuel frames left s a r h words runs)),
 )
-gives_typed m bodies slots f args fuel frames left dispatches s held runnable h words (Trapped k) runs = tt
-gives_typed m bodies slots f args fuel frames left dispatches s held runnable h words OutOfFuel runs = tt
-gives_typed m bodies slots f args fuel frames left dispatches s held runnable h words OutOfFrames runs = tt
+gives_typed m bodies slots f args fuel frames left s held runnable h words (Trapped k) runs = tt
+gives_typed m bodies slots f args fuel frames left s held runnable h words OutOfFuel runs = tt
+gives_typed m bodies slots f args fuel frames left s held runnable h words OutOfFrames runs = tt

@@ -7,12 +7,13 @@ use Rattle.wsyntax.specs.Validation.Context.{Context}
 use Rattle.wsyntax.specs.Execution.Values.{types}
 use Rattle.wsyntax.specs.Execution.Store.{Module, Store}
 use Rattle.wsyntax.specs.Execution.Step.{Config, Kind}
-use Rattle.wsyntax.specs.Execution.Chain.{Chain}
+use Rattle.wsyntax.specs.Execution.Chain.{Chain, worked}
 use Rattle.wsyntax.specs.Execution.ConfigTyped.{ValuesTyped}
 use Rattle.wsyntax.specs.Execution.Ends.{Outcome, Values, Trapped, OutOfFuel, OutOfFrames, IsStuck, start}
 use Rattle.wsyntax.specs.Execution.Start.{InstanceOf}
 use Rattle.wstore.specs.declared.instance.Instance.{Instance}
-use Rattle.wstore.specs.Runs.{GivesUp}
+use Rattle.wstore.specs.Runs.{GivesUp, longest}
+use Rattle.wstore.specs.Views.{bodies_in}
 
 -- the function is there, and its parameters are of the types of the arguments
 pub record HasParams (C : Context) (f : ℕ) (args : List Value) : Type 0 where
@@ -34,11 +35,16 @@ NeverStuck m bodies s f args =
 
 -- the call on the instance is given up where it has come to, with some fuel left there
 abbrev pub IsGivenUp : Instance → ℕ → List Value → ℕ → ℕ → Instance → Type 0
-IsGivenUp old f args fuel frames new = (left : ℕ) × GivesUp old f args fuel frames new left new.dispatches
+IsGivenUp old f args fuel frames new = (left : ℕ) × GivesUp old f args fuel frames new left
 
--- no more tokens were taken than L for each unit of the fuel that was charged
+-- no more tokens are taken than L for each unit of the fuel that was charged
 abbrev pub TookAtMost : ℕ → ℕ → ℕ → Type 0
 TookAtMost L fuel dispatches = (charged : ℕ) × (charged ≤ fuel) × (dispatches ≤ charged * L)
+
+-- so many tokens are no fewer than there is work in the chain to where the call is given up
+abbrev pub IsBounded : Instance → ℕ → List Value → ℕ → ℕ → Instance → Type 0
+IsBounded old f args fuel frames new =
+    (dispatches : ℕ) × (given : IsGivenUp old f args fuel frames new) × (worked given.1.kinds ≤ dispatches) × TookAtMost (longest (bodies_in old)) fuel dispatches
 
 -- a call may run out of memory: the instance had failed before, or there is fuel and a frame
 abbrev pub MayWant : Instance → ℕ → ℕ → Type 0

@@ -4,6 +4,7 @@ pub mod Held
 pub mod Judging
 pub mod LaidOut
 pub mod Programs
+pub mod ReadyBodies
 pub mod ProgramCode
 pub mod TypedCalls
 pub mod ByteLists

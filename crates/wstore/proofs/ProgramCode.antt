@@ -5,21 +5,24 @@ use Rattle.std.proofs.lemmas.Bool.{eq-eqb, eqb-true}
 use Rattle.std.proofs.lemmas.List.{length-replicate, length-append}
 use Rattle.std.proofs.lemmas.List.Elements.{All-get_or}
 use Rattle.std.proofs.lemmas.List.Sums.{sum_by-cons}
-use Rattle.std.proofs.lemmas.Option.{slice_get_within, slice_get-get_or, unwrap_or-slice_get, get_or_from_slice_get}
+use Rattle.std.proofs.lemmas.Option.{same_Some, slice_get_within, slice_get-get_or, unwrap_or-slice_get, get_or_from_slice_get}
 use Rattle.wsyntax.specs.declared.module.LocalRun.{LocalRun}
 use Rattle.wsyntax.specs.Types.{FuncType, same_func_type}
 use Rattle.wsyntax.specs.Modules.{ModuleShape}
 use Rattle.wsyntax.specs.Binary.Sections.{locals_of}
-use Rattle.wsyntax.specs.Validation.ModuleContext.{type_at, empty_type, declared}
+use Rattle.wsyntax.specs.Validation.ModuleContext.{IndexedContext, type_at, empty_type, declared}
 use Rattle.wsyntax.specs.Validation.Rules.{FunctionsTyped}
+use Rattle.soundness.specs.Instances.{Runnable}
 use Rattle.checked_body.specs.declared.frame_layout.FrameLayout.{FrameLayout}
 use Rattle.checked_body.specs.declared.body.CheckedBody.{CheckedBody}
 use Rattle.refinement.specs.Machine.{Body, Program}
 use Rattle.interpreter.specs.declared.code.Code.{Code}
-use Rattle.interpreter.specs.Code.{body_of, bodies_of, program_of, IsShapeOf, IsCode}
+use Rattle.interpreter.specs.Code.{body_of, bodies_of, program_of, IsShapeOf, IsReadyToRun, IsCode}
 use Rattle.accepted_module.specs.FrameLayouts.{frame_layout, frame_layouts}
+use Rattle.accepted_module.specs.Judgement.{IsJudged, shapes_of}
 use Rattle.accepted_module.specs.TypeIds.{AreTypeIds}
 use Rattle.wstore.proofs.Programs.{StandsAt, body_at}
+use Rattle.wstore.proofs.ReadyBodies.{ready_to_run}
 
 -- Shapes.
 
@@ -40,9 +43,9 @@ shape_at : (types : List FuncType) (ids fs : List ℕ) (all : List CheckedBody) 
 shape_at types ids [] all f y c s e is there = absurd cc
 shape_at types ids (z ∷ zs) [] f y c s e is there = absurd cc
 shape_at types ids (z ∷ zs) (b ∷ bs) zero y c s e is there =
-    let at : z ≡ y = cc in
-    let of : b ≡ c = cc in
-    let first : frame_layout (type_at types z) (slice_index ids z) b ≡ s = cc in
+    let at : z ≡ y = same_Some z y is in
+    let of : b ≡ c = same_Some b c there in
+    let first : frame_layout (type_at types z) (slice_index ids z) b ≡ s = same_Some (frame_layout (type_at types z) (slice_index ids z) b) s e in
     ap (λ k. frame_layout (type_at types k) (slice_index ids k) c) (sym at) ∙ ap (λ k. frame_layout (type_at types z) (slice_index ids z) k) (sym of) ∙ first
 shape_at types ids (z ∷ zs) (b ∷ bs) (suc f) y c s e is there = shape_at types ids zs bs f y c s e is there
 
@@ -91,8 +94,9 @@ function_type m f y rule is =
     let Has : ℕ → Type 0 = λ z. z < length m.types in
     subst Has (get_or_from_slice_get m.functions f y 0 is) (All-get_or Has m.functions f 0 (slice_get_within m.functions f y is) rule)
 
-pub is_code : (c : Code) (m : ModuleShape) (ids : List ℕ) (all : List CheckedBody) → HasParts c m ids all → FunctionsTyped m → length m.functions ≡ length all → AreTypeIds m.types ids → IsCode c
-is_code c m ids all h rule count n =
+pub is_code : (c : Code) (m : ModuleShape) (x : IndexedContext) (ids : List ℕ) (all : List CheckedBody) → HasParts c m ids all → IsJudged m x all → AreTypeIds m.types ids → Runnable m (shapes_of all) → IsCode c
+is_code c m x ids all h j n r =
+    let count : length m.functions ≡ length all = j.paired ∙ sym j.bodies.count in
     let program = parts_program c m ids all h in
     let stands : (f : ℕ) (b : Body) → slice_get (program_of c).bodies f ≡ Some b → StandsAt m.types m.functions all f b =
     λ f b e. body_at m.types m.functions all f b (ap (λ (p : Program). slice_get p.bodies f) (sym program) ∙ e) in
@@ -100,6 +104,11 @@ is_code c m ids all h rule count n =
     λ f s e. ap (λ ss. slice_get ss f) (sym h.shapes) ∙ e in
     record {
       count = ap length h.functions ∙ count ∙ ap length (sym h.bodies);
+      ready = λ f b held eb kept.
+          let at = stands f b eb in
+          let same = same_Some at.checked held (sym at.there ∙ ap (λ xs. slice_get xs f) (sym h.bodies) ∙ kept) in
+          subst (λ (y : CheckedBody). IsReadyToRun b y.kept) same
+          (subst (λ (y : Body). IsReadyToRun y at.checked.kept) at.same (ready_to_run m x all f at.of_type at.checked j r at.typed at.there));
       shapes_count = ap length h.shapes ∙ shapes_count m.types ids m.functions all count ∙ ap length (sym h.bodies);
       shapes = λ f b s eb es.
           let at = stands f b eb in
@@ -112,6 +121,6 @@ is_code c m ids all h rule count n =
           let at = stands f b eb in
           let shape = shape_at m.types ids m.functions all f at.of_type at.checked s (shaped f s es) at.typed at.there in
           ap (λ (x : FrameLayout). nat_eq x.type_id k) (sym shape)
-          ∙ ids_tell m.types ids at.of_type y k t n (function_type m f at.of_type rule at.typed) (ap (λ (p : Program). slice_get p.types y) (sym program) ∙ et) (ap (λ ks. slice_get ks y) (sym h.type_ids) ∙ ek)
+          ∙ ids_tell m.types ids at.of_type y k t n (function_type m f at.of_type (j.rules 3) at.typed) (ap (λ (p : Program). slice_get p.types y) (sym program) ∙ et) (ap (λ ks. slice_get ks y) (sym h.type_ids) ∙ ek)
           ∙ ap (λ (x : Body). same_func_type (x.function).func_type t) at.same;
     }

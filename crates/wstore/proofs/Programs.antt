@@ -1,11 +1,11 @@
 -- The program of a module without imports: it is the run-time module, and each of its bodies holds.
 use Rattle.std.proofs.Common.{◌≡◌, ℕ, zero, suc, ◌+◌, ◌≤◌, List, [], ◌∷◌, ◌++◌, length, map, refl, sym, ap, ◌∙◌, subst, arith}
 use Rattle.std.specs.Prelude.{Some, slice_get, option_map, unwrap_or, filter_map}
-use Rattle.std.proofs.Math.Nat.{zero-add, le-max_left, le-max_right, max-le}
-use Rattle.std.proofs.lemmas.Option.{slice_get-map}
+use Rattle.std.proofs.Math.Nat.{zero-add, le-max_left, le-max_right}
+use Rattle.std.proofs.lemmas.Option.{same_Some, slice_get-map}
 use Rattle.wsyntax.specs.Types.{FuncType}
 use Rattle.wsyntax.specs.Instructions.{Code, Token, flat_body}
-use Rattle.wsyntax.specs.Modules.{ModuleShape, tokens_of}
+use Rattle.wsyntax.specs.Modules.{ModuleShape, BodyShape, body_shape, tokens_of}
 use Rattle.wsyntax.specs.Validation.Context.{leave}
 use Rattle.wsyntax.specs.Validation.ModuleContext.{IndexedContext, module_context, imported_function, imported_functions, functions_of, type_at, empty_type, declared}
 use Rattle.wsyntax.specs.Execution.Start.{FunctionsOf}
@@ -78,32 +78,36 @@ none_imported m e = ap (λ is. filter_map (λ i. imported_function i.kind) is) e
 pub functions_defined : (m : ModuleShape) → m.imports ≡ [] → functions_of m ≡ m.functions
 functions_defined m e = ap (λ is. is ++ m.functions) (none_imported m e)
 
-pub index_defined : (m : ModuleShape) (f : ℕ) → m.imports ≡ [] → length (imported_functions m) + f ≡ f
+index_defined : (m : ModuleShape) (f : ℕ) → m.imports ≡ [] → length (imported_functions m) + f ≡ f
 index_defined m f e = ap (λ is. length is + f) (none_imported m e) ∙ zero-add f
 
-pub type_defined : (m : ModuleShape) (f y : ℕ) → m.imports ≡ [] → slice_get m.functions f ≡ Some y → type_at (module_context m).functions f ≡ type_at m.types y
+type_defined : (m : ModuleShape) (f y : ℕ) → m.imports ≡ [] → slice_get m.functions f ≡ Some y → type_at (module_context m).functions f ≡ type_at m.types y
 type_defined m f y e is =
     ap (λ fs. type_at (map (type_at m.types) fs) f) (functions_defined m e)
     ∙ ap (λ o. unwrap_or o empty_type) (slice_get-map (type_at m.types) m.functions f ∙ ap (option_map (type_at m.types)) is)
+
+-- the type of a function of the module, in its context
+pub type_of_function : (m : ModuleShape) (f y : ℕ) → m.imports ≡ [] → slice_get m.functions f ≡ Some y
+    → type_at (module_context m).functions (length (imported_functions m) + f) ≡ type_at m.types y
+type_of_function m f y none there = ap (type_at (module_context m).functions) (index_defined m f none) ∙ type_defined m f y none there
 
 pub defined_at : (m : ModuleShape) (f : ℕ) (sig : FuncType) → m.imports ≡ [] → slice_get (module_context m).functions f ≡ Some sig → (y : ℕ) × (slice_get m.functions f ≡ Some y)
 defined_at m f sig e is = mapped_at (type_at m.types) m.functions f sig (ap (λ fs. slice_get (map (type_at m.types) fs) f) (sym (functions_defined m e)) ∙ is)
 
 -- The longest body.
 
-pub longest_at : (all : List CheckedBody) (f : ℕ) (c : CheckedBody) → slice_get all f ≡ Some c → length (tokens_of c.body.value.code) ≤ longest (shapes_of all)
-longest_at [] f c e = absurd cc
-longest_at (x ∷ xs) zero c e =
-    let same : x ≡ c = cc in
-    subst (λ (y : CheckedBody). length (tokens_of y.body.value.code) ≤ longest (shapes_of (x ∷ xs))) same (le-max_left (length (tokens_of x.body.value.code)) (longest (shapes_of xs)))
-longest_at (x ∷ xs) (suc f) c e =
-    let h = longest_at xs f c e in
-    let k = le-max_right (length (tokens_of x.body.value.code)) (longest (shapes_of xs)) in
+longest_shape : (bodies : List BodyShape) (f : ℕ) (b : BodyShape) → slice_get bodies f ≡ Some b → length b.code ≤ longest bodies
+longest_shape [] f b e = absurd cc
+longest_shape (x ∷ xs) zero b e = subst (λ (y : BodyShape). length y.code ≤ longest (x ∷ xs)) (same_Some x b e) (le-max_left (length x.code) (longest xs))
+longest_shape (x ∷ xs) (suc f) b e =
+    let h = longest_shape xs f b e in
+    let k = le-max_right (length x.code) (longest xs) in
     omega (arith, h, k)
 
-pub longest_within : (n : ℕ) (all : List CheckedBody) → ((f : ℕ) (c : CheckedBody) → slice_get all f ≡ Some c → length (tokens_of c.body.value.code) ≤ n) → longest (shapes_of all) ≤ n
-longest_within n [] h = omega arith
-longest_within n (x ∷ xs) h = max-le (h 0 x refl) (longest_within n xs (λ f c is. h (suc f) c is))
+longest_at : (all : List CheckedBody) (f : ℕ) (c : CheckedBody) → slice_get all f ≡ Some c → length (tokens_of c.body.value.code) ≤ longest (shapes_of all)
+longest_at all f c e =
+    let shape : CheckedBody → BodyShape = λ x. body_shape x.body.value in
+    longest_shape (shapes_of all) f (shape c) (slice_get-map shape all f ∙ ap (option_map shape) e)
 
 -- Each body holds.
 
@@ -114,6 +118,4 @@ body_holds m x all f y c found j none is there =
     let tree = has_tree m x all f c found j there in
     let fits = h.fits (code_of (tokens_of c.body.value.code)) tree in
     let Fits : FuncType → Type 0 = λ t. BodyFits (record (module_context m) { locals = t.params ++ declared c.body.value.runs.items }) (leave t) (filled_of c) (code_of (tokens_of c.body.value.code)) in
-    let same : type_at (module_context m).functions (length (imported_functions m) + f) ≡ type_at m.types y =
-    ap (type_at (module_context m).functions) (index_defined m f none) ∙ type_defined m f y none is in
-    record { tokens = sym tree; fits = subst Fits same fits.0; bounded = fits.1; short = longest_at all f c there }
+    record { tokens = sym tree; fits = subst Fits (type_of_function m f y none is) fits.0; bounded = fits.1; short = longest_at all f c there }

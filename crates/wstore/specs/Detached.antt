@@ -11,9 +11,9 @@ use Rattle.wstore.specs.Held.{IsHeld, store_of}
 use Rattle.wstore.specs.declared.detached.Detached.{Detached}
 use Rattle.wstore.specs.declared.instance.Instance.{Instance}
 
--- the parts and the marks are those of the instance
+-- the parts and the mark are those of the instance
 abbrev pub IsDetached : Instance → Detached → Type 0
-IsDetached i d = (d.parts ≡ i.parts) × (d.lent ≡ i.lent) × (d.failed ≡ i.failed) × (d.dispatches ≡ i.dispatches)
+IsDetached i d = (d.parts ≡ i.parts) × (d.lent ≡ i.lent) × (d.failed ≡ i.failed)
 
 -- the store is typed for the module, which may be run
 abbrev pub IsInstanceOf : Accepted → Detached → Type 0

@@ -1,6 +1,7 @@
 -- 4.5.5 A call on the store of an instance.
 -- It ends by the definition on every run-time module of the module, of which there is one, with this store and so much fuel. Where it
--- is given up, it has come to a configuration by a chain within the limits. The tokens that were taken are bounded both ways.
+-- is given up, it has come to a configuration by a chain within the limits. There is a number of tokens that bounds the work of the
+-- chain, and that the fuel which was spent bounds.
 use Rattle.std.specs.Prelude.{◌≡◌, ℕ, ◌+◌, ◌*◌, ◌≤◌, List, [], ◌∷◌, length, max, Some, slice_get}
 use Rattle.wsyntax.specs.Types.{FuncType}
 use Rattle.wsyntax.specs.declared.value.Value.{Value}
@@ -34,17 +35,19 @@ abbrev pub longest : List BodyShape → ℕ
 longest [] = 0
 longest (b ∷ bs) = max (length b.code) (longest bs)
 
--- the call of f on store s ends with outcome o, and leaves store s' and `left` units of fuel; the tokens that were taken are no more than the
+-- the call of f on store s ends with outcome o, and leaves store s' and `left` units of fuel; the tokens that are taken are no more than the
 -- longest body has for each unit that was spent (one more where fuel ran out), and no fewer than there is work in the chain
-pub record Runs (m : ModuleShape) (bodies : List BodyShape) (s : Store) (f : ℕ) (args : List Value) (fuel frames : ℕ) (o : Outcome) (s' : Store) (left dispatches : ℕ) : Type 0 where
+pub record Runs (m : ModuleShape) (bodies : List BodyShape) (s : Store) (f : ℕ) (args : List Value) (fuel frames : ℕ) (o : Outcome) (s' : Store) (left : ℕ) : Type 0 where
+  pub dispatches : ℕ
   pub spent : ℕ
   pub ends : (i : Module) → InstanceOf m bodies i → (e : Ends i s f args fuel frames o spent s') × (worked e.kinds ≤ dispatches)
   pub paid : spent + left ≡ fuel
   pub most : WithinBound (longest bodies) spent dispatches o
 
--- the call of f on store s is given up where it has come to, with store s' and `left` units of fuel; the tokens that were taken are no more than the
+-- the call of f on store s is given up where it has come to, with store s' and `left` units of fuel; the tokens that are taken are no more than the
 -- longest body has for each unit that was charged, and no fewer than there is work in the chain
-pub record StopsShort (m : ModuleShape) (bodies : List BodyShape) (s : Store) (f : ℕ) (args : List Value) (fuel frames : ℕ) (s' : Store) (left dispatches : ℕ) : Type 0 where
+pub record StopsShort (m : ModuleShape) (bodies : List BodyShape) (s : Store) (f : ℕ) (args : List Value) (fuel frames : ℕ) (s' : Store) (left : ℕ) : Type 0 where
+  pub dispatches : ℕ
   pub there : Config
   pub kinds : List Kind
   pub chain : (i : Module) → InstanceOf m bodies i → Within i frames fuel (start s f args) kinds there left
@@ -54,14 +57,12 @@ pub record StopsShort (m : ModuleShape) (bodies : List BodyShape) (s : Store) (f
   pub least : worked kinds ≤ dispatches
 
 -- the call of f on the store of an instance ends so
-abbrev pub RunsOn : Instance → ℕ → List Value → ℕ → ℕ → Outcome → Instance → ℕ → ℕ → Type 0
-RunsOn old f args fuel frames o new left dispatches =
-    Runs (module_in old) (bodies_in old) (store_in old) f args fuel frames o (store_in new) left dispatches
+abbrev pub RunsOn : Instance → ℕ → List Value → ℕ → ℕ → Outcome → Instance → ℕ → Type 0
+RunsOn old f args fuel frames o new left = Runs (module_in old) (bodies_in old) (store_in old) f args fuel frames o (store_in new) left
 
 -- the call of f on the store of an instance is given up so
-abbrev pub GivesUp : Instance → ℕ → List Value → ℕ → ℕ → Instance → ℕ → ℕ → Type 0
-GivesUp old f args fuel frames new left dispatches =
-    StopsShort (module_in old) (bodies_in old) (store_in old) f args fuel frames (store_in new) left dispatches
+abbrev pub GivesUp : Instance → ℕ → List Value → ℕ → ℕ → Instance → ℕ → Type 0
+GivesUp old f args fuel frames new left = StopsShort (module_in old) (bodies_in old) (store_in old) f args fuel frames (store_in new) left
 
 -- the code is that of the module with these bodies, and the call is a typed call of it
 pub record IsTypedCall (m : ModuleShape) (bodies : List BodyShape) (code : Code) (store : SlotStore) (f : ℕ) (args : List Value) (fuel frames : ℕ) : Type 0 where

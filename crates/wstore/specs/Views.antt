@@ -25,6 +25,6 @@ context_in i = module_context (module_in i)
 abbrev pub store_in : Instance → Store
 store_in i = store_of (context_in i) (seen i.parts)
 
--- the module stays, and so does what was noted of calls
+-- the module stays, and so does whether a call ran out of memory
 abbrev pub KeepsMarks : Instance → Instance → Type 0
-KeepsMarks old new = (new.accepted.now ≡ old.accepted.now) × (new.failed ≡ old.failed) × (new.dispatches ≡ old.dispatches)
+KeepsMarks old new = (new.accepted.now ≡ old.accepted.now) × (new.failed ≡ old.failed)

@@ -8,7 +8,7 @@ use accepted_module::Accepted;
 use interpreter::InstanceState;
 use memory::CleanMem;
 
-/// An instance without its module: the parts of its store, and the marks of the calls that ran on it. It borrows nothing.
+/// An instance without its module: the parts of its store, and whether a call on it ran out of memory. It borrows nothing.
 #[derive(Drop)]
 pub struct Detached {
     pub(crate) parts: InstanceState,
@@ -16,8 +16,6 @@ pub struct Detached {
     pub(crate) lent: CleanMem,
     /// Whether a call ran out of memory.
     pub(crate) failed: bool,
-    /// How many tokens the latest call on it took.
-    pub(crate) dispatches: u64,
 }
 
 impl<'a> Instance<'a> {
@@ -32,13 +30,11 @@ impl<'a> Instance<'a> {
             parts,
             lent,
             failed,
-            dispatches,
         } = self;
         Detached {
             parts,
             lent,
             failed,
-            dispatches,
         }
     }
 }
@@ -54,14 +50,12 @@ impl Detached {
             parts,
             lent,
             failed,
-            dispatches,
         } = self;
         Instance {
             accepted,
             parts,
             lent,
             failed,
-            dispatches,
         }
     }
 }

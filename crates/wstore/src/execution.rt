@@ -61,8 +61,8 @@ impl<'a> Instance<'a> {
     ) -> Result<Execution, OutOfMemory>
         requires { Fits (context_in self.old) function args.now }
         ensures runs { IfOk result
-            (λ x. RunsOn self.old function args.now fuel frames (outcome_of x.outcome) self.new x.left x.dispatches) }
-        ensures refused { IfErr result (λ e. GivesUp self.old function args.now fuel frames self.new e.left e.dispatches) }
+            (λ x. RunsOn self.old function args.now fuel frames (outcome_of x.outcome) self.new x.left) }
+        ensures refused { IfErr result (λ e. GivesUp self.old function args.now fuel frames self.new e.left) }
         ensures needed { OnErr result ((0 < fuel) × (0 < frames)) }
         ensures room { room_with self.old.parts.memory self.old.lent ≤ room_with self.new.parts.memory self.new.lent }
         ensures marks { KeepsMarks self.old self.new }
@@ -70,7 +70,6 @@ impl<'a> Instance<'a> {
         self.accepted.accepted_holds();
         self.accepted.types_have_ids();
         self.accepted.functions_have_shapes();
-        self.accepted.is_small();
         soundness::instances::one_instance();
         soundness::execution::store_kept();
         refinement::tree_is_found();

@@ -11,7 +11,7 @@ use accepted_module::Accepted;
 use interpreter::InstanceState;
 use memory::CleanMem;
 
-/// An instance of an accepted module (4.2.5): the parts of its store, and the marks of the calls that run on it.
+/// An instance of an accepted module (4.2.5): the parts of its store, and whether a call on it ran out of memory.
 #[derive(Drop)]
 pub struct Instance<'a> {
     pub(crate) accepted: &'a Accepted<'a>,
@@ -20,8 +20,6 @@ pub struct Instance<'a> {
     pub(crate) lent: CleanMem,
     /// Whether a call ran out of memory.
     pub(crate) failed: bool,
-    /// How many tokens the latest call on it took.
-    pub(crate) dispatches: u64,
     pub(crate) ghost held: { ∥ IsHeld (module_context (module_shape accepted.now.module)) (seen parts) ∥₁ },
     pub(crate) ghost runnable: { ∥ Runnable (module_shape accepted.now.module) (shapes_of accepted.now.bodies.items) ∥₁ },
 }
@@ -61,7 +59,6 @@ impl<'a> Instance<'a> {
             parts,
             lent,
             failed: _,
-            dispatches: _,
         } = self;
         let InstanceState {
             memory,

@@ -32,7 +32,7 @@ pub fn instantiate<'a>(
     ensures parts { IfOk result
         (λ i. seen i.parts ≡ slot_store (fresh_store settings.pages (module_shape accepted.now.module))) }
     ensures of { IfOk result (λ i. i.accepted.now ≡ accepted.now) }
-    ensures marks { IfOk result (λ i. (i.failed ≡ false) × (i.dispatches ≡ 0)) }
+    ensures marks { IfOk result (λ i. i.failed ≡ false) }
     ensures room { IfOk result (λ i. clean ≤ room_with i.parts.memory i.lent) }
     ensures refused { IfErr result
         (λ e. IsFault settings.pages (module_shape accepted.now.module) (shapes_of accepted.now.bodies.items) e.fault) }
@@ -58,7 +58,6 @@ pub fn instantiate<'a>(
             parts,
             lent,
             failed: false,
-            dispatches: 0,
         }),
         Err(clean) => Err(NotStarted {
             fault: StartFault::Memory,

@@ -21,17 +21,8 @@ impl<'a> Instance<'a> {
     pub fn fail(&mut self)
         ensures failed { self.new.failed ≡ true }
         ensures rest { (self.new.accepted ≡ self.old.accepted) × (self.new.parts ≡ self.old.parts)
-            × (self.new.lent ≡ self.old.lent) × (self.new.dispatches ≡ self.old.dispatches) }
+            × (self.new.lent ≡ self.old.lent) }
     {
         self.failed = true;
-    }
-
-    /// Notes how many tokens the latest call on it took.
-    pub fn set_dispatches(&mut self, dispatches: u64)
-        ensures noted { self.new.dispatches ≡ dispatches }
-        ensures rest { (self.new.accepted ≡ self.old.accepted) × (self.new.parts ≡ self.old.parts)
-            × (self.new.lent ≡ self.old.lent) × (self.new.failed ≡ self.old.failed) }
-    {
-        self.dispatches = dispatches;
     }
 }

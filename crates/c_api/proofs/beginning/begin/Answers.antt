@@ -10,5 +10,5 @@ returns-in-Some-clause-failed c =
 pub returns-in-None-clause-begun : goal.returns-in-None-clause-begun
 returns-in-None-clause-begun c =
     begins c.args.accepted.now c.in-Ok.instance c.start.new.instance c.detach.result (limits_of c.args.settings) c.in-Ok-start.field-0.fuel
-    c.in-Ok.ensures.of c.in-Ok.ensures.allowed (rw c.in-None.is at c.in-Ok-start.ensures.ends) c.start.ensures.of c.in-Ok.ensures.marks.0
+    c.in-Ok.ensures.of c.in-Ok.ensures.allowed (rw c.in-None.is at c.in-Ok-start.ensures.ends) c.start.ensures.of c.in-Ok.ensures.marks
     c.in-Ok-start.ensures.kept c.detach.ensures.same c.detach.ensures.of

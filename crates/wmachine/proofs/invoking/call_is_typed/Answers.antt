@@ -12,5 +12,5 @@ returns c =
     record {
       fit = arguments_fit m c.args.function c.args.args.now c.requires c.are_words.ensures;
       never_stuck = call_never_stuck m bodies slots c.args.function c.args.args.now c.holds.ensures.store c.holds.ensures.runnable c.requires c.are_words.ensures;
-      typed = λ fuel frames left dispatches o s. gives_typed m bodies slots c.args.function c.args.args.now fuel frames left dispatches s c.holds.ensures.store c.holds.ensures.runnable c.requires c.are_words.ensures o;
+      typed = λ fuel frames left o s. gives_typed m bodies slots c.args.function c.args.args.now fuel frames left s c.holds.ensures.store c.holds.ensures.runnable c.requires c.are_words.ensures o;
     }

@@ -38,4 +38,4 @@ returns-in-Values-clause-ends c i inst =
     let outcome : outcome_of c.in_ok-outcome.outcome ≡ Values c.in-Values.field-0.items = ap outcome_of c.in-Values.is in
     let typed : GivesTyped (context_in c.args.instance.now) g (Values c.in-Values.field-0.items) = subst (GivesTyped (context_in c.args.instance.now) g) outcome c.in_ok-outcome.ensures.typed in
     let ends = rw outcome at c.in_ok-outcome.ensures.ends in
-    ended_well _ _ i _ g _ _ _ _ _ _ _ inst start c.requires.fresh c.requires.whole c.frames.ensures (gives_no_values (context_in c.args.instance.now) g _ plain typed) ends
+    ended_well _ _ i _ g _ _ _ _ _ _ inst start c.requires.fresh c.requires.whole c.frames.ensures (gives_no_values (context_in c.args.instance.now) g _ plain typed) ends

@@ -12,7 +12,7 @@ is_typed_call-requires c =
     let all = i.accepted.now.bodies.items in
     let ids = i.accepted.now.type_ids.items in
     let code = c.code_of-code in
-    ∥∥₁_map (known (module_in i) i.accepted.now.context all ids (seen i.parts) c.accepted_holds.ensures c.is_small.ensures c.types_have_ids.ensures i.runnable i.held) (λ k.
+    ∥∥₁_map (known (module_in i) i.accepted.now.context all ids (seen i.parts) c.accepted_holds.ensures c.types_have_ids.ensures i.runnable i.held) (λ k.
     typed_call (module_in i) i.accepted.now.context all ids (seen i.parts) code.result c.args.function c.args.args.now c.args.fuel c.args.frames c.tree_is_found.ensures c.one_instance.ensures k
     (record {
       types = code.ensures.types;
