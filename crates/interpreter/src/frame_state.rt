@@ -30,9 +30,11 @@ pub(crate) enum BodyExit {
     OutOfMemory,
 }
 
-/// What an instruction comes to: the body goes on at another one, with this fuel, or it is left.
+/// What an instruction comes to.
 #[derive(Clone, Copy)]
 pub(crate) enum Turn {
-    On { pc: usize, fuel: u32 },
+    /// The body goes on at the instruction of this index, with this fuel.
+    On(usize, u32),
+    /// The body is left.
     Out(BodyExit),
 }
