@@ -52,4 +52,4 @@ given_up old mid new f args fuel given frames left same h accepted parts =
 pub bounded : (old new : Instance) (f : ℕ) (args : List Value) (fuel frames : ℕ) → IsGivenUp old f args fuel frames new → IsBounded old f args fuel frames new
 bounded old new f args fuel frames given =
     let h = given.1 in
-    (h.dispatches, given, h.least, charged h.kinds, omega (arith, h.paid), h.most)
+    (h.dispatches, given, h.least, (charged h.kinds, omega (arith, h.paid), h.most))
