@@ -94,15 +94,15 @@ static void build(void) {
     HOLDS(out[length - 1] == ')' && !memchr(out, 0, length));
 }
 
-/* The bytes of the lists, by hand: of function types 12 and one a value, twice; of each function 4, 4, 16 and 16 and 160; of each token
- * 16 and 4; of each type 4 more; of each export 32; of a table 12, of a memory 12, of a global 32 and 8. */
+/* The bytes of the lists, by hand: of function types 12 and one a value, twice; of each function 4, 4, 16 and 16 and 112; of each
+ * instruction of the register code 16; of each type 4 more; of each export 32; of a table 12, of a memory 12, of a global 32 and 8. */
 static void sizes(void) {
     gate_module module = module_of(ALL_KINDS), other = module_of(ADD), none = module_of((text)BYTES(HEAD));
     gate_module shared = { NULL };
     const uint64_t size = gate_module_size(module);
     HOLDS(gate_module_size(none) == 0);
-    HOLDS(gate_module_size(other) == 2 * (12 + 3) + (4 + 4 + 16 + 16 + 160) + 4 * 20 + 4 + 32);
-    HOLDS(size == 2 * (2 * 12 + 5) + 2 * (4 + 4 + 16 + 16 + 160) + 4 * 20 + 2 * 4 + 5 * 32 + 12 + 12 + 32 + 8);
+    HOLDS(gate_module_size(other) == 2 * (12 + 3) + (4 + 4 + 16 + 16 + 112) + 2 * 16 + 4 + 32);
+    HOLDS(size == 2 * (2 * 12 + 5) + 2 * (4 + 4 + 16 + 16 + 112) + (3 + 1) * 16 + 2 * 4 + 5 * 32 + 12 + 12 + 32 + 8);
     HOLDS(gate_module_share(module, &shared) == GATE_OK);
     gate_module_free(module);
     HOLDS(gate_module_size(shared) == size);

@@ -26,11 +26,11 @@ shapes_more types type_ids functions all i b lt within is = rw add-one (next typ
 
 -- What they say of declared locals.
 
-declares : (types : List FuncType) (type_ids functions : List ℕ) (all : List CheckedBody) → length functions ≡ length all → map (λ (s : FrameLayout). s.declared) (frame_layouts types type_ids functions all) ≡ map (λ (b : CheckedBody). locals_of b.body.runs.items) all
+declares : (types : List FuncType) (type_ids functions : List ℕ) (all : List CheckedBody) → length functions ≡ length all → map (λ (s : FrameLayout). s.declared) (frame_layouts types type_ids functions all) ≡ map (λ (b : CheckedBody). locals_of b.body.value.runs.items) all
 declares types type_ids [] [] e = refl
 declares types type_ids [] (x ∷ xs) e = absurd (omega arith)
 declares types type_ids (y ∷ ys) [] e = absurd (omega arith)
-declares types type_ids (y ∷ ys) (x ∷ xs) e = ap (λ (ns : List ℕ). locals_of x.body.runs.items ∷ ns) (declares types type_ids ys xs (omega arith))
+declares types type_ids (y ∷ ys) (x ∷ xs) e = ap (λ (ns : List ℕ). locals_of x.body.value.runs.items ∷ ns) (declares types type_ids ys xs (omega arith))
 
 chosen : {A : Type 0} (t : Bool) (k p : ℕ) (get : ℕ → Option A) → cond t None (Some k) ≡ Some p → cond t None (get k) ≡ get p
 chosen true k p get e = absurd cc
@@ -41,10 +41,10 @@ paired : (m : ModuleShape) (x : IndexedContext) (all : List CheckedBody) → IsJ
 paired m x all j = j.paired ∙ sym j.bodies.count
 
 -- of the function whose body is at a position
-pub declared_at : (m : ModuleShape) (x : IndexedContext) (type_ids : List ℕ) (all : List CheckedBody) (imported f position : ℕ) → ∥ IsJudged m x all ∥₁ → body_index imported f ≡ Some position → option_map (λ b. locals_of b.body.runs.items) (body_at imported all f) ≡ option_map (λ s. s.declared) (slice_get (frame_layouts m.types type_ids m.functions all) position)
+pub declared_at : (m : ModuleShape) (x : IndexedContext) (type_ids : List ℕ) (all : List CheckedBody) (imported f position : ℕ) → ∥ IsJudged m x all ∥₁ → body_index imported f ≡ Some position → option_map (λ b. locals_of b.body.value.runs.items) (body_at imported all f) ≡ option_map (λ s. s.declared) (slice_get (frame_layouts m.types type_ids m.functions all) position)
 declared_at m x type_ids all imported f position judged e =
     let same : length m.functions ≡ length all = ∥∥₁_elim judged (search props) (λ j. paired m x all j) in
-    ap (option_map (λ (b : CheckedBody). locals_of b.body.runs.items)) (chosen (nat_lt f imported) (f - imported) position (slice_get all) e)
-    ∙ sym (slice_get-map (λ (b : CheckedBody). locals_of b.body.runs.items) all position)
+    ap (option_map (λ (b : CheckedBody). locals_of b.body.value.runs.items)) (chosen (nat_lt f imported) (f - imported) position (slice_get all) e)
+    ∙ sym (slice_get-map (λ (b : CheckedBody). locals_of b.body.value.runs.items) all position)
     ∙ ap (λ (ns : List ℕ). slice_get ns position) (sym (declares m.types type_ids m.functions all same))
     ∙ slice_get-map (λ (s : FrameLayout). s.declared) (frame_layouts m.types type_ids m.functions all) position

@@ -34,6 +34,6 @@ identified_same types type_ids type_ids' n h = omega (arith, h.count, ap length 
 pub paired_same : (functions : List ℕ) (lent all : List CheckedBody) (m : ModuleShape) (x : IndexedContext) → functions ≡ m.functions → lent ≡ all → IsJudged m x all → length functions ≡ length lent
 paired_same functions lent all m x f is judged = omega (arith, judged.paired, judged.bodies.count, ap length f, ap length is)
 
-pub few_same : (lent all : List CheckedBody) (m : ModuleShape) (x : IndexedContext) → lent ≡ all → IsJudged m x all → All (λ b. FewLocals (body_shape b.body)) lent
+pub few_same : (lent all : List CheckedBody) (m : ModuleShape) (x : IndexedContext) → lent ≡ all → IsJudged m x all → All (λ b. FewLocals (body_shape b.body.value)) lent
 few_same lent all m x is judged =
-    subst (λ (bs : List CheckedBody). All (λ b. FewLocals (body_shape b.body)) bs) (sym is) (all_few _ _ _ _ all judged.bodies)
+    subst (λ (bs : List CheckedBody). All (λ b. FewLocals (body_shape b.body.value)) bs) (sym is) (all_few _ _ _ _ all judged.bodies)

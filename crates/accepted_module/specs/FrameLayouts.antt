@@ -9,7 +9,7 @@ use Rattle.checked_body.specs.declared.body.CheckedBody.{CheckedBody}
 
 -- a function of this type, whose type has that id, with this body
 abbrev pub frame_layout : FuncType → ℕ → CheckedBody → FrameLayout
-frame_layout t type_id b = record { params = length t.params; declared = locals_of b.body.runs.items; results = length t.results; type_id = type_id }
+frame_layout t type_id b = record { params = length t.params; declared = locals_of b.body.value.runs.items; results = length t.results; type_id = type_id }
 
 -- the functions, each by the index of its type, with their bodies
 abbrev pub frame_layouts : List FuncType → List ℕ → List ℕ → List CheckedBody → List FrameLayout

@@ -15,11 +15,11 @@ use Rattle.checked_body.specs.Promise.{IsCodeOf}
 
 -- 3.4.1 the checked body is that of function f: the bytes spell it, it declares few locals, its tokens are those of a tree, it is typed as the body of f, and its side table fits
 pub record IsCheckedFrom (C : Context) (f : ℕ) (bytes : List ℕ) (checked : CheckedBody) : Type 0 where
-  pub spelled : SpellsBody bytes (body_shape checked.body)
-  pub few : FewLocals (body_shape checked.body)
+  pub spelled : SpellsBody bytes (body_shape checked.body.value)
+  pub few : FewLocals (body_shape checked.body.value)
   pub code : Code
-  pub tree : IsCodeOf code checked.body
-  pub typed : IsTypedAs C f checked.body
+  pub tree : IsCodeOf code checked.body.value
+  pub typed : IsTypedAs C f checked.body.value
   pub fits : FitsAs C f checked
 
 -- it is that of the bytes at that position, after `imported` imported functions
@@ -36,7 +36,7 @@ pub record AreChecked (C : Context) (imported : ℕ) (bodies : List (List ℕ)) 
 
 -- 2.5.3 what they hold
 abbrev pub shapes_of : List CheckedBody → List BodyShape
-shapes_of all = map (λ c. body_shape c.body) all
+shapes_of all = map (λ c. body_shape c.body.value) all
 
 -- The module.
 

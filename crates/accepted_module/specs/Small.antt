@@ -10,4 +10,4 @@ pub record IsSmall (m : ModuleShape) (all : List CheckedBody) : Type 0 where
   pub types : length m.types < 2 ^ 32
   pub elements : length m.elements < 2 ^ 32
   pub segments : length m.segments < 2 ^ 32
-  pub tokens : (f : ℕ) (b : CheckedBody) → slice_get all f ≡ Some b → length (tokens_of b.body.code) ≤ module_limit
+  pub tokens : (f : ℕ) (b : CheckedBody) → slice_get all f ≡ Some b → length (tokens_of b.body.value.code) ≤ module_limit

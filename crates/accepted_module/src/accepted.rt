@@ -180,7 +180,7 @@ impl<'a> Accepted<'a> {
     /// where it is imported or there is none.
     #[inline]
     pub fn declared_locals(&self, func: u32) -> Option<u32>
-        ensures { result ≡ option_map (λ b. locals_of b.body.runs.items) (body_at self.now.context.imported self.now.bodies.items func) }
+        ensures { result ≡ option_map (λ b. locals_of b.body.value.runs.items) (body_at self.now.context.imported self.now.bodies.items func) }
     {
         let shape = self.shapes.get(self.body_index(func)?)?;
         Some(shape.declared)

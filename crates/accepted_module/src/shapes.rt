@@ -20,9 +20,10 @@ fn count_locals(runs: &[LocalRun]) -> u32
 /// What the entry of a function of that type, which has that id, needs to know.
 fn frame_layout(of_type: FuncType<'_>, type_id: u32, body: &CheckedBody) -> FrameLayout
     requires short { IsShort of_type }
-    requires few { FewLocals (body_shape body.now.body) }
+    requires few { FewLocals (body_shape body.now.body.value) }
     ensures { result ≡ frame_layout (func_type_of of_type.entry) type_id body.now }
 {
+    body.body_fits();
     FrameLayout {
         params: of_type.params.len() as u32,
         declared: count_locals(body.locals()),
@@ -42,7 +43,7 @@ pub(crate) fn layouts_of_frames(
     requires typed { All (λ y. y < length types.now) functions.now }
     requires identified { length type_ids.now ≡ length types.now }
     requires paired { length functions.now ≡ length bodies.now }
-    requires few { All (λ b. FewLocals (body_shape b.body)) bodies.now }
+    requires few { All (λ b. FewLocals (body_shape b.body.value)) bodies.now }
     ensures { IfOk result (λ v. v.items ≡ frame_layouts types.now type_ids.now functions.now bodies.now) }
 {
     let mut shapes = Vec::new(alloc);

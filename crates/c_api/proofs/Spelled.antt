@@ -24,6 +24,6 @@ spell_bodies shape (b ∷ bs) (x ∷ xs) count each =
 pub spelled : (bytes : List ℕ) (a : Accepted) → IsAcceptedFrom bytes a → Spells bytes (module_shape a.«module») (shapes_of a.bodies.items)
 spelled bytes a h = (
   h.shell,
-  spell_bodies (λ c. body_shape c.body) (module_shape a.«module»).bodies a.bodies.items h.bodies.count
+  spell_bodies (λ c. body_shape c.body.value) (module_shape a.«module»).bodies a.bodies.items h.bodies.count
       (λ k checked e. let (s, at, from) = h.bodies.each k checked e in (s, at, from.spelled)),
 )

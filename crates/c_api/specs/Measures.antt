@@ -13,7 +13,7 @@ most_by f (x ∷ xs) = max (f x) (most_by f xs)
 
 -- 2.4.6 the tokens of a body
 abbrev pub body_tokens : CheckedBody → ℕ
-body_tokens b = length b.body.code.tokens.items
+body_tokens b = length b.body.value.code.tokens.items
 
 -- 2.5.3 the locals of a function: its parameters, and those that it declares
 abbrev pub frame_locals : FrameLayout → ℕ

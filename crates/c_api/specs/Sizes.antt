@@ -12,13 +12,12 @@ use Rattle.accepted_module.specs.declared.accepted.Accepted.{Accepted}
 abbrev pub capped : ℕ → ℕ
 capped n = min n (2 ^ 64 - 1)
 
--- the lists of a body: its runs of locals, its tokens, the targets of branch tables, long branches, cases and heights
+-- the lists of a body: its runs of locals, its instructions and its landings
 abbrev pub body_bytes : CheckedBody → ℕ
-body_bytes b = 8 * length b.body.runs.items + 16 * length b.body.code.tokens.items + 4 * length b.body.code.targets.items
-    + 16 * length b.table.long.items + 16 * length b.table.cases.items + 4 * length b.table.heights.items
+body_bytes b = 8 * length b.kept.runs.items + 16 * length b.kept.instructions.items + 16 * length b.kept.landings.items
 
 abbrev pub bodies_bytes : List CheckedBody → ℕ
-bodies_bytes bs = 160 * length bs + sum_by body_bytes bs
+bodies_bytes bs = 112 * length bs + sum_by body_bytes bs
 
 -- the value types of a function type, which lie in one list
 abbrev pub type_bytes : FuncType → ℕ

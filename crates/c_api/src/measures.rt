@@ -27,7 +27,7 @@ fn most_tokens(bodies: &[CheckedBody]) -> u64
 {
     let mut most = 0u64;
     for body in bodies {
-        most = most.max(body.tokens().len() as u64);
+        most = most.max(body.token_count() as u64);
     }
     most
 }

@@ -6,19 +6,18 @@ ghost use Rattle.c_api.specs.Sizes.{capped, body_bytes, bodies_bytes, type_bytes
 ghost use Rattle.c_api.specs.Sizes.{layout_bytes, space_bytes, named_bytes, module_bytes};
 
 use accepted_module::InitialState;
-use checked_body::{Branch, CheckedBody, FrameLayout};
+use checked_body::{CheckedBody, FrameLayout, Instruction, Landing};
 use std::mem::size_of;
 use verdict::Accepted;
 use wsyntax::{
-    Data, Elements, Export, FuncTypes, Global, Import, Limits, LocalRun, Module, Table, Token,
-    ValType,
+    Data, Elements, Export, FuncTypes, Global, Import, Limits, LocalRun, Module, Table, ValType,
 };
 
 const _: () = prove!(
-    size_of::<CheckedBody>() == 160
+    size_of::<CheckedBody>() == 112
         && size_of::<LocalRun>() == 8
-        && size_of::<Token>() == 16
-        && size_of::<Branch>() == 16
+        && size_of::<Instruction>() == 16
+        && size_of::<Landing>() == 16
         && size_of::<FrameLayout>() == 16
         && size_of::<ValType>() == 1
         && size_of::<Import<'static>>() == 48
@@ -41,18 +40,15 @@ fn with_body(total: u64, body: &CheckedBody) -> u64
     ensures { result ≡ capped (total + body_bytes body.now) }
 {
     let total = with_list(total, body.locals().len(), 8);
-    let total = with_list(total, body.tokens().len(), 16);
-    let total = with_list(total, body.targets().len(), 4);
-    let total = with_list(total, body.long().len(), 16);
-    let total = with_list(total, body.cases().len(), 16);
-    with_list(total, body.heights().len(), 4)
+    let total = with_list(total, body.instructions().len(), 16);
+    with_list(total, body.landings().len(), 16)
 }
 
 /// These bytes and those of bodies.
 fn with_bodies(total: u64, bodies: &[CheckedBody]) -> u64
     ensures { result ≡ capped (total + bodies_bytes bodies.now) }
 {
-    let mut sum = with_list(total, bodies.len(), 160);
+    let mut sum = with_list(total, bodies.len(), 112);
     for body in bodies {
         sum = with_body(sum, body);
     }

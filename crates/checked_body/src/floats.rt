@@ -1,5 +1,5 @@
 //! Where floats stand in a body: a module that mentions f32 or f64 is not run.
-ghost use Rattle.std.specs.Prelude.{◌≡◌, List, ℕ};
+ghost use Rattle.std.specs.Prelude.{◌≡◌, List, [], ℕ, position};
 ghost use Rattle.wsyntax.specs.FuncTypes.{func_type_of};
 ghost use Rattle.wsyntax.specs.Table.{num_op};
 ghost use Rattle.wsyntax.specs.Modules.{decoded_as};
@@ -85,6 +85,13 @@ pub fn token_has_floats(token: Token) -> bool
         | Token::I32Const(_)
         | Token::I64Const(_) => false,
     }
+}
+
+/// The position of the first such token; its block type or its operator alone say it, and no target of a branch table.
+pub fn float_token(tokens: &[Token]) -> Option<usize>
+    ensures { result ≡ position (λ t. token_has_floats (decoded_as [] t)) tokens.now }
+{
+    tokens.iter().position(|token| token_has_floats(*token))
 }
 
 /// A run of no locals declares none.

@@ -4,7 +4,7 @@
 //! typing of the body (`Fits`, `Bounded`), and that the code is lowered from the tokens (`IsKept`). The interpreter rests on both.
 //!
 //! Proved: a `CheckedBody` is made only of parts that are proved to fit. `entry_at` is the entry that a token holds.
-//! `is_float`, `token_has_floats`, `runs_have_floats` and `type_has_floats` say what their names say, exactly.
+//! `is_float`, `token_has_floats`, `float_token`, `runs_have_floats` and `type_has_floats` say what their names say, exactly.
 #![tactic(auto)]
 
 mod body;
@@ -18,7 +18,7 @@ mod table;
 pub use body::{CheckedBody, KeptBody};
 pub use branch::Branch;
 pub use entry::entry_at;
-pub use floats::{is_float, runs_have_floats, token_has_floats, type_has_floats};
+pub use floats::{float_token, is_float, runs_have_floats, token_has_floats, type_has_floats};
 pub use frame_layout::FrameLayout;
 pub use instruction::{Instruction, Landing};
 pub use table::SideTable;

@@ -28,12 +28,3 @@ no_position p xs n l = ap (position_from p n) (drop_all n xs l)
 -- counted from the front
 pub position_from_front : {X : Type 0} (p : X → Bool) (xs : List X) → position p xs ≡ position_from p 0 xs
 position_from_front p xs = position_from-zero p xs
-
-from_shown : {A B : Type 0} (shows : A → B) (p : B → Bool) (i : ℕ) (xs : List A) → position_from (λ x. p (shows x)) i xs ≡ position_from p i (map shows xs)
-from_shown shows p i [] = refl
-from_shown shows p i (x ∷ xs) = ap (λ o. cond (p (shows x)) (Some i) o) (from_shown shows p (i + 1) xs)
-
--- of what the list stands for
-pub position_shown : {A B : Type 0} (shows : A → B) (p : B → Bool) (xs : List A)
-    → position (λ x. p (shows x)) xs ≡ position p (map shows xs)
-position_shown shows p xs = position_from_front (λ x. p (shows x)) xs ∙ from_shown shows p 0 xs ∙ sym (position_from_front p (map shows xs))

@@ -1,16 +1,15 @@
 //! Why no instance of an accepted module starts (4.5.4), and where the reason stands.
-ghost use Rattle.std.specs.Prelude.{◌≡◌, ℕ, [], IfSome, Some, option_map, position};
-ghost use Rattle.wsyntax.specs.Modules.{body_shape, global_shape, module_shape, decoded_as};
-ghost use Rattle.wsyntax.specs.Execution.Start.{run_has_floats, start_refusal};
-ghost use Rattle.wsyntax.specs.Execution.Start.{token_has_floats, type_has_floats};
+ghost use Rattle.std.specs.Prelude.{◌≡◌, ℕ, IfSome, Some, option_map, position};
+ghost use Rattle.wsyntax.specs.Modules.{body_shape, global_shape, module_shape};
+ghost use Rattle.wsyntax.specs.Execution.Start.{run_has_floats, start_refusal, type_has_floats};
 ghost use Rattle.wsyntax.specs.StartRefusals.{refusal_of};
 ghost use Rattle.accepted_module.specs.Floats.{global_has_floats};
 ghost use Rattle.accepted_module.specs.Judgement.{shapes_of};
 ghost use Rattle.explain_run.specs.Starting.{IsNamed, first_float, first_in, float_in, refusal_named};
 
 use accepted_module::{Accepted, memory_pages, table_size};
-use checked_body::{CheckedBody, is_float, token_has_floats, type_has_floats};
-use wsyntax::{FuncTypes, Global, Import, LocalRun, Module, StartRefusal, Token};
+use checked_body::{CheckedBody, is_float, type_has_floats};
+use wsyntax::{FuncTypes, Global, Import, LocalRun, Module, StartRefusal};
 
 /// Where f32 or f64 stands first in a module without imports, in which the index of a function is the position of its body.
 #[derive(Clone, Copy)]
@@ -74,22 +73,16 @@ fn float_run(runs: &[LocalRun]) -> Option<usize>
         .position(|run| run.count > 0 && is_float(run.val_type))
 }
 
-/// The position of the first token that has floats.
-fn float_token(tokens: &[Token]) -> Option<usize>
-    ensures { result ≡ position (λ t. token_has_floats (decoded_as [] t)) tokens.now }
-{
-    tokens.iter().position(|token| token_has_floats(*token))
-}
-
 /// Where floats stand first in the body of that function.
 fn float_in_body(func: usize, body: &CheckedBody) -> FloatLocation
-    ensures { result ≡ float_in func (body_shape body.now.body) }
+    ensures { result ≡ float_in func (body_shape body.now.body.value) }
 {
+    body.body_fits();
     match float_run(body.locals()) {
         Some(run) => FloatLocation::Local { func, run },
         None => FloatLocation::Token {
             func,
-            position: float_token(body.tokens()).unwrap_or(0),
+            position: body.first_float().unwrap_or(0),
         },
     }
 }

@@ -33,7 +33,7 @@ faulty_refusal agrees law C f bytes b at s few fault =
     refusal_typing agrees C f bytes (body_shape b) (Refused at) s few (ap (alg D r) (sym t.1) ∙ (law D r t.0 at).1 (fault t.0 t.1))
 
 -- what is decoded and checked has a tree, too
-pub checked_from : (C : Context) (f : ℕ) (bytes : List ℕ) (c : CheckedBody) → SpellsBody bytes (body_shape c.body) → FewLocals (body_shape c.body) → IsTypedAs C f c.body → FitsAs C f c → IsCheckedFrom C f bytes c
+pub checked_from : (C : Context) (f : ℕ) (bytes : List ℕ) (c : CheckedBody) → SpellsBody bytes (body_shape c.body.value) → FewLocals (body_shape c.body.value) → IsTypedAs C f c.body.value → FitsAs C f c → IsCheckedFrom C f bytes c
 checked_from C f bytes c s few typed fits =
-    let t = tree_of bytes (body_shape c.body) s in
+    let t = tree_of bytes (body_shape c.body.value) s in
     record { spelled = s; few = few; code = t.0; tree = t.1; typed = typed; fits = fits }

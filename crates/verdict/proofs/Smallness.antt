@@ -11,10 +11,10 @@ use Rattle.accepted_module.specs.Small.{IsSmall}
 use Rattle.verdict.proofs.Sizes.{types_fit, segments_fit, body_fits}
 use Rattle.verdict.proofs.TokenCounts.{tokens_fit}
 
-few_tokens : (bytes : List ℕ) (m : ModuleShape) (x : IndexedContext) (all : List CheckedBody) → IsModule bytes m → IsJudged m x all → (f : ℕ) (b : CheckedBody) → slice_get all f ≡ Some b → length (tokens_of b.body.code) ≤ module_limit
+few_tokens : (bytes : List ℕ) (m : ModuleShape) (x : IndexedContext) (all : List CheckedBody) → IsModule bytes m → IsJudged m x all → (f : ℕ) (b : CheckedBody) → slice_get all f ≡ Some b → length (tokens_of b.body.value.code) ≤ module_limit
 few_tokens bytes m x all whole judged f b e =
     let at = judged.bodies.each f b e in
-    let tokens : length (tokens_of b.body.code) ≤ length at.0 = tokens_fit at.0 (body_shape b.body) at.2.spelled in
+    let tokens : length (tokens_of b.body.value.code) ≤ length at.0 = tokens_fit at.0 (body_shape b.body.value) at.2.spelled in
     let within : length at.0 ≤ module_limit = body_fits bytes m f at.0 whole at.1 in
     omega arith
 

@@ -1,6 +1,6 @@
 -- The first locals of a body, written out.
-use Rattle.std.proofs.Common.{◌≡◌, ◌+◌, ◌-◌, ◌≤◌, ◌<◌, ℕ, List, [], ◌∷◌, ◌++◌, take, drop, map, length, get_or, refl, sym, ap, ◌∙◌, subst, arith, length-append}
-use Rattle.std.specs.Prelude.{replicate}
+use Rattle.std.proofs.Common.{◌≡◌, ◌+◌, ◌-◌, ◌≤◌, ◌<◌, ℕ, ◌^◌, List, [], ◌∷◌, ◌++◌, take, drop, map, length, get_or, refl, sym, ap, ◌∙◌, subst, arith, length-append}
+use Rattle.std.specs.Prelude.{min, replicate}
 use Rattle.std.proofs.Math.ListN.{get_or-map}
 use Rattle.std.proofs.lemmas.List.{length-map, take-append-drop, append_assoc, take_all, take_more, drop_more, replicate-append-replicate, length-replicate}
 use Rattle.wsyntax.specs.declared.LocalRun.{LocalRun}
@@ -86,3 +86,20 @@ pub next_declared : (new some : List ValType) (runs : List EndedRun) (i n m k : 
 next_declared new some runs i n m k d e le lt q p =
     let P : LocalRun → Type 0 = λ r. r.count ≤ n - m → new ≡ take (m + r.count) some ++ replicate (m + r.count - k) r.val_type → (new ≡ declared (take (i + 1) (map run_of runs))) × (length new ≤ n) in
     subst P (get_or-map run_of runs i d) (next_new new some [] (map run_of runs) i n m k (run_of d) e le (subst (λ z. i < z) (sym (length-map runs run_of)) lt) q p)
+
+-- Counted, at most so many.
+
+capped_more : (count next p a b c m : ℕ) → count ≡ min (p + a) m → next ≡ min (count + c) m → b ≡ a + c → next ≡ min (p + b) m
+capped_more count next p a b c m e q is = grind (arith, e, q, is)
+
+pub counted_more : (count next params i : ℕ) (runs : List LocalRun) (d : LocalRun) → count ≡ min (params + length (declared (take i runs))) (2 ^ 64 - 1) → i < length runs → next ≡ min (count + (get_or runs i d).count) (2 ^ 64 - 1)
+    → next ≡ min (params + length (declared (take (i + 1) runs))) (2 ^ 64 - 1)
+counted_more count next params i runs d e lt q =
+    let r = get_or runs i d in
+    let new = replicate r.count r.val_type in
+    let longer : length (declared (take (i + 1) runs)) ≡ length (declared (take i runs)) + r.count =
+      ap (λ z. length (declared z)) (take_more runs i d lt)
+      ∙ ap length (declared_append (take i runs) (r ∷ []))
+      ∙ length-append (declared (take i runs)) (new ++ [])
+      ∙ ap (λ n. length (declared (take i runs)) + n) (ap length (append_nil new) ∙ length-replicate r.count r.val_type) in
+    capped_more count next params (length (declared (take i runs))) (length (declared (take (i + 1) runs))) r.count (2 ^ 64 - 1) e q longer

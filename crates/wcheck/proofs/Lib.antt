@@ -24,3 +24,5 @@ pub mod Written
 pub mod SuitedTokens
 pub mod Unresolved
 pub mod Labels
+pub mod Landings
+pub mod KeptBodies

@@ -9,12 +9,14 @@ ghost use Rattle.wcheck.specs.Refusals.{RefusedFor};
 
 use crate::body::{BodyPass, pass_body};
 use crate::checker::Checker;
+use crate::keeping::kept_of;
 use checked_body::{CheckedBody, SideTable};
 use side_table::{
     TableBuilder, pass_is_algorithm, passed_bounded, passed_fits, passed_is_code, written_fills,
 };
 use soundness::validation::{accepted_is_typed, refused_at_first_fault};
 use std::alloc::{AllocError, Global};
+use std::snapshot::Snapshot;
 use thiserror::Error;
 use wsyntax::{Body, Expression};
 
@@ -59,7 +61,7 @@ fn written(alloc: Global, body: Body, builder: TableBuilder) -> Result<WrittenBo
 }
 
 /// Keeps the body of the function of that index, imported ones counted, whose tokens the checker took, with its side table as it
-/// was written down.
+/// was written down: its declared locals and its register code.
 pub fn keep_body(
     alloc: Global,
     checker: &Checker<'_>,
@@ -70,9 +72,9 @@ pub fn keep_body(
 ) -> Result<CheckedBody, AllocError>
     requires func { func < length checker.now.outside.functions }
     requires passed { HasPassed checker.now.outside func body builder has_floats }
-    ensures kept { IfOk result (λ c. body_shape c.body ≡ body_shape body) }
-    ensures unresolved { IfOk result (λ c. KeepsBody body c.body) }
-    ensures typed { IfOk result (λ c. IsTypedAs checker.now.outside func c.body) }
+    ensures kept { IfOk result (λ c. body_shape c.body.value ≡ body_shape body) }
+    ensures unresolved { IfOk result (λ c. KeepsBody body c.body.value) }
+    ensures typed { IfOk result (λ c. IsTypedAs checker.now.outside func c.body.value) }
     ensures fits { IfOk result (λ c. FitsAs checker.now.outside func c) }
 {
     accepted_is_typed();
@@ -81,10 +83,12 @@ pub fn keep_body(
     passed_fits();
     passed_bounded();
     written_fills();
-    match written(alloc, body, builder) {
-        Ok(WrittenBody { body, table }) => Ok(CheckedBody::new(body, table, has_floats)),
-        Err(fault) => Err(fault),
-    }
+    let filled = written(alloc, body, builder)?;
+    let WrittenBody { body, table } = filled;
+    let whole_body = Snapshot::of(&body);
+    let kept = kept_of(alloc, checker, func, body, &table, has_floats)?;
+    let whole_table = Snapshot::of(&table);
+    Ok(CheckedBody::new(kept, whole_body, whole_table))
 }
 
 /// Checks the body of the function of that index, imported ones counted: it is taken exactly where it is typed, and
@@ -108,9 +112,9 @@ pub fn check_body(
     requires func { func < length checker.old.outside.functions }
     requires few { length body.code.tokens.items < 2 ^ 31 }
     requires follow { FollowAll 0 body.code.tokens.items (length body.code.targets.items) }
-    ensures kept { IfOk result (λ c. body_shape c.body ≡ body_shape body) }
-    ensures unresolved { IfOk result (λ c. KeepsBody body c.body) }
-    ensures typed { IfOk result (λ c. IsTypedAs checker.old.outside func c.body) }
+    ensures kept { IfOk result (λ c. body_shape c.body.value ≡ body_shape body) }
+    ensures unresolved { IfOk result (λ c. KeepsBody body c.body.value) }
+    ensures typed { IfOk result (λ c. IsTypedAs checker.old.outside func c.body.value) }
     ensures fits { IfOk result (λ c. FitsAs checker.old.outside func c) }
     ensures refused { IfErr result (λ fault. RefusedFor checker.old.outside func body fault) }
     ensures outside { checker.new.outside ≡ checker.old.outside }

@@ -1,6 +1,8 @@
-ghost use Rattle.std.specs.Prelude.{◌≡◌, ◌<◌, ◌^◌, ◌↔◌, true, false, [], IsTrue, IfOk, length};
+ghost use Rattle.std.specs.Prelude.{◌≡◌, ◌<◌, ◌^◌, ◌↔◌, true, false, [], IsTrue, IfOk, length, min};
 ghost use Rattle.wsyntax.specs.Modules.{decoded_as};
 ghost use Rattle.wsyntax.specs.Validation.Algorithm.{when, step};
+ghost use Rattle.wsyntax.specs.Validation.ModuleContext.{function_context};
+ghost use Rattle.wsyntax.specs.Validation.Verdict.{result_of};
 ghost use Rattle.wcheck.specs.Checking.{begun, with_frames};
 ghost use Rattle.side_table.specs.Pass.{reachable_height, outer_dead, below_size, label_size, in_if};
 
@@ -8,7 +10,7 @@ mod inspect;
 
 use crate::control::{Control, is_past_expanded, step_control, try_fast_step_control};
 use crate::frames::{ControlFrame, is_last_dead, label_of_frame};
-use crate::locals::Locals;
+use crate::locals::{Locals, count_locals};
 use crate::operand_stack::OperandStack;
 use crate::scope::{Scope, none};
 use crate::tuning::{LOCAL_RUNS, OPEN_FRAMES, OPERANDS};
@@ -36,6 +38,13 @@ impl<'a> Model for Checker<'a> {
     ghost view = { checking_of };
 
     ghost invariant = { IsWhole };
+}
+
+/// How many locals a function has, parameters and declared ones, at most `usize::MAX`; and how many results.
+#[derive(Clone, Copy)]
+pub(crate) struct FrameCounts {
+    pub(crate) locals: usize,
+    pub(crate) results: u32,
 }
 
 impl<'a> Checker<'a> {
@@ -97,6 +106,22 @@ impl<'a> Checker<'a> {
         };
         self.control.is_open = true;
         Ok(())
+    }
+
+    /// How many locals and results the function of that index has, whose declared locals are these.
+    pub(crate) fn frame_counts(&self, func: u32, runs: &[LocalRun]) -> FrameCounts
+        requires { func < length self.now.outside.functions }
+        ensures locals { result.locals ≡ min (length (function_context self.now.outside func runs.now).locals) usize.MAX }
+        ensures results { result.results ≡ length (result_of self.now.outside func) }
+    {
+        let context = self.scope.context;
+        let Some(ListPair { params, results }) = context.function_lists(func) else {
+            unreachable!()
+        };
+        FrameCounts {
+            locals: count_locals(context.list(params).len(), runs),
+            results: context.list(results).len() as u32,
+        }
     }
 
     /// Looks at the next token. A branch table's labels lie in the list of targets, as in a body. `false`: no typed

@@ -25,6 +25,7 @@ mod checker;
 mod control;
 mod entry;
 mod frames;
+mod keeping;
 mod locals;
 mod operand_rules;
 mod operand_stack;

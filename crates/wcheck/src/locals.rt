@@ -1,4 +1,4 @@
-ghost use Rattle.std.specs.Prelude.{◌≡◌, ◌+◌, ◌<◌, min, List, [], ◌++◌, Option, Some, IfOk, IfSome, slice_get, map};
+ghost use Rattle.std.specs.Prelude.{◌≡◌, ◌+◌, ◌<◌, min, List, [], ◌++◌, Option, Some, IfOk, IfSome, slice_get, map, length};
 ghost use Rattle.wsyntax.specs.Validation.ModuleContext.{declared};
 ghost use Rattle.wcheck.specs.LocalRuns.{run_of, AreEnds, AreFirst};
 
@@ -56,6 +56,17 @@ fn capped(a: usize, count: u32) -> usize
     } else {
         a + count
     }
+}
+
+/// How many locals there are with that many parameters and these declared ones, at most `usize::MAX`.
+pub(crate) fn count_locals(params: usize, runs: &[LocalRun]) -> usize
+    ensures { result ≡ min (params + length (declared runs.now)) usize.MAX }
+{
+    let mut count = params;
+    for run in runs {
+        count = capped(count, run.count);
+    }
+    count
 }
 
 /// Adds runs, each with its end.

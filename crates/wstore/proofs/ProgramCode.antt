@@ -33,7 +33,7 @@ length-declared (r ∷ rs) =
     ∙ sym (length-append (replicate r.count r.val_type) (declared rs))
 
 shape_is : (t : FuncType) (n : ℕ) (c : CheckedBody) → IsShapeOf (body_of t c) (frame_layout t n c)
-shape_is t n c = record { params = refl; declared = length-declared c.body.runs.items; results = refl }
+shape_is t n c = record { params = refl; declared = length-declared c.body.value.runs.items; results = refl }
 
 shape_at : (types : List FuncType) (ids fs : List ℕ) (all : List CheckedBody) (f y : ℕ) (c : CheckedBody) (s : FrameLayout) → slice_get (frame_layouts types ids fs all) f ≡ Some s
     → slice_get fs f ≡ Some y → slice_get all f ≡ Some c → frame_layout (type_at types y) (slice_index ids y) c ≡ s

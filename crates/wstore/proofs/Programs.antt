@@ -23,13 +23,13 @@ use Rattle.wstore.specs.Runs.{longest}
 
 -- the tokens are those of the tree that is found
 abbrev pub HasTree : CheckedBody → Type 0
-HasTree b = flat_body (code_of (tokens_of b.body.code)) ≡ tokens_of b.body.code
+HasTree b = flat_body (code_of (tokens_of b.body.value.code)) ≡ tokens_of b.body.value.code
 
 pub tree_of : TreeIsFound → (ts : List Token) (code : Code) → flat_body code ≡ ts → flat_body (code_of ts) ≡ ts
 tree_of found ts code e = ap (λ x. flat_body (code_of x)) (sym e) ∙ ap flat_body (found code) ∙ e
 
 pub has_tree : (m : ModuleShape) (x : IndexedContext) (all : List CheckedBody) (f : ℕ) (c : CheckedBody) → TreeIsFound → IsJudged m x all → slice_get all f ≡ Some c → HasTree c
-has_tree m x all f c found j is = let h = (j.bodies.each f c is).2 in tree_of found (tokens_of c.body.code) h.code h.tree
+has_tree m x all f c found j is = let h = (j.bodies.each f c is).2 in tree_of found (tokens_of c.body.value.code) h.code h.tree
 
 -- The functions are those of the module.
 
@@ -91,17 +91,17 @@ defined_at m f sig e is = mapped_at (type_at m.types) m.functions f sig (ap (λ 
 
 -- The longest body.
 
-pub longest_at : (all : List CheckedBody) (f : ℕ) (c : CheckedBody) → slice_get all f ≡ Some c → length (tokens_of c.body.code) ≤ longest (shapes_of all)
+pub longest_at : (all : List CheckedBody) (f : ℕ) (c : CheckedBody) → slice_get all f ≡ Some c → length (tokens_of c.body.value.code) ≤ longest (shapes_of all)
 longest_at [] f c e = absurd cc
 longest_at (x ∷ xs) zero c e =
     let same : x ≡ c = cc in
-    subst (λ (y : CheckedBody). length (tokens_of y.body.code) ≤ longest (shapes_of (x ∷ xs))) same (le-max_left (length (tokens_of x.body.code)) (longest (shapes_of xs)))
+    subst (λ (y : CheckedBody). length (tokens_of y.body.value.code) ≤ longest (shapes_of (x ∷ xs))) same (le-max_left (length (tokens_of x.body.value.code)) (longest (shapes_of xs)))
 longest_at (x ∷ xs) (suc f) c e =
     let h = longest_at xs f c e in
-    let k = le-max_right (length (tokens_of x.body.code)) (longest (shapes_of xs)) in
+    let k = le-max_right (length (tokens_of x.body.value.code)) (longest (shapes_of xs)) in
     omega (arith, h, k)
 
-pub longest_within : (n : ℕ) (all : List CheckedBody) → ((f : ℕ) (c : CheckedBody) → slice_get all f ≡ Some c → length (tokens_of c.body.code) ≤ n) → longest (shapes_of all) ≤ n
+pub longest_within : (n : ℕ) (all : List CheckedBody) → ((f : ℕ) (c : CheckedBody) → slice_get all f ≡ Some c → length (tokens_of c.body.value.code) ≤ n) → longest (shapes_of all) ≤ n
 longest_within n [] h = omega arith
 longest_within n (x ∷ xs) h = max-le (h 0 x refl) (longest_within n xs (λ f c is. h (suc f) c is))
 
@@ -112,8 +112,8 @@ pub body_holds : (m : ModuleShape) (x : IndexedContext) (all : List CheckedBody)
 body_holds m x all f y c found j none is there =
     let h = (j.bodies.each f c there).2 in
     let tree = has_tree m x all f c found j there in
-    let fits = h.fits (code_of (tokens_of c.body.code)) tree in
-    let Fits : FuncType → Type 0 = λ t. BodyFits (record (module_context m) { locals = t.params ++ declared c.body.runs.items }) (leave t) (filled_of c) (code_of (tokens_of c.body.code)) in
+    let fits = h.fits (code_of (tokens_of c.body.value.code)) tree in
+    let Fits : FuncType → Type 0 = λ t. BodyFits (record (module_context m) { locals = t.params ++ declared c.body.value.runs.items }) (leave t) (filled_of c) (code_of (tokens_of c.body.value.code)) in
     let same : type_at (module_context m).functions (length (imported_functions m) + f) ≡ type_at m.types y =
     ap (type_at (module_context m).functions) (index_defined m f none) ∙ type_defined m f y none is in
     record { tokens = sym tree; fits = subst Fits same fits.0; bounded = fits.1; short = longest_at all f c there }

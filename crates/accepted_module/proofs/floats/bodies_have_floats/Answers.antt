@@ -10,5 +10,5 @@ use Rattle.accepted_module.proofs.floats.bodies_have_floats.Goals as goal
 
 pub returns : goal.returns
 returns c =
-    let e : c.any.result ≡ list_any (λ (b : CheckedBody). body_has_floats (body_shape b.body)) c.args.bodies.now = any_from_yields_List (λ (b : CheckedBody). body_has_floats (body_shape b.body)) _ _ c.any.result c.any.ensures.ran (YieldsList-from_slice c.args.bodies.now (cc)) (λ x b q k. search (rules, tests)) in
-    e ∙ any_shown (λ (b : CheckedBody). body_shape b.body) body_has_floats c.args.bodies.now
+    let e : c.any.result ≡ list_any (λ (b : CheckedBody). body_has_floats (body_shape b.body.value)) c.args.bodies.now = any_from_yields_List (λ (b : CheckedBody). body_has_floats (body_shape b.body.value)) _ _ c.any.result c.any.ensures.ran (YieldsList-from_slice c.args.bodies.now (cc)) (λ x b q k. search (rules, tests)) in
+    e ∙ any_shown (λ (b : CheckedBody). body_shape b.body.value) body_has_floats c.args.bodies.now

@@ -5,7 +5,7 @@ use Rattle.wsyntax.specs.Modules.{global_shape, module_shape}
 use Rattle.accepted_module.specs.Floats.{global_has_floats}
 use Rattle.accepted_module.specs.Judgement.{shapes_of}
 use Rattle.explain_run.proofs.FloatLocations.{body_first, global_first, type_first}
-use Rattle.explain_run.proofs.Positions.{position_shown}
+use Rattle.checked_body.proofs.FirstFloats.{position_shown}
 use Rattle.explain_run.proofs.FirstImports.{none_of}
 use Rattle.explain_run.proofs.starting.float_location.Goals as goal
 

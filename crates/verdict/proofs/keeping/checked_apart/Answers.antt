@@ -20,7 +20,7 @@ returns-in-Ok-check_body-clause-verdict c =
     let same = sym c.in-Ok-check_body.ensures.kept in
     let spelled = subst (λ (b : BodyShape). SpellsBody c.args.bytes.now b) same c.in-Ok.ensures.found.0 in
     let few = subst (λ (b : BodyShape). FewLocals b) same c.in-Ok.ensures.found.1 in (
-      typed_refusal c.grammar_is_read.ensures.body c.typed_is_accepted.ensures c.args.checker.now.outside c.args.func c.args.bytes.now c.in-Ok-check_body.checked.body spelled few c.in-Ok-check_body.ensures.typed,
+      typed_refusal c.grammar_is_read.ensures.body c.typed_is_accepted.ensures c.args.checker.now.outside c.args.func c.args.bytes.now c.in-Ok-check_body.checked.body.value spelled few c.in-Ok-check_body.ensures.typed,
       checked_from c.args.checker.now.outside c.args.func c.args.bytes.now c.in-Ok-check_body.checked spelled few c.in-Ok-check_body.ensures.typed c.in-Ok-check_body.ensures.fits,
     )
 
