@@ -98,8 +98,8 @@ counted_more count next params i runs d e lt q =
     let r = get_or runs i d in
     let new = replicate r.count r.val_type in
     let longer : length (declared (take (i + 1) runs)) ≡ length (declared (take i runs)) + r.count =
-      ap (λ z. length (declared z)) (take_more runs i d lt)
-      ∙ ap length (declared_append (take i runs) (r ∷ []))
-      ∙ length-append (declared (take i runs)) (new ++ [])
-      ∙ ap (λ n. length (declared (take i runs)) + n) (ap length (append_nil new) ∙ length-replicate r.count r.val_type) in
+    ap (λ z. length (declared z)) (take_more runs i d lt)
+    ∙ ap length (declared_append (take i runs) (r ∷ []))
+    ∙ length-append (declared (take i runs)) (new ++ [])
+    ∙ ap (λ n. length (declared (take i runs)) + n) (ap length (append_nil new) ∙ length-replicate r.count r.val_type) in
     capped_more count next params (length (declared (take i runs))) (length (declared (take (i + 1) runs))) r.count (2 ^ 64 - 1) e q longer

@@ -13,8 +13,8 @@
 //! ```
 //!
 //! Proved: `check_body` takes exactly the bodies that the declarative typing rules type, else names the first fault. Of a
-//! body that it takes it changes nothing but where tokens go on; side table and height fit the typing. `Checker` is the
-//! algorithm, token by token.
+//! body that it takes it changes nothing but where tokens go on; side table and height fit the typing. What it keeps is the
+//! register code that `lowering` makes of them. `Checker` is the algorithm, token by token.
 #![tactic(auto)]
 
 mod apply;
