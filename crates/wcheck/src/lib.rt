@@ -34,7 +34,7 @@ mod scope;
 mod tuning;
 mod types;
 
-pub use building::{is_plain, record_plain, record_token};
+pub use building::record_token;
 pub use check::{CheckFault, check_body, keep_body};
 pub use checked_body::CheckedBody;
 pub use checker::{Checker, OpenFrame};
