@@ -10,6 +10,7 @@ ghost use Rattle.refusal.specs.Refusals.{verdict_of};
 use crate::grouping::groups_for;
 use crate::keeping::checked_body;
 use crate::keeping_jobs::KeptBodies;
+use crate::keeping_pass::Keeper;
 use accepted_module::Accepted;
 use checked_body::CheckedBody;
 use pieces::{Plan, Quiet, Stage, Watch, try_all};
@@ -18,25 +19,24 @@ use soundness::validation::{accepted_is_typed, refused_at_first_fault};
 use std::alloc::{AllocError, Global};
 use std::sync::Wait;
 use std::thread::Threads;
-use wcheck::Checker;
 use wcontext::{Context, check_module};
 use wdecode::{decode_module, grammar_is_read};
 use wsyntax::Module;
 
-/// A checker for each worker.
-fn new_checkers<'a>(
+/// A keeper for each worker.
+fn new_keepers<'a>(
     alloc: Global,
     context: &'a Context,
     workers: u32,
-) -> Result<Vec<Checker<'a>>, AllocError>
+) -> Result<Vec<Keeper<'a>>, AllocError>
     ensures count { IfOk result (λ v. vec_len v ≡ workers) }
-    ensures outside { IfOk result (λ v. All (λ s. s.outside ≡ context.now.context) v.items) }
+    ensures outside { IfOk result (λ v. All (λ s. s.checker.outside ≡ context.now.context) v.items) }
 {
-    let mut checkers = Vec::with_capacity(alloc, workers as usize)?;
+    let mut keepers = Vec::with_capacity(alloc, workers as usize)?;
     for _ in 0..workers {
-        checkers.push(Checker::new(alloc, context))?;
+        keepers.push(Keeper::new(alloc, context))?;
     }
-    Ok(checkers)
+    Ok(keepers)
 }
 
 /// The bodies of all groups in one list, which are `count`.
@@ -84,7 +84,7 @@ fn judge_bodies<R: Threads + Wait + Sync, W: Watch + Sync>(
     if plan.workers() == 1 {
         return judge_bodies_alone(alloc, context, bodies, module_size, watch);
     }
-    let checkers = new_checkers(alloc, context, plan.workers())?;
+    let keepers = new_keepers(alloc, context, plan.workers())?;
     let imported = context.imported_functions() as u32;
     let job = KeptBodies {
         alloc,
@@ -94,7 +94,7 @@ fn judge_bodies<R: Threads + Wait + Sync, W: Watch + Sync>(
         size,
         watch,
     };
-    let groups = try_all(rt, alloc, &job, checkers, count.div_ceil(size), plan)?;
+    let groups = try_all(rt, alloc, &job, keepers, count.div_ceil(size), plan)?;
     Ok(joined(alloc, groups, bodies.len())?)
 }
 
@@ -116,13 +116,13 @@ fn judge_bodies_alone<W: Watch>(
         AreChecked context.now.context context.now.imported (map (λ b. b.now) bodies.now) (length bodies.now) v.items) }
 {
     let imported = context.imported_functions() as u32;
-    let mut checker = Checker::new(alloc, context);
+    let mut keeper = Keeper::new(alloc, context);
     // A function that is accepted takes four bytes at least: its type's index, and a size, no locals and an end.
     let mut kept = Vec::with_capacity(alloc, bodies.len().min(module_size / 4))?;
     for position in 0..bodies.len() as u32 {
         let func = imported + position;
         watch.note(Stage::Body, position);
-        let checked = checked_body(alloc, &mut checker, func, bodies[position as usize])?;
+        let checked = checked_body(alloc, &mut keeper, func, bodies[position as usize])?;
         kept.push(checked)?;
     }
     Ok(kept)

@@ -3,7 +3,7 @@ ghost use Rattle.verdict.specs.Judged.{body_refusal_of, IsBodyRefusal};
 ghost use Rattle.refusal.specs.Refusals.{AllowsRefusal};
 ghost use Rattle.accepted_module.specs.Judgement.{IsCheckedFrom};
 
-use crate::keeping_pass::passed_body;
+use crate::keeping_pass::Keeper;
 use checked_body::CheckedBody;
 use refusal::{BodyRefusal, Refusal};
 use soundness::validation::{refused_at_first_fault, typed_is_accepted};
@@ -14,21 +14,21 @@ use wdecode::{BodyFault, decode_body, grammar_is_read};
 /// The body of the function of that index, imported ones counted, decoded and checked. It has no more tokens than bytes.
 pub(crate) fn checked_body(
     alloc: Global,
-    checker: &mut Checker<'_>,
+    keeper: &mut Keeper<'_>,
     func: u32,
     bytes: &[u8],
 ) -> Result<CheckedBody, Refusal>
-    requires func { func < length checker.old.outside.functions }
+    requires func { func < length keeper.old.checker.outside.functions }
     requires short { length bytes.now < 2 ^ 31 }
-    ensures outside { checker.new.outside ≡ checker.old.outside }
+    ensures outside { keeper.new.checker.outside ≡ keeper.old.checker.outside }
     ensures verdict { MatchResult result
-        (λ checked. (body_refusal_of checker.old.outside func bytes.now ≡ None)
-        × IsCheckedFrom checker.old.outside func bytes.now checked)
-        (AllowsRefusal (IsBodyRefusal func (body_refusal_of checker.old.outside func bytes.now))) }
+        (λ checked. (body_refusal_of keeper.old.checker.outside func bytes.now ≡ None)
+        × IsCheckedFrom keeper.old.checker.outside func bytes.now checked)
+        (AllowsRefusal (IsBodyRefusal func (body_refusal_of keeper.old.checker.outside func bytes.now))) }
 {
-    match passed_body(alloc, checker, func, bytes)? {
+    match keeper.passed_body(alloc, func, bytes)? {
         Some(checked) => Ok(checked),
-        None => checked_apart(alloc, checker, func, bytes),
+        None => checked_apart(alloc, &mut keeper.checker, func, bytes),
     }
 }
 

@@ -5,12 +5,12 @@ ghost use Rattle.refusal.specs.Refusals.{AllowsRefusal};
 
 use crate::grouping::positions_of;
 use crate::keeping::checked_body;
+use crate::keeping_pass::Keeper;
 use checked_body::CheckedBody;
 use pieces::{Job, JobFault, Stage, Watch};
 use refusal::Refusal;
 use std::alloc::Global;
 use std::sync::Wait;
-use wcheck::Checker;
 use wcontext::Context;
 
 /// The bodies of a module, each to be judged under the module's context and kept, in groups of consecutive ones.
@@ -32,10 +32,10 @@ pub(crate) struct KeptBodies<'a, W> {
 
 impl<'a, W> KeptBodies<'a, W> {
     /// Judges the body at that position, and keeps it.
-    fn keep_at(&self, checker: &mut Checker<'a>, position: u32) -> Result<CheckedBody, Refusal>
+    fn keep_at(&self, keeper: &mut Keeper<'a>, position: u32) -> Result<CheckedBody, Refusal>
         requires position { position < length self.now.bodies.now }
-        requires outside { checker.old.outside ≡ self.now.context.now.context }
-        ensures outside { checker.new.outside ≡ self.now.context.now.context }
+        requires outside { keeper.old.checker.outside ≡ self.now.context.now.context }
+        ensures outside { keeper.new.checker.outside ≡ self.now.context.now.context }
         ensures verdict { MatchResult result
             (λ checked.
             (body_refusal_at self.now.context.now.context self.now.imported (map (λ b. b.now) self.now.bodies.now) position ≡ None)
@@ -44,12 +44,12 @@ impl<'a, W> KeptBodies<'a, W> {
             (body_refusal_at self.now.context.now.context self.now.imported (map (λ b. b.now) self.now.bodies.now) position))) }
     {
         let func = self.imported + position;
-        checked_body(self.alloc, checker, func, self.bodies[position as usize])
+        checked_body(self.alloc, keeper, func, self.bodies[position as usize])
     }
 }
 
 impl<'a, W: Watch> Job for KeptBodies<'a, W> {
-    type Local = Checker<'a>;
+    type Local = Keeper<'a>;
 
     type Out = Vec<CheckedBody>;
 
@@ -60,7 +60,7 @@ impl<'a, W: Watch> Job for KeptBodies<'a, W> {
 
     ghost limit = { λ j. div_ceil (length j.bodies.now) j.size };
 
-    ghost belongs = { λ j s. s.outside ≡ j.context.now.context };
+    ghost belongs = { λ j s. s.checker.outside ≡ j.context.now.context };
 
     ghost passes = { λ j i. GroupPasses j.context.now.context j.imported (map (λ b. b.now) j.bodies.now) j.size i };
 
@@ -71,7 +71,7 @@ impl<'a, W: Watch> Job for KeptBodies<'a, W> {
     fn run<R: Wait>(
         &self,
         _rt: &R,
-        checker: &mut Checker<'a>,
+        keeper: &mut Keeper<'a>,
         index: u32,
     ) -> Result<Vec<CheckedBody>, JobFault<Refusal>> {
         let (from, to) = positions_of(index, self.size, self.bodies.len() as u32);
@@ -80,7 +80,7 @@ impl<'a, W: Watch> Job for KeptBodies<'a, W> {
         };
         for position in from..to {
             self.watch.note(Stage::Body, position);
-            let checked = self.keep_at(checker, position)?;
+            let checked = self.keep_at(keeper, position)?;
             if kept.push(checked).is_err() {
                 return Err(JobFault::Memory);
             }

@@ -1,7 +1,6 @@
 ghost use Rattle.std.specs.Prelude.{◌≡◌, ◌<◌, ◌^◌, length, IfOk, IfErr};
 ghost use Rattle.wsyntax.specs.BranchTables.{FollowAll};
 ghost use Rattle.wsyntax.specs.Modules.{body_shape};
-ghost use Rattle.side_table.specs.Written.{AllSuit, IsWritten};
 ghost use Rattle.checked_body.specs.Bodies.{IsTypedAs, FitsAs};
 ghost use Rattle.wcheck.specs.Kept.{KeepsBody};
 ghost use Rattle.wcheck.specs.Outcomes.{HasPassed};
@@ -10,7 +9,8 @@ ghost use Rattle.wcheck.specs.Refusals.{RefusedFor};
 use crate::body::{BodyPass, pass_body};
 use crate::checker::Checker;
 use crate::keeping::kept_of;
-use checked_body::{CheckedBody, SideTable};
+use checked_body::CheckedBody;
+use lowering::Lowering;
 use side_table::{
     TableBuilder, pass_is_algorithm, passed_bounded, passed_fits, passed_is_code, written_fills,
 };
@@ -18,7 +18,7 @@ use soundness::validation::{accepted_is_typed, refused_at_first_fault};
 use std::alloc::{AllocError, Global};
 use std::snapshot::Snapshot;
 use thiserror::Error;
-use wsyntax::{Body, Expression};
+use wsyntax::Body;
 
 /// Why a body is refused.
 #[derive(Clone, Copy, Debug, PartialEq, Eq, Error)]
@@ -31,49 +31,21 @@ pub enum CheckFault {
     Memory,
 }
 
-/// A body whose tokens hold where its branches go on, and the rest of its side table.
-#[derive(Drop)]
-struct WrittenBody {
-    body: Body,
-    table: SideTable,
-}
-
-/// Writes into the tokens of a body where they go on, as the pass over them wrote it down.
-fn written(alloc: Global, body: Body, builder: TableBuilder) -> Result<WrittenBody, AllocError>
-    requires suit { AllSuit body.code.tokens.items builder.notes.entries }
-    requires few { length body.code.tokens.items < 2 ^ 31 }
-    ensures unresolved { IfOk result (λ w. KeepsBody body w.body) }
-    ensures written { IfOk result (λ w. IsWritten w.body.code.tokens.items builder.notes w.table) }
-{
-    let Body {
-        runs,
-        code: Expression {
-            mut tokens,
-            targets,
-        },
-    } = body;
-    let table = builder.write_into(alloc, &mut tokens)?;
-    let code = Expression { tokens, targets };
-    Ok(WrittenBody {
-        body: Body { runs, code },
-        table,
-    })
-}
-
 /// Keeps the body of the function of that index, imported ones counted, whose tokens the checker took, with its side table as it
-/// was written down: its declared locals and its register code.
+/// was written down: its declared locals and its register code. It writes into the tokens where they go on.
 pub fn keep_body(
     alloc: Global,
     checker: &Checker<'_>,
     func: u32,
-    body: Body,
-    builder: TableBuilder,
+    body: &mut Body,
+    builder: &mut TableBuilder,
+    lowering: &mut Lowering,
     has_floats: bool,
 ) -> Result<CheckedBody, AllocError>
     requires func { func < length checker.now.outside.functions }
-    requires passed { HasPassed checker.now.outside func body builder has_floats }
-    ensures kept { IfOk result (λ c. body_shape c.body.value ≡ body_shape body) }
-    ensures unresolved { IfOk result (λ c. KeepsBody body c.body.value) }
+    requires passed { HasPassed checker.now.outside func body.old builder.old has_floats }
+    ensures kept { IfOk result (λ c. body_shape c.body.value ≡ body_shape body.old) }
+    ensures unresolved { IfOk result (λ c. KeepsBody body.old c.body.value) }
     ensures typed { IfOk result (λ c. IsTypedAs checker.now.outside func c.body.value) }
     ensures fits { IfOk result (λ c. FitsAs checker.now.outside func c) }
 {
@@ -83,12 +55,9 @@ pub fn keep_body(
     passed_fits();
     passed_bounded();
     written_fills();
-    let filled = written(alloc, body, builder)?;
-    let WrittenBody { body, table } = filled;
-    let whole_body = Snapshot::of(&body);
-    let kept = kept_of(alloc, checker, func, body, &table, has_floats)?;
-    let whole_table = Snapshot::of(&table);
-    Ok(CheckedBody::new(kept, whole_body, whole_table))
+    let table = builder.write_into(&mut body.code.tokens)?;
+    let kept = kept_of(alloc, checker, func, body, table, lowering, has_floats)?;
+    Ok(CheckedBody::new(kept, Snapshot::of(body), Snapshot::of(table)))
 }
 
 /// Checks the body of the function of that index, imported ones counted: it is taken exactly where it is typed, and
@@ -121,16 +90,28 @@ pub fn check_body(
 {
     refused_at_first_fault();
     pass_is_algorithm();
+    let mut body = body;
     match pass_body(alloc, checker, func, &body) {
         Ok(
             BodyPass::Passes {
-                builder,
+                mut builder,
                 has_floats,
             },
-        ) => match keep_body(alloc, checker, func, body, builder, has_floats) {
-            Ok(checked) => Ok(checked),
-            Err(_) => Err(CheckFault::Memory),
-        },
+        ) => {
+            let mut lowering = Lowering::new(alloc);
+            match keep_body(
+                alloc,
+                checker,
+                func,
+                &mut body,
+                &mut builder,
+                &mut lowering,
+                has_floats,
+            ) {
+                Ok(checked) => Ok(checked),
+                Err(_) => Err(CheckFault::Memory),
+            }
+        }
         Ok(BodyPass::Refused(at)) => Err(CheckFault::IllTyped { at }),
         Err(_) => Err(CheckFault::Memory),
     }
