@@ -33,7 +33,7 @@ pub fn type_has_floats(of_type: FuncType<'_>) -> bool
 }
 
 /// Whether the operator takes or gives a float.
-#[inline]
+#[inline(always)]
 fn is_float_operator(op: Operator) -> bool
     ensures { result ≡ is_float_operator (num_op op) }
 {

@@ -38,4 +38,5 @@ pub use building::record_token;
 pub use check::{CheckFault, check_body, keep_body};
 pub use checked_body::CheckedBody;
 pub use checker::{Checker, OpenFrame};
+pub use lowering::Lowering;
 pub use rule::{OperandRule, table_default, table_labels};
