@@ -172,6 +172,21 @@ impl<'a> Checker<'a> {
         }
     }
 
+    /// The same while a frame is open.
+    // PERF: most tokens leave one open, and it is known.
+    #[inline(always)]
+    #[tactic(auto, using(crate::proofs::Cuts::tight_height))]
+    pub(crate) fn open_height(&self) -> usize
+        requires { self.now.frames ≡ [] → ⊥ }
+        ensures { result ≡ reachable_height self.now.frames }
+    {
+        if self.control.operands.is_unreachable() {
+            0
+        } else {
+            self.control.operands.height()
+        }
+    }
+
     /// The operands below the innermost frame.
     #[tactic(auto, using(crate::proofs::Cuts::tight_height))]
     pub(crate) fn below(&self) -> usize
